@@ -1,0 +1,3 @@
+mod FailingLayout
+mod GateCall
+mod SweepLemmas

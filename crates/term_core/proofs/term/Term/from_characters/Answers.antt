@@ -1,0 +1,7 @@
+use Rattle.std.proofs.Common.{ap, ◌∙◌, sym}
+use Rattle.term_core.proofs.LimitLemmas.{atom-IsTerm}
+use Rattle.term_core.proofs.term.Term.from_characters.Goals as goal
+
+pub invariant_of-result : goal.invariant_of-result
+invariant_of-result g c =
+    (atom-IsTerm _ _ (c.as_slice.ensures.value ∙ ap (λ v. v.items) (sym c.in_ok-characters.ensures.ok)) (rw (← c.character_count.ensures.count) c.if-character_count-gt-MAX_CHARACTERS.false) c.character_count.ensures.sound, tt)

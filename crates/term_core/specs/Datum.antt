@@ -1,0 +1,70 @@
+-- A term as a mathematical object: integers, atoms, tuples, maps, lists of cells, binaries.
+-- (STDLIB Reference Manual, module ets: "terms"; Erlang Reference Manual, "Data Types".)
+use Rattle.std.specs.Prelude.{ℕ, suc, ℤ, List, [], ◌∷◌}
+
+mutual
+  -- An atom is its characters' code points, a binary its bytes. A list is [] or a cell of a head and a tail.
+  pub data Datum : Type 0 where
+    integer : ℤ → Datum
+    atom : List ℕ → Datum
+    tuple : Items → Datum
+    map : Entries → Datum
+    nil : Datum
+    cons : Datum → Datum → Datum
+    binary : List ℕ → Datum
+
+  -- the elements of a tuple, from the left
+  pub data Items : Type 0 where
+    no_items : Items
+    item : Datum → Items → Items
+
+  -- the pairs of a map, by rising key
+  pub data Entries : Type 0 where
+    no_entries : Entries
+    entry : Datum → Datum → Entries → Entries
+
+-- a list of terms as the elements of a tuple
+abbrev pub items_of : List Datum → Items
+items_of [] = no_items
+items_of (d ∷ ds) = item d (items_of ds)
+
+-- the keys of a map, as they rise
+abbrev pub entry_keys : Entries → List Datum
+entry_keys no_entries = []
+entry_keys (entry k v es) = k ∷ entry_keys es
+
+-- the values, in the order of their keys
+abbrev pub entry_values : Entries → List Datum
+entry_values no_entries = []
+entry_values (entry k v es) = v ∷ entry_values es
+
+-- a list of pairs as those of a map
+abbrev pub entries_of : List (Datum × Datum) → Entries
+entries_of [] = no_entries
+entries_of (e ∷ es) = entry e.0 e.1 (entries_of es)
+
+-- elements followed by a tail
+abbrev pub cells : List Datum → Datum → Datum
+cells [] tail = tail
+cells (d ∷ ds) tail = cons d (cells ds tail)
+
+-- how many elements a tuple has
+abbrev pub item_count : Items → ℕ
+item_count no_items = 0
+item_count (item d ds) = suc (item_count ds)
+
+-- how many pairs a map has
+abbrev pub entry_count : Entries → ℕ
+entry_count no_entries = 0
+entry_count (entry k v es) = suc (entry_count es)
+
+-- how many elements stand before a list's tail
+abbrev pub cell_count : Datum → ℕ
+cell_count (cons head tail) = suc (cell_count tail)
+cell_count d = 0
+
+-- neither [] nor a cell
+abbrev pub IsNoList : Datum → Type 0
+IsNoList nil = ⊥
+IsNoList (cons head tail) = ⊥
+IsNoList d = Unit {0}

@@ -1,0 +1,10 @@
+pub mod Datum
+pub mod DatumCode
+pub mod Order
+pub mod OrderLaws
+pub mod Limits
+pub mod Term
+pub mod TermFalls
+pub mod ListParts
+pub mod View
+pub mod Fault

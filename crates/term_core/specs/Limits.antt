@@ -1,0 +1,74 @@
+-- How deep a term is, and what makes a datum a term: whole numbers of 64 bits, characters that are Unicode
+-- scalar values, bytes, rising map keys, and the limits of this engine.
+use Rattle.std.specs.Prelude.{ℕ, suc, max, ◌<◌, ◌≤◌, List, [], ◌∷◌, length, FitsSigned}
+use Rattle.std.specs.Int.{w64}
+use Rattle.std.specs.Char.{IsScalar}
+use Rattle.term_core.specs.Datum.{Datum, Items, Entries, item_count, entry_count, cell_count}
+use Rattle.term_core.specs.Datum.Datum.{integer, atom, tuple, map, nil, cons, binary}
+use Rattle.term_core.specs.Datum.Items.{no_items, item}
+use Rattle.term_core.specs.Datum.Entries.{no_entries, entry}
+use Rattle.term_core.specs.Order.{IsBelowFirst}
+use Rattle.term_core.specs.declared.TheConstants.{MAX_DEPTH, MAX_CHARACTERS, MAX_TUPLE, MAX_MAP, MAX_LIST, MAX_BINARY}
+
+abbrev mutual
+  -- 1 for what holds nothing, else one more than the greatest depth of its elements, tail, keys and values
+  pub depth : Datum → ℕ
+  depth (integer z) = 1
+  depth (atom cs) = 1
+  depth (tuple ds) = suc (items_depth ds)
+  depth (map es) = suc (entries_depth es)
+  depth nil = 1
+  depth (cons head tail) = suc (max (depth head) (tail_depth tail))
+  depth (binary bs) = 1
+
+  pub items_depth : Items → ℕ
+  items_depth no_items = 0
+  items_depth (item d ds) = max (depth d) (items_depth ds)
+
+  pub entries_depth : Entries → ℕ
+  entries_depth no_entries = 0
+  entries_depth (entry k v es) = max (depth k) (max (depth v) (entries_depth es))
+
+  -- the greatest depth among the elements that go on in a tail, and the tail at their end
+  pub tail_depth : Datum → ℕ
+  tail_depth (integer z) = 1
+  tail_depth (atom cs) = 1
+  tail_depth (tuple ds) = suc (items_depth ds)
+  tail_depth (map es) = suc (entries_depth es)
+  tail_depth nil = 1
+  tail_depth (cons head tail) = max (depth head) (tail_depth tail)
+  tail_depth (binary bs) = 1
+
+-- each a Unicode scalar value
+abbrev pub AreScalars : List ℕ → Type 0
+AreScalars [] = Unit {0}
+AreScalars (c ∷ cs) = IsScalar c × AreScalars cs
+
+abbrev pub AreBytes : List ℕ → Type 0
+AreBytes [] = Unit {0}
+AreBytes (b ∷ bs) = (b < 256) × AreBytes bs
+
+abbrev mutual
+  -- each part is a term but for its depth
+  pub IsSound : Datum → Type 0
+  IsSound (integer z) = FitsSigned w64 z
+  IsSound (atom cs) = (length cs ≤ MAX_CHARACTERS) × AreScalars cs
+  IsSound (tuple ds) = (item_count ds ≤ MAX_TUPLE) × AreSound ds
+  IsSound (map es) = (entry_count es ≤ MAX_MAP) × ArePairsSound es
+  IsSound nil = Unit {0}
+  IsSound (cons head tail) = (cell_count (cons head tail) ≤ MAX_LIST) × IsSound head × IsSound tail
+  IsSound (binary bs) = (length bs ≤ MAX_BINARY) × AreBytes bs
+
+  pub AreSound : Items → Type 0
+  AreSound no_items = Unit {0}
+  AreSound (item d ds) = IsSound d × AreSound ds
+
+  -- and the keys rise
+  pub ArePairsSound : Entries → Type 0
+  ArePairsSound no_entries = Unit {0}
+  ArePairsSound (entry k v es) = IsSound k × IsSound v × IsBelowFirst k es × ArePairsSound es
+
+-- a term: sound, and at most 255 deep
+pub record IsTerm (d : Datum) : Type 0 where
+  pub sound : IsSound d
+  pub shallow : depth d ≤ MAX_DEPTH

@@ -1,0 +1,41 @@
+-- What the parts of a term are seen as.
+use Rattle.std.specs.Prelude.{ℕ, ◌≡◌, ◌<◌, List, length, Option, Some, None}
+use Rattle.term_core.specs.Datum.{Datum, items_of, entries_of, cells, IsNoList}
+use Rattle.term_core.specs.Datum.Datum.{integer, atom, tuple, map, nil, binary}
+use Rattle.term_core.specs.Limits.{depth}
+use Rattle.term_core.specs.declared.term.Shape.{Shape}
+use Rattle.term_core.specs.declared.term.Shape.TheVariants as shape
+
+-- a tail, [] where there is none
+abbrev pub tail_of : Option Datum → Datum
+tail_of None = nil
+tail_of (Some d) = d
+
+-- the term that a shape stands for
+abbrev pub datum_of : {A : Type 0} → Shape A → Datum
+datum_of (shape.Integer z) = integer z
+datum_of shape.Nil = nil
+datum_of (shape.Atom b) = atom b.value.items
+datum_of (shape.Tuple d b) = tuple (items_of b.value.items)
+datum_of (shape.List d b) = cells b.value.elements.items (tail_of b.value.tail)
+datum_of (shape.Map d b) = map (entries_of b.value.items)
+datum_of (shape.Binary b) = binary b.value.items
+
+-- a term whose tail is no list
+abbrev pub IsTail : Option Datum → Type 0
+IsTail None = Unit {0}
+IsTail (Some d) = IsNoList d
+
+-- what is kept of a list that is not empty
+abbrev pub IsList : ℕ → List Datum → Option Datum → Type 0
+IsList kept elements tail = (kept ≡ depth (cells elements (tail_of tail))) × (0 < length elements) × IsTail tail
+
+-- A list has an element and no list for a tail, and each depth that is kept is right.
+abbrev pub IsKept : {A : Type 0} → Shape A → Type 0
+IsKept (shape.Integer z) = Unit {0}
+IsKept shape.Nil = Unit {0}
+IsKept (shape.Atom b) = Unit {0}
+IsKept (shape.Tuple d b) = d ≡ depth (tuple (items_of b.value.items))
+IsKept (shape.List d b) = IsList d b.value.elements.items b.value.tail
+IsKept (shape.Map d b) = d ≡ depth (map (entries_of b.value.items))
+IsKept (shape.Binary b) = Unit {0}

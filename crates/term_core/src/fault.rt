@@ -1,0 +1,40 @@
+//! Why a term can't be made.
+use thiserror::Error;
+
+/// Why a term can't be made.
+#[derive(Clone, Copy, Debug, PartialEq, Eq, Error)]
+pub enum Fault {
+    /// No memory was given.
+    #[error("out of memory")]
+    Memory,
+    /// The term would be deeper than `MAX_DEPTH`.
+    #[error("the term is too deep")]
+    TooDeep,
+    /// An atom, a tuple, a map, a list or a binary would be longer than its limit.
+    #[error("the term is too long")]
+    TooLong,
+    /// A key stands twice in a map.
+    #[error("a key stands twice in a map")]
+    DuplicateKey,
+}
+
+impl Fault {
+    /// The number that the fault has in what programs print.
+    pub const fn number(self) -> u8 {
+        match self {
+            Fault::Memory => 1,
+            Fault::TooDeep => 2,
+            Fault::TooLong => 3,
+            Fault::DuplicateKey => 4,
+        }
+    }
+}
+
+/// A value that was moved into a call that refused it, and why.
+#[derive(Debug, Drop)]
+pub struct Refused<T> {
+    /// What the call was given.
+    pub value: T,
+    /// Why it was refused.
+    pub fault: Fault,
+}

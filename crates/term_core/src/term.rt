@@ -1,0 +1,462 @@
+//! The type of terms.
+ghost use Rattle.std.specs.Prelude.{◌≡◌, ◌<◌, ◌≤◌, length, IfOk, IfErr};
+ghost use Rattle.std.specs.Str.{chars};
+ghost use Rattle.term_core.specs.Datum.{items_of, cells as cells_of, cell_count};
+ghost use Rattle.term_core.specs.Datum.Datum.{nil};
+ghost use Rattle.term_core.specs.Term.{tail_of, datum_of, IsTail, IsList, IsKept};
+ghost use Rattle.term_core.specs.ListParts.{HandsBack};
+ghost use Rattle.term_core.specs.Fault.{IsFault, IsDepthOf};
+ghost use Rattle.term_core.specs.Limits.{IsTerm, IsSound, tail_depth, depth as depth_of, items_depth, AreSound, AreBytes, AreScalars};
+
+use crate::fault::{Fault, Refused};
+use crate::view::View;
+use crate::{MAX_BINARY, MAX_CHARACTERS, MAX_DEPTH, MAX_LIST, MAX_TUPLE};
+use std::alloc::{AllocError, Allocator, Global};
+use std::marker::Model;
+
+/// A term: an integer, an atom, a tuple, a list, a map or a binary.
+#[cycle(term)]
+#[derive(Drop)]
+pub struct Term<A: Allocator = Global> {
+    shape: Shape<A>,
+}
+
+/// What a term is, each kind that holds terms with its depth.
+#[cycle(term)]
+#[derive(Drop)]
+enum Shape<A: Allocator> {
+    Integer(i64),
+    Nil,
+    Atom(Box<Vec<char, A>, A>),
+    Tuple(u8, Box<Vec<Term<A>, A>, A>),
+    List(u8, Box<Cells<A>, A>),
+    Map(u8, Box<Vec<(Term<A>, Term<A>), A>, A>),
+    Binary(Box<Vec<u8, A>, A>),
+}
+
+/// The elements of a list that is not empty, and its tail where that is no list.
+#[cycle(term)]
+#[derive(Drop)]
+struct Cells<A: Allocator> {
+    elements: Vec<Term<A>, A>,
+    tail: Option<Term<A>>,
+}
+
+/// What a list is made of, as a refused call hands it back.
+#[derive(Drop)]
+pub struct ListParts<A: Allocator = Global> {
+    /// The elements.
+    pub elements: Vec<Term<A>, A>,
+    /// What follows them.
+    pub tail: Option<Term<A>>,
+}
+
+impl<A: Allocator> Model for Term<A> {
+    ghost use Rattle.term_core.specs.Datum.{Datum};
+    ghost use Rattle.term_core.specs.DatumCode.{datum_code};
+
+    ghost Value = { Datum };
+
+    ghost coded = { datum_code };
+
+    ghost use Rattle.term_core.specs.Term.{datum_of, IsKept};
+    ghost use Rattle.term_core.specs.Limits.{IsTerm, depth};
+
+    ghost view = { λ t. datum_of t.shape };
+
+    ghost invariant = { λ t. IsTerm (datum_of t.shape) × IsKept t.shape };
+
+    ghost size = { depth };
+
+    ghost use Rattle.term_core.specs.TermFalls.{parts_fall};
+
+    ghost size_decreases = { λ t h. parts_fall A.Allocator t.shape h.1 };
+}
+
+/// A value put into a box, or handed back for want of memory.
+fn boxed<T, A: Allocator>(alloc: A, value: T) -> Result<Box<T, A>, Refused<T>>
+    ensures ok { IfOk result (λ b. b.value ≡ value) }
+    ensures refused { IfErr result (λ r. (r.value ≡ value) × (r.fault ≡ Fault.Memory)) }
+{
+    Box::new(alloc, value).map_err(|failed| Refused {
+        value: failed.value,
+        fault: Fault::Memory,
+    })
+}
+
+/// How many characters a text has.
+#[tactic(auto, using(std::proofs::lemmas::Str::chars_from_encodes))]
+fn text_length(text: &str) -> usize
+    ensures { result ≡ length (chars text.now) }
+{
+    text.chars().count()
+}
+
+/// The characters of a text.
+#[tactic(auto, using(std::proofs::lemmas::Str::chars_from_encodes))]
+fn characters_of<A: Allocator>(alloc: A, text: &str) -> Result<Vec<char, A>, AllocError>
+    ensures { IfOk result (λ v. v.items ≡ chars text.now) }
+{
+    text.chars().collect(alloc)
+}
+
+/// How many characters these are.
+fn character_count(characters: &[char]) -> usize
+    ensures count { result ≡ length characters.now }
+    ensures sound { AreScalars characters.now }
+{
+    let mut count = 0;
+    for character in characters {
+        // Read for the proof, which knows a character that was read to be a scalar value.
+        let _read = *character;
+        count += 1;
+    }
+    count
+}
+
+/// How many bytes these are.
+fn byte_count(bytes: &[u8]) -> usize
+    ensures count { result ≡ length bytes.now }
+    ensures sound { AreBytes bytes.now }
+{
+    bytes.len()
+}
+
+/// The greatest depth among these terms, 0 where there is none.
+fn deepest<A: Allocator>(terms: &[Term<A>]) -> u8
+    ensures value { result ≡ items_depth (items_of terms.now) }
+    ensures sound { AreSound (items_of terms.now) }
+{
+    let mut deepest = 0;
+    for term in terms {
+        deepest = deepest.max(term.depth());
+    }
+    deepest
+}
+
+/// How deep a list's elements are that go on in its tail, and the tail at their end.
+fn levels_of_tail<A: Allocator>(tail: &Option<Term<A>>) -> u8
+    ensures value { result ≡ tail_depth (tail_of tail.now) }
+    ensures sound { IsSound (tail_of tail.now) }
+{
+    let Some(tail) = tail else {
+        return 1;
+    };
+    match &tail.shape {
+        Shape::List(depth, _) => *depth - 1,
+        _ => tail.depth(),
+    }
+}
+
+/// How many elements go on in a list's tail.
+fn length_of_tail<A: Allocator>(tail: &Option<Term<A>>) -> usize
+    ensures value { result ≡ cell_count (tail_of tail.now) }
+    ensures within { result ≤ MAX_LIST }
+{
+    let Some(tail) = tail else {
+        return 0;
+    };
+    match &tail.shape {
+        Shape::List(_, cells) => cells.elements.len(),
+        _ => 0,
+    }
+}
+
+/// How deep the list of one or more elements and a tail is, or why there is no such list.
+fn list_depth<A: Allocator>(elements: &[Term<A>], tail: &Option<Term<A>>) -> Result<u8, Fault>
+    requires { 0 < length elements.now }
+    ensures ok { IfOk result (λ d. IsDepthOf d (cells_of elements.now (tail_of tail.now))) }
+    ensures refused { IfErr result (λ fault. IsFault fault (cells_of elements.now (tail_of tail.now))) }
+{
+    let deepest = deepest(elements).max(levels_of_tail(tail));
+    if deepest >= MAX_DEPTH {
+        return Err(Fault::TooDeep);
+    }
+    if elements.len() > MAX_LIST - length_of_tail(tail) {
+        return Err(Fault::TooLong);
+    }
+    Ok(deepest + 1)
+}
+
+/// The list of one or more elements and a tail that is no list, within its limits.
+fn with_tail<A: Allocator>(
+    alloc: A,
+    depth: u8,
+    elements: Vec<Term<A>, A>,
+    tail: Option<Term<A>>,
+) -> Result<Term<A>, Refused<ListParts<A>>>
+    requires some { 0 < length elements.items }
+    requires tail { IsTail tail }
+    requires within { IsTerm (cells_of elements.items (tail_of tail)) }
+    requires depth { depth ≡ depth_of (cells_of elements.items (tail_of tail)) }
+    ensures ok { IfOk result (λ t. t ≡ cells_of elements.items (tail_of tail)) }
+    ensures refused { IfErr result (λ r. HandsBack r.value elements.items tail × (r.fault ≡ Fault.Memory)) }
+{
+    match boxed(alloc, Cells { elements, tail }) {
+        Ok(cells) => Ok(Term {
+            shape: Shape::List(depth, cells),
+        }),
+        Err(refused) => Err(Refused {
+            value: ListParts {
+                elements: refused.value.elements,
+                tail: refused.value.tail,
+            },
+            fault: refused.fault,
+        }),
+    }
+}
+
+/// The list of some elements and then those of another list, within its limits.
+fn prepended<A: Allocator>(
+    depth: u8,
+    mut elements: Vec<Term<A>, A>,
+    kept: u8,
+    mut cells: Box<Cells<A>, A>,
+) -> Result<Term<A>, Refused<ListParts<A>>>
+    requires some { 0 < length elements.items }
+    requires list { IsList kept cells.value.elements.items cells.value.tail }
+    requires list_within { IsTerm (cells_of cells.value.elements.items (tail_of cells.value.tail)) }
+    requires within { IsTerm (cells_of elements.items (cells_of cells.value.elements.items (tail_of cells.value.tail))) }
+    requires depth { depth ≡ depth_of (cells_of elements.items (cells_of cells.value.elements.items (tail_of cells.value.tail))) }
+    ensures ok { IfOk result (λ t. t ≡ cells_of elements.items (cells_of cells.value.elements.items (tail_of cells.value.tail))) }
+    ensures refused { IfErr result (λ r. HandsBack r.value elements.items (Some (cells_of cells.value.elements.items (tail_of cells.value.tail))) × (r.fault ≡ Fault.Memory)) }
+{
+    let held = &mut *cells;
+    match elements.append(&mut held.elements) {
+        Ok(()) => {
+            held.elements = elements;
+            Ok(Term {
+                shape: Shape::List(depth, cells),
+            })
+        }
+        Err(AllocError) => Err(Refused {
+            value: ListParts {
+                elements,
+                tail: Some(Term {
+                    shape: Shape::List(kept, cells),
+                }),
+            },
+            fault: Fault::Memory,
+        }),
+    }
+}
+
+/// The list of one or more elements and a tail of this shape, within its limits.
+fn joined<A: Allocator>(
+    alloc: A,
+    depth: u8,
+    elements: Vec<Term<A>, A>,
+    tail: Shape<A>,
+) -> Result<Term<A>, Refused<ListParts<A>>>
+    requires some { 0 < length elements.items }
+    requires kept { IsKept tail }
+    requires tail_within { IsTerm (datum_of tail) }
+    requires within { IsTerm (cells_of elements.items (datum_of tail)) }
+    requires depth { depth ≡ depth_of (cells_of elements.items (datum_of tail)) }
+    ensures ok { IfOk result (λ t. t ≡ cells_of elements.items (datum_of tail)) }
+    ensures refused { IfErr result (λ r. HandsBack r.value elements.items (Some (datum_of tail)) × (r.fault ≡ Fault.Memory)) }
+{
+    match tail {
+        Shape::Nil => with_nil(alloc, depth, elements),
+        Shape::List(kept, cells) => prepended(depth, elements, kept, cells),
+        shape => with_tail(alloc, depth, elements, Some(Term { shape })),
+    }
+}
+
+/// The list of one or more elements and what follows them, within its limits.
+fn joined_to<A: Allocator>(
+    alloc: A,
+    depth: u8,
+    elements: Vec<Term<A>, A>,
+    tail: Option<Term<A>>,
+) -> Result<Term<A>, Refused<ListParts<A>>>
+    requires some { 0 < length elements.items }
+    requires depth { IsDepthOf depth (cells_of elements.items (tail_of tail)) }
+    ensures ok { IfOk result (λ t. t ≡ cells_of elements.items (tail_of tail)) }
+    ensures refused { IfErr result (λ r. HandsBack r.value elements.items tail × (r.fault ≡ Fault.Memory)) }
+{
+    match tail {
+        Some(tail) => joined(alloc, depth, elements, tail.shape),
+        None => with_tail(alloc, depth, elements, None),
+    }
+}
+
+/// The list of one or more elements that `[]` was given for as the tail.
+fn with_nil<A: Allocator>(
+    alloc: A,
+    depth: u8,
+    elements: Vec<Term<A>, A>,
+) -> Result<Term<A>, Refused<ListParts<A>>>
+    requires some { 0 < length elements.items }
+    requires within { IsTerm (cells_of elements.items nil) }
+    requires depth { depth ≡ depth_of (cells_of elements.items nil) }
+    ensures ok { IfOk result (λ t. t ≡ cells_of elements.items nil) }
+    ensures refused { IfErr result (λ r. HandsBack r.value elements.items (Some nil) × (r.fault ≡ Fault.Memory)) }
+{
+    match with_tail(alloc, depth, elements, None) {
+        Ok(list) => Ok(list),
+        Err(refused) => {
+            let Refused { value, fault } = refused;
+            let ListParts { elements, tail: _ } = value;
+            let tail = Some(Term::nil());
+            Err(Refused {
+                value: ListParts { elements, tail },
+                fault,
+            })
+        }
+    }
+}
+
+impl<A: Allocator> Term<A> {
+    ghost use Rattle.std.specs.Prelude.{◌≡◌, IfOk, IfErr};
+    ghost use Rattle.term_core.specs.Datum.{items_of, cells as cells_of};
+    ghost use Rattle.term_core.specs.Term.{tail_of};
+    ghost use Rattle.term_core.specs.ListParts.{HandsBack};
+    ghost use Rattle.term_core.specs.Datum.Datum.{integer, nil, atom, binary, tuple};
+    ghost use Rattle.term_core.specs.Fault.{IsFault};
+    ghost use Rattle.term_core.specs.View.{shown, IsSplit};
+    ghost use Rattle.term_core.specs.Limits.{IsTerm, depth};
+
+    /// An integer.
+    pub fn int(value: i64) -> Self
+        ensures { result ≡ integer value }
+    {
+        Term {
+            shape: Shape::Integer(value),
+        }
+    }
+
+    /// `[]`.
+    pub fn nil() -> Self
+        ensures { result ≡ nil }
+    {
+        Term { shape: Shape::Nil }
+    }
+
+    /// The atom of this text's characters. More than `MAX_CHARACTERS` are refused.
+    pub fn atom(alloc: A, text: &str) -> Result<Self, Fault>
+    where
+        A: Copy,
+        ensures ok { IfOk result (λ t. t ≡ atom (chars text.now)) }
+        ensures refused { IfErr result (λ fault. IsFault fault (atom (chars text.now))) }
+    {
+        if text_length(text) > MAX_CHARACTERS {
+            return Err(Fault::TooLong);
+        }
+        let Ok(characters) = characters_of(alloc, text) else {
+            return Err(Fault::Memory);
+        };
+        Term::from_characters(alloc, characters).map_err(|refused| refused.fault)
+    }
+
+    /// The atom of these characters. More than `MAX_CHARACTERS` are refused.
+    pub fn from_characters(
+        alloc: A,
+        characters: Vec<char, A>,
+    ) -> Result<Self, Refused<Vec<char, A>>>
+        ensures ok { IfOk result (λ t. t ≡ atom characters.items) }
+        ensures refused { IfErr result (λ r. (r.value.items ≡ characters.items) × IsFault r.fault (atom characters.items)) }
+    {
+        if character_count(characters.as_slice()) > MAX_CHARACTERS {
+            return Err(Refused {
+                value: characters,
+                fault: Fault::TooLong,
+            });
+        }
+        let characters = boxed(alloc, characters)?;
+        Ok(Term {
+            shape: Shape::Atom(characters),
+        })
+    }
+
+    /// A binary. More than `MAX_BINARY` bytes are refused.
+    pub fn binary(alloc: A, bytes: Vec<u8, A>) -> Result<Self, Refused<Vec<u8, A>>>
+        ensures ok { IfOk result (λ t. t ≡ binary bytes.items) }
+        ensures refused { IfErr result (λ r. (r.value.items ≡ bytes.items) × IsFault r.fault (binary bytes.items)) }
+    {
+        if byte_count(bytes.as_slice()) > MAX_BINARY {
+            return Err(Refused {
+                value: bytes,
+                fault: Fault::TooLong,
+            });
+        }
+        let bytes = boxed(alloc, bytes)?;
+        Ok(Term {
+            shape: Shape::Binary(bytes),
+        })
+    }
+
+    /// A tuple of these elements. More than `MAX_TUPLE` are refused, and a tuple deeper than `MAX_DEPTH`.
+    pub fn tuple(alloc: A, elements: Vec<Term<A>, A>) -> Result<Self, Refused<Vec<Term<A>, A>>>
+        ensures ok { IfOk result (λ t. t ≡ tuple (items_of elements.items)) }
+        ensures refused { IfErr result (λ r. (r.value.items ≡ elements.items) × IsFault r.fault (tuple (items_of elements.items))) }
+    {
+        let deepest = deepest(elements.as_slice());
+        if deepest >= MAX_DEPTH {
+            return Err(Refused {
+                value: elements,
+                fault: Fault::TooDeep,
+            });
+        }
+        if elements.len() > MAX_TUPLE {
+            return Err(Refused {
+                value: elements,
+                fault: Fault::TooLong,
+            });
+        }
+        let elements = boxed(alloc, elements)?;
+        Ok(Term {
+            shape: Shape::Tuple(deepest + 1, elements),
+        })
+    }
+
+    /// The list of these elements followed by a tail. A tail that is a list is joined on; without elements it is the
+    /// tail, or `[]` where there is none. More than `MAX_LIST` elements are refused, and a list deeper than `MAX_DEPTH`.
+    pub fn list(
+        alloc: A,
+        elements: Vec<Term<A>, A>,
+        tail: Option<Term<A>>,
+    ) -> Result<Self, Refused<ListParts<A>>>
+        ensures ok { IfOk result (λ t. t ≡ cells_of elements.items (tail_of tail)) }
+        ensures refused { IfErr result (λ r. HandsBack r.value elements.items tail × IsFault r.fault (cells_of elements.items (tail_of tail))) }
+    {
+        if elements.is_empty() {
+            return Ok(tail.unwrap_or(Term::nil()));
+        }
+        match list_depth(elements.as_slice(), &tail) {
+            Ok(depth) => joined_to(alloc, depth, elements, tail),
+            Err(fault) => Err(Refused {
+                value: ListParts { elements, tail },
+                fault,
+            }),
+        }
+    }
+
+    /// How deep the term is, from 1 to 255.
+    pub fn depth(&self) -> u8
+        ensures value { result ≡ depth self.now }
+        ensures within { IsTerm self.now }
+    {
+        match &self.shape {
+            Shape::Integer(_) | Shape::Nil | Shape::Atom(_) | Shape::Binary(_) => 1,
+            Shape::Tuple(depth, _) | Shape::List(depth, _) | Shape::Map(depth, _) => *depth,
+        }
+    }
+
+    /// The term taken apart one level down.
+    pub fn view(&self) -> View<'_, A>
+        ensures value { shown result ≡ self.now }
+        ensures split { IsSplit result }
+        ensures within { IsTerm self.now }
+    {
+        match &self.shape {
+            Shape::Integer(value) => View::Integer(*value),
+            Shape::Nil => View::Nil,
+            Shape::Atom(characters) => View::Atom(characters.as_slice()),
+            Shape::Tuple(_, elements) => View::Tuple(elements.as_slice()),
+            Shape::List(_, cells) => View::List(cells.elements.as_slice(), cells.tail.as_ref()),
+            Shape::Map(_, pairs) => View::Map(pairs.as_slice()),
+            Shape::Binary(bytes) => View::Binary(bytes.as_slice()),
+        }
+    }
+}
