@@ -1,3 +1,4 @@
+pub mod HashLemmas
 pub mod LimitLemmas
 pub mod RowLemmas
 pub mod ViewLemmas

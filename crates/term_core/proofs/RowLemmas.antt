@@ -20,7 +20,7 @@ then_first Equal p h = absurd (h refl)
 then_first Greater p h = refl
 
 -- a row from a place on
-drop_at : {X : Type 0} (xs : List X) (i : ℕ) (x : X) → i < length xs → x ≡ get_or xs i x → drop i xs ≡ x ∷ drop (suc i) xs
+pub drop_at : {X : Type 0} (xs : List X) (i : ℕ) (x : X) → i < length xs → x ≡ get_or xs i x → drop i xs ≡ x ∷ drop (suc i) xs
 drop_at [] i x h e = absurd (omega arith)
 drop_at (y ∷ xs) zero x h e = ap (λ z. z ∷ xs) (sym e)
 drop_at (y ∷ xs) (suc i) x h e = drop_at xs i x (omega arith) e

@@ -2,6 +2,7 @@ pub mod Datum
 pub mod DatumCode
 pub mod Order
 pub mod OrderLaws
+pub mod KeyHash
 pub mod Limits
 pub mod Term
 pub mod TermFalls

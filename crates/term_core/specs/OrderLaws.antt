@@ -3,7 +3,8 @@
 use Rattle.std.proofs.Common.{◌≡◌, ◌≢◌, ℕ, ◌<◌, ℤ, pos, negsuc, ◌<ℤ◌, List, [], ◌∷◌, refl, ap, sym, ◌∙◌, subst, arith, inl, inr, ◌⊎◌}
 use Rattle.std.specs.declared.cmp.Ordering.{Ordering}
 use Rattle.std.specs.declared.cmp.Ordering.TheVariants.{Less, Equal, Greater}
-use Rattle.std.specs.Ordering.{nat_cmp, int_cmp, ordering_then, MatchOrdering, on}
+use Rattle.std.specs.Prelude.{IsTrue, true}
+use Rattle.std.specs.Ordering.{nat_cmp, int_cmp, ordering_then, MatchOrdering, on, eq_by_cmp, is_eq}
 use Rattle.std.specs.Cmp.{IsTotalOrder, nat_cmp_is, int_cmp_is}
 use Rattle.std.specs.Cmp.Lexicographic.{slice_cmp}
 use Rattle.std.proofs.lemmas.Int.{ints}
@@ -282,3 +283,15 @@ datum_cmp-kinds nil nil h = absurd (h refl)
 datum_cmp-kinds (cons a d) (cons b e) h = absurd (h refl)
 datum_cmp-kinds (binary a) (binary b) h = absurd (h refl)
 datum_cmp-kinds a b h = refl
+
+-- terms that the order does not tell apart are the same
+pub datum_cmp-equal : (a b : Datum) → datum_cmp a b ≡ Equal → a ≡ b
+datum_cmp-equal a b e = rw e at (datum_cmp-says a b)
+
+equal-from : (o : Ordering) → is_eq o ≡ true → o ≡ Equal
+equal-from Less h = cc
+equal-from Equal h = refl
+equal-from Greater h = cc
+
+pub datum_eq-same : (a b : Datum) → IsTrue (eq_by_cmp datum_cmp a b) → a ≡ b
+datum_eq-same a b h = datum_cmp-equal a b (equal-from (datum_cmp a b) h)

@@ -2,6 +2,7 @@
 #![tactic(auto)]
 
 mod fault;
+mod hash;
 mod order;
 mod term;
 mod view;

@@ -11,6 +11,7 @@ ghost use Rattle.term_core.specs.Limits.{IsTerm, IsSound, tail_depth, depth as d
 use crate::fault::{Fault, Refused};
 use crate::view::View;
 use crate::{MAX_BINARY, MAX_CHARACTERS, MAX_DEPTH, MAX_LIST, MAX_TUPLE};
+
 mod copy;
 
 use std::alloc::{AllocError, Allocator, Global};

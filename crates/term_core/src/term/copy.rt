@@ -3,9 +3,8 @@ ghost use Rattle.std.specs.Prelude.{◌≡◌, IfOk};
 ghost use Rattle.term_core.specs.Limits.{IsTerm};
 ghost use Rattle.term_core.specs.Term.{datum_of, IsKept, tail_of, IsTail};
 
-use std::alloc::{AllocError, Allocator};
-
 use super::{Cells, Shape, Term};
+use std::alloc::{AllocError, Allocator};
 
 impl<A: Allocator + Copy> Term<A> {
     /// A copy of the term, of which nothing is shared.
@@ -85,7 +84,10 @@ fn copy_pairs<A: Allocator + Copy>(
 
 /// A copy of a list's tail.
 #[cycle(copy)]
-fn copy_tail<A: Allocator + Copy>(alloc: A, tail: &Option<Term<A>>) -> Result<Option<Term<A>>, AllocError>
+fn copy_tail<A: Allocator + Copy>(
+    alloc: A,
+    tail: &Option<Term<A>>,
+) -> Result<Option<Term<A>>, AllocError>
     requires { IsTail tail.now }
     ensures { IfOk result (λ t. t ≡ tail.now) }
 {

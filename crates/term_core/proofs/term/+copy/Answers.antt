@@ -7,31 +7,31 @@ use Rattle.term_core.proofs.term.+copy.Goals as goal
 
 pub copy::copy_all-copy-requires : goal.copy::copy_all-copy-requires
 copy::copy_all-copy-requires g t c κs within =
-  let there : c.loop-i.i < length c.args.terms.now = omega arith in
-  let deep = depth-element c.args.terms.now c.loop-i.i c.index-terms-i.result there c.index-terms-i.is in (omega arith, within)
+    let there : c.loop-i.i < length c.args.terms.now = omega arith in
+    let deep = depth-element c.args.terms.now c.loop-i.i c.index-terms-i.result there c.index-terms-i.is in (omega arith, within)
 
 pub copy::copy_pairs-copy-requires : goal.copy::copy_pairs-copy-requires
 copy::copy_pairs-copy-requires g t c κs within =
-  let there : c.loop-i.i < length c.args.pairs.now = omega arith in
-  let deep = depth-entry c.args.pairs.now c.loop-i.i c.index-pairs-i.result there c.index-pairs-i.is in
-  let same = ap (λ p. depth p.0) c.index-pairs-i.is in (omega arith, within)
+    let there : c.loop-i.i < length c.args.pairs.now = omega arith in
+    let deep = depth-entry c.args.pairs.now c.loop-i.i c.index-pairs-i.result there c.index-pairs-i.is in
+    let same = ap (λ p. depth p.0) c.index-pairs-i.is in (omega arith, within)
 
 pub copy::copy_pairs-copy-requires-in-loop-i : goal.copy::copy_pairs-copy-requires-in-loop-i
 copy::copy_pairs-copy-requires-in-loop-i g t c κs within =
-  let there : c.loop-i.i < length c.args.pairs.now = omega arith in
-  let deep = depth-entry c.args.pairs.now c.loop-i.i c.index-pairs-i-in-loop-i.result there c.index-pairs-i-in-loop-i.is in
-  let same = ap (λ p. depth p.1) c.index-pairs-i-in-loop-i.is in (omega arith, within)
+    let there : c.loop-i.i < length c.args.pairs.now = omega arith in
+    let deep = depth-entry c.args.pairs.now c.loop-i.i c.index-pairs-i-in-loop-i.result there c.index-pairs-i-in-loop-i.is in
+    let same = ap (λ p. depth p.1) c.index-pairs-i-in-loop-i.is in (omega arith, within)
 
 pub copy::copy_shape-copy_all-requires-in-List : goal.copy::copy_shape-copy_all-requires-in-List
 copy::copy_shape-copy_all-requires-in-List g t c κs within =
-  let kept = rw c.in-List.is at c.requires.kept in
-  let whole = ap (λ s. depth (datum_of s)) c.in-List.is in
-  let deep = depth-cells c.in-List.cells.value.elements.items (tail_of c.in-List.cells.value.tail) kept.1 in
-  rw (c.as_slice-in-List.ensures.value, c.deref-in-List.ensures) (omega arith, within)
+    let kept = rw c.in-List.is at c.requires.kept in
+    let whole = ap (λ s. depth (datum_of s)) c.in-List.is in
+    let deep = depth-cells c.in-List.cells.value.elements.items (tail_of c.in-List.cells.value.tail) kept.1 in
+    rw (c.as_slice-in-List.ensures.value, c.deref-in-List.ensures) (omega arith, within)
 
 pub copy::copy_shape-copy_tail-requires : goal.copy::copy_shape-copy_tail-requires
 copy::copy_shape-copy_tail-requires g t c κs within =
-  let kept = rw c.in-List.is at c.requires.kept in
-  let whole = ap (λ s. depth (datum_of s)) c.in-List.is in
-  let deep = depth-cells c.in-List.cells.value.elements.items (tail_of c.in-List.cells.value.tail) kept.1 in
-  rw c.deref-in-List-2.ensures (omega arith, (within, kept.2))
+    let kept = rw c.in-List.is at c.requires.kept in
+    let whole = ap (λ s. depth (datum_of s)) c.in-List.is in
+    let deep = depth-cells c.in-List.cells.value.elements.items (tail_of c.in-List.cells.value.tail) kept.1 in
+    rw c.deref-in-List-2.ensures (omega arith, (within, kept.2))
