@@ -1,0 +1,32 @@
+#!/usr/bin/env bash
+# Times `ets_tool run`, as `rt run` builds it, over inputs that are made here: objects {N,a} in growing numbers, a term
+# 255 deep, a list of a million integers, a map of 65,535 pairs in falling order. Time and memory are to be linear.
+# usage: bench/run.sh [PROGRAM]
+set -eu
+top=$(cd "$(dirname "$0")/.." && pwd)
+program=${1:-$top/crates/ets_tool/out/ets_tool}
+[ -x "$program" ] || { echo "bench/run.sh: no program at $program: build it by 'cd crates/ets_tool && rt run </dev/null'" >&2; exit 2; }
+work=$(mktemp -d)
+trap 'rm -rf "$work"' EXIT
+
+objects() {
+  awk -v n="$1" 'BEGIN { print "[{{'\''$1'\'','\''$2'\''},[],['\''$1'\'']}]."; for (i = 1; i <= n; i++) print "{" i ",a}." }'
+}
+deep() {
+  awk 'BEGIN { print "[{'\''$1'\'',[],['\''$1'\'']}]."; s = ""; e = ""; for (i = 1; i <= 255; i++) { s = s "["; e = e "]" } print s e "." }'
+}
+wide() {
+  awk -v n="$1" 'BEGIN { print "[{'\''$1'\'',[],['\''$1'\'']}]."; printf "[0"; for (i = 1; i < n; i++) printf ",%d", i; print "]." }'
+}
+map() {
+  awk -v n="$1" 'BEGIN { print "[{'\''$1'\'',[],['\''$1'\'']}]."; printf "#{%d=>0", n; for (i = n - 1; i > 0; i--) printf ",%d=>0", i; print "}." }'
+}
+measure() {
+  name=$1 file=$2
+  { command time -f '%e %M' "$program" run < "$file" > "$work/out"; } 2> "$work/time" || true
+  printf '%-28s %8s bytes in  %8s bytes out  %s s, KB at most\n' "$name" "$(stat -c %s "$file")" "$(stat -c %s "$work/out")" "$(tail -n 1 "$work/time")"
+}
+for n in 1000 10000 100000 1000000; do objects "$n" > "$work/in"; measure "$n objects {N,a}" "$work/in"; done
+deep > "$work/in"; measure "a list 255 deep" "$work/in"
+for n in 10000 100000 1000000; do wide "$n" > "$work/in"; measure "a list of $n integers" "$work/in"; done
+for n in 6553 65535; do map "$n" > "$work/in"; measure "a map of $n pairs" "$work/in"; done
