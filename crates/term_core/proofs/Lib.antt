@@ -2,3 +2,4 @@ pub mod HashLemmas
 pub mod LimitLemmas
 pub mod RowLemmas
 pub mod ViewLemmas
+pub mod MapLemmas

@@ -9,3 +9,4 @@ pub mod TermFalls
 pub mod ListParts
 pub mod View
 pub mod Fault
+pub mod MapPairs

@@ -13,6 +13,7 @@ use crate::view::View;
 use crate::{MAX_BINARY, MAX_CHARACTERS, MAX_DEPTH, MAX_LIST, MAX_TUPLE};
 
 mod copy;
+mod map;
 
 use std::alloc::{AllocError, Allocator, Global};
 use std::marker::Model;

@@ -1,0 +1,55 @@
+-- The pairs that a map is made of, in any order.
+use Rattle.std.specs.Prelude.{ℕ, ◌≡◌, ◌<◌, ◌≤◌, List, length, map as map_list, slice_index_or, All, IsPermutation}
+use Rattle.term_core.specs.Datum.{Datum, Entries, entries_of}
+use Rattle.term_core.specs.Datum.Datum.{map}
+use Rattle.term_core.specs.Datum.Entries.{no_entries, entry}
+use Rattle.term_core.specs.Order.{IsBelowFirst}
+use Rattle.term_core.specs.Limits.{depth, IsSound}
+use Rattle.term_core.specs.declared.TheConstants.{MAX_DEPTH, MAX_MAP}
+use Rattle.term_core.specs.declared.fault.Fault.{Fault}
+use Rattle.term_core.specs.declared.fault.Fault.TheVariants.{Memory, TooDeep, TooLong, DuplicateKey}
+use Rattle.term_core.specs.Fault.{IsFault, IsTooLong}
+
+-- each key stands before the next
+abbrev pub AreRising : Entries → Type 0
+AreRising no_entries = Unit {0}
+AreRising (entry k v es) = IsBelowFirst k es × AreRising es
+
+-- the keys of pairs, as they stand
+abbrev pub keys_of : List (Datum × Datum) → List Datum
+keys_of pairs = map_list (λ pair. pair.0) pairs
+
+-- a key stands at two places among these pairs
+pub record HasTwice (pairs : List (Datum × Datum)) : Type 0 where
+  pub first : ℕ
+  pub second : ℕ
+  pub order : first < second
+  pub within : second < length pairs
+  pub same : (d : Datum × Datum) → (slice_index_or pairs first d).0 ≡ (slice_index_or pairs second d).0
+
+-- the finite map of exactly these pairs: they stand in it by rising key
+pub record IsMapOf (pairs : List (Datum × Datum)) (d : Datum) : Type 0 where
+  pub entries : List (Datum × Datum)
+  pub permutation : IsPermutation pairs entries
+  pub rising : AreRising (entries_of entries)
+  pub is : d ≡ map (entries_of entries)
+
+-- What a refusal says of the pairs of a map: the depth comes first, then the length, then keys that stand twice, and
+-- want of memory last.
+abbrev pub IsMapFault : Fault → List (Datum × Datum) → Type 0
+IsMapFault DuplicateKey pairs =
+    (depth (map (entries_of pairs)) ≤ MAX_DEPTH) × (¬ IsTooLong (map (entries_of pairs))) × HasTwice pairs
+IsMapFault Memory pairs = IsFault Memory (map (entries_of pairs))
+IsMapFault TooDeep pairs = IsFault TooDeep (map (entries_of pairs))
+IsMapFault TooLong pairs = IsFault TooLong (map (entries_of pairs))
+
+-- a key and its value within their limits
+abbrev pub IsPairSound : Datum × Datum → Type 0
+IsPairSound pair = IsSound pair.0 × IsSound pair.1
+
+-- how deep the map of pairs is that are within the limits
+pub record IsMapDepth (level : ℕ) (pairs : List (Datum × Datum)) : Type 0 where
+  pub depth : level ≡ depth (map (entries_of pairs))
+  pub shallow : level ≤ MAX_DEPTH
+  pub short : length pairs ≤ MAX_MAP
+  pub sound : All IsPairSound pairs
