@@ -12,7 +12,6 @@ ghost use Rattle.term_order.specs.Laws.{IsTotal};
 
 use std::alloc::Allocator;
 use std::cmp::Ordering;
-
 use term_core::Term;
 
 /// Which of two terms stands first: number < atom < tuple < map < `[]` < non-empty list < binary, and among terms of
@@ -36,6 +35,4 @@ pub fn key_hash<A: Allocator>(term: &Term<A>) -> u64
 /// The order is total, and tells all terms apart.
 pub fn order_is_total()
     ensures { IsTotal }
-{
-}
-
+{}
