@@ -1,0 +1,103 @@
+-- The functions' names are a table: no two functions have one name and take as many arguments.
+use Rattle.std.proofs.Common.{◌≡◌, ℕ, List, [], ◌∷◌, Bool, true, false, cond, ◌&&◌, refl, sym, ◌∙◌, subst, ap, Option, Some, None, nat_eq}
+use Rattle.std.specs.Prelude.{◌↔◌, IsTrue}
+use Rattle.std.specs.Cmp.{first_so, second_so}
+use Rattle.std.specs.Cmp.Lexicographic.{pointwise, bytes_decides}
+use Rattle.std.proofs.lemmas.Option.{none-some, same_Some}
+use Rattle.std.proofs.lemmas.Bool.Decides.{Decides-eqb}
+use Rattle.prims.specs.Names.{name_of, arity_of, takes, found}
+use Rattle.prims.specs.declared.names.TheConstants.{ALL}
+use Rattle.prims.specs.declared.prim.Prim.{Prim}
+use Rattle.prims.specs.declared.prim.Prim.TheVariants as prim
+use Rattle.prims.specs.declared.prim.Test.TheVariants as test
+use Rattle.prims.specs.declared.prim.BooleanFunction.TheVariants as boolean
+use Rattle.prims.specs.declared.prim.Comparison.TheVariants as comparison
+use Rattle.prims.specs.declared.prim.Extreme.TheVariants as extreme
+use Rattle.prims.specs.declared.prim.IntegerFunction.TheVariants as integer
+use Rattle.prims.specs.declared.prim.Arithmetic.TheVariants as arithmetic
+use Rattle.prims.specs.declared.prim.TupleFunction.TheVariants as tuple
+use Rattle.prims.specs.declared.prim.ListFunction.TheVariants as list
+use Rattle.prims.specs.declared.prim.MapFunction.TheVariants as map
+use Rattle.prims.specs.declared.prim.SizeFunction.TheVariants as size
+
+-- each function stands in the table, and nothing before it has its name and number of arguments
+found_at : (function : Prim) → found (name_of function) (arity_of function) ALL ≡ Some function
+found_at (prim.Test test.IsAtom) = refl
+found_at (prim.Test test.IsInteger) = refl
+found_at (prim.Test test.IsList) = refl
+found_at (prim.Test test.IsNumber) = refl
+found_at (prim.Test test.IsTuple) = refl
+found_at (prim.Test test.IsMap) = refl
+found_at (prim.Test test.IsBinary) = refl
+found_at (prim.Test test.IsBitstring) = refl
+found_at (prim.Test test.IsBoolean) = refl
+found_at (prim.Test test.IsFloat) = refl
+found_at (prim.Test test.IsPid) = refl
+found_at (prim.Test test.IsPort) = refl
+found_at (prim.Test test.IsReference) = refl
+found_at (prim.Test test.IsFunction) = refl
+found_at (prim.Boolean boolean.Not) = refl
+found_at (prim.Boolean boolean.And) = refl
+found_at (prim.Boolean boolean.Or) = refl
+found_at (prim.Boolean boolean.Xor) = refl
+found_at (prim.Comparison comparison.Greater) = refl
+found_at (prim.Comparison comparison.GreaterOrEqual) = refl
+found_at (prim.Comparison comparison.Less) = refl
+found_at (prim.Comparison comparison.LessOrEqual) = refl
+found_at (prim.Comparison comparison.ExactlyEqual) = refl
+found_at (prim.Comparison comparison.ExactlyUnequal) = refl
+found_at (prim.Comparison comparison.Equal) = refl
+found_at (prim.Comparison comparison.Unequal) = refl
+found_at (prim.Extreme extreme.Max) = refl
+found_at (prim.Extreme extreme.Min) = refl
+found_at (prim.Integer integer.Abs) = refl
+found_at (prim.Integer integer.Round) = refl
+found_at (prim.Integer integer.Trunc) = refl
+found_at (prim.Integer integer.Plus) = refl
+found_at (prim.Integer integer.Negate) = refl
+found_at (prim.Integer integer.Bnot) = refl
+found_at (prim.Arithmetic arithmetic.Add) = refl
+found_at (prim.Arithmetic arithmetic.Subtract) = refl
+found_at (prim.Arithmetic arithmetic.Multiply) = refl
+found_at (prim.Arithmetic arithmetic.Div) = refl
+found_at (prim.Arithmetic arithmetic.Rem) = refl
+found_at (prim.Arithmetic arithmetic.Band) = refl
+found_at (prim.Arithmetic arithmetic.Bor) = refl
+found_at (prim.Arithmetic arithmetic.Bxor) = refl
+found_at (prim.Arithmetic arithmetic.Bsl) = refl
+found_at (prim.Arithmetic arithmetic.Bsr) = refl
+found_at (prim.Tuple tuple.IsRecord) = refl
+found_at (prim.Tuple tuple.Element) = refl
+found_at (prim.List list.Hd) = refl
+found_at (prim.List list.Tl) = refl
+found_at (prim.List list.Length) = refl
+found_at (prim.Map map.IsMapKey) = refl
+found_at (prim.Map map.MapGet) = refl
+found_at (prim.Map map.MapSize) = refl
+found_at (prim.Size size.Size) = refl
+found_at (prim.Size size.TupleSize) = refl
+found_at (prim.Size size.ByteSize) = refl
+found_at (prim.Size size.BitSize) = refl
+
+found_itself : (function : Prim) (n : ℕ) → takes function n ≡ true → found (name_of function) n ALL ≡ Some function
+found_itself (prim.Boolean boolean.And) n takes_n = ap (λ b. cond b (Some (prim.Boolean boolean.And)) None) takes_n
+found_itself (prim.Boolean boolean.Or) n takes_n = ap (λ b. cond b (Some (prim.Boolean boolean.Or)) None) takes_n
+found_itself function n takes_n =
+    subst (λ m. found (name_of function) m ALL ≡ Some function) (sym ((Decides-eqb n (arity_of function)).0 takes_n)) (found_at function)
+
+-- what is found has the name and takes so many arguments
+found_says : (cs : List ℕ) (n : ℕ) (functions : List Prim) (function : Prim) → found cs n functions ≡ Some function → (name_of function ≡ cs) × (takes function n ≡ true)
+found_says cs n [] function e = absurd (none-some function e)
+found_says cs n (first ∷ rest) function e =
+    by (pointwise nat_eq (name_of first) cs && takes first n) refl (found_says cs n rest function) e
+  where
+    by : (b : Bool) → (pointwise nat_eq (name_of first) cs && takes first n) ≡ b → (found cs n rest ≡ Some function → (name_of function ≡ cs) × (takes function n ≡ true)) → cond b (Some first) (found cs n rest) ≡ Some function → (name_of function ≡ cs) × (takes function n ≡ true)
+    by true passes later e =
+        subst (λ f. (name_of f ≡ cs) × (takes f n ≡ true)) (same_Some first function e)
+        ((bytes_decides (name_of first) cs).0 (first_so (pointwise nat_eq (name_of first) cs) (takes first n) passes), second_so (pointwise nat_eq (name_of first) cs) (takes first n) passes)
+    by false passes later e = later e
+
+-- the table both ways
+pub named_is : (cs : List ℕ) (n : ℕ) (r : Option Prim) → r ≡ found cs n ALL → (function : Prim) → (r ≡ Some function) ↔ ((name_of function ≡ cs) × IsTrue (takes function n))
+named_is cs n r r_is function =
+    (λ e. found_says cs n ALL function (sym r_is ∙ e), λ h. r_is ∙ subst (λ ds. found ds n ALL ≡ Some function) h.0 (found_itself function n h.1))

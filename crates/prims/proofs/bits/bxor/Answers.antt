@@ -1,0 +1,5 @@
+use Rattle.prims.proofs.BitLemmas.{int_bit_xor-bits}
+use Rattle.prims.proofs.bits.bxor.Goals as goal
+
+pub returns-clause-bits : goal.returns-clause-bits
+returns-clause-bits c = int_bit_xor-bits c.args.left c.args.right c.ranges.left c.ranges.right

@@ -1,0 +1,44 @@
+-- Functions of the atoms true and false (Erlang Reference Manual, "Expressions", "Boolean Expressions").
+use Rattle.std.specs.Prelude.{Bool, true, false, not, ◌&&◌, ◌||◌, if◌then◌else◌, Option, Some, None, List, [], ◌∷◌, nat_eq, codes}
+use Rattle.std.specs.Option.{option_map}
+use Rattle.std.specs.Cmp.Lexicographic.{pointwise}
+use Rattle.term_core.specs.Datum.{Datum}
+use Rattle.term_core.specs.Datum.Datum.{atom}
+use Rattle.prims.specs.declared.prim.BooleanFunction.{BooleanFunction}
+use Rattle.prims.specs.declared.prim.BooleanFunction.TheVariants.{Not, And, Or, Xor}
+
+-- the truth value that an atom is, none of any other term
+abbrev pub boolean_of : Datum → Option Bool
+boolean_of (atom cs) =
+    if pointwise nat_eq cs (codes "true") then Some true
+    else if pointwise nat_eq cs (codes "false") then Some false
+    else None
+boolean_of d = None
+
+-- two truth values taken together, where both are there
+abbrev pub both : (Bool → Bool → Bool) → Option Bool → Option Bool → Option Bool
+both f (Some a) (Some b) = Some (f a b)
+both f a b = None
+
+-- exactly one of the two
+abbrev pub xor : Bool → Bool → Bool
+xor true b = not b
+xor false b = b
+
+-- all of these terms are true, none where one of them is no boolean
+abbrev pub all_of : List Datum → Option Bool
+all_of [] = Some true
+all_of (d ∷ ds) = both (λ a b. a && b) (boolean_of d) (all_of ds)
+
+-- one of these terms is true, none where one of them is no boolean
+abbrev pub any_of : List Datum → Option Bool
+any_of [] = Some false
+any_of (d ∷ ds) = both (λ a b. a || b) (boolean_of d) (any_of ds)
+
+-- what a function of truth values gives; and, or take one or more arguments
+abbrev pub boolean_function_of : BooleanFunction → List Datum → Option Bool
+boolean_function_of Not (d ∷ []) = option_map not (boolean_of d)
+boolean_function_of And (d ∷ ds) = all_of (d ∷ ds)
+boolean_function_of Or (d ∷ ds) = any_of (d ∷ ds)
+boolean_function_of Xor (d ∷ e ∷ []) = both xor (boolean_of d) (boolean_of e)
+boolean_function_of function ds = None

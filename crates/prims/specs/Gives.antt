@@ -1,0 +1,36 @@
+-- Which kind of term a function gives.
+use Rattle.std.specs.Prelude.{◌≡◌, Bool, ℤ}
+use Rattle.term_core.specs.Datum.{Datum}
+use Rattle.term_core.specs.Datum.Datum.{integer}
+use Rattle.prims.specs.Operand.{boolean}
+use Rattle.prims.specs.declared.gives.Gives.{Gives}
+use Rattle.prims.specs.declared.gives.Gives.TheVariants.{Boolean, Integer, Any}
+use Rattle.prims.specs.declared.prim.Prim.{Prim}
+use Rattle.prims.specs.declared.prim.Prim.TheVariants as prim
+use Rattle.prims.specs.declared.prim.TupleFunction.TheVariants as tuple
+use Rattle.prims.specs.declared.prim.ListFunction.TheVariants as list
+use Rattle.prims.specs.declared.prim.MapFunction.TheVariants as map
+
+-- tests, comparisons and functions of truth values give a boolean; numbers and sizes are integers; the rest give any term
+abbrev pub gives_of : Prim → Gives
+gives_of (prim.Test test) = Boolean
+gives_of (prim.Boolean function) = Boolean
+gives_of (prim.Comparison comparison) = Boolean
+gives_of (prim.Extreme extreme) = Any
+gives_of (prim.Integer function) = Integer
+gives_of (prim.Arithmetic function) = Integer
+gives_of (prim.Tuple tuple.IsRecord) = Boolean
+gives_of (prim.Tuple tuple.Element) = Any
+gives_of (prim.List list.Hd) = Any
+gives_of (prim.List list.Tl) = Any
+gives_of (prim.List list.Length) = Integer
+gives_of (prim.Map map.IsMapKey) = Boolean
+gives_of (prim.Map map.MapGet) = Any
+gives_of (prim.Map map.MapSize) = Integer
+gives_of (prim.Size function) = Integer
+
+-- the term is of the kind
+abbrev pub IsGiven : Gives → Datum → Type 0
+IsGiven Boolean d = (b : Bool) × (d ≡ boolean b)
+IsGiven Integer d = (z : ℤ) × (d ≡ integer z)
+IsGiven Any d = Unit {0}

@@ -1,0 +1,16 @@
+pub mod View
+pub mod Operand
+pub mod Kinds
+pub mod Booleans
+pub mod Order
+pub mod Fitting
+pub mod Shifts
+pub mod Integers
+pub mod Tuples
+pub mod Lists
+pub mod Maps
+pub mod Sizes
+pub mod Calls
+pub mod Names
+pub mod Gives
+pub mod Bits

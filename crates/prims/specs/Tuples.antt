@@ -1,0 +1,39 @@
+-- Functions of tuples (Erlang Reference Manual, module erlang: element, is_record).
+use Rattle.std.specs.Prelude.{ℕ, zero, suc, ℤ, pos, List, Bool, false, ◌&&◌, Option, Some, None, nat_eq}
+use Rattle.std.specs.Option.{option_and_then}
+use Rattle.std.specs.Ordering.{int_eq}
+use Rattle.std.specs.Cmp.Lexicographic.{pointwise}
+use Rattle.term_core.specs.Datum.{Datum, Items, item_count}
+use Rattle.term_core.specs.Datum.Datum.{integer, atom, tuple}
+use Rattle.term_core.specs.Datum.Items.{no_items, item}
+
+-- the element with so many before it
+abbrev pub item_at : Items → ℕ → Option Datum
+item_at no_items n = None
+item_at (item d ds) zero = Some d
+item_at (item d ds) (suc n) = item_at ds n
+
+-- how many elements stand before a place that is counted from 1
+abbrev pub index_of : ℤ → Option ℕ
+index_of (pos (suc n)) = Some n
+index_of z = None
+
+-- element: the element at a place that is counted from 1
+abbrev pub element_of : Datum → Datum → Option Datum
+element_of (integer z) (tuple ds) = option_and_then (item_at ds) (index_of z)
+element_of place d = None
+
+-- the first element is the atom of that name
+abbrev pub begins_with : Items → List ℕ → Bool
+begins_with (item (atom first) rest) name = pointwise nat_eq first name
+begins_with ds name = false
+
+-- a tuple of that size whose first element is the atom of that name
+abbrev pub is_named : Datum → List ℕ → ℤ → Bool
+is_named (tuple ds) name size = int_eq (pos (item_count ds)) size && begins_with ds name
+is_named d name size = false
+
+-- is_record, of a term, a name and a size
+abbrev pub is_record_of : Datum → Datum → Datum → Option Bool
+is_record_of d (atom name) (integer size) = Some (is_named d name size)
+is_record_of d name size = None

@@ -1,0 +1,48 @@
+//! Functions of the atoms `true` and `false`.
+ghost use Rattle.std.specs.Prelude.{◌≡◌, map};
+ghost use Rattle.prims.specs.Operand.{operand_datum};
+ghost use Rattle.prims.specs.Booleans.{all_of, any_of, boolean_function_of};
+
+use crate::operand::Operand;
+use crate::prim::BooleanFunction;
+use std::alloc::Allocator;
+
+/// Whether all operands are `true`, where all are booleans.
+fn all<A: Allocator>(operands: &[Operand<'_, A>]) -> Option<bool>
+    ensures { result ≡ all_of (map operand_datum operands.now) }
+{
+    let mut all = true;
+    for operand in operands {
+        let value = operand.boolean()?;
+        all = all && value;
+    }
+    Some(all)
+}
+
+/// Whether an operand is `true`, where all are booleans.
+fn any<A: Allocator>(operands: &[Operand<'_, A>]) -> Option<bool>
+    ensures { result ≡ any_of (map operand_datum operands.now) }
+{
+    let mut any = false;
+    for operand in operands {
+        let value = operand.boolean()?;
+        any = any || value;
+    }
+    Some(any)
+}
+
+/// What the function gives, none where an operand is no boolean or their number is another.
+pub(crate) fn call<A: Allocator>(
+    function: BooleanFunction,
+    operands: &[Operand<'_, A>],
+) -> Option<bool>
+    ensures { result ≡ boolean_function_of function (map operand_datum operands.now) }
+{
+    match (function, operands) {
+        (BooleanFunction::Not, [operand]) => Some(!operand.boolean()?),
+        (BooleanFunction::And, [_, ..]) => all(operands),
+        (BooleanFunction::Or, [_, ..]) => any(operands),
+        (BooleanFunction::Xor, [left, right]) => Some(left.boolean()? != right.boolean()?),
+        _ => None,
+    }
+}

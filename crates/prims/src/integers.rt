@@ -1,0 +1,48 @@
+//! Functions of integers.
+ghost use Rattle.std.specs.Prelude.{◌≡◌};
+ghost use Rattle.prims.specs.Integers.{integer_function_of, arithmetic_of, quotient, remainder};
+
+use crate::bits::{band, bor, bxor};
+use crate::prim::{Arithmetic, IntegerFunction};
+use crate::shifts::{shift_left, shift_right};
+
+/// What the function gives, none where that is outside 64 bits.
+pub(crate) fn of_one(function: IntegerFunction, value: i64) -> Option<i64>
+    ensures { result ≡ integer_function_of function value }
+{
+    match function {
+        IntegerFunction::Abs => value.checked_abs(),
+        IntegerFunction::Round | IntegerFunction::Trunc | IntegerFunction::Plus => Some(value),
+        IntegerFunction::Negate => value.checked_neg(),
+        IntegerFunction::Bnot => Some(!value),
+    }
+}
+
+/// What the function gives, none where that is outside 64 bits or the divisor is 0.
+pub(crate) fn of_two(function: Arithmetic, left: i64, right: i64) -> Option<i64>
+    ensures { result ≡ arithmetic_of function left right }
+{
+    match function {
+        Arithmetic::Add => left.checked_add(right),
+        Arithmetic::Subtract => left.checked_sub(right),
+        Arithmetic::Multiply => left.checked_mul(right),
+        Arithmetic::Div => left.checked_div(right),
+        Arithmetic::Rem => rem(left, right),
+        Arithmetic::Band => Some(band(left, right)),
+        Arithmetic::Bor => Some(bor(left, right)),
+        Arithmetic::Bxor => Some(bxor(left, right)),
+        Arithmetic::Bsl => shift_left(left, right),
+        Arithmetic::Bsr => shift_right(left, right),
+    }
+}
+
+/// What remains of the dividend. Of the least number by -1 that is 0, where `checked_rem` gives none.
+fn rem(dividend: i64, divisor: i64) -> Option<i64>
+    ensures { result ≡ remainder dividend divisor }
+{
+    if divisor == 0 {
+        None
+    } else {
+        Some(dividend.wrapping_rem(divisor))
+    }
+}

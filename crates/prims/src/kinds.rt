@@ -1,0 +1,26 @@
+//! Tests of a term for its kind.
+ghost use Rattle.std.specs.Prelude.{◌≡◌};
+ghost use Rattle.prims.specs.Operand.{operand_datum};
+ghost use Rattle.prims.specs.Kinds.{test_of};
+
+use crate::operand::Operand;
+use crate::prim::Test;
+use crate::view::View;
+use std::alloc::Allocator;
+
+/// Whether the operand is of the kind.
+pub(crate) fn is_of_kind<A: Allocator>(test: Test, operand: Operand<'_, A>) -> bool
+    ensures { result ≡ test_of test (operand_datum operand.entry) }
+{
+    let view = operand.view();
+    match test {
+        Test::IsAtom => matches!(view, View::Atom(_)),
+        Test::IsInteger | Test::IsNumber => matches!(view, View::Integer(_)),
+        Test::IsList => matches!(view, View::Nil | View::List(..)),
+        Test::IsTuple => matches!(view, View::Tuple(_)),
+        Test::IsMap => matches!(view, View::Map(_)),
+        Test::IsBinary | Test::IsBitstring => matches!(view, View::Binary(_)),
+        Test::IsBoolean => operand.boolean().is_some(),
+        Test::IsFloat | Test::IsPid | Test::IsPort | Test::IsReference | Test::IsFunction => false,
+    }
+}

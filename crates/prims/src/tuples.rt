@@ -1,0 +1,77 @@
+//! Functions of tuples.
+ghost use Rattle.std.specs.Prelude.{◌≡◌, ◌≤◌, pos};
+ghost use Rattle.std.specs.Option.{option_copied};
+ghost use Rattle.term_core.specs.Datum.{item_count, items_of};
+ghost use Rattle.term_core.specs.Datum.Items.{no_items, item};
+ghost use Rattle.prims.specs.Operand.{operand_datum};
+ghost use Rattle.prims.specs.Tuples.{element_of, index_of, begins_with, is_named, is_record_of};
+
+use crate::operand::Operand;
+use crate::view::View;
+use std::alloc::Allocator;
+use term_core::{MAX_TUPLE, Term};
+
+/// How many elements a tuple has.
+pub(crate) fn element_count<A: Allocator>(elements: &[Term<A>]) -> i64
+    requires { item_count (items_of elements.now) ≤ MAX_TUPLE }
+    ensures { result ≡ pos (item_count (items_of elements.now)) }
+{
+    elements.len() as i64
+}
+
+/// The index of a place that is counted from 1.
+fn index(place: i64) -> Option<usize>
+    ensures { result ≡ index_of place }
+{
+    usize::try_from(place.checked_sub(1)?).ok()
+}
+
+/// The element at a place, counted from 1.
+pub(crate) fn element<'a, A: Allocator>(
+    place: Operand<'a, A>,
+    tuple: Operand<'a, A>,
+) -> Option<&'a Term<A>>
+    ensures { option_copied result ≡ element_of (operand_datum place.entry) (operand_datum tuple.entry) }
+{
+    match (place.view(), tuple.view()) {
+        (View::Integer(place), View::Tuple(elements)) => elements.get(index(place)?),
+        _ => None,
+    }
+}
+
+/// Whether the term is the atom of that name.
+fn is_atom<A: Allocator>(term: &Term<A>, name: &[char]) -> bool
+    ensures { result ≡ begins_with (item term.now no_items) name.now }
+{
+    match View::of(term) {
+        View::Atom(characters) => characters == name,
+        _ => false,
+    }
+}
+
+/// Whether the operand is a tuple of that size whose first element is the atom of that name.
+fn is_named<A: Allocator>(operand: Operand<'_, A>, name: &[char], size: i64) -> bool
+    ensures { result ≡ is_named (operand_datum operand.entry) name.now size }
+{
+    match operand.view() {
+        View::Tuple(elements) => match elements {
+            [first, ..] => element_count(elements) == size && is_atom(first, name),
+            [] => false,
+        },
+        _ => false,
+    }
+}
+
+/// `is_record`, none where the name is no atom or the size no integer.
+pub(crate) fn is_record<A: Allocator>(
+    operand: Operand<'_, A>,
+    name: Operand<'_, A>,
+    size: Operand<'_, A>,
+) -> Option<bool>
+    ensures { result ≡ is_record_of (operand_datum operand.entry) (operand_datum name.entry) (operand_datum size.entry) }
+{
+    match (name.view(), size.view()) {
+        (View::Atom(name), View::Integer(size)) => Some(is_named(operand, name, size)),
+        _ => None,
+    }
+}
