@@ -1,0 +1,12 @@
+use Rattle.ets_tool.proofs.RunLemmas.{query-read, query-refused}
+use Rattle.ets_tool.proofs.run.query_of.Goals as goal
+
+pub returns-in-Ok-read_spec-clause-ok : goal.returns-in-Ok-read_spec-clause-ok
+returns-in-Ok-read_spec-clause-ok g c =
+    let there = rw c.deref.ensures.value at c.in-Some.ensures.value in
+    query-read c.args.input.now c.in-Ok.terms.items c.in-Some.first.now c.in-Ok-read_spec.specification there c.in-Ok.ensures.ok c.in-Ok-read_spec.ensures.ok
+
+pub returns-in-Err-read_spec-clause-refused : goal.returns-in-Err-read_spec-clause-refused
+returns-in-Err-read_spec-clause-refused g c =
+    let there = rw c.deref.ensures.value at c.in-Some.ensures.value in
+    rw c.specification_fault.ensures (query-refused c.args.input.now c.in-Ok.terms.items c.in-Some.first.now c.in-Err-read_spec.fault there c.in-Ok.ensures.ok c.in-Err-read_spec.ensures.refused)

@@ -1,0 +1,123 @@
+-- What a run writes for what it reads.
+use Rattle.std.specs.Prelude.{ℕ, ◌≡◌, ◌⊎◌, Option, Some, None, List, [], ◌∷◌, ◌++◌, length}
+use Rattle.std.specs.Io.KnownBytes.{Appends, Keeps}
+use Rattle.std.specs.Str.{encode_utf8_all}
+use Rattle.term_core.specs.Datum.{Datum}
+use Rattle.term_text.specs.Text.{Spells}
+use Rattle.term_text.specs.Canonical.{canonical}
+use Rattle.term_text.specs.declared.fault.TextFault.{TextFault}
+use Rattle.term_text.specs.declared.fault.TextFault.TheVariants as text
+use Rattle.mspec_syntax.specs.Faults.{IsRefusal}
+use Rattle.mspec_syntax.specs.Grammar.{IsSpecification}
+use Rattle.mspec_syntax.specs.Specification.{Specification, IsWithinLimits}
+use Rattle.mspec_syntax.specs.declared.fault.SpecFault.{SpecFault}
+use Rattle.mspec_syntax.specs.declared.fault.SpecFault.TheVariants as specification
+use Rattle.mspec_meaning.specs.Meaning.{Means}
+use Rattle.ets_tool.specs.declared.fault.ToolFault.{ToolFault}
+use Rattle.ets_tool.specs.declared.fault.ToolFault.TheVariants as fault
+
+-- the canonical text of a term in UTF-8, a dot and a line feed
+abbrev pub line : Datum → List ℕ
+line d = encode_utf8_all (canonical d) ++ 46 ∷ 10 ∷ []
+
+-- the line of an answer, nothing where there is none
+abbrev pub answer_line : Option Datum → List ℕ
+answer_line None = []
+answer_line (Some d) = line d
+
+-- the line of the answer on an object is put at the end
+pub record Puts (s : Specification) (object : Datum) (old new : List ℕ) : Type 0 where
+  pub answer : Option Datum
+  pub means : Means s object answer
+  pub grown : new ≡ old ++ answer_line answer
+
+-- what is gathered is passed to the writer, or stays
+pub record Passes (before after : Option (List ℕ)) (old new : List ℕ) : Type 0 where
+  pub part : List ℕ
+  pub gained : Appends before after part
+  pub kept : part ++ new ≡ old
+
+-- the lines of the answers on these objects, in their order
+abbrev pub AreAnswers : Specification → List Datum → List ℕ → Type 0
+AreAnswers s [] out = out ≡ []
+AreAnswers s (d ∷ ds) out =
+    (answer : Option Datum) × (rest : List ℕ) × Means s d answer × AreAnswers s ds rest × (out ≡ answer_line answer ++ rest)
+
+-- the writer gains the lines of all answers
+pub record WritesAnswers (s : Specification) (objects : List Datum) (old new : Option (List ℕ)) : Type 0 where
+  pub out : List ℕ
+  pub answers : AreAnswers s objects out
+  pub gained : Appends old new out
+
+-- the writer gains the lines of the answers on a beginning of the objects
+pub record WritesBeginning (s : Specification) (objects : List Datum) (old new : Option (List ℕ)) : Type 0 where
+  pub front : List Datum
+  pub rest : List Datum
+  pub whole : objects ≡ front ++ rest
+  pub written : WritesAnswers s front old new
+
+-- how answering ends early: for want of memory, or where the writer failed, and then nothing is said of what it got
+abbrev pub StopsAnswers : Specification → List Datum → Option (List ℕ) → Option (List ℕ) → ToolFault → Type 0
+StopsAnswers s objects old new fault.Memory = WritesBeginning s objects old new
+StopsAnswers s objects old new fault.WriteFailed = Unit {0}
+StopsAnswers s objects old new f = ⊥
+
+-- what was gathered is written where memory ran out
+abbrev pub EndsBy : Option (List ℕ) → Option (List ℕ) → List ℕ → ToolFault → Type 0
+EndsBy old new lines fault.Memory = Appends old new lines
+EndsBy old new lines fault.WriteFailed = Unit {0}
+EndsBy old new lines f = ⊥
+
+-- the terms that an input spells, of which the first is read as the specification
+pub record IsQuery (input : List ℕ) (terms : List Datum) (s : Specification) : Type 0 where
+  pub first : Datum
+  pub objects : List Datum
+  pub whole : terms ≡ first ∷ objects
+  pub spelled : Spells input terms
+  pub read : IsSpecification first s
+  pub within : IsWithinLimits s
+
+-- the writer gains the answers of the specification that the input begins with, on the objects that follow it
+pub record WritesOutput (input : List ℕ) (old new : Option (List ℕ)) : Type 0 where
+  pub specification : Specification
+  pub terms : List Datum
+  pub query : IsQuery input terms specification
+  pub answered : WritesAnswers specification query.objects old new
+
+-- faults of the text and of the specification as faults of the program
+abbrev pub of_text : TextFault → ToolFault
+of_text text.Memory = fault.Memory
+of_text f = fault.Text f
+
+abbrev pub of_specification : SpecFault → ToolFault
+of_specification specification.Memory = fault.Memory
+of_specification f = fault.Specification f
+
+-- an input without a term ends too early
+pub record IsEmpty (input : List ℕ) (f : TextFault) : Type 0 where
+  pub spelled : Spells input []
+  pub place : f ≡ text.Syntax (length input)
+
+-- why an input's first term is no specification
+pub record IsNoSpecification (input : List ℕ) (f : SpecFault) : Type 0 where
+  pub first : Datum
+  pub objects : List Datum
+  pub spelled : Spells input (first ∷ objects)
+  pub refusal : IsRefusal f first
+
+-- why an input is refused
+abbrev pub IsInputFault : List ℕ → ToolFault → Type 0
+IsInputFault input fault.Memory = Unit {0}
+IsInputFault input (fault.Text f) = Unit {0}
+IsInputFault input (fault.Specification f) = IsNoSpecification input f
+IsInputFault input f = ⊥
+
+-- How a run ends early. Nothing is written but where memory runs out over the objects, and then the answers on a
+-- beginning of them; where the writer failed nothing is said of what it got.
+abbrev pub StopsRun : List ℕ → Option (List ℕ) → Option (List ℕ) → ToolFault → Type 0
+StopsRun input old new fault.Memory =
+    Keeps old new ⊎ ((s : Specification) × (terms : List Datum) × (q : IsQuery input terms s) × WritesBeginning s q.objects old new)
+StopsRun input old new (fault.Text f) = IsInputFault input (fault.Text f) × Keeps old new
+StopsRun input old new (fault.Specification f) = IsNoSpecification input f × Keeps old new
+StopsRun input old new fault.ReadFailed = Keeps old new
+StopsRun input old new fault.WriteFailed = Unit {0}

@@ -1,0 +1,105 @@
+-- Conditions one by one, and clauses one by one.
+use Rattle.std.proofs.Common.{◌≡◌, ℕ, zero, suc, ◌+◌, ◌-◌, ◌<◌, slice_get, map, ◌≤◌, ◌⊎◌, inl, inr, Option, Some, None, List, [], ◌∷◌, ◌++◌, length, get_or, drop, refl, sym, ◌∙◌, ap, subst, arith, drop-cons, add-one}
+use Rattle.std.proofs.lemmas.List.{drop_all}
+use Rattle.term_core.specs.Datum.{Datum}
+use Rattle.mspec_syntax.specs.Expression.{Expression}
+use Rattle.mspec_syntax.specs.Specification.{Clause, Specification, clause_variables}
+use Rattle.mspec_meaning.specs.Match.{Substitution, Matches}
+use Rattle.mspec_meaning.specs.Slots.{AreFree, NeverMatches, substitution_of}
+use Rattle.mspec_meaning.proofs.MatchLemmas.{one-match}
+use Rattle.mspec_meaning.specs.Meaning.{value_of, true_term, AllHold, Means, IsApplicable, Applies, body_value}
+use Rattle.mspec_meaning.specs.declared.value.Mode.TheVariants.{Condition, Body}
+
+split_at : {X : Type 0} (xs : List X) (i : ℕ) (x : X) → i < length xs → x ≡ get_or xs i x → drop i xs ≡ x ∷ drop (i + 1) xs
+split_at xs i x h e = drop-cons xs i x h ∙ ap (λ y. y ∷ drop (suc i) xs) (sym e) ∙ ap (λ j. x ∷ drop j xs) (sym (add-one i))
+
+-- the conditions that are left decide for all
+pub record HoldFront (es : List Expression) (i : ℕ) (s : Substitution) (o : Datum) : Type 0 where
+  pub to : AllHold (drop i es) s o → AllHold es s o
+  pub from : AllHold es s o → AllHold (drop i es) s o
+
+pub HoldFront-none : (es : List Expression) (s : Substitution) (o : Datum) → HoldFront es 0 s o
+HoldFront-none es s o = record { to = λ h. h; from = λ h. h }
+
+pub HoldFront-more : (es : List Expression) (i : ℕ) (e : Expression) (s : Substitution) (o : Datum) → i < length es → e ≡ get_or es i e → value_of Condition e s o ≡ Some true_term → HoldFront es i s o → HoldFront es (i + 1) s o
+HoldFront-more es i e s o h is holds front =
+    let split : drop i es ≡ e ∷ drop (i + 1) es = split_at es i e h is in
+    let P : List Expression → Type 0 = λ l. AllHold l s o in
+    record {
+      to = λ k. front.to (subst P (sym split) (holds, k));
+      from = λ k. (subst P split (front.from k)).1;
+    }
+
+pub HoldFront-all : (es : List Expression) (i : ℕ) (s : Substitution) (o : Datum) → length es ≤ i → HoldFront es i s o → AllHold es s o
+HoldFront-all es i s o end front =
+    let P : List Expression → Type 0 = λ l. AllHold l s o in
+    front.to (subst P (sym (drop_all i es end)) tt)
+
+-- one that doesn't hold is enough
+pub HoldFront-never : (es : List Expression) (i : ℕ) (e : Expression) (s : Substitution) (o : Datum) → i < length es → e ≡ get_or es i e → (value_of Condition e s o ≡ Some true_term → ⊥) → HoldFront es i s o → AllHold es s o → ⊥
+HoldFront-never es i e s o h is fails front k =
+    let split : drop i es ≡ e ∷ drop (i + 1) es = split_at es i e h is in
+    let P : List Expression → Type 0 = λ l. AllHold l s o in
+    fails (subst P split (front.from k)).0
+
+-- the last expression decides the body's value
+pub body_value-last : (es : List Expression) (s : Substitution) (o : Datum) (e : Expression) → slice_get es (length es - 1) ≡ Some e → body_value es s o ≡ value_of Body e s o
+body_value-last [] s o e h = absurd (cc)
+body_value-last (x ∷ []) s o e h = let same : x ≡ e = cc in ap (λ y. value_of Body y s o) same
+body_value-last (x ∷ y ∷ es) s o e h =
+    let count : length (x ∷ y ∷ es) - 1 ≡ suc (length (y ∷ es) - 1) = omega arith in
+    let next = rw count at h in
+    body_value-last (y ∷ es) s o e next
+
+pub body_value-none : (es : List Expression) (s : Substitution) (o : Datum) → slice_get es (length es - 1) ≡ None → body_value es s o ≡ None
+body_value-none [] s o h = refl
+body_value-none (x ∷ []) s o h = absurd (cc)
+body_value-none (x ∷ y ∷ es) s o h =
+    let count : length (x ∷ y ∷ es) - 1 ≡ suc (length (y ∷ es) - 1) = omega arith in
+    let next = rw count at h in
+    body_value-none (y ∷ es) s o next
+
+-- the clauses that are left decide
+pub Means-skip : (cs : Specification) (i : ℕ) (c : Clause) (o : Datum) (answer : Option Datum) → i < length cs → c ≡ get_or cs i c → ¬ IsApplicable c o → Means (drop (i + 1) cs) o answer → Means (drop i cs) o answer
+Means-skip cs i c o answer h is never rest =
+    let P : Specification → Type 0 = λ l. Means l o answer in
+    subst P (sym (split_at cs i c h is)) (inr (never, rest))
+
+pub Means-here : (cs : Specification) (i : ℕ) (c : Clause) (o : Datum) (answer : Option Datum) (s : Substitution) → i < length cs → c ≡ get_or cs i c → Applies c s o → answer ≡ body_value c.body s o → Means (drop i cs) o answer
+Means-here cs i c o answer s h is applies value =
+    let P : Specification → Type 0 = λ l. Means l o answer in
+    subst P (sym (split_at cs i c h is)) (inl (s, applies, value))
+
+pub Means-end : (cs : Specification) (i : ℕ) (o : Datum) → length cs ≤ i → Means (drop i cs) o None
+Means-end cs i o end = let P : Specification → Type 0 = λ l. Means l o None in subst P (sym (drop_all i cs end)) refl
+
+pub AreFree-push : {X : Type 0} (f : X → Option Datum) (xs : List X) (x : X) → f x ≡ None → AreFree (map f xs) → AreFree (map f (xs ++ x ∷ []))
+AreFree-push f [] x e h = (e, tt)
+AreFree-push f (y ∷ xs) x e h = (h.0, AreFree-push f xs x e h.1)
+
+-- a clause applies by what its slots hold, or by nothing
+pub clause-applies : (c : Clause) (o : Datum) (vs : List ℕ) (xs ys : List (Option Datum)) (es : List Expression) → vs ≡ clause_variables c → ys ≡ xs → es ≡ c.conditions → Matches c.head (substitution_of (clause_variables c) xs) o → AllHold es (substitution_of vs ys) o → Applies c (substitution_of vs ys) o
+clause-applies c o vs xs ys es names slots conditions match hold =
+    let P : Substitution → Type 0 = λ s. Matches c.head s o in
+    let Q : List Expression → Type 0 = λ l. AllHold l (substitution_of vs ys) o in
+    let same = ap (λ l. substitution_of l ys) names ∙ ap (λ l. substitution_of (clause_variables c) l) slots in
+    record { head = subst P (sym same) match; conditions = subst Q conditions hold }
+
+pub clause-fails : (c : Clause) (o : Datum) (vs : List ℕ) (xs ys : List (Option Datum)) (es : List Expression) → vs ≡ clause_variables c → ys ≡ xs → es ≡ c.conditions → Matches c.head (substitution_of (clause_variables c) xs) o → (AllHold es (substitution_of vs ys) o → ⊥) → ¬ IsApplicable c o
+clause-fails c o vs xs ys es names slots conditions match fails = λ a.
+    let same = ap (λ l. substitution_of l ys) names ∙ ap (λ l. substitution_of (clause_variables c) l) slots in
+    let one = one-match c.head o a.substitution (substitution_of (clause_variables c) xs) a.applies.head match in
+    let P : Substitution → Type 0 = λ s. AllHold c.conditions s o in
+    let Q : List Expression → Type 0 = λ l. AllHold l (substitution_of vs ys) o in
+    fails (subst Q (sym conditions) (subst P (one ∙ sym same) a.applies.conditions))
+
+pub clause-unmatched : (c : Clause) (o : Datum) → NeverMatches c.head o → ¬ IsApplicable c o
+clause-unmatched c o never = λ a. never a.substitution a.applies.head
+
+pub first-answers : (c : Clause) (cs : Specification) (o : Datum) (answer : Option Datum) → IsApplicable c o → Means (c ∷ cs) o answer → Means (c ∷ []) o answer
+first-answers c cs o answer a (inl h) = inl h
+first-answers c cs o answer a (inr h) = absurd (h.0 a)
+
+pub others-answer : (c : Clause) (cs : Specification) (o : Datum) (answer : Option Datum) → ¬ IsApplicable c o → Means (c ∷ cs) o answer → Means cs o answer
+others-answer c cs o answer never (inl h) = absurd (never (record { substitution = h.0; applies = h.1 }))
+others-answer c cs o answer never (inr h) = h.1

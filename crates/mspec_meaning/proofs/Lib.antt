@@ -1,0 +1,5 @@
+pub mod PartLemmas
+pub mod SlotLemmas
+pub mod FitLemmas
+pub mod MatchLemmas
+pub mod HoldLemmas

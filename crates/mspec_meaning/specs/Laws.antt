@@ -1,0 +1,23 @@
+-- Laws of matching and meaning.
+use Rattle.std.specs.Prelude.{◌≡◌, Option, None, List, [], ◌∷◌}
+use Rattle.term_core.specs.Datum.{Datum}
+use Rattle.mspec_syntax.specs.Pattern.{Pattern}
+use Rattle.mspec_syntax.specs.Specification.{Clause, Specification}
+use Rattle.mspec_meaning.specs.Match.{Substitution, Matches}
+use Rattle.mspec_meaning.specs.Meaning.{IsApplicable, Means}
+
+-- at most one substitution makes a pattern match a term
+abbrev pub HasOneMatch : Type 0
+HasOneMatch = (p : Pattern) (t : Datum) (s r : Substitution) → Matches p s t → Matches p r t → s ≡ r
+
+-- the empty specification answers nothing on any object
+abbrev pub EmptyAnswersNothing : Type 0
+EmptyAnswersNothing = (o : Datum) (answer : Option Datum) → Means [] o answer → answer ≡ None
+
+-- where the first clause applies, it answers alone
+abbrev pub FirstAnswers : Type 0
+FirstAnswers = (c : Clause) (cs : Specification) (o : Datum) (answer : Option Datum) → IsApplicable c o → Means (c ∷ cs) o answer → Means (c ∷ []) o answer
+
+-- where it doesn't, the other clauses answer
+abbrev pub OthersAnswer : Type 0
+OthersAnswer = (c : Clause) (cs : Specification) (o : Datum) (answer : Option Datum) → ¬ IsApplicable c o → Means (c ∷ cs) o answer → Means cs o answer

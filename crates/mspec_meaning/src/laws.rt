@@ -1,0 +1,18 @@
+//! Laws of matching and meaning, each the contract of a function that does nothing.
+ghost use Rattle.mspec_meaning.specs.Laws.{HasOneMatch, EmptyAnswersNothing, FirstAnswers, OthersAnswer};
+
+/// At most one substitution makes a pattern match a term.
+pub fn one_substitution_matches()
+    ensures { HasOneMatch }
+{}
+
+/// The empty specification answers nothing.
+pub fn empty_answers_nothing()
+    ensures { EmptyAnswersNothing }
+{}
+
+/// A specification answers as its first clause does where that applies, else as the others do.
+pub fn first_clause_decides()
+    ensures first { FirstAnswers }
+    ensures others { OthersAnswer }
+{}

@@ -1,0 +1,20 @@
+//! What match specifications mean: a plain evaluator.
+//!
+//! The contract is that of `evaluate`: it answers on an object what the specification means there (`Means`, in
+//! `specs/Meaning.antt`), or that no memory was given.
+//!
+//! - When a pattern matches: `specs/Match.antt`; `bind.rt`, over parts of terms (`part.rt`), by the slots of
+//!   `specs/Slots.antt`.
+//! - The values of expressions: `value.rt`. Clauses and specifications: `clauses.rt`.
+//! - Laws of the meaning: `laws.rt`, `specs/Laws.antt`.
+#![tactic(auto)]
+
+mod bind;
+mod clauses;
+mod laws;
+mod part;
+mod value;
+
+pub use clauses::evaluate;
+pub use laws::{empty_answers_nothing, first_clause_decides, one_substitution_matches};
+pub use value::Mode;

@@ -1,0 +1,7 @@
+pub mod WordLemmas
+pub mod DepthLemmas
+pub mod GrammarLemmas
+pub mod PatternLemmas
+pub mod RisingLemmas
+pub mod SizeLemmas
+pub mod ReadingLemmas

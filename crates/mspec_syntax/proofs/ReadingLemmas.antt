@@ -1,0 +1,407 @@
+-- Expressions, clauses and specifications read from terms: what is read has no fault, and readings of lists from the
+-- readings of their elements.
+use Rattle.std.proofs.Common.{◌≡◌, ℕ, suc, ◌+◌, ◌<◌, ◌≤◌, true, inl, inr, Option, Some, None, option_map, MatchResult, Result, Ok, Err, IfOk, IfErr, List, [], ◌∷◌, ◌++◌, length, get_or, drop, refl, sym, ◌∙◌, ap, subst, arith, drop-cons, add-one}
+use Rattle.std.proofs.lemmas.List.{append_assoc, append-nil, drop_all}
+use Rattle.term_core.specs.Datum.{Datum, Items, items_of, cells, IsNoList}
+use Rattle.term_core.specs.Datum.Datum.{integer, atom, tuple, map, nil, cons, binary}
+use Rattle.term_core.specs.Datum.Items.{no_items, item}
+use Rattle.term_core.specs.Term.{tail_of, IsTail}
+use Rattle.mspec_syntax.specs.Pattern.{Pattern, pattern_variables}
+use Rattle.mspec_syntax.specs.Pattern.Pattern.{tuple_of, cell_of, map_of}
+use Rattle.mspec_syntax.specs.Expression.{Expression}
+use Rattle.mspec_syntax.specs.Rising.{rising}
+use Rattle.mspec_syntax.specs.Word.{word_of}
+use Rattle.mspec_syntax.specs.Specification.{Clause, Specification, clause_variables, IsWithinLimits}
+use Rattle.mspec_syntax.specs.Grammar.{is_hole, proper_elements, IsPattern, IsAtomPattern, IsHeadForm, IsAtomExpression, IsExpression, AreExpressions, AreConditions, AreBodyExpressions, triple, IsNoTriple, IsClause, AreClauses, AreElementsClauses, IsSpecification}
+use Rattle.mspec_syntax.specs.Faults.{named_variables, head_faults, word_faults, expression_faults, expressions_faults, conditions_faults, body_faults, clause_faults, clauses_faults, elements_faults, specification_faults, Refuses, IsRefusal, IsSizeRefusal}
+use Rattle.mspec_syntax.specs.declared.word.Word.{Word}
+use Rattle.mspec_syntax.specs.declared.word.Word.TheVariants as word
+use Rattle.mspec_syntax.specs.declared.fault.SpecFault.{SpecFault}
+use Rattle.mspec_syntax.specs.declared.fault.SpecFault.TheVariants.{Memory, NotAList, NotAClause, BadExpression}
+use Rattle.mspec_syntax.proofs.PatternLemmas.{IsPattern-variables, IsPattern-one, ArePatterns-faults, Refuses-before, Refuses-behind, Refuses-same}
+
+proper_elements-cells : (ds : List Datum) → proper_elements (cells ds nil) ≡ Some ds
+proper_elements-cells [] = refl
+proper_elements-cells (d ∷ ds) = ap (option_map (λ l. d ∷ l)) (proper_elements-cells ds)
+
+proper_elements-no_list : (d : Datum) → IsNoList d → proper_elements d ≡ None
+proper_elements-no_list (integer z) h = refl
+proper_elements-no_list (atom cs) h = refl
+proper_elements-no_list (tuple ds) h = refl
+proper_elements-no_list (map es) h = refl
+proper_elements-no_list nil h = absurd h
+proper_elements-no_list (cons head tail) h = absurd h
+proper_elements-no_list (binary bs) h = refl
+
+proper_elements-improper : (ds : List Datum) (t : Datum) → IsNoList t → proper_elements (cells ds t) ≡ None
+proper_elements-improper [] t h = proper_elements-no_list t h
+proper_elements-improper (d ∷ ds) t h = ap (option_map (λ l. d ∷ l)) (proper_elements-improper ds t h)
+
+-- a list without a tail of its own has its elements
+pub proper-elements : (ds : List Datum) (t : Option Datum) (d : Datum) → t ≡ None → cells ds (tail_of t) ≡ d → Some ds ≡ proper_elements d
+proper-elements ds None d e is = sym (proper_elements-cells ds) ∙ ap proper_elements is
+proper-elements ds (Some x) d e is = absurd (cc)
+
+pub improper-elements : (ds : List Datum) (t : Option Datum) (tail d : Datum) → t ≡ Some tail → cells ds (tail_of t) ≡ d → IsTail t → None ≡ proper_elements d
+improper-elements ds None tail d e is h = absurd (cc)
+improper-elements ds (Some x) tail d e is h = sym (proper_elements-improper ds x h) ∙ ap proper_elements is
+
+-- a list is no expression
+pub list-expression : (clause : ℕ) (variables : List ℕ) (ds : List Datum) (t d : Datum) → cells ds t ≡ d → 0 < length ds → Refuses (BadExpression clause) (expression_faults clause variables d)
+list-expression clause variables [] t d is some = absurd (omega arith)
+list-expression clause variables (x ∷ ds) t d is some =
+    Refuses-same (BadExpression clause) _ _ (ap (expression_faults clause variables) is) (inr (record { others = []; first = refl }))
+
+-- a list is no clause
+pub list-clause : (clause : ℕ) (ds : List Datum) (t d : Datum) → cells ds t ≡ d → 0 < length ds → Refuses (NotAClause clause) (clause_faults clause d)
+list-clause clause [] t d is some = absurd (omega arith)
+list-clause clause (x ∷ ds) t d is some =
+    Refuses-same (NotAClause clause) _ _ (ap (clause_faults clause) is) (inr (record { others = []; first = refl }))
+
+IsAtomExpression-faults : (i : ℕ) (vs cs : List ℕ) (w : Word) (e : Expression) → IsAtomExpression vs cs w e → word_faults i vs w ≡ []
+IsAtomExpression-faults i vs cs (word.Variable n) e h = rw h.0 refl
+IsAtomExpression-faults i vs cs word.Misnumbered e h = absurd h
+IsAtomExpression-faults i vs cs word.Underscore e h = refl
+IsAtomExpression-faults i vs cs word.Object e h = refl
+IsAtomExpression-faults i vs cs word.Bindings e h = refl
+IsAtomExpression-faults i vs cs word.Plain e h = refl
+
+IsExpression-faults : (i : ℕ) (vs : List ℕ) (d : Datum) (e : Expression) → IsExpression vs d e → expression_faults i vs d ≡ []
+IsExpression-faults i vs (integer z) e h = refl
+IsExpression-faults i vs (atom cs) e h = IsAtomExpression-faults i vs cs (word_of cs) e h
+IsExpression-faults i vs (tuple ds) e h = absurd h
+IsExpression-faults i vs (map es) e h = absurd h
+IsExpression-faults i vs nil e h = refl
+IsExpression-faults i vs (cons head tail) e h = absurd h
+IsExpression-faults i vs (binary bs) e h = absurd h
+
+both_empty : {X : Type 0} {xs ys : List X} → xs ≡ [] → ys ≡ [] → xs ++ ys ≡ []
+both_empty {X} {xs} {ys} e f = ap (λ l. l ++ ys) e ∙ f
+
+AreExpressions-faults : (i : ℕ) (vs : List ℕ) (ds : List Datum) (es : List Expression) → AreExpressions vs ds es → expressions_faults i vs ds ≡ []
+AreExpressions-faults i vs [] es h = refl
+AreExpressions-faults i vs (d ∷ ds) [] h = absurd h
+AreExpressions-faults i vs (d ∷ ds) (e ∷ es) h = both_empty (IsExpression-faults i vs d e h.0) (AreExpressions-faults i vs ds es h.1)
+
+IsAtomExpression-one : (vs cs : List ℕ) (w : Word) (e f : Expression) → IsAtomExpression vs cs w e → IsAtomExpression vs cs w f → e ≡ f
+IsAtomExpression-one vs cs (word.Variable n) e f h k = h.1 ∙ sym k.1
+IsAtomExpression-one vs cs word.Misnumbered e f h k = absurd h
+IsAtomExpression-one vs cs word.Underscore e f h k = h ∙ sym k
+IsAtomExpression-one vs cs word.Object e f h k = h ∙ sym k
+IsAtomExpression-one vs cs word.Bindings e f h k = h ∙ sym k
+IsAtomExpression-one vs cs word.Plain e f h k = h ∙ sym k
+
+IsExpression-one : (vs : List ℕ) (d : Datum) (e f : Expression) → IsExpression vs d e → IsExpression vs d f → e ≡ f
+IsExpression-one vs (integer z) e f h k = h ∙ sym k
+IsExpression-one vs (atom cs) e f h k = IsAtomExpression-one vs cs (word_of cs) e f h k
+IsExpression-one vs (tuple ds) e f h k = absurd h
+IsExpression-one vs (map es) e f h k = absurd h
+IsExpression-one vs nil e f h k = h ∙ sym k
+IsExpression-one vs (cons head tail) e f h k = absurd h
+IsExpression-one vs (binary bs) e f h k = absurd h
+
+AreExpressions-one : (vs : List ℕ) (ds : List Datum) (es fs : List Expression) → AreExpressions vs ds es → AreExpressions vs ds fs → es ≡ fs
+AreExpressions-one vs [] [] [] h k = refl
+AreExpressions-one vs [] [] (f ∷ fs) h k = absurd k
+AreExpressions-one vs [] (e ∷ es) fs h k = absurd h
+AreExpressions-one vs (d ∷ ds) [] fs h k = absurd h
+AreExpressions-one vs (d ∷ ds) (e ∷ es) [] h k = absurd k
+AreExpressions-one vs (d ∷ ds) (e ∷ es) (f ∷ fs) h k =
+    let first = IsExpression-one vs d e f h.0 k.0 in let rest = AreExpressions-one vs ds es fs h.1 k.1 in cc
+
+AreBodyExpressions-one : (vs : List ℕ) (o : Option (List Datum)) (es fs : List Expression) → AreBodyExpressions vs o es → AreBodyExpressions vs o fs → es ≡ fs
+AreBodyExpressions-one vs None es fs h k = absurd h
+AreBodyExpressions-one vs (Some []) es fs h k = absurd h
+AreBodyExpressions-one vs (Some (d ∷ ds)) es fs h k = AreExpressions-one vs (d ∷ ds) es fs h k
+
+AreConditions-one : (vs : List ℕ) (d : Datum) (es fs : List Expression) → AreConditions vs d es → AreConditions vs d fs → es ≡ fs
+AreConditions-one vs (integer z) es fs h k = absurd h
+AreConditions-one vs (atom cs) es fs h k = absurd h
+AreConditions-one vs (tuple ds) es fs h k = absurd h
+AreConditions-one vs (map ms) es fs h k = absurd h
+AreConditions-one vs nil es fs h k = h ∙ sym k
+AreConditions-one vs (cons head tail) es fs h k = absurd h
+AreConditions-one vs (binary bs) es fs h k = absurd h
+
+AreConditions-faults : (i : ℕ) (vs : List ℕ) (d : Datum) (es : List Expression) → AreConditions vs d es → conditions_faults i vs d ≡ []
+AreConditions-faults i vs (integer z) es h = absurd h
+AreConditions-faults i vs (atom cs) es h = absurd h
+AreConditions-faults i vs (tuple ds) es h = absurd h
+AreConditions-faults i vs (map ms) es h = absurd h
+AreConditions-faults i vs nil es h = refl
+AreConditions-faults i vs (cons head tail) es h = absurd h
+AreConditions-faults i vs (binary bs) es h = absurd h
+
+AreBodyExpressions-faults : (i : ℕ) (vs : List ℕ) (o : Option (List Datum)) (es : List Expression) → AreBodyExpressions vs o es → body_faults i vs o ≡ []
+AreBodyExpressions-faults i vs None es h = absurd h
+AreBodyExpressions-faults i vs (Some []) es h = absurd h
+AreBodyExpressions-faults i vs (Some (d ∷ ds)) es h = AreExpressions-faults i vs (d ∷ ds) es h
+
+IsAtomPattern-hole : (cs : List ℕ) (w : Word) (p : Pattern) → IsAtomPattern cs w p → IsHeadForm p → is_hole w ≡ true
+IsAtomPattern-hole cs (word.Variable n) p h form = refl
+IsAtomPattern-hole cs word.Misnumbered p h form = absurd h
+IsAtomPattern-hole cs word.Underscore p h form = refl
+IsAtomPattern-hole cs word.Object p h form = absurd (subst IsHeadForm h form)
+IsAtomPattern-hole cs word.Bindings p h form = absurd (subst IsHeadForm h form)
+IsAtomPattern-hole cs word.Plain p h form = absurd (subst IsHeadForm h form)
+
+-- a head has no fault
+pub IsHead-faults : (i : ℕ) (d : Datum) (p : Pattern) → IsPattern d p → IsHeadForm p → head_faults i d ≡ []
+IsHead-faults i (integer z) p h form = absurd (subst IsHeadForm h form)
+IsHead-faults i (atom cs) p h form = rw (IsAtomPattern-hole cs (word_of cs) p h form) refl
+IsHead-faults i (tuple ds) (tuple_of ps) h form = ArePatterns-faults i ds ps h
+IsHead-faults i (tuple ds) p h form = absurd h
+IsHead-faults i (map es) (map_of fs) h form = absurd form
+IsHead-faults i (map es) p h form = absurd h
+IsHead-faults i nil p h form = absurd (subst IsHeadForm h form)
+IsHead-faults i (cons head tail) (cell_of p q) h form = absurd form
+IsHead-faults i (cons head tail) p h form = absurd h
+IsHead-faults i (binary bs) p h form = absurd (subst IsHeadForm h form)
+
+-- the variables of a head that was read
+pub head-variables : (d : Datum) (p : Pattern) → IsPattern d p → rising (pattern_variables p) ≡ rising (named_variables d)
+head-variables d p h = ap rising (sym (IsPattern-variables d p h))
+
+split_at : {X : Type 0} (xs : List X) (i : ℕ) (x : X) → i < length xs → x ≡ get_or xs i x → drop i xs ≡ x ∷ drop (i + 1) xs
+split_at xs i x h e = drop-cons xs i x h ∙ ap (λ y. y ∷ drop (suc i) xs) (sym e) ∙ ap (λ j. x ∷ drop j xs) (sym (add-one i))
+
+-- the first i terms are read as these expressions
+pub record ExpressionsFront (clause : ℕ) (variables : List ℕ) (ds : List Datum) (i : ℕ) (es : List Expression) : Type 0 where
+  pub whole : (rest : List Expression) → AreExpressions variables (drop i ds) rest → AreExpressions variables ds (es ++ rest)
+  pub clean : expressions_faults clause variables (drop i ds) ≡ expressions_faults clause variables ds
+
+pub ExpressionsFront-more : (clause : ℕ) (vs : List ℕ) (ds : List Datum) (i : ℕ) (x : Datum) (es fs : List Expression) (e : Expression) → i < length ds → x ≡ get_or ds i x → IsExpression vs x e → fs ≡ es ++ e ∷ [] → ExpressionsFront clause vs ds i es → ExpressionsFront clause vs ds (i + 1) fs
+ExpressionsFront-more clause vs ds i x es fs e within is one pushed front =
+    let split : drop i ds ≡ x ∷ drop (i + 1) ds = split_at ds i x within is in
+    record {
+      whole = λ rest h.
+          let given : AreExpressions vs (x ∷ drop (i + 1) ds) (e ∷ rest) = (one, h) in
+          let joined : fs ++ rest ≡ es ++ (e ∷ rest) = ap (λ l. l ++ rest) pushed ∙ append_assoc es (e ∷ []) rest in
+          rw joined (front.whole (e ∷ rest) (rw split given));
+      clean =
+          let known = rw split at front.clean in
+          sym (ap (λ l. l ++ expressions_faults clause vs (drop (i + 1) ds)) (IsExpression-faults clause vs x e one)) ∙ known;
+    }
+
+pub ExpressionsFront-all : (clause : ℕ) (vs : List ℕ) (ds : List Datum) (i : ℕ) (es : List Expression) → length ds ≤ i → ExpressionsFront clause vs ds i es → AreExpressions vs ds es
+ExpressionsFront-all clause vs ds i es end front =
+    let none : drop i ds ≡ [] = drop_all i ds end in
+    let given : AreExpressions vs (drop i ds) [] = rw none tt in
+    let P : List Expression → Type 0 = λ l. AreExpressions vs ds l in
+    subst P (append-nil es) (front.whole [] given)
+
+pub ExpressionsFront-refuses : (clause : ℕ) (vs : List ℕ) (ds : List Datum) (i : ℕ) (x : Datum) (es : List Expression) (f : SpecFault) → i < length ds → x ≡ get_or ds i x → ExpressionsFront clause vs ds i es → Refuses f (expression_faults clause vs x) → Refuses f (expressions_faults clause vs ds)
+ExpressionsFront-refuses clause vs ds i x es f within is front h =
+    let split : drop i ds ≡ x ∷ drop (i + 1) ds = split_at ds i x within is in
+    let known = rw split at front.clean in
+    Refuses-same f _ _ known (Refuses-before f (expression_faults clause vs x) (expressions_faults clause vs (drop (i + 1) ds)) h)
+
+-- the body of the elements that were found
+pub body-read : (vs : List ℕ) (o : Option (List Datum)) (ds : List Datum) (es : List Expression) → Some ds ≡ o → 0 < length ds → AreExpressions vs ds es → AreBodyExpressions vs o es
+body-read vs o [] es e some h = absurd (omega arith)
+body-read vs o (d ∷ ds) es e some h = let P : Option (List Datum) → Type 0 = λ x. AreBodyExpressions vs x es in subst P e h
+
+pub body-refused : (clause : ℕ) (vs : List ℕ) (o : Option (List Datum)) (ds : List Datum) (f : SpecFault) → Some ds ≡ o → 0 < length ds → Refuses f (expressions_faults clause vs ds) → Refuses f (body_faults clause vs o)
+body-refused clause vs o [] f e some h = absurd (omega arith)
+body-refused clause vs o (d ∷ ds) f e some h = Refuses-same f _ _ (ap (body_faults clause vs) e) h
+
+-- three terms are the elements of a tuple, and another number of them is no tuple of three
+pub three-triple : (ds : List Datum) (d a b c : Datum) → tuple (items_of ds) ≡ d → length ds ≡ 3 → a ≡ get_or ds 0 a → b ≡ get_or ds 1 b → c ≡ get_or ds 2 c → triple a b c ≡ d
+three-triple [] d a b c is three e f h = absurd (omega arith)
+three-triple (x ∷ []) d a b c is three e f h = absurd (omega arith)
+three-triple (x ∷ y ∷ []) d a b c is three e f h = absurd (omega arith)
+three-triple (x ∷ y ∷ z ∷ []) d a b c is three e f h = rw (e, f, h) is
+three-triple (x ∷ y ∷ z ∷ w ∷ ds) d a b c is three e f h = absurd (omega arith)
+
+pub other-triple : (ds : List Datum) (d : Datum) → tuple (items_of ds) ≡ d → (length ds ≡ 3 → ⊥) → IsNoTriple d
+other-triple [] d is other = subst IsNoTriple is tt
+other-triple (x ∷ []) d is other = subst IsNoTriple is tt
+other-triple (x ∷ y ∷ []) d is other = subst IsNoTriple is tt
+other-triple (x ∷ y ∷ z ∷ []) d is other = absurd (other (omega arith))
+other-triple (x ∷ y ∷ z ∷ w ∷ ds) d is other = subst IsNoTriple is tt
+
+pub list-triple : (ds : List Datum) (t d : Datum) → cells ds t ≡ d → 0 < length ds → IsNoTriple d
+list-triple [] t d is some = absurd (omega arith)
+list-triple (x ∷ ds) t d is some = subst IsNoTriple is tt
+
+no_triple-items : (i : ℕ) (ds : Items) → IsNoTriple (tuple ds) → clause_faults i (tuple ds) ≡ NotAClause i ∷ []
+no_triple-items i no_items h = refl
+no_triple-items i (item a no_items) h = refl
+no_triple-items i (item a (item b no_items)) h = refl
+no_triple-items i (item a (item b (item c no_items))) h = absurd h
+no_triple-items i (item a (item b (item c (item d ds)))) h = refl
+
+-- what is no tuple of three is no clause
+pub no_triple-faults : (i : ℕ) (d : Datum) → IsNoTriple d → clause_faults i d ≡ NotAClause i ∷ []
+no_triple-faults i (integer z) h = refl
+no_triple-faults i (atom cs) h = refl
+no_triple-faults i (tuple ds) h = no_triple-items i ds h
+no_triple-faults i (map es) h = refl
+no_triple-faults i nil h = refl
+no_triple-faults i (cons head tail) h = refl
+no_triple-faults i (binary bs) h = refl
+
+pub no_triple-refused : (i : ℕ) (d : Datum) → IsNoTriple d → Refuses (NotAClause i) (clause_faults i d)
+no_triple-refused i d h = Refuses-same (NotAClause i) _ _ (sym (no_triple-faults i d h)) (inr (record { others = []; first = refl }))
+
+pub conditions-refused : (i : ℕ) (h cs b d : Datum) (p : Pattern) (vs : List ℕ) (f : SpecFault) → triple h cs b ≡ d → IsPattern h p × IsHeadForm p → vs ≡ rising (pattern_variables p) → Refuses f (conditions_faults i vs cs) → Refuses f (clause_faults i d)
+conditions-refused i h cs b d p vs f is head same refused =
+    let names = same ∙ head-variables h p head.0 in
+    let rest = body_faults i (rising (named_variables h)) (proper_elements b) in
+    Refuses-same f _ _ (ap (clause_faults i) is)
+    (Refuses-behind f (head_faults i h) (conditions_faults i (rising (named_variables h)) cs ++ rest) (IsHead-faults i h p head.0 head.1)
+    (Refuses-before f (conditions_faults i (rising (named_variables h)) cs) rest (Refuses-same f _ _ (ap (λ l. conditions_faults i l cs) names) refused)))
+
+pub bodies-refused : (i : ℕ) (h cs b d : Datum) (p : Pattern) (vs : List ℕ) (es : List Expression) (f : SpecFault) → triple h cs b ≡ d → IsPattern h p × IsHeadForm p → vs ≡ rising (pattern_variables p) → AreConditions vs cs es → Refuses f (body_faults i vs (proper_elements b)) → Refuses f (clause_faults i d)
+bodies-refused i h cs b d p vs es f is head same conditions refused =
+    let names = same ∙ head-variables h p head.0 in
+    let rest = body_faults i (rising (named_variables h)) (proper_elements b) in
+    let clean = sym (ap (λ l. conditions_faults i l cs) names) ∙ AreConditions-faults i vs cs es conditions in
+    Refuses-same f _ _ (ap (clause_faults i) is)
+    (Refuses-behind f (head_faults i h) (conditions_faults i (rising (named_variables h)) cs ++ rest) (IsHead-faults i h p head.0 head.1)
+    (Refuses-behind f (conditions_faults i (rising (named_variables h)) cs) rest clean (Refuses-same f _ _ (ap (λ l. body_faults i l (proper_elements b)) names) refused)))
+
+IsTriple-faults : (i : ℕ) (h cs b : Datum) (c : Clause) → IsClause (triple h cs b) c → clause_faults i (triple h cs b) ≡ []
+IsTriple-faults i h cs b c k =
+    let names = head-variables h c.head k.0 in
+    both_empty (IsHead-faults i h c.head k.0 k.1)
+    (both_empty (sym (ap (λ l. conditions_faults i l cs) names) ∙ AreConditions-faults i (clause_variables c) cs c.conditions k.2)
+    (sym (ap (λ l. body_faults i l (proper_elements b)) names) ∙ AreBodyExpressions-faults i (clause_variables c) (proper_elements b) c.body k.3))
+
+IsTuple-faults : (i : ℕ) (ds : Items) (c : Clause) → IsClause (tuple ds) c → clause_faults i (tuple ds) ≡ []
+IsTuple-faults i no_items c h = absurd h
+IsTuple-faults i (item x no_items) c h = absurd h
+IsTuple-faults i (item x (item y no_items)) c h = absurd h
+IsTuple-faults i (item x (item y (item z no_items))) c h = IsTriple-faults i x y z c h
+IsTuple-faults i (item x (item y (item z (item w ds)))) c h = absurd h
+
+-- what is read as a clause has no fault
+pub IsClause-faults : (i : ℕ) (d : Datum) (c : Clause) → IsClause d c → clause_faults i d ≡ []
+IsClause-faults i (integer z) c h = absurd h
+IsClause-faults i (atom cs) c h = absurd h
+IsClause-faults i (tuple ds) c h = IsTuple-faults i ds c h
+IsClause-faults i (map es) c h = absurd h
+IsClause-faults i nil c h = absurd h
+IsClause-faults i (cons head tail) c h = absurd h
+IsClause-faults i (binary bs) c h = absurd h
+
+same_clause : (b c : Clause) → b.head ≡ c.head → b.conditions ≡ c.conditions → b.body ≡ c.body → b ≡ c
+same_clause b c e f h i = record { head = e i; conditions = f i; body = h i }
+
+IsTriple-one : (h cs b : Datum) (c d : Clause) → IsClause (triple h cs b) c → IsClause (triple h cs b) d → c ≡ d
+IsTriple-one h cs b c d k l =
+    let head = IsPattern-one h c.head d.head k.0 l.0 in
+    let names : clause_variables d ≡ clause_variables c = ap (λ p. rising (pattern_variables p)) (sym head) in
+    let P : List ℕ → Type 0 = λ vs. AreConditions vs cs d.conditions in
+    let Q : List ℕ → Type 0 = λ vs. AreBodyExpressions vs (proper_elements b) d.body in
+    same_clause c d head
+    (AreConditions-one (clause_variables c) cs c.conditions d.conditions k.2 (subst P names l.2))
+    (AreBodyExpressions-one (clause_variables c) (proper_elements b) c.body d.body k.3 (subst Q names l.3))
+
+IsTuple-one : (ds : Items) (c d : Clause) → IsClause (tuple ds) c → IsClause (tuple ds) d → c ≡ d
+IsTuple-one no_items c d h k = absurd h
+IsTuple-one (item x no_items) c d h k = absurd h
+IsTuple-one (item x (item y no_items)) c d h k = absurd h
+IsTuple-one (item x (item y (item z no_items))) c d h k = IsTriple-one x y z c d h k
+IsTuple-one (item x (item y (item z (item w ds)))) c d h k = absurd h
+
+IsClause-one : (t : Datum) (c d : Clause) → IsClause t c → IsClause t d → c ≡ d
+IsClause-one (integer z) c d h k = absurd h
+IsClause-one (atom cs) c d h k = absurd h
+IsClause-one (tuple ds) c d h k = IsTuple-one ds c d h k
+IsClause-one (map es) c d h k = absurd h
+IsClause-one nil c d h k = absurd h
+IsClause-one (cons head tail) c d h k = absurd h
+IsClause-one (binary bs) c d h k = absurd h
+
+AreClauses-one : (ds : List Datum) (cs bs : Specification) → AreClauses ds cs → AreClauses ds bs → cs ≡ bs
+AreClauses-one [] [] [] h k = refl
+AreClauses-one [] [] (b ∷ bs) h k = absurd k
+AreClauses-one [] (c ∷ cs) bs h k = absurd h
+AreClauses-one (d ∷ ds) [] bs h k = absurd h
+AreClauses-one (d ∷ ds) (c ∷ cs) [] h k = absurd k
+AreClauses-one (d ∷ ds) (c ∷ cs) (b ∷ bs) h k =
+    let first = IsClause-one d c b h.0 k.0 in let rest = AreClauses-one ds cs bs h.1 k.1 in cc
+
+AreClauses-faults : (i : ℕ) (ds : List Datum) (cs : Specification) → AreClauses ds cs → clauses_faults i ds ≡ []
+AreClauses-faults i [] cs h = refl
+AreClauses-faults i (d ∷ ds) [] h = absurd h
+AreClauses-faults i (d ∷ ds) (c ∷ cs) h = both_empty (IsClause-faults i d c h.0) (AreClauses-faults (suc i) ds cs h.1)
+
+-- the first i terms are read as these clauses
+pub record ClausesFront (ds : List Datum) (i : ℕ) (cs : Specification) : Type 0 where
+  pub whole : (rest : Specification) → AreClauses (drop i ds) rest → AreClauses ds (cs ++ rest)
+  pub clean : clauses_faults i (drop i ds) ≡ clauses_faults 0 ds
+
+pub ClausesFront-none : (ds : List Datum) (cs : Specification) → cs ≡ [] → ClausesFront ds 0 cs
+ClausesFront-none ds cs e =
+    let P : Specification → Type 0 = λ l. ClausesFront ds 0 l in
+    subst P (sym e) (record { whole = λ rest h. h; clean = refl })
+
+pub ClausesFront-more : (ds : List Datum) (i : ℕ) (x : Datum) (cs bs : Specification) (c : Clause) → i < length ds → x ≡ get_or ds i x → IsClause x c → bs ≡ cs ++ c ∷ [] → ClausesFront ds i cs → ClausesFront ds (i + 1) bs
+ClausesFront-more ds i x cs bs c within is one pushed front =
+    let split : drop i ds ≡ x ∷ drop (i + 1) ds = split_at ds i x within is in
+    record {
+      whole = λ rest h.
+          let given : AreClauses (x ∷ drop (i + 1) ds) (c ∷ rest) = (one, h) in
+          let joined : bs ++ rest ≡ cs ++ (c ∷ rest) = ap (λ l. l ++ rest) pushed ∙ append_assoc cs (c ∷ []) rest in
+          rw joined (front.whole (c ∷ rest) (rw split given));
+      clean =
+          let known = rw split at front.clean in
+          ap (λ j. clauses_faults j (drop (i + 1) ds)) (add-one i)
+          ∙ sym (ap (λ l. l ++ clauses_faults (suc i) (drop (i + 1) ds)) (IsClause-faults i x c one)) ∙ known;
+    }
+
+pub ClausesFront-all : (ds : List Datum) (i : ℕ) (cs : Specification) → length ds ≤ i → ClausesFront ds i cs → AreClauses ds cs
+ClausesFront-all ds i cs end front =
+    let none : drop i ds ≡ [] = drop_all i ds end in
+    let given : AreClauses (drop i ds) [] = rw none tt in
+    let P : Specification → Type 0 = λ l. AreClauses ds l in
+    subst P (append-nil cs) (front.whole [] given)
+
+pub ClausesFront-refuses : (ds : List Datum) (i : ℕ) (x : Datum) (cs : Specification) (f : SpecFault) → i < length ds → x ≡ get_or ds i x → ClausesFront ds i cs → Refuses f (clause_faults i x) → Refuses f (clauses_faults 0 ds)
+ClausesFront-refuses ds i x cs f within is front h =
+    let split : drop i ds ≡ x ∷ drop (i + 1) ds = split_at ds i x within is in
+    let known = rw split at front.clean in
+    Refuses-same f _ _ known (Refuses-before f (clause_faults i x) (clauses_faults (suc i) (drop (i + 1) ds)) h)
+
+-- the clauses of the elements that were found
+pub specification-read : (d : Datum) (ds : List Datum) (s : Specification) → Some ds ≡ proper_elements d → AreClauses ds s → IsSpecification d s
+specification-read d ds s e h = let P : Option (List Datum) → Type 0 = λ o. AreElementsClauses o s in subst P e h
+
+pub specification-refused : (d : Datum) (ds : List Datum) (f : SpecFault) → Some ds ≡ proper_elements d → Refuses f (clauses_faults 0 ds) → Refuses f (specification_faults d)
+specification-refused d ds f e h = Refuses-same f _ _ (ap elements_faults e) h
+
+pub no_list-refused : (d : Datum) → None ≡ proper_elements d → Refuses NotAList (specification_faults d)
+no_list-refused d e = inr (record { others = []; first = ap elements_faults (sym e) })
+
+-- a size that is refused
+pub size-refused : (d : Datum) (s : Specification) (f : SpecFault) → IsSpecification d s → IsSizeRefusal f s → IsRefusal f d
+size-refused d s f is (inl e) = inl (inl e)
+size-refused d s f is (inr h) = inr (h.0, record { specification = s; is = is; large = h.1 })
+
+IsElements-faults : (o : Option (List Datum)) (s : Specification) → AreElementsClauses o s → elements_faults o ≡ []
+IsElements-faults None s h = absurd h
+IsElements-faults (Some ds) s h = AreClauses-faults 0 ds s h
+
+IsElements-one : (o : Option (List Datum)) (r s : Specification) → AreElementsClauses o r → AreElementsClauses o s → r ≡ s
+IsElements-one None r s h k = absurd h
+IsElements-one (Some ds) r s h k = AreClauses-one ds r s h k
+
+-- a term is read as one specification
+pub IsSpecification-one : (d : Datum) (r s : Specification) → IsSpecification d r → IsSpecification d s → r ≡ s
+IsSpecification-one d r s h k = IsElements-one (proper_elements d) r s h k
+
+-- a specification that is not too large is refused for want of memory alone
+pub refused-memory : (d : Datum) (s : Specification) (f : SpecFault) → IsSpecification d s → IsWithinLimits s → IsRefusal f d → f ≡ Memory
+refused-memory d s f h small (inl (inl e)) = e
+refused-memory d s f h small (inl (inr fault)) =
+    absurd (let e = sym (IsElements-faults (proper_elements d) s h) ∙ fault.first in cc)
+refused-memory d s f h small (inr large) =
+    let P : Specification → Type 0 = λ x. IsWithinLimits x in
+    absurd (large.1.large (subst P (IsSpecification-one d s large.1.specification h large.1.is) small))
+
+-- what the clauses of a term, cut by size, are
+pub only-read : (d : Datum) (s cs : Specification) (r : Result Specification SpecFault) → IsSpecification d cs → IsSpecification d s → IsWithinLimits s → IfOk r (λ x. (x ≡ cs) × IsWithinLimits x) → IfErr r (λ f. IsSizeRefusal f cs) → MatchResult r (λ x. x ≡ s) (λ f. f ≡ Memory)
+only-read d s cs (Ok x) is h small ok err = ok.0 ∙ IsSpecification-one d cs s is h
+only-read d s cs (Err f) is h small ok err = refused-memory d s f h small (size-refused d cs f is err)

@@ -1,0 +1,147 @@
+-- What is wrong with a term as a specification: its faults in reading order. An outer term's fault stands before those
+-- inside it, these from the left, and a map's pairs by rising key.
+use Rattle.std.specs.Prelude.{ℕ, suc, ◌≡◌, ◌⊎◌, Bool, true, false, if◌then◌else◌, Option, Some, None, List, [], ◌∷◌, ◌++◌}
+use Rattle.term_core.specs.Datum.{Datum, Items, Entries}
+use Rattle.term_core.specs.Datum.Datum.{integer, atom, tuple, map, nil, cons, binary}
+use Rattle.term_core.specs.Datum.Items.{no_items, item}
+use Rattle.term_core.specs.Datum.Entries.{no_entries, entry}
+use Rattle.mspec_syntax.specs.Word.{word_of}
+use Rattle.mspec_syntax.specs.Rising.{rising}
+use Rattle.mspec_syntax.specs.Grammar.{is_hole, is_misnumbered, mentions, is_among, proper_elements, IsSpecification}
+use Rattle.mspec_syntax.specs.Specification.{Specification, IsWithinLimits}
+use Rattle.mspec_syntax.specs.declared.word.Word.{Word}
+use Rattle.mspec_syntax.specs.declared.word.Word.TheVariants as word
+use Rattle.mspec_syntax.specs.declared.fault.SpecFault.{SpecFault}
+use Rattle.mspec_syntax.specs.declared.fault.SpecFault.TheVariants.{Memory, NotAList, NotAClause, BadHead, BadConditions, BadBody, Unbound, BadVariableName, BadExpression, VariableInMapKey, TooLarge}
+
+-- one fault where a test says so
+abbrev pub fault_if : Bool → SpecFault → List SpecFault
+fault_if true f = f ∷ []
+fault_if false f = []
+
+-- the faults of a map's key in the head of clause i
+abbrev pub key_faults : ℕ → Datum → List SpecFault
+key_faults i k = fault_if (mentions is_hole k) (VariableInMapKey i) ++ fault_if (mentions is_misnumbered k) (BadVariableName i)
+
+abbrev mutual
+  -- the faults of a term inside the head of clause i
+  pub pattern_faults : ℕ → Datum → List SpecFault
+  pattern_faults i (integer z) = []
+  pattern_faults i (atom cs) = fault_if (is_misnumbered (word_of cs)) (BadVariableName i)
+  pattern_faults i (tuple ds) = items_faults i ds
+  pattern_faults i (map es) = entries_faults i es
+  pattern_faults i nil = []
+  pattern_faults i (cons head tail) = pattern_faults i head ++ pattern_faults i tail
+  pattern_faults i (binary bs) = []
+
+  pub items_faults : ℕ → Items → List SpecFault
+  items_faults i no_items = []
+  items_faults i (item d ds) = pattern_faults i d ++ items_faults i ds
+
+  pub entries_faults : ℕ → Entries → List SpecFault
+  entries_faults i no_entries = []
+  entries_faults i (entry k v es) = key_faults i k ++ (pattern_faults i v ++ entries_faults i es)
+
+abbrev pub word_variables : Word → List ℕ
+word_variables (word.Variable n) = n ∷ []
+word_variables w = []
+
+abbrev mutual
+  -- the variables that a head's term names, from the left, as often as they stand
+  pub named_variables : Datum → List ℕ
+  named_variables (integer z) = []
+  named_variables (atom cs) = word_variables (word_of cs)
+  named_variables (tuple ds) = items_variables ds
+  named_variables (map es) = entries_variables es
+  named_variables nil = []
+  named_variables (cons head tail) = named_variables head ++ named_variables tail
+  named_variables (binary bs) = []
+
+  pub items_variables : Items → List ℕ
+  items_variables no_items = []
+  items_variables (item d ds) = named_variables d ++ items_variables ds
+
+  pub entries_variables : Entries → List ℕ
+  entries_variables no_entries = []
+  entries_variables (entry k v es) = named_variables v ++ entries_variables es
+
+-- a whole head is a variable, '_' or a tuple
+abbrev pub head_faults : ℕ → Datum → List SpecFault
+head_faults i (atom cs) = fault_if (if is_hole (word_of cs) then false else true) (BadHead i)
+head_faults i (tuple ds) = items_faults i ds
+head_faults i d = BadHead i ∷ []
+
+abbrev pub word_faults : ℕ → List ℕ → Word → List SpecFault
+word_faults i variables (word.Variable n) = fault_if (if is_among variables n then false else true) (Unbound i n)
+word_faults i variables word.Misnumbered = BadVariableName i ∷ []
+word_faults i variables w = []
+
+-- the faults of a term in a condition or the body of clause i, whose head names these variables
+abbrev pub expression_faults : ℕ → List ℕ → Datum → List SpecFault
+expression_faults i variables (integer z) = []
+expression_faults i variables (atom cs) = word_faults i variables (word_of cs)
+expression_faults i variables nil = []
+expression_faults i variables d = BadExpression i ∷ []
+
+abbrev pub expressions_faults : ℕ → List ℕ → List Datum → List SpecFault
+expressions_faults i variables [] = []
+expressions_faults i variables (d ∷ ds) = expression_faults i variables d ++ expressions_faults i variables ds
+
+-- only the empty list so far
+abbrev pub conditions_faults : ℕ → List ℕ → Datum → List SpecFault
+conditions_faults i variables nil = []
+conditions_faults i variables d = BadConditions i ∷ []
+
+-- a proper list with an element at least
+abbrev pub body_faults : ℕ → List ℕ → Option (List Datum) → List SpecFault
+body_faults i variables None = BadBody i ∷ []
+body_faults i variables (Some []) = BadBody i ∷ []
+body_faults i variables (Some (d ∷ ds)) = expressions_faults i variables (d ∷ ds)
+
+-- head, conditions, body
+abbrev pub clause_faults : ℕ → Datum → List SpecFault
+clause_faults i (tuple (item head (item conditions (item body no_items)))) =
+    head_faults i head
+    ++ (conditions_faults i (rising (named_variables head)) conditions ++ body_faults i (rising (named_variables head)) (proper_elements body))
+clause_faults i d = NotAClause i ∷ []
+
+-- the faults of the clauses from number i on
+abbrev pub clauses_faults : ℕ → List Datum → List SpecFault
+clauses_faults i [] = []
+clauses_faults i (d ∷ ds) = clause_faults i d ++ clauses_faults (suc i) ds
+
+abbrev pub elements_faults : Option (List Datum) → List SpecFault
+elements_faults None = NotAList ∷ []
+elements_faults (Some ds) = clauses_faults 0 ds
+
+-- all faults of a term as a specification but for its size
+abbrev pub specification_faults : Datum → List SpecFault
+specification_faults d = elements_faults (proper_elements d)
+
+-- the fault that stands first
+pub record IsFirst (f : SpecFault) (faults : List SpecFault) : Type 0 where
+  pub others : List SpecFault
+  pub first : faults ≡ f ∷ others
+
+-- a reader's refusal: no memory was given, or this is the first fault
+abbrev pub Refuses : SpecFault → List SpecFault → Type 0
+Refuses f faults = (f ≡ Memory) ⊎ IsFirst f faults
+
+-- a term that is a specification, but too large a one
+pub record IsTooLarge (d : Datum) : Type 0 where
+  pub specification : Specification
+  pub is : IsSpecification d specification
+  pub large : ¬ IsWithinLimits specification
+
+-- why a specification is refused that has no fault
+abbrev pub IsSizeRefusal : SpecFault → Specification → Type 0
+IsSizeRefusal f s = (f ≡ Memory) ⊎ ((f ≡ TooLarge) × ¬ IsWithinLimits s)
+
+-- why a term is refused: want of memory, its first fault, or its size where it has no fault
+abbrev pub IsRefusal : SpecFault → Datum → Type 0
+IsRefusal f d = Refuses f (specification_faults d) ⊎ ((f ≡ TooLarge) × IsTooLarge d)
+
+-- a specification that the grammar allows
+pub record IsReadable (s : Specification) : Type 0 where
+  pub term : Datum
+  pub is : IsSpecification term s

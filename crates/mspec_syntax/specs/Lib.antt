@@ -1,0 +1,14 @@
+pub mod Pattern
+pub mod PatternCode
+pub mod PatternView
+pub mod PatternFalls
+pub mod Expression
+pub mod ExpressionView
+pub mod Rising
+pub mod Specification
+pub mod SpecificationCode
+pub mod Word
+pub mod Sought
+pub mod Grammar
+pub mod Faults
+pub mod FaultNumbers

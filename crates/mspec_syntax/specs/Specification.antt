@@ -1,0 +1,46 @@
+-- Match specifications as mathematical objects. (ERTS User's Guide, "Match Specifications in Erlang", "Grammar".)
+use Rattle.std.specs.Prelude.{ℕ, suc, ◌≡◌, ◌+◌, ◌<◌, ◌≤◌, Option, MatchOption, List, [], ◌∷◌, ◌++◌, length, sum_by}
+use Rattle.mspec_syntax.specs.Pattern.{Pattern, pattern_variables, pattern_nodes}
+use Rattle.mspec_syntax.specs.Expression.{Expression, expression_nodes}
+use Rattle.mspec_syntax.specs.Rising.{rising}
+use Rattle.mspec_syntax.specs.declared.TheConstants.{MAX_NODES, MAX_VARIABLES}
+
+-- a head, the conditions on what it binds, and the body that answers
+pub record Clause : Type 0 where
+  pub head : Pattern
+  pub conditions : List Expression
+  pub body : List Expression
+
+-- the clauses, in the order in which they are tried
+abbrev pub Specification : Type 0
+Specification = List Clause
+
+-- the variables that a clause binds, in rising order
+abbrev pub clause_variables : Clause → List ℕ
+clause_variables c = rising (pattern_variables c.head)
+
+-- each clause, pattern, map key and expression counts
+abbrev pub clause_nodes : Clause → ℕ
+clause_nodes c =
+    let nodes = expression_nodes (length (clause_variables c)) in
+    suc (pattern_nodes c.head + (sum_by nodes c.conditions + sum_by nodes c.body))
+
+abbrev pub specification_nodes : Specification → ℕ
+specification_nodes s = sum_by clause_nodes s
+
+abbrev pub heads_variables : Specification → List ℕ
+heads_variables [] = []
+heads_variables (c ∷ cs) = pattern_variables c.head ++ heads_variables cs
+
+-- the variables of all clauses together, in rising order
+abbrev pub specification_variables : Specification → List ℕ
+specification_variables s = rising (heads_variables s)
+
+-- the size that is accepted
+pub record IsWithinLimits (s : Specification) : Type 0 where
+  pub nodes : specification_nodes s ≤ MAX_NODES
+  pub variables : length (specification_variables s) ≤ MAX_VARIABLES
+
+-- what is left of some room when so many nodes are taken away, none where there are more
+abbrev pub Leaves : Option ℕ → ℕ → ℕ → Type 0
+Leaves left room nodes = MatchOption left (room < nodes) (λ rest. rest + nodes ≡ room)

@@ -1,0 +1,144 @@
+//! Clauses and specifications.
+use crate::expression::Expression;
+use crate::pattern::Pattern;
+use crate::variables::Variables;
+use std::alloc::{Allocator, Global};
+use std::marker::Model;
+
+/// A clause: a head, conditions and a body.
+#[derive(Drop)]
+pub struct Clause<A: Allocator = Global> {
+    head: Pattern<A>,
+    variables: Variables<A>,
+    conditions: Vec<Expression<A>, A>,
+    body: Vec<Expression<A>, A>,
+}
+
+impl<A: Allocator> Model for Clause<A> {
+    ghost use Rattle.std.specs.Prelude.{◌≡◌};
+    ghost use Rattle.mspec_syntax.specs.Specification.{Clause};
+    ghost use Rattle.mspec_syntax.specs.SpecificationCode.{clause_code};
+    ghost use Rattle.mspec_syntax.specs.Rising.{rising};
+    ghost use Rattle.mspec_syntax.specs.Pattern.{pattern_variables};
+
+    ghost Value = { Clause };
+
+    ghost coded = { clause_code };
+
+    ghost view = { λ c. record { head = c.head; conditions = c.conditions.items; body = c.body.items } };
+
+    ghost invariant = { λ c. c.variables ≡ rising (pattern_variables c.head) };
+}
+
+impl<A: Allocator> Clause<A> {
+    ghost use Rattle.std.specs.Prelude.{◌≡◌};
+    ghost use Rattle.mspec_syntax.specs.Specification.{clause_variables};
+    ghost use Rattle.mspec_syntax.specs.Rising.{rising};
+    ghost use Rattle.mspec_syntax.specs.Pattern.{pattern_variables};
+
+    /// The clause of these parts, of which the variables are the head's.
+    pub(crate) fn new(
+        head: Pattern<A>,
+        variables: Variables<A>,
+        conditions: Vec<Expression<A>, A>,
+        body: Vec<Expression<A>, A>,
+    ) -> Self
+        requires { variables ≡ rising (pattern_variables head) }
+        ensures head { result.head ≡ head }
+        ensures conditions { result.conditions ≡ conditions.items }
+        ensures body { result.body ≡ body.items }
+    {
+        Clause {
+            head,
+            variables,
+            conditions,
+            body,
+        }
+    }
+
+    /// The pattern that an object has to match.
+    pub fn head(&self) -> &Pattern<A>
+        ensures { result.now ≡ self.now.head }
+    {
+        &self.head
+    }
+
+    /// The variables of the head.
+    pub fn variables(&self) -> &Variables<A>
+        ensures { result.now ≡ clause_variables self.now }
+    {
+        &self.variables
+    }
+
+    /// What has to hold of the object.
+    pub fn conditions(&self) -> &[Expression<A>]
+        ensures { result.now ≡ self.now.conditions }
+    {
+        self.conditions.as_slice()
+    }
+
+    /// The expressions of the body, of which the last is the answer.
+    pub fn body(&self) -> &[Expression<A>]
+        ensures { result.now ≡ self.now.body }
+    {
+        self.body.as_slice()
+    }
+}
+
+/// A specification, read and found to be one, of at most `MAX_NODES` nodes and `MAX_VARIABLES` variables.
+#[derive(Drop)]
+pub struct Spec<A: Allocator = Global> {
+    clauses: Vec<Clause<A>, A>,
+    variables: Variables<A>,
+}
+
+impl<A: Allocator> Model for Spec<A> {
+    ghost use Rattle.std.specs.Prelude.{◌≡◌};
+    ghost use Rattle.mspec_syntax.specs.Specification.{Specification, IsWithinLimits, specification_variables};
+    ghost use Rattle.mspec_syntax.specs.SpecificationCode.{specification_code};
+
+    ghost Value = { Specification };
+
+    ghost coded = { specification_code };
+
+    ghost use Rattle.mspec_syntax.specs.Faults.{IsReadable};
+
+    ghost view = { λ s. s.clauses.items };
+
+    ghost invariant = { λ s.
+        IsReadable s.clauses.items
+        × IsWithinLimits s.clauses.items
+        × (s.variables ≡ specification_variables s.clauses.items) };
+}
+
+impl<A: Allocator> Spec<A> {
+    ghost use Rattle.std.specs.Prelude.{◌≡◌};
+    ghost use Rattle.mspec_syntax.specs.Specification.{IsWithinLimits, specification_variables};
+    ghost use Rattle.mspec_syntax.specs.Faults.{IsReadable};
+
+    /// The specification of these clauses, of which the variables are the heads'.
+    pub(crate) fn new(clauses: Vec<Clause<A>, A>, variables: Variables<A>) -> Self
+        requires readable { IsReadable clauses.items }
+        requires limits { IsWithinLimits clauses.items }
+        requires variables { variables ≡ specification_variables clauses.items }
+        ensures { result ≡ clauses.items }
+    {
+        Spec { clauses, variables }
+    }
+
+    /// The clauses, in the order in which they are tried.
+    pub fn clauses(&self) -> &[Clause<A>]
+        ensures value { result.now ≡ self.now }
+        ensures readable { IsReadable self.now }
+        ensures limits { IsWithinLimits self.now }
+    {
+        self.clauses.as_slice()
+    }
+
+    /// The variables of all clauses together.
+    pub fn variables(&self) -> &Variables<A>
+        ensures { result.now ≡ specification_variables self.now }
+    {
+        &self.variables
+    }
+}

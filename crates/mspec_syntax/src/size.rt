@@ -1,0 +1,110 @@
+//! The sizes of specifications.
+ghost use Rattle.mspec_syntax.specs.Pattern.{pattern_nodes, patterns_nodes, fields_nodes, patterns_of, fields_of};
+ghost use Rattle.mspec_syntax.specs.Expression.{expression_nodes};
+ghost use Rattle.mspec_syntax.specs.Specification.{clause_nodes, specification_nodes, Leaves};
+ghost use Rattle.std.specs.Prelude.{sum_by};
+
+use crate::clause::Clause;
+use crate::expression::{Expression, ExpressionKind};
+use crate::pattern::{Pattern, PatternKind};
+use std::alloc::Allocator;
+use term_core::Term;
+
+/// What a pattern's nodes leave of some room, none where they are more.
+#[cycle(size)]
+fn after_pattern<A: Allocator>(room: usize, pattern: &Pattern<A>) -> Option<usize>
+    ensures { Leaves result room (pattern_nodes pattern.now) }
+{
+    let room = room.checked_sub(1)?;
+    match pattern.kind() {
+        PatternKind::Anything | PatternKind::Variable(_) | PatternKind::Literal(_) => Some(room),
+        PatternKind::Tuple(elements) => after_patterns(room, elements.as_slice()),
+        PatternKind::List(elements, tail) => {
+            let room = after_patterns(room, elements.as_slice())?;
+            match tail {
+                None => Some(room),
+                Some(tail) => after_pattern(room, tail),
+            }
+        }
+        PatternKind::Map(fields) => after_fields(room, fields.as_slice()),
+    }
+}
+
+/// What the nodes of these patterns leave.
+#[cycle(size)]
+fn after_patterns<A: Allocator>(room: usize, patterns: &[Pattern<A>]) -> Option<usize>
+    ensures { Leaves result room (patterns_nodes (patterns_of patterns.now)) }
+{
+    let mut left = room;
+    for pattern in patterns {
+        left = after_pattern(left, pattern)?;
+    }
+    Some(left)
+}
+
+/// What these keys and patterns leave.
+#[cycle(size)]
+fn after_fields<A: Allocator>(room: usize, fields: &[(Term<A>, Pattern<A>)]) -> Option<usize>
+    ensures { Leaves result room (fields_nodes (fields_of fields.now)) }
+{
+    let mut left = room;
+    for (_, pattern) in fields {
+        let rest = left.checked_sub(1)?;
+        left = after_pattern(rest, pattern)?;
+    }
+    Some(left)
+}
+
+/// What an expression's nodes leave, under a head of so many variables.
+fn after_expression<A: Allocator>(
+    room: usize,
+    variables: usize,
+    expression: &Expression<A>,
+) -> Option<usize>
+    ensures { Leaves result room (expression_nodes variables expression.now) }
+{
+    let room = room.checked_sub(1)?;
+    match expression.kind() {
+        ExpressionKind::Bindings => room.checked_sub(variables),
+        ExpressionKind::Variable(_) | ExpressionKind::Object | ExpressionKind::Constant(_) => Some(
+            room,
+        ),
+    }
+}
+
+/// What the nodes of these expressions leave.
+fn after_expressions<A: Allocator>(
+    room: usize,
+    variables: usize,
+    expressions: &[Expression<A>],
+) -> Option<usize>
+    ensures { Leaves result room (sum_by (expression_nodes variables) expressions.now) }
+{
+    let mut left = room;
+    for expression in expressions {
+        left = after_expression(left, variables, expression)?;
+    }
+    Some(left)
+}
+
+/// What a clause's nodes leave.
+fn after_clause<A: Allocator>(room: usize, clause: &Clause<A>) -> Option<usize>
+    ensures { Leaves result room (clause_nodes clause.now) }
+{
+    let variables = clause.variables().len();
+    let room = room.checked_sub(1)?;
+    let room = after_pattern(room, clause.head())?;
+    let room = after_expressions(room, variables, clause.conditions())?;
+    after_expressions(room, variables, clause.body())
+}
+
+/// What the nodes of these clauses leave.
+pub(crate) fn after_clauses<A: Allocator>(room: usize, clauses: &[Clause<A>]) -> Option<usize>
+    ensures { Leaves result room (specification_nodes clauses.now) }
+{
+    let mut left = room;
+    for clause in clauses {
+        left = after_clause(left, clause)?;
+    }
+    Some(left)
+}

@@ -1,0 +1,14 @@
+pub mod Steps
+pub mod Tokens
+pub mod Items
+pub mod Words
+pub mod Shorter
+pub mod Keys
+pub mod Sound
+pub mod Whole
+pub mod Texts
+pub mod Readers
+pub mod Publics
+pub mod Written
+pub mod ReadBack
+pub mod Bytes

@@ -1,0 +1,52 @@
+-- From characters to bytes.
+use Rattle.std.proofs.Common.{◌≡◌, ◌++◌, ℕ, ◌+◌, ◌≤◌, ◌<◌, List, length, take, drop, Result, Ok, Err, refl, sym, ap, subst, ◌∙◌, arith}
+use Rattle.std.specs.Prelude.{IfOk, MatchResult}
+use Rattle.std.specs.Str.{encode_utf8_all, IsUtf8, IsValidUpTo, chars}
+use Rattle.std.proofs.lemmas.Str.{encodes-append, utf8_valid_len-IsValidUpTo, utf8_valid_len-IsUtf8}
+use Rattle.std.proofs.lemmas.List.{take-append-drop, length-append}
+use Rattle.term_core.specs.Datum.{Datum}
+use Rattle.term_text.specs.Text.{Spells}
+use Rattle.term_text.specs.Fault.{fault_of}
+use Rattle.term_text.specs.declared.fault.Cause.TheVariants as causes
+use Rattle.term_text.specs.declared.fault.TextFault.TheVariants as faults
+use Rattle.term_text.specs.declared.fault.Stop.{Stop}
+use Rattle.term_text.specs.declared.fault.Stop.TheVariants as stops
+use Rattle.term_text.specs.Reading.{Fault, Fails, text_at}
+use Rattle.term_text.proofs.Steps.{holds_at}
+use Rattle.term_text.proofs.Texts.{text_holds, text_again}
+
+pub fewer_bytes : (k : ℕ) (cs : List ℕ) → length (encode_utf8_all (take k cs)) ≤ length (encode_utf8_all cs)
+fewer_bytes k cs =
+    let joined : encode_utf8_all (take k cs) ++ encode_utf8_all (drop k cs) ≡ encode_utf8_all cs = sym (encodes-append (take k cs) (drop k cs)) ∙ ap encode_utf8_all (take-append-drop k cs) in
+    let len = ap length joined in
+    omega (arith, length-append (encode_utf8_all (take k cs)) (encode_utf8_all (drop k cs)))
+
+pub read_is_spelled : (bytes text : List ℕ) (ds : List Datum) → IsUtf8 bytes → text ≡ chars bytes → text_at text ≡ Ok ds → Spells bytes ds
+read_is_spelled bytes text ds u c e = record { utf8 = u; sentences = rw c at (holds_at _ (text_at text) ds (text_holds text) e) }
+
+abbrev done : List Datum → Result (List Datum) Fault
+done ds = Ok ds
+
+pub spelled_is_read : (bytes text : List ℕ) (ds es : List Datum) → text ≡ chars bytes → Spells bytes ds → text_at text ≡ Ok es → es ≡ ds
+spelled_is_read bytes text ds es c h e =
+    let again : done es ≡ done ds = sym e ∙ ap text_at c ∙ text_again (chars bytes) ds h.sentences in cc
+
+pub spelled_stops : (bytes text : List ℕ) (ds : List Datum) (stop : Stop) → text ≡ chars bytes → Spells bytes ds → Fails stop (text_at text) → stop ≡ stops.Memory
+spelled_stops bytes text ds stops.Memory c h f = refl
+spelled_stops bytes text ds (stops.At cause left) c h f =
+    let again : text_at text ≡ done ds = ap text_at c ∙ text_again (chars bytes) ds h.sentences in absurd cc
+
+pub not_both : (bytes : List ℕ) (n : ℕ) → IsUtf8 bytes → IsValidUpTo bytes n → ⊥
+not_both bytes n u v = let a = utf8_valid_len-IsUtf8 bytes u in let b = utf8_valid_len-IsValidUpTo bytes n v in let short = v.short in omega arith
+
+pub one_end : (bytes : List ℕ) (m n : ℕ) → IsValidUpTo bytes m → IsValidUpTo bytes n → m ≡ n
+one_end bytes m n h k = let a = utf8_valid_len-IsValidUpTo bytes m h in let b = utf8_valid_len-IsValidUpTo bytes n k in omega arith
+
+pub no_bad_utf8 : (stop : Stop) (text : List ℕ) (at : ℕ) → fault_of stop text ≡ faults.BadUtf8 at → ⊥
+no_bad_utf8 stops.Memory text at h = absurd cc
+no_bad_utf8 (stops.At causes.TooDeep left) text at h = absurd cc
+no_bad_utf8 (stops.At causes.TooLong left) text at h = absurd cc
+no_bad_utf8 (stops.At causes.DuplicateKey left) text at h = absurd cc
+no_bad_utf8 (stops.At causes.Syntax left) text at h = absurd cc
+no_bad_utf8 (stops.At causes.IntegerRange left) text at h = absurd cc
+no_bad_utf8 (stops.At causes.UnsupportedEscape left) text at h = absurd cc

@@ -1,0 +1,278 @@
+-- A canonical text spells its term.
+use Rattle.std.proofs.Common.{◌≡◌, ◌≢◌, ◌&&◌, ◌||◌, cond, ℕ, zero, suc, max, ◌+◌, ◌-◌, ◌*◌, ◌/◌, ◌%◌, ◌^◌, ◌≤◌, ◌<◌, ◌⊎◌, inl, inr, Bool, true, false, not, List, [], ◌∷◌, ◌++◌, length, ℤ, pos, negsuc, neg_ℤ, refl, sym, ap, subst, ◌∙◌, arith, append_assoc, decimal}
+use Rattle.std.specs.Prelude.{◌==◌, FitsSigned}
+use Rattle.std.specs.Int.{w64}
+use Rattle.std.specs.Fmt.{signed_decimal}
+use Rattle.std.specs.List.{AllByRecursion}
+use Rattle.std.specs.Char.{is_ascii_digit, is_ascii_lowercase, digit_value}
+use Rattle.std.specs.Str.Parse.{digits_value}
+use Rattle.std.proofs.lemmas.Bool.{eqb-true, eqb-false, and_parts, cases_Bool, cases_lt}
+use Rattle.std.proofs.lemmas.Fmt.{decimal_by_steps}
+use Rattle.std.proofs.lemmas.Int.{ints}
+use Rattle.std.proofs.lemmas.Int.Digits.{digits_value_push}
+use Rattle.std.proofs.lemmas.List.{length-append, append-nil}
+use Rattle.term_core.specs.Datum.{Datum, Items, Entries, items_of, entries_of, cells, cell_count, item_count, entry_count}
+use Rattle.term_core.specs.Datum.Datum.{integer, atom, tuple, map, nil, cons, binary}
+use Rattle.term_core.specs.Datum.Items.{no_items, item}
+use Rattle.term_core.specs.Datum.Entries.{no_entries, entry}
+use Rattle.term_core.specs.Limits.{depth, tail_depth, items_depth, entries_depth, AreBytes, IsSound, AreSound, ArePairsSound}
+use Rattle.term_core.specs.declared.TheConstants.{MAX_CHARACTERS, MAX_TUPLE, MAX_MAP, MAX_LIST, MAX_BINARY}
+use Rattle.std.specs.List.Sorted.{IsPermutation}
+use Rattle.std.proofs.lemmas.List.Sorted.{IsPermutation-refl}
+use Rattle.term_text.proofs.Sound.{cell_count-cells}
+use Rattle.term_text.specs.Character.{is_word, backslash, single_quote, escaped, comma, bar, equals, greater, less, number_sign, open_brace, close_brace, open_bracket, close_bracket}
+use Rattle.term_text.specs.Text.{Segment, Segments, Spelled, Elements, Pair, Pairs, AreRising}
+use Rattle.term_text.specs.Text.Gap.{no_gap}
+use Rattle.term_text.specs.Text.Segment.{a_byte}
+use Rattle.term_text.specs.Text.Segments.{last_segment, more_segments}
+use Rattle.term_text.specs.Text.Spelled.{an_integer, a_word, a_quoted_atom, an_empty_tuple, a_tuple, an_empty_list, a_list, a_list_with_tail, an_empty_map, a_map, an_empty_binary, a_binary}
+use Rattle.term_text.specs.Text.Elements.{last, more as more_elements}
+use Rattle.term_text.specs.Text.Pair.{arrow}
+use Rattle.term_text.specs.Text.Pairs.{last_pair, more_pairs}
+use Rattle.term_text.specs.Text.{EndsRun, Run, Number, Integer, Quoted}
+use Rattle.term_text.specs.Text.Integer.{unsigned, positive, negative}
+use Rattle.term_text.specs.Text.Quoted.{closed, plain, escape}
+use Rattle.term_text.specs.Canonical.{canonical, more_items_text, more_entries_text, tail_text, atom_text, is_bare, is_reserved, bytes_text, more_bytes, quoted_character, quoted_characters, are_word, has_bare_form}
+
+-- what follows goes on no word
+digit_is_word : (c : ℕ) → is_word c ≡ false → is_ascii_digit c ≡ false
+digit_is_word c h = grind arith
+
+pub ends_digits : (rest : List ℕ) → EndsRun is_word rest → EndsRun is_ascii_digit rest
+ends_digits [] h = tt
+ends_digits (c ∷ cs) h = digit_is_word c h
+
+-- ---- numbers
+
+pub record IsDecimal (n : ℕ) (ds : List ℕ) : Type 0 where
+  pub some : 0 < length ds
+  pub each : AllByRecursion (λ c. is_ascii_digit c ≡ true) ds
+  pub value : n ≡ digits_value 10 ds
+
+all_push : (ds : List ℕ) (c : ℕ) → AllByRecursion (λ c. is_ascii_digit c ≡ true) ds → is_ascii_digit c ≡ true → AllByRecursion (λ c. is_ascii_digit c ≡ true) (ds ++ c ∷ [])
+all_push [] c h k = (k, tt)
+all_push (d ∷ ds) c h k = (h.0, all_push ds c h.1 k)
+
+digit_of : (d : ℕ) → d < 10 → (is_ascii_digit (48 + d) ≡ true) × (digit_value (48 + d) ≡ d)
+digit_of d h = (grind arith, grind arith)
+
+pub decimal_is : (n : ℕ) → n < 2 ^ 64 → IsDecimal n (decimal n)
+decimal_is n h =
+    decimal_by_steps IsDecimal
+    (λ n lt. let d = digit_of n lt in record { some = omega arith; each = (d.0, tt); value = rw d.1 (omega arith) })
+    (λ n ds ge r.
+    let d = digit_of (n % 10) (omega arith) in
+    record {
+      some = omega (arith, length-append ds ((48 + n % 10) ∷ []));
+      each = all_push ds (48 + n % 10) r.each d.0;
+      value = let v = digits_value_push 10 ds (48 + n % 10) in let w = r.value in let x = d.1 in omega arith;
+    })
+    n h
+
+pub number_written : (n : ℕ) → n < 2 ^ 64 → (rest : List ℕ) → EndsRun is_word rest → Number (decimal n ++ rest) n rest
+number_written n h rest e =
+    let d = decimal_is n h in
+    record { digits = decimal n; some = d.some; run = record { whole = refl; each = d.each; ended = ends_digits rest e }; value = d.value }
+
+pub integer_written : (z : ℤ) → FitsSigned w64 z → (rest : List ℕ) → EndsRun is_word rest → Integer (signed_decimal z ++ rest) z rest
+integer_written (pos n) f rest e = let small : n ≤ 9223372036854775807 = omega (arith, ints) in unsigned (number_written n (omega arith) rest e) small
+integer_written (negsuc n) f rest e = let small : suc n ≤ 9223372036854775808 = omega (arith, ints) in negative (number_written (suc n) (omega arith) rest e) small
+
+-- ---- atoms
+
+small_word : (c : ℕ) → is_ascii_lowercase c ≡ true → is_word c ≡ true
+small_word c h = grind arith
+
+words : (cs : List ℕ) → are_word cs ≡ true → AllByRecursion (λ c. is_word c ≡ true) cs
+words [] h = tt
+words (c ∷ cs) h = let p = and_parts (is_word c) (are_word cs) h in (p.0, words cs p.1)
+
+pub word_written : (cs rest : List ℕ) → are_word cs ≡ true → EndsRun is_word rest → Run is_word (cs ++ rest) cs rest
+word_written cs rest h e = record { whole = refl; each = words cs h; ended = e }
+
+character_written : (c : ℕ) (cs text rest : List ℕ) → Quoted single_quote text cs rest → Quoted single_quote (quoted_character c ++ text) (c ∷ cs) rest
+character_written c cs text rest q = elim (cases_Bool (c == backslash)) [
+  | inl e ↦ rw (e, eqb-true c backslash e) (escape refl q)
+  | inr n1 ↦ elim (cases_Bool (c == single_quote)) [
+    | inl e ↦ rw (n1, e, eqb-true c single_quote e) (escape refl q)
+    | inr n2 ↦ elim (cases_Bool (c == 10)) [
+      | inl e ↦ rw (n1, n2, e, eqb-true c 10 e) (escape refl q)
+      | inr n3 ↦ elim (cases_Bool (c == 13)) [
+        | inl e ↦ rw (n1, n2, n3, e, eqb-true c 13 e) (escape refl q)
+        | inr n4 ↦ elim (cases_Bool (c == 9)) [
+          | inl e ↦ rw (n1, n2, n3, n4, e, eqb-true c 9 e) (escape refl q)
+          | inr n5 ↦ rw (n1, n2, n3, n4, n5) (plain (eqb-false c single_quote n2) (eqb-false c backslash n1) q)
+        ]
+      ]
+    ]
+  ]
+]
+
+pub quoted_written : (cs rest : List ℕ) → Quoted single_quote (quoted_characters cs ++ single_quote ∷ rest) cs rest
+quoted_written [] rest = closed
+quoted_written (c ∷ cs) rest = rw append_assoc (character_written c cs (quoted_characters cs ++ single_quote ∷ rest) rest (quoted_written cs rest))
+
+-- ---- binaries
+
+bytes_are : (bs : List ℕ) → AreBytes bs → AllByRecursion (λ b. b < 256) bs
+bytes_are [] h = tt
+bytes_are (b ∷ bs) h = (h.0, bytes_are bs h.1)
+
+byte_segment : (b : ℕ) (rest : List ℕ) → b < 256 → EndsRun is_word rest → Segment (decimal b ++ rest) (b ∷ []) rest
+byte_segment b rest h e = a_byte (unsigned (number_written b (omega arith) rest e) (omega arith)) h
+
+segments_written : (b : ℕ) (bs rest : List ℕ) → b < 256 → AreBytes bs → Segments (decimal b ++ (more_bytes bs ++ (greater ∷ rest))) (b ∷ bs) (greater ∷ rest)
+segments_written b [] rest h k = last_segment (byte_segment b (greater ∷ rest) h refl) no_gap
+segments_written b (c ∷ bs) rest h k =
+    rw append_assoc (more_segments {bs = b ∷ []} {cs = c ∷ bs} (byte_segment b (comma ∷ (decimal c ++ (more_bytes bs ++ (greater ∷ rest)))) h refl) no_gap no_gap (segments_written c bs rest k.0 k.1))
+
+binary_written : (n : ℕ) (bs rest : List ℕ) → length bs ≤ MAX_BINARY → AreBytes bs → Spelled (suc n) (less ∷ less ∷ (bytes_text bs ++ (greater ∷ greater ∷ rest))) (binary bs) rest
+binary_written n [] rest h k = an_empty_binary no_gap
+binary_written n (b ∷ bs) rest h k = rw append_assoc (a_binary no_gap (segments_written b bs (greater ∷ rest) k.0 k.1) h)
+
+-- ---- terms
+
+-- the elements of a tuple, and the pairs of a map, as lists
+abbrev list_of : Items → List Datum
+list_of no_items = []
+list_of (item d ds) = d ∷ list_of ds
+
+abbrev pairs_of : Entries → List (Datum × Datum)
+pairs_of no_entries = []
+pairs_of (entry k v es) = (k, v) ∷ pairs_of es
+
+items_of-list_of : (ds : Items) → items_of (list_of ds) ≡ ds
+items_of-list_of no_items = refl
+items_of-list_of (item d ds) = ap (item d) (items_of-list_of ds)
+
+entries_of-pairs_of : (es : Entries) → entries_of (pairs_of es) ≡ es
+entries_of-pairs_of no_entries = refl
+entries_of-pairs_of (entry k v es) = ap (entry k v) (entries_of-pairs_of es)
+
+length-list_of : (ds : Items) → length (list_of ds) ≡ item_count ds
+length-list_of no_items = refl
+length-list_of (item d ds) = ap suc (length-list_of ds)
+
+length-pairs_of : (es : Entries) → length (pairs_of es) ≡ entry_count es
+length-pairs_of no_entries = refl
+length-pairs_of (entry k v es) = ap suc (length-pairs_of es)
+
+rising_pairs : (es : Entries) → ArePairsSound es → AreRising (pairs_of es)
+rising_pairs no_entries h = tt
+rising_pairs (entry k v es) h = (rw (entries_of-pairs_of es) h.2, rising_pairs es h.3)
+
+-- the text of a list behind its opening
+data ListText (n : ℕ) (text : List ℕ) : Datum → List ℕ → Type 0 where
+  proper : {ds : List Datum} {rest : List ℕ} → Elements n text ds (close_bracket ∷ rest) → ListText n text (cells ds nil) rest
+  improper : {ds : List Datum} {d : Datum} {u rest : List ℕ} → Elements n text ds (bar ∷ u) → Spelled n u d (close_bracket ∷ rest) → ListText n text (cells ds d) rest
+
+prepended : (n : ℕ) (text u rest : List ℕ) (head tail : Datum) → Spelled n text head (comma ∷ u) → ListText n u tail rest → ListText n text (cons head tail) rest
+prepended n text u rest head tail s (proper {ds} es) = proper {ds = head ∷ ds} (more_elements s no_gap no_gap es)
+prepended n text u rest head tail s (improper {ds} {d} es t) = improper {ds = head ∷ ds} {d = d} (more_elements s no_gap no_gap es) t
+
+ended_by : (n : ℕ) (text u rest : List ℕ) (head d : Datum) → Spelled n text head (bar ∷ u) → Spelled n u d (close_bracket ∷ rest) → ListText n text (cons head d) rest
+ended_by n text u rest head d s t = improper {ds = head ∷ []} {d = d} (last s no_gap) t
+
+list_spelled : (n : ℕ) (text rest : List ℕ) (d : Datum) → ListText n text d rest → cell_count d ≤ MAX_LIST → Spelled (suc n) (open_bracket ∷ text) d rest
+list_spelled n text rest d (proper {ds} es) h = a_list no_gap es (let c = cell_count-cells ds nil in omega arith)
+list_spelled n text rest d (improper es t) h = a_list_with_tail no_gap es no_gap t no_gap h
+
+depth_positive : (d : Datum) → 0 < depth d
+depth_positive (integer z) = omega arith
+depth_positive (atom cs) = omega arith
+depth_positive (tuple ds) = omega arith
+depth_positive (map es) = omega arith
+depth_positive nil = omega arith
+depth_positive (cons head tail) = omega arith
+depth_positive (binary bs) = omega arith
+
+bare_written : (cs : List ℕ) (n : ℕ) (rest : List ℕ) → length cs ≤ MAX_CHARACTERS → EndsRun is_word rest → has_bare_form cs ≡ true → Spelled (suc n) (cs ++ rest) (atom cs) rest
+bare_written [] n rest h e b = absurd cc
+bare_written (c ∷ cs) n rest h e b =
+    let p = and_parts (is_ascii_lowercase c) (are_word cs) b in
+    let first : is_word c ≡ true = small_word c p.0 in
+    a_word p.0 (record { whole = refl; each = (first, words cs p.1); ended = e }) h
+
+atom_written : (cs : List ℕ) (n : ℕ) (rest : List ℕ) → length cs ≤ MAX_CHARACTERS → EndsRun is_word rest → Spelled (suc n) (atom_text cs ++ rest) (atom cs) rest
+atom_written cs n rest h e = elim (cases_Bool (is_bare cs)) [
+  | inl bare ↦ let p = and_parts (has_bare_form cs) (not (is_reserved cs)) bare in rw bare (bare_written cs n rest h e p.0)
+  | inr quoted ↦ rw (quoted, append_assoc) (a_quoted_atom (quoted_written cs rest) h)
+]
+
+-- how a term is spelled, whatever follows it that goes on no word
+abbrev IsWritten : ℕ → Datum → Type 0
+IsWritten n d = (rest : List ℕ) → EndsRun is_word rest → Spelled n (canonical d ++ rest) d rest
+
+integer_again : (z : ℤ) → FitsSigned w64 z → (n : ℕ) → 1 ≤ n → IsWritten n (integer z)
+unfolding canonical
+integer_again z s zero h rest e = absurd (omega arith)
+integer_again z s (suc n) h rest e = an_integer (integer_written z s rest e)
+
+atom_again : (cs : List ℕ) → length cs ≤ MAX_CHARACTERS → (n : ℕ) → 1 ≤ n → IsWritten n (atom cs)
+unfolding canonical
+atom_again cs s zero h rest e = absurd (omega arith)
+atom_again cs s (suc n) h rest e = atom_written cs n rest s e
+
+nil_again : (n : ℕ) → 1 ≤ n → IsWritten n nil
+unfolding canonical
+nil_again zero h rest e = absurd (omega arith)
+nil_again (suc n) h rest e = an_empty_list no_gap
+
+binary_again : (bs : List ℕ) → length bs ≤ MAX_BINARY → AreBytes bs → (n : ℕ) → 1 ≤ n → IsWritten n (binary bs)
+unfolding canonical
+binary_again bs s t zero h rest e = absurd (omega arith)
+binary_again bs s t (suc n) h rest e = rw append_assoc (binary_written n bs rest s t)
+
+pair_written : (n : ℕ) (k v : Datum) → IsWritten n k → IsWritten n v → (rest : List ℕ) → EndsRun is_word rest → Pair n (canonical k ++ (equals ∷ greater ∷ (canonical v ++ rest))) k v rest
+pair_written n k v a b rest e = arrow (a (equals ∷ greater ∷ (canonical v ++ rest)) refl) no_gap no_gap (b rest e)
+
+mutual
+  unfolding canonical
+
+  pub written : (d : Datum) → IsSound d → (n : ℕ) → depth d ≤ n → IsWritten n d
+  written (integer z) s n h rest e = integer_again z s n h rest e
+  written (atom cs) s n h rest e = atom_again cs s.0 n h rest e
+  written (tuple ds) s n h rest e = tuple_written ds s.0 s.1 n h rest e
+  written (map es) s n h rest e = map_written es s.0 s.1 n h rest e
+  written nil s n h rest e = nil_again n h rest e
+  written (cons head tail) s zero h rest e = absurd (omega arith)
+  written (cons head tail) s (suc n) h rest e =
+      rw append_assoc (list_spelled n (canonical head ++ (tail_text tail ++ rest)) rest (cons head tail) (list_written tail s.2 n (omega arith) head (written head s.1 n (omega arith)) rest) s.0)
+  written (binary bs) s n h rest e = binary_again bs s.0 s.1 n h rest e
+
+  tuple_written : (ds : Items) → item_count ds ≤ MAX_TUPLE → AreSound ds → (n : ℕ) → suc (items_depth ds) ≤ n → IsWritten n (tuple ds)
+  tuple_written ds few s zero h rest e = absurd (omega arith)
+  tuple_written no_items few s (suc n) h rest e = an_empty_tuple no_gap
+  tuple_written (item d ds) few s (suc n) h rest e =
+      let es = elements_written ds s.1 n (omega arith) d (written d s.0 n (omega arith)) (close_brace ∷ rest) refl in
+      let whole = a_tuple {n = n} no_gap es (let l = length-list_of ds in omega arith) in
+      rw (append_assoc, append_assoc) (subst (λ (t : Items). Spelled (suc n) (open_brace ∷ (canonical d ++ (more_items_text ds ++ (close_brace ∷ rest)))) (tuple (item d t)) rest) (items_of-list_of ds) whole)
+
+  elements_written : (ds : Items) → AreSound ds → (n : ℕ) → items_depth ds ≤ n → (d : Datum) → IsWritten n d → (rest : List ℕ) → EndsRun is_word rest → Elements n (canonical d ++ (more_items_text ds ++ rest)) (d ∷ list_of ds) rest
+  elements_written no_items k n l d w rest e = last (w rest e) no_gap
+  elements_written (item c ds) k n l d w rest e =
+      rw append_assoc (more_elements (w (comma ∷ (canonical c ++ (more_items_text ds ++ rest))) refl) no_gap no_gap (elements_written ds k.1 n (omega arith) c (written c k.0 n (omega arith)) rest e))
+
+  map_written : (es : Entries) → entry_count es ≤ MAX_MAP → ArePairsSound es → (n : ℕ) → suc (entries_depth es) ≤ n → IsWritten n (map es)
+  map_written es few s zero h rest e = absurd (omega arith)
+  map_written no_entries few s (suc n) h rest e = an_empty_map no_gap
+  map_written (entry k v es) few s (suc n) h rest e =
+      let ps = pairs_written es s.3 n (omega arith) k v (written k s.0 n (omega arith)) (written v s.1 n (omega arith)) (close_brace ∷ rest) refl in
+      let whole = a_map {n = n} no_gap ps (let l = length-pairs_of es in omega arith) (IsPermutation-refl ((k, v) ∷ pairs_of es)) (rising_pairs (entry k v es) s) in
+      simp append_assoc (subst (λ (t : Entries). Spelled (suc n) (number_sign ∷ open_brace ∷ (canonical k ++ (equals ∷ greater ∷ (canonical v ++ (more_entries_text es ++ (close_brace ∷ rest)))))) (map (entry k v t)) rest) (entries_of-pairs_of es) whole)
+
+  pairs_written : (es : Entries) → ArePairsSound es → (n : ℕ) → entries_depth es ≤ n → (k v : Datum) → IsWritten n k → IsWritten n v → (rest : List ℕ) → EndsRun is_word rest → Pairs n (canonical k ++ (equals ∷ greater ∷ (canonical v ++ (more_entries_text es ++ rest)))) ((k, v) ∷ pairs_of es) rest
+  pairs_written no_entries s n h k v a b rest e = last_pair (pair_written n k v a b rest e) no_gap
+  pairs_written (entry l w es) s n h k v a b rest e =
+      simp append_assoc (more_pairs (pair_written n k v a b (comma ∷ (canonical l ++ (equals ∷ greater ∷ (canonical w ++ (more_entries_text es ++ rest))))) refl) no_gap no_gap
+      (pairs_written es s.3 n (omega arith) l w (written l s.0 n (omega arith)) (written w s.1 n (omega arith)) rest e))
+
+  list_written : (tail : Datum) → IsSound tail → (n : ℕ) → tail_depth tail ≤ n → (head : Datum) → IsWritten n head → (rest : List ℕ) → ListText n (canonical head ++ (tail_text tail ++ rest)) (cons head tail) rest
+  list_written nil t n l head w rest = proper (last (w (close_bracket ∷ rest) refl) no_gap)
+  list_written (cons d tail) t n l head w rest =
+      rw append_assoc (prepended n _ _ rest head (cons d tail) (w (comma ∷ (canonical d ++ (tail_text tail ++ rest))) refl) (list_written tail t.2 n (omega arith) d (written d t.1 n (omega arith)) rest))
+  list_written (integer z) t n l head w rest = rw append_assoc (ended_by n _ _ rest head (integer z) (w (bar ∷ (canonical (integer z) ++ (close_bracket ∷ rest))) refl) (integer_again z t n l (close_bracket ∷ rest) refl))
+  list_written (atom cs) t n l head w rest = rw append_assoc (ended_by n _ _ rest head (atom cs) (w (bar ∷ (canonical (atom cs) ++ (close_bracket ∷ rest))) refl) (atom_again cs t.0 n l (close_bracket ∷ rest) refl))
+  list_written (tuple ds) t n l head w rest = rw append_assoc (ended_by n _ _ rest head (tuple ds) (w (bar ∷ (canonical (tuple ds) ++ (close_bracket ∷ rest))) refl) (tuple_written ds t.0 t.1 n l (close_bracket ∷ rest) refl))
+  list_written (map es) t n l head w rest = rw append_assoc (ended_by n _ _ rest head (map es) (w (bar ∷ (canonical (map es) ++ (close_bracket ∷ rest))) refl) (map_written es t.0 t.1 n l (close_bracket ∷ rest) refl))
+  list_written (binary bs) t n l head w rest = rw append_assoc (ended_by n _ _ rest head (binary bs) (w (bar ∷ (canonical (binary bs) ++ (close_bracket ∷ rest))) refl) (binary_again bs t.0 t.1 n l (close_bracket ∷ rest) refl))

@@ -1,0 +1,6 @@
+pub mod Character
+pub mod Text
+pub mod Reading
+pub mod Canonical
+pub mod Fault
+pub mod FaultNumbers

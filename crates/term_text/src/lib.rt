@@ -1,0 +1,26 @@
+//! Term text: terms read from text and written as text.
+//!
+//! The contract: `read_terms` answers the terms that a text spells (`Spells`, in `specs/Text.antt`) and refuses any other
+//! text; `write_term` writes the one canonical text of a term (`canonical`, in `specs/Canonical.antt`); the law
+//! `canonical_text_is_read_back` says that a canonical text spells its term and no other.
+//!
+//! - Reading: `text.rt` for bytes, `read.rt` for characters by `token.rt`, which follow `specs/Reading.antt`.
+//! - Writing: `write.rt`.
+//! - Refusals, by the byte where they are met: `fault.rt`, `specs/Fault.antt`, `specs/FaultNumbers.antt`.
+//! - The law: `law.rt`, proved in `proofs/Written.antt` and `proofs/ReadBack.antt`.
+#![tactic(auto)]
+
+mod fault;
+mod law;
+mod read;
+mod text;
+mod token;
+mod write;
+
+pub use fault::TextFault;
+pub use law::canonical_text_is_read_back;
+pub use text::read_terms;
+pub use write::write_term;
+
+#[cfg(test)]
+mod tests;
