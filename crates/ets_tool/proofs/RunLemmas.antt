@@ -1,9 +1,11 @@
 -- Answers that are gathered, and then written.
-use Rattle.std.proofs.Common.{◌≡◌, ℕ, ◌+◌, ◌-◌, ◌<◌, inr, Option, Some, None, List, [], ◌∷◌, ◌++◌, take, drop, get_or, slice_get, length, refl, ap, sym, append_assoc, arith}
+use Rattle.std.proofs.Common.{◌≡◌, ℕ, ◌+◌, ◌-◌, ◌<◌, inl, inr, Option, Some, None, List, [], ◌∷◌, ◌++◌, take, drop, get_or, slice_get, length, refl, ap, sym, append_assoc, arith}
 use Rattle.std.proofs.lemmas.List.{take_more, append-nil, take-append-drop, take_all}
 use Rattle.std.specs.Io.KnownBytes.{Appends}
 use Rattle.term_core.specs.Datum.{Datum}
 use Rattle.term_text.specs.Text.{Spells}
+use Rattle.term_text.specs.declared.fault.TextFault.{TextFault}
+use Rattle.term_text.specs.declared.fault.TextFault.TheVariants as text
 use Rattle.mspec_syntax.specs.Specification.{Specification, IsWithinLimits}
 use Rattle.mspec_syntax.specs.Grammar.{IsSpecification}
 use Rattle.mspec_syntax.specs.Faults.{IsRefusal}
@@ -12,7 +14,7 @@ use Rattle.mspec_syntax.specs.declared.fault.SpecFault.TheVariants as specificat
 use Rattle.mspec_meaning.specs.Meaning.{Means}
 use Rattle.ets_tool.specs.declared.fault.ToolFault.{ToolFault}
 use Rattle.ets_tool.specs.declared.fault.ToolFault.TheVariants as fault
-use Rattle.ets_tool.specs.Run.{IsQuery, WritesOutput, StopsRun, EndsBy, StopsAnswers, IsNoSpecification, IsInputFault, of_specification, AreAnswers, Puts, Passes, answer_line, WritesAnswers}
+use Rattle.ets_tool.specs.Run.{IsQuery, WritesOutput, StopsRun, EndsBy, StopsAnswers, IsNoSpecification, IsInputFault, of_specification, of_text, AreAnswers, Puts, Passes, answer_line, WritesAnswers}
 
 -- one more answer
 answers-more : (s : Specification) (ds : List Datum) (d : Datum) (answer : Option Datum) (out : List ℕ) → AreAnswers s ds out → Means s d answer → AreAnswers s (ds ++ d ∷ []) (out ++ answer_line answer)
@@ -114,3 +116,19 @@ query-refused input terms first (specification.BadVariableName n) there spelled 
 query-refused input terms first (specification.BadExpression n) there spelled refusal = no-specification input terms first (specification.BadExpression n) there spelled refusal
 query-refused input terms first (specification.VariableInMapKey n) there spelled refusal = no-specification input terms first (specification.VariableInMapKey n) there spelled refusal
 query-refused input terms first specification.TooLarge there spelled refusal = no-specification input terms first specification.TooLarge there spelled refusal
+
+-- a text that is refused, though not for want of memory, spells nothing
+pub text-refused : (input : List ℕ) (f : TextFault) → ((ds : List Datum) → Spells input ds → f ≡ text.Memory) → IsInputFault input (of_text f)
+text-refused input text.Memory only = tt
+text-refused input (text.TooDeep at) only = inl (λ ds spelled. let never = only ds spelled in absurd (cc))
+text-refused input (text.TooLong at) only = inl (λ ds spelled. let never = only ds spelled in absurd (cc))
+text-refused input (text.DuplicateKey at) only = inl (λ ds spelled. let never = only ds spelled in absurd (cc))
+text-refused input (text.Syntax at) only = inl (λ ds spelled. let never = only ds spelled in absurd (cc))
+text-refused input (text.BadUtf8 at) only = inl (λ ds spelled. let never = only ds spelled in absurd (cc))
+text-refused input (text.IntegerRange at) only = inl (λ ds spelled. let never = only ds spelled in absurd (cc))
+text-refused input (text.UnsupportedEscape at) only = inl (λ ds spelled. let never = only ds spelled in absurd (cc))
+
+-- an input without a term
+pub input-empty : (input : List ℕ) (terms : List Datum) → None ≡ slice_get terms 0 → Spells input terms → IsInputFault input (fault.Text (text.Syntax (length input)))
+input-empty input [] none spelled = inr (record { spelled = spelled; place = refl })
+input-empty input (d ∷ ds) none spelled = absurd (cc)

@@ -105,10 +105,14 @@ pub record IsNoSpecification (input : List ℕ) (f : SpecFault) : Type 0 where
   pub spelled : Spells input (first ∷ objects)
   pub refusal : IsRefusal f first
 
+-- why an input is no specification and objects: it spells no terms, or not one
+abbrev pub IsTextFault : List ℕ → TextFault → Type 0
+IsTextFault input f = ((ds : List Datum) → Spells input ds → ⊥) ⊎ IsEmpty input f
+
 -- why an input is refused
 abbrev pub IsInputFault : List ℕ → ToolFault → Type 0
 IsInputFault input fault.Memory = Unit {0}
-IsInputFault input (fault.Text f) = Unit {0}
+IsInputFault input (fault.Text f) = IsTextFault input f
 IsInputFault input (fault.Specification f) = IsNoSpecification input f
 IsInputFault input f = ⊥
 
@@ -117,7 +121,7 @@ IsInputFault input f = ⊥
 abbrev pub StopsRun : List ℕ → Option (List ℕ) → Option (List ℕ) → ToolFault → Type 0
 StopsRun input old new fault.Memory =
     Keeps old new ⊎ ((s : Specification) × (terms : List Datum) × (q : IsQuery input terms s) × WritesBeginning s q.objects old new)
-StopsRun input old new (fault.Text f) = IsInputFault input (fault.Text f) × Keeps old new
+StopsRun input old new (fault.Text f) = IsTextFault input f × Keeps old new
 StopsRun input old new (fault.Specification f) = IsNoSpecification input f × Keeps old new
 StopsRun input old new fault.ReadFailed = Keeps old new
 StopsRun input old new fault.WriteFailed = Unit {0}

@@ -13,6 +13,8 @@ mod bind;
 mod clauses;
 mod laws;
 mod part;
+#[cfg(test)]
+mod tests;
 mod value;
 
 pub use clauses::evaluate;

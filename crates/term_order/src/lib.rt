@@ -4,6 +4,9 @@
 //! shows to be a total order; `key_hash` is the hash of its `KeyHash.antt`.
 #![tactic(auto)]
 
+#[cfg(test)]
+mod tests;
+
 ghost use Rattle.std.specs.Prelude.{◌≡◌};
 ghost use Rattle.std.specs.Ordering.{MatchOrdering};
 ghost use Rattle.term_core.specs.KeyHash.{key_hash};

@@ -1,4 +1,4 @@
-use Rattle.ets_tool.proofs.RunLemmas.{query-read, query-refused}
+use Rattle.ets_tool.proofs.RunLemmas.{query-read, query-refused, input-empty}
 use Rattle.ets_tool.proofs.run.query_of.Goals as goal
 
 pub returns-in-Ok-read_spec-clause-ok : goal.returns-in-Ok-read_spec-clause-ok
@@ -10,3 +10,8 @@ pub returns-in-Err-read_spec-clause-refused : goal.returns-in-Err-read_spec-clau
 returns-in-Err-read_spec-clause-refused g c =
     let there = rw c.deref.ensures.value at c.in-Some.ensures.value in
     rw c.specification_fault.ensures (query-refused c.args.input.now c.in-Ok.terms.items c.in-Some.first.now c.in-Err-read_spec.fault there c.in-Ok.ensures.ok c.in-Err-read_spec.ensures.refused)
+
+pub returns-in_default-clause-refused : goal.returns-in_default-clause-refused
+returns-in_default-clause-refused g c =
+    let none = rw c.deref.ensures.value at c.in_default.ensures.value in
+    input-empty c.args.input.now c.in-Ok.terms.items none c.in-Ok.ensures.ok
