@@ -1,11 +1,18 @@
 -- What a specification means on an object. (ERTS User's Guide, "Match Specifications in Erlang", "Semantics".)
-use Rattle.std.specs.Prelude.{ℕ, ◌≡◌, ◌⊎◌, nat_lt, Bool, true, false, ◌||◌, if◌then◌else◌, Option, Some, None, List, [], ◌∷◌, length, codes}
-use Rattle.term_core.specs.Datum.{Datum, item_count, entry_count, cell_count, cells}
+use Rattle.std.specs.Prelude.{ℕ, ◌≡◌, ◌⊎◌, nat_lt, Bool, true, false, ◌||◌, if◌then◌else◌, Option, Some, None, option_map, List, [], ◌∷◌, length, codes}
+use Rattle.prims.specs.Booleans.{boolean_of}
+use Rattle.prims.specs.Calls.{function_of}
+use Rattle.prims.specs.Operand.{boolean}
+use Rattle.prims.specs.declared.prim.Prim.{Prim}
+use Rattle.term_core.specs.Datum.{Datum, Entries, item_count, entry_count, cell_count, cells, items_of}
+use Rattle.term_core.specs.Datum.Entries.{no_entries, entry}
 use Rattle.term_core.specs.Datum.Datum.{integer, atom, tuple, map, nil, cons, binary}
 use Rattle.term_core.specs.Limits.{depth}
 use Rattle.term_core.specs.declared.TheConstants.{MAX_DEPTH, MAX_CHARACTERS, MAX_TUPLE, MAX_MAP, MAX_LIST, MAX_BINARY}
-use Rattle.mspec_syntax.specs.Expression.{Expression}
-use Rattle.mspec_syntax.specs.Expression.Expression.{bound, object, bindings, constant}
+use Rattle.mspec_syntax.specs.Expression.{Expression, Expressions, Assignments}
+use Rattle.mspec_syntax.specs.Expression.Expression.{bound, object, bindings, constant, call, and_also, or_else, new_tuple, new_cell, new_map}
+use Rattle.mspec_syntax.specs.Expression.Expressions.{no_expressions, expression}
+use Rattle.mspec_syntax.specs.Expression.Assignments.{no_assignments, assignment}
 use Rattle.mspec_syntax.specs.Specification.{Clause, Specification}
 use Rattle.mspec_meaning.specs.Match.{Substitution, values_of, lookup, Matches}
 use Rattle.mspec_meaning.specs.declared.value.Mode.{Mode}
@@ -41,12 +48,96 @@ failed Body = Some exit_term
 abbrev pub made : Mode → Datum → Option Datum
 made mode d = if is_past_limits d then failed mode else Some d
 
--- The value of an expression under a substitution and an object; None where it fails, which it does in conditions alone.
-abbrev pub value_of : Mode → Expression → Substitution → Datum → Option Datum
-value_of mode (bound n) s o = lookup s n
-value_of mode object s o = Some o
-value_of mode bindings s o = made mode (cells (values_of s) nil)
-value_of mode (constant d) s o = Some d
+-- a term that is made of values, of which in a condition one may be missing
+abbrev pub made_of : Mode → Option Datum → Option Datum
+made_of mode None = None
+made_of mode (Some d) = made mode d
+
+-- a value where there is one, else what stands for a failure
+abbrev pub or_failed : Mode → Option Datum → Option Datum
+or_failed mode None = failed mode
+or_failed mode (Some d) = Some d
+
+-- what a call comes to, of its arguments' values where all have one
+abbrev pub called : Mode → Prim → Option (List Datum) → Option Datum
+called mode f None = None
+called mode f (Some ds) = or_failed mode (function_of f ds)
+
+-- andalso, at the truth value of an argument and what the arguments behind it come to
+abbrev pub and_at : Mode → Option Bool → Option Datum → Option Datum
+and_at mode None rest = failed mode
+and_at mode (Some true) rest = rest
+and_at mode (Some false) rest = Some (boolean false)
+
+-- the same at its value
+abbrev pub and_step : Mode → Option Datum → Option Datum → Option Datum
+and_step mode None rest = None
+and_step mode (Some d) rest = and_at mode (boolean_of d) rest
+
+-- orelse, at the truth value of an argument and what the arguments behind it come to
+abbrev pub or_at : Mode → Option Bool → Option Datum → Option Datum
+or_at mode None rest = failed mode
+or_at mode (Some true) rest = Some (boolean true)
+or_at mode (Some false) rest = rest
+
+-- the same at its value
+abbrev pub or_step : Mode → Option Datum → Option Datum → Option Datum
+or_step mode None rest = None
+or_step mode (Some d) rest = or_at mode (boolean_of d) rest
+
+-- a value and those behind it, where all are there
+abbrev pub before : Option Datum → Option (List Datum) → Option (List Datum)
+before (Some d) (Some ds) = Some (d ∷ ds)
+before d ds = None
+
+-- a key's value and the pairs behind it, where all are there
+abbrev pub at_key : Datum → Option Datum → Option Entries → Option Entries
+at_key k (Some v) (Some es) = Some (entry k v es)
+at_key k v es = None
+
+-- a head and a tail as a list, where both are there
+abbrev pub joined : Option Datum → Option Datum → Option Datum
+joined (Some head) (Some tail) = Some (cons head tail)
+joined head tail = None
+
+abbrev mutual
+  -- The value of an expression under a substitution and an object; none where it fails, which it does in conditions alone.
+  pub value_of : Mode → Expression → Substitution → Datum → Option Datum
+  value_of mode (bound n) s o = lookup s n
+  value_of mode object s o = Some o
+  value_of mode bindings s o = made mode (cells (values_of s) nil)
+  value_of mode (constant d) s o = Some d
+  value_of mode (call f es) s o = called mode f (argument_values mode es s o)
+  value_of mode (and_also es) s o = all_true mode es s o
+  value_of mode (or_else es) s o = any_true mode es s o
+  value_of mode (new_tuple es) s o = made_of mode (option_map (λ ds. tuple (items_of ds)) (argument_values mode es s o))
+  value_of mode (new_cell e f) s o = made_of mode (joined (value_of mode e s o) (tail_value mode f s o))
+  value_of mode (new_map ms) s o = made_of mode (option_map map (entry_values mode ms s o))
+
+  -- the values of arguments or elements
+  pub argument_values : Mode → Expressions → Substitution → Datum → Option (List Datum)
+  argument_values mode no_expressions s o = Some []
+  argument_values mode (expression e es) s o = before (value_of mode e s o) (argument_values mode es s o)
+
+  -- the pairs of a map's keys and their expressions' values
+  pub entry_values : Mode → Assignments → Substitution → Datum → Option Entries
+  entry_values mode no_assignments s o = Some no_entries
+  entry_values mode (assignment k e ms) s o = at_key k (value_of mode e s o) (entry_values mode ms s o)
+
+  -- the tail of a list that is made, of which the limits are looked at as a whole
+  pub tail_value : Mode → Expression → Substitution → Datum → Option Datum
+  tail_value mode (new_cell e f) s o = joined (value_of mode e s o) (tail_value mode f s o)
+  tail_value mode e s o = value_of mode e s o
+
+  -- whether all of these are true, looked at from the left up to the first that is false
+  pub all_true : Mode → Expressions → Substitution → Datum → Option Datum
+  all_true mode no_expressions s o = Some (boolean true)
+  all_true mode (expression e es) s o = and_step mode (value_of mode e s o) (all_true mode es s o)
+
+  -- whether one of these is true, looked at from the left up to the first that is
+  pub any_true : Mode → Expressions → Substitution → Datum → Option Datum
+  any_true mode no_expressions s o = Some (boolean false)
+  any_true mode (expression e es) s o = or_step mode (value_of mode e s o) (any_true mode es s o)
 
 -- each condition has the value true
 abbrev pub AllHold : List Expression → Substitution → Datum → Type 0

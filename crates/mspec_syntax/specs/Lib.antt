@@ -4,6 +4,8 @@ pub mod PatternView
 pub mod PatternFalls
 pub mod Expression
 pub mod ExpressionView
+pub mod ExpressionCode
+pub mod ExpressionFalls
 pub mod Rising
 pub mod Specification
 pub mod SpecificationCode

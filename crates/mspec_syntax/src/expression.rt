@@ -1,15 +1,18 @@
 //! What stands in conditions and bodies.
+use prims::Prim;
 use std::alloc::{Allocator, Global};
 use std::marker::Model;
 use term_core::Term;
 
 /// An expression of a condition or a body.
+#[cycle(expression)]
 #[derive(Drop)]
 pub struct Expression<A: Allocator = Global> {
     kind: ExpressionKind<A>,
 }
 
 /// What an expression is.
+#[cycle(expression)]
 #[derive(Drop)]
 pub enum ExpressionKind<A: Allocator> {
     /// The value of a variable.
@@ -20,27 +23,50 @@ pub enum ExpressionKind<A: Allocator> {
     Bindings,
     /// A term that stands for itself.
     Constant(Term<A>),
+    /// A function of the values of these arguments, of which there are as many as it takes.
+    Call(Prim, Vec<Expression<A>, A>),
+    /// `andalso` of one or more arguments.
+    AndAlso(Vec<Expression<A>, A>),
+    /// `orelse` of one or more arguments.
+    OrElse(Vec<Expression<A>, A>),
+    /// The tuple of the values of these elements.
+    Tuple(Vec<Expression<A>, A>),
+    /// The list of the values of these elements, of which there is one at least, and of its tail where that is not `[]`.
+    /// The tail is no list.
+    List(Vec<Expression<A>, A>, Option<Box<Expression<A>, A>>),
+    /// The map of these keys, by rising key, and the values of their expressions.
+    Map(Vec<(Term<A>, Expression<A>), A>),
 }
 
 impl<A: Allocator> Model for Expression<A> {
     ghost use Rattle.mspec_syntax.specs.Expression.{Expression};
-    ghost use Rattle.mspec_syntax.specs.SpecificationCode.{expression_code};
+    ghost use Rattle.mspec_syntax.specs.ExpressionCode.{expression_code};
 
     ghost Value = { Expression };
 
     ghost coded = { expression_code };
 
-    ghost use Rattle.mspec_syntax.specs.ExpressionView.{expression_of};
+    ghost use Rattle.mspec_syntax.specs.ExpressionView.{expression_of, IsKept};
+    ghost use Rattle.mspec_syntax.specs.Expression.{expression_size};
 
     ghost view = { λ e. expression_of e.kind };
+
+    ghost invariant = { λ e. IsKept e.kind };
+
+    ghost size = { expression_size };
+
+    ghost use Rattle.mspec_syntax.specs.ExpressionFalls.{parts_fall};
+
+    ghost size_decreases = { λ e h. parts_fall A.Allocator e.kind h };
 }
 
 impl<A: Allocator> Expression<A> {
     ghost use Rattle.std.specs.Prelude.{◌≡◌};
-    ghost use Rattle.mspec_syntax.specs.ExpressionView.{expression_of};
+    ghost use Rattle.mspec_syntax.specs.ExpressionView.{expression_of, IsKept};
 
     /// The expression of this kind.
     pub(crate) fn new(kind: ExpressionKind<A>) -> Self
+        requires { IsKept kind }
         ensures { result ≡ expression_of kind }
     {
         Expression { kind }
@@ -48,7 +74,8 @@ impl<A: Allocator> Expression<A> {
 
     /// What the expression is.
     pub fn kind(&self) -> &ExpressionKind<A>
-        ensures { expression_of result.now ≡ self.now }
+        ensures value { expression_of result.now ≡ self.now }
+        ensures kept { IsKept result.now }
     {
         &self.kind
     }

@@ -1,6 +1,6 @@
 //! The sizes of specifications.
 ghost use Rattle.mspec_syntax.specs.Pattern.{pattern_nodes, patterns_nodes, fields_nodes, patterns_of, fields_of};
-ghost use Rattle.mspec_syntax.specs.Expression.{expression_nodes};
+ghost use Rattle.mspec_syntax.specs.Expression.{expression_nodes, expressions_nodes, assignments_nodes, expressions_of, assignments_of};
 ghost use Rattle.mspec_syntax.specs.Specification.{clause_nodes, specification_nodes, Leaves};
 ghost use Rattle.std.specs.Prelude.{sum_by};
 
@@ -56,6 +56,7 @@ fn after_fields<A: Allocator>(room: usize, fields: &[(Term<A>, Pattern<A>)]) -> 
 }
 
 /// What an expression's nodes leave, under a head of so many variables.
+#[cycle(expression)]
 fn after_expression<A: Allocator>(
     room: usize,
     variables: usize,
@@ -65,14 +66,61 @@ fn after_expression<A: Allocator>(
 {
     let room = room.checked_sub(1)?;
     match expression.kind() {
+        ExpressionKind::Variable(_) | ExpressionKind::Object | ExpressionKind::Constant(_) => {
+            Some(room)
+        }
         ExpressionKind::Bindings => room.checked_sub(variables),
-        ExpressionKind::Variable(_) | ExpressionKind::Object | ExpressionKind::Constant(_) => Some(
-            room,
-        ),
+        ExpressionKind::Call(_, parts)
+        | ExpressionKind::AndAlso(parts)
+        | ExpressionKind::OrElse(parts)
+        | ExpressionKind::Tuple(parts) => after_parts(room, variables, parts.as_slice()),
+        ExpressionKind::List(elements, tail) => {
+            let room = after_parts(room, variables, elements.as_slice())?;
+            match tail {
+                None => Some(room),
+                Some(tail) => after_expression(room, variables, tail),
+            }
+        }
+        ExpressionKind::Map(assignments) => {
+            after_assignments(room, variables, assignments.as_slice())
+        }
     }
 }
 
-/// What the nodes of these expressions leave.
+/// What the nodes of these arguments or elements leave.
+#[cycle(expression)]
+fn after_parts<A: Allocator>(
+    room: usize,
+    variables: usize,
+    parts: &[Expression<A>],
+) -> Option<usize>
+    ensures { Leaves result room (expressions_nodes variables (expressions_of parts.now)) }
+{
+    let mut left = room;
+    for part in parts {
+        left = after_expression(left, variables, part)?;
+    }
+    Some(left)
+}
+
+/// What these keys and expressions leave.
+#[cycle(expression)]
+fn after_assignments<A: Allocator>(
+    room: usize,
+    variables: usize,
+    assignments: &[(Term<A>, Expression<A>)],
+) -> Option<usize>
+    ensures { Leaves result room (assignments_nodes variables (assignments_of assignments.now)) }
+{
+    let mut left = room;
+    for (_, expression) in assignments {
+        let rest = left.checked_sub(1)?;
+        left = after_expression(rest, variables, expression)?;
+    }
+    Some(left)
+}
+
+/// What the nodes of the expressions of a clause leave.
 fn after_expressions<A: Allocator>(
     room: usize,
     variables: usize,

@@ -1,6 +1,7 @@
 -- The functions' names and how many arguments each takes (ERTS User's Guide, "Match Specifications in Erlang", "Grammar").
 use Rattle.std.specs.Prelude.{ℕ, Bool, ◌&&◌, if◌then◌else◌, List, [], ◌∷◌, Option, Some, None, nat_eq, nat_lt, codes}
 use Rattle.std.specs.Cmp.Lexicographic.{pointwise}
+use Rattle.prims.specs.declared.names.TheConstants.{ALL}
 use Rattle.prims.specs.declared.prim.Prim.{Prim}
 use Rattle.prims.specs.declared.prim.Prim.TheVariants as prim
 use Rattle.prims.specs.declared.prim.Test.TheVariants as test
@@ -103,3 +104,7 @@ abbrev pub found : List ℕ → ℕ → List Prim → Option Prim
 found cs n [] = None
 found cs n (function ∷ functions) =
     if pointwise nat_eq (name_of function) cs && takes function n then Some function else found cs n functions
+
+-- the function of that name that takes so many arguments
+abbrev pub named : List ℕ → ℕ → Option Prim
+named cs n = found cs n ALL

@@ -275,7 +275,8 @@ impl Prim {
 
     /// The function of that name that takes so many arguments, none where there is none.
     pub fn named(name: &[char], arguments: usize) -> Option<Prim>
-        ensures { (p : Function) → (result ≡ Some p) ↔ ((spec.name_of p ≡ name.now) × IsTrue (spec.takes p arguments)) }
+        ensures value { result ≡ spec.named name.now arguments }
+        ensures table { (p : Function) → (result ≡ Some p) ↔ ((spec.name_of p ≡ name.now) × IsTrue (spec.takes p arguments)) }
     {
         find(&ALL, name, arguments)
     }

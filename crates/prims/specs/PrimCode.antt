@@ -1,0 +1,86 @@
+-- The code of functions, by which proofs tell them apart: name and number of arguments.
+use Rattle.std.specs.Prelude.{ℕ, ◌≡◌, List, Option, Some, None, refl}
+use Rattle.std.specs.Coded.{Coded, code_by, coded×, coded_ℕ, coded_list}
+use Rattle.std.proofs.Common.{ap}
+use Rattle.prims.specs.Names.{name_of, arity_of, found}
+use Rattle.prims.specs.declared.names.TheConstants.{ALL}
+use Rattle.prims.specs.declared.prim.Prim.{Prim}
+use Rattle.prims.specs.declared.prim.Prim.TheVariants as prim
+use Rattle.prims.specs.declared.prim.Test.TheVariants as test
+use Rattle.prims.specs.declared.prim.BooleanFunction.TheVariants as boolean
+use Rattle.prims.specs.declared.prim.Comparison.TheVariants as comparison
+use Rattle.prims.specs.declared.prim.Extreme.TheVariants as extreme
+use Rattle.prims.specs.declared.prim.IntegerFunction.TheVariants as integer
+use Rattle.prims.specs.declared.prim.Arithmetic.TheVariants as arithmetic
+use Rattle.prims.specs.declared.prim.TupleFunction.TheVariants as tuple
+use Rattle.prims.specs.declared.prim.ListFunction.TheVariants as list
+use Rattle.prims.specs.declared.prim.MapFunction.TheVariants as map
+use Rattle.prims.specs.declared.prim.SizeFunction.TheVariants as size
+
+-- each function stands in the table, and nothing before it has its name and number of arguments
+pub found_at : (function : Prim) → found (name_of function) (arity_of function) ALL ≡ Some function
+found_at (prim.Test test.IsAtom) = refl
+found_at (prim.Test test.IsInteger) = refl
+found_at (prim.Test test.IsList) = refl
+found_at (prim.Test test.IsNumber) = refl
+found_at (prim.Test test.IsTuple) = refl
+found_at (prim.Test test.IsMap) = refl
+found_at (prim.Test test.IsBinary) = refl
+found_at (prim.Test test.IsBitstring) = refl
+found_at (prim.Test test.IsBoolean) = refl
+found_at (prim.Test test.IsFloat) = refl
+found_at (prim.Test test.IsPid) = refl
+found_at (prim.Test test.IsPort) = refl
+found_at (prim.Test test.IsReference) = refl
+found_at (prim.Test test.IsFunction) = refl
+found_at (prim.Boolean boolean.Not) = refl
+found_at (prim.Boolean boolean.And) = refl
+found_at (prim.Boolean boolean.Or) = refl
+found_at (prim.Boolean boolean.Xor) = refl
+found_at (prim.Comparison comparison.Greater) = refl
+found_at (prim.Comparison comparison.GreaterOrEqual) = refl
+found_at (prim.Comparison comparison.Less) = refl
+found_at (prim.Comparison comparison.LessOrEqual) = refl
+found_at (prim.Comparison comparison.ExactlyEqual) = refl
+found_at (prim.Comparison comparison.ExactlyUnequal) = refl
+found_at (prim.Comparison comparison.Equal) = refl
+found_at (prim.Comparison comparison.Unequal) = refl
+found_at (prim.Extreme extreme.Max) = refl
+found_at (prim.Extreme extreme.Min) = refl
+found_at (prim.Integer integer.Abs) = refl
+found_at (prim.Integer integer.Round) = refl
+found_at (prim.Integer integer.Trunc) = refl
+found_at (prim.Integer integer.Plus) = refl
+found_at (prim.Integer integer.Negate) = refl
+found_at (prim.Integer integer.Bnot) = refl
+found_at (prim.Arithmetic arithmetic.Add) = refl
+found_at (prim.Arithmetic arithmetic.Subtract) = refl
+found_at (prim.Arithmetic arithmetic.Multiply) = refl
+found_at (prim.Arithmetic arithmetic.Div) = refl
+found_at (prim.Arithmetic arithmetic.Rem) = refl
+found_at (prim.Arithmetic arithmetic.Band) = refl
+found_at (prim.Arithmetic arithmetic.Bor) = refl
+found_at (prim.Arithmetic arithmetic.Bxor) = refl
+found_at (prim.Arithmetic arithmetic.Bsl) = refl
+found_at (prim.Arithmetic arithmetic.Bsr) = refl
+found_at (prim.Tuple tuple.IsRecord) = refl
+found_at (prim.Tuple tuple.Element) = refl
+found_at (prim.List list.Hd) = refl
+found_at (prim.List list.Tl) = refl
+found_at (prim.List list.Length) = refl
+found_at (prim.Map map.IsMapKey) = refl
+found_at (prim.Map map.MapGet) = refl
+found_at (prim.Map map.MapSize) = refl
+found_at (prim.Size size.Size) = refl
+found_at (prim.Size size.TupleSize) = refl
+found_at (prim.Size size.ByteSize) = refl
+found_at (prim.Size size.BitSize) = refl
+
+abbrev pub function_or_not : Option Prim → Prim
+function_or_not (Some function) = function
+function_or_not None = prim.Boolean boolean.Not
+
+abbrev pub prim_code : Coded Prim
+prim_code =
+    code_by (List ℕ × ℕ) (coded× (coded_list coded_ℕ) coded_ℕ) (λ function. (name_of function, arity_of function)) (λ named. function_or_not (found named.0 named.1 ALL))
+    (λ function. ap function_or_not (found_at function))
