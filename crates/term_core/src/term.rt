@@ -16,7 +16,6 @@ mod copy;
 mod map;
 
 pub use copy::{copy_all, copy_tail};
-
 use std::alloc::{AllocError, Allocator, Global};
 use std::marker::Model;
 

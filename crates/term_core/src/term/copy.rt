@@ -55,7 +55,10 @@ fn copy_shape<A: Allocator + Copy>(alloc: A, shape: &Shape<A>) -> Result<Shape<A
 
 /// Copies of these terms, of which nothing is shared.
 #[cycle(copy)]
-pub fn copy_all<A: Allocator + Copy>(alloc: A, terms: &[Term<A>]) -> Result<Vec<Term<A>, A>, AllocError>
+pub fn copy_all<A: Allocator + Copy>(
+    alloc: A,
+    terms: &[Term<A>],
+) -> Result<Vec<Term<A>, A>, AllocError>
     ensures { IfOk result (λ v. v.items ≡ terms.now) }
 {
     let mut copies = Vec::with_capacity(alloc, terms.len())?;
