@@ -559,7 +559,7 @@ fn is_copied<A: Allocator + Copy>(heap: A, terms: &[Term<A>], kind: u8) -> Optio
         2 => Operand::Bool(true),
         _ => Operand::Int(-1),
     };
-    let same = Prim::Comparison(Comparison::ExactlyEqual);
+    let same = Primitive::Comparison(Comparison::ExactlyEqual);
     match operand.to_term(heap) {
         Ok(copied) => Some(matches!(
             call(same, &[Operand::Term(&copied), operand]),
@@ -595,7 +595,7 @@ fn each_request_refused_in_turn(rt: HostRuntime) {
 }
 
 /// Whether the call of so many ones fails.
-fn fails_of_ones(prim: Prim, count: usize) -> Option<bool> {
+fn fails_of_ones(prim: Primitive, count: usize) -> Option<bool> {
     let ones: [Operand<'_>; 4] = [Operand::Int(1); 4];
     Some(call(prim, ones.get(..count)?).is_none())
 }
@@ -603,11 +603,11 @@ fn fails_of_ones(prim: Prim, count: usize) -> Option<bool> {
 #[test]
 fn another_number_of_operands_fails(rt: HostRuntime) {
     for (prim, taken) in [
-        (Prim::Test(Test::IsInteger), 1),
-        (Prim::Comparison(Comparison::Equal), 2),
-        (Prim::Extreme(Extreme::Max), 2),
-        (Prim::Integer(IntegerFunction::Abs), 1),
-        (Prim::Arithmetic(Arithmetic::Add), 2),
+        (Primitive::Test(Test::IsInteger), 1),
+        (Primitive::Comparison(Comparison::Equal), 2),
+        (Primitive::Extreme(Extreme::Max), 2),
+        (Primitive::Integer(IntegerFunction::Abs), 1),
+        (Primitive::Arithmetic(Arithmetic::Add), 2),
     ] {
         for count in 0..=4 {
             assert_eq!(rt;
@@ -618,7 +618,7 @@ fn another_number_of_operands_fails(rt: HostRuntime) {
         }
     }
     assert_eq!(rt;
-        fails_of_ones(Prim::Boolean(BooleanFunction::And), 0),
+        fails_of_ones(Primitive::Boolean(BooleanFunction::And), 0),
         Some(true)
     );
 }
