@@ -139,7 +139,7 @@ has_no_key k (e ∷ es) h =
     let a = key_count-more k e es in
     or_from (is_eq (datum_cmp k e.0)) (has_key k es) (one_if-false (is_eq (datum_cmp k e.0)) (omega arith)) (has_no_key k es (omega arith))
 
-is_eq-equal : (o : Ordering) → is_eq o ≡ true → o ≡ Equal
+pub is_eq-equal : (o : Ordering) → is_eq o ≡ true → o ≡ Equal
 is_eq-equal Less h = absurd cc
 is_eq-equal Equal h = refl
 is_eq-equal Greater h = absurd cc

@@ -109,7 +109,7 @@ elements_from n limit (more {s} r g h is) =
     }
 
 module _ (n : ℕ) (read : TermReader) (reads : IsReader n read) where
-  element_holds : (limit : ℕ) (front : List Datum) (text : List ℕ) → IfOk (element_at read limit front text) (λ x. ElementRead n limit front text x.0 x.1)
+  pub element_holds : (limit : ℕ) (front : List Datum) (text : List ℕ) → IfOk (element_at read limit front text) (λ x. ElementRead n limit front text x.0 x.1)
   unfolding element_at
   element_holds limit front text =
       bind_holds (λ (x : Datum × List ℕ). Spelled n text x.0 x.1 × (0 < limit - length front)) (λ (x : List Datum × List ℕ). ElementRead n limit front text x.0 x.1) (read (limit - length front) text) _ (reads (limit - length front) text)
@@ -307,7 +307,7 @@ segment_as_holds bytes text (Some (opens.String, rest)) h =
     (λ x r. record { segment = x.0; made = refl; spelled = rw (h, r.joined) (some_bytes r.quoted (are_bytes r.more r.below)); within = λ l. let few = r.within (omega arith) in omega (arith, length-append bytes x.0) })
 segment_as_holds bytes text (Some (o, rest)) h = tt
 
-segment_holds : (bytes text : List ℕ) → IfOk (segment_at bytes text) (λ x. SegmentRead bytes text x.0 x.1)
+pub segment_holds : (bytes text : List ℕ) → IfOk (segment_at bytes text) (λ x. SegmentRead bytes text x.0 x.1)
 unfolding segment_at
 segment_holds bytes text = segment_as_holds bytes text (opening text) (opening_holds text)
 
@@ -402,7 +402,7 @@ pairs_from n (more {s} {u} {v} r g h is) =
     }
 
 module _ (n : ℕ) (read : TermReader) (reads : IsReader n read) where
-  pair_holds : (front : List (Datum × Datum)) (text : List ℕ) → IfOk (pair_at read front text) (λ x. PairRead n front text x.0 x.1)
+  pub pair_holds : (front : List (Datum × Datum)) (text : List ℕ) → IfOk (pair_at read front text) (λ x. PairRead n front text x.0 x.1)
   unfolding pair_at
   pair_holds front text =
       bind_holds (λ (k : Datum × List ℕ). Spelled n text k.0 k.1 × (0 < MAX_MAP - length front)) (λ (x : List (Datum × Datum) × List ℕ). PairRead n front text x.0 x.1) (read (MAX_MAP - length front) text) _ (reads (MAX_MAP - length front) text)
