@@ -15,3 +15,5 @@ pub mod Bytes
 pub mod Ends
 pub mod Blames
 pub mod BlamesTerms
+pub mod Within
+pub mod Constructed

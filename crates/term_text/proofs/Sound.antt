@@ -125,7 +125,7 @@ module _ (n : ℕ) (read : TermReader) (reads : IsReader n read) where
 
   -- ---- tuples
 
-  items_hold : (text g : List ℕ) (o : Option (List ℕ)) → (0 < length g → Gap text g) → IfSome o (λ rest. g ≡ close_brace ∷ rest) → IfOk (items_at read o g) (λ x. Spelled (suc n) (open_brace ∷ text) (tuple (items_of x.0)) x.1)
+  pub items_hold : (text g : List ℕ) (o : Option (List ℕ)) → (0 < length g → Gap text g) → IfSome o (λ rest. g ≡ close_brace ∷ rest) → IfOk (items_at read o g) (λ x. Spelled (suc n) (open_brace ∷ text) (tuple (items_of x.0)) x.1)
   items_hold text g (Some rest) gap h = an_empty_tuple (rw h at (gap (rw h (omega arith))))
   items_hold text g None gap h =
       bind_holds (λ (x : List Datum × List ℕ). 0 < length x.1 → ElementsRead n MAX_TUPLE [] g x.0 x.1) (λ (x : List Datum × List ℕ). Spelled (suc n) (open_brace ∷ text) (tuple (items_of x.0)) x.1) (elements_at read MAX_TUPLE [] g) _ (elements_hold MAX_TUPLE [] g)
@@ -217,7 +217,7 @@ spelled_string (suc n) before text cs rest r =
     let few : length cs ≤ MAX_LIST - before = some_room n before (length cs) (r.within (omega arith)) in
     a_string (rw (← r.joined) at r.quoted) (omega arith)
 
-room_within : (n before : ℕ) (text cs rest : List ℕ) → Reads (string_marks n before) [] text cs rest → before ≤ MAX_LIST → before + length cs ≤ MAX_LIST
+pub room_within : (n before : ℕ) (text cs rest : List ℕ) → Reads (string_marks n before) [] text cs rest → before ≤ MAX_LIST → before + length cs ≤ MAX_LIST
 room_within zero before text cs rest r h = let empty : length cs ≤ 0 = r.within (omega arith) in omega arith
 room_within (suc n) before text cs rest r h = let few : length cs ≤ MAX_LIST - before = some_room n before (length cs) (r.within (omega arith)) in omega arith
 
@@ -339,7 +339,7 @@ expect_both_holds a b [] = tt
 expect_both_holds a b (x ∷ []) = tt
 expect_both_holds a b (x ∷ y ∷ ys) = if_holds (λ (rest : List ℕ). x ∷ y ∷ ys ≡ a ∷ b ∷ rest) (x == a && y == b) _ _ (λ e. two_are x y a b ys e) (λ _. tt)
 
-bytes_hold : (n : ℕ) (text g : List ℕ) (o : Option (List ℕ)) → (0 < length g → Gap text g) → IfSome o (λ rest. g ≡ greater ∷ greater ∷ rest) → IfOk (bytes_at o g) (λ x. Spelled (suc n) (less ∷ less ∷ text) (binary x.0) x.1)
+pub bytes_hold : (n : ℕ) (text g : List ℕ) (o : Option (List ℕ)) → (0 < length g → Gap text g) → IfSome o (λ rest. g ≡ greater ∷ greater ∷ rest) → IfOk (bytes_at o g) (λ x. Spelled (suc n) (less ∷ less ∷ text) (binary x.0) x.1)
 bytes_hold n text g (Some rest) gap h = an_empty_binary (rw h at (gap (rw h (omega arith))))
 bytes_hold n text g None gap h =
     bind_holds (λ (x : List ℕ × List ℕ). 0 < length x.1 → SegmentsRead [] g x.0 x.1) (λ (x : List ℕ × List ℕ). Spelled (suc n) (less ∷ less ∷ text) (binary x.0) x.1) (segments_at [] g) _ (segments_hold [] g)
@@ -428,7 +428,7 @@ module _ (n : ℕ) (read : TermReader) (reads : IsReader n read) where
       weaker (λ (x : List (Datum × Datum) × List ℕ). 0 < length x.1 → Items (PairRead n) [] text x.0 x.1) _ (all_steps (separated (pair_at read)) [] text) (λ x h some. pairs_from n (h some))
       (separated_holds (PairRead n) (pair_at read) pair_holds (pair_begun n) [] text)
 
-  map_pairs_hold : (text g : List ℕ) (o : Option (List ℕ)) → (0 < length g → Gap text g) → IfSome o (λ rest. g ≡ close_brace ∷ rest) → IfOk (pairs_at read o g) (λ x. Spelled (suc n) (number_sign ∷ open_brace ∷ text) (map (entries_of x.0)) x.1)
+  pub map_pairs_hold : (text g : List ℕ) (o : Option (List ℕ)) → (0 < length g → Gap text g) → IfSome o (λ rest. g ≡ close_brace ∷ rest) → IfOk (pairs_at read o g) (λ x. Spelled (suc n) (number_sign ∷ open_brace ∷ text) (map (entries_of x.0)) x.1)
   map_pairs_hold text g (Some rest) gap h = an_empty_map (rw h at (gap (rw h (omega arith))))
   map_pairs_hold text g None gap h =
       bind_holds (λ (x : List (Datum × Datum) × List ℕ). 0 < length x.1 → PairsRead n [] g x.0 x.1) (λ (x : List (Datum × Datum) × List ℕ). Spelled (suc n) (number_sign ∷ open_brace ∷ text) (map (entries_of x.0)) x.1) (all_steps (separated (pair_at read)) [] g) _ (pairs_hold g)
@@ -449,7 +449,7 @@ module _ (n : ℕ) (read : TermReader) (reads : IsReader n read) where
 -- ---- terms
 
 module _ (n : ℕ) (read : TermReader) (read_tail : TailReader) (reads : IsReader n read) (tails : IsTailReader n read_tail) where
-  form_holds : (o : Opening) (text rest : List ℕ) → Opens o text rest → IfOk (form_at read read_tail n o rest) (λ x. Spelled (suc n) text x.0 x.1)
+  pub form_holds : (o : Opening) (text rest : List ℕ) → Opens o text rest → IfOk (form_at read read_tail n o rest) (λ x. Spelled (suc n) text x.0 x.1)
   form_holds opens.Integer text rest h = weaker (λ (x : Datum × List ℕ). Alone n text x.0 x.1) _ _ (λ x a. a.0) (integer_term_holds n text rest h)
   form_holds opens.Word text rest h = weaker (λ (x : Datum × List ℕ). Alone n text x.0 x.1) _ _ (λ x a. a.0) (word_term_holds n text rest h)
   form_holds opens.QuotedAtom text rest h = rw h (weaker (λ (x : Datum × List ℕ). Alone n (single_quote ∷ rest) x.0 x.1) _ _ (λ x a. a.0) (quoted_atom_holds n rest))
