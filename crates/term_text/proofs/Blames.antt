@@ -1,5 +1,5 @@
 -- A reader that stops names what stands at the place where it stops: steps and tokens.
-use Rattle.std.proofs.Common.{◌≡◌, ◌≢◌, ℕ, zero, suc, ◌+◌, ◌-◌, ◌≤◌, ◌<◌, ◌⊎◌, inl, inr, Bool, true, false, cond, not, List, [], ◌∷◌, ◌++◌, length, drop, Option, Some, None, Result, Ok, Err, ℤ, pos, negsuc, refl, sym, ap, subst, ◌∙◌, arith, add-one, one-add}
+use Rattle.std.proofs.Common.{◌≡◌, ◌≢◌, ◌&&◌, ℕ, zero, suc, ◌+◌, ◌-◌, ◌≤◌, ◌<◌, ◌⊎◌, inl, inr, Bool, true, false, cond, not, List, [], ◌∷◌, ◌++◌, length, drop, Option, Some, None, Result, Ok, Err, ℤ, pos, negsuc, refl, sym, ap, subst, ◌∙◌, arith, add-one, one-add}
 use Rattle.std.specs.Prelude.{IfOk, IfErr, IfSome, ◌==◌, nat_lt, nat_le}
 use Rattle.std.specs.List.{prefix_len}
 use Rattle.std.specs.Char.{is_ascii_digit, is_ascii_lowercase}
@@ -23,7 +23,7 @@ use Rattle.term_text.specs.Causes.IsTooLong.{one_character, one_letter}
 use Rattle.term_text.specs.Causes.IsWide.{wide, wide_positive, wide_negative}
 use Rattle.term_text.specs.Causes.IsOutOfRange.{wide_segment, no_byte, no_byte_character}
 use Rattle.term_text.specs.Causes.IsNoEscape.{no_escape}
-use Rattle.term_text.specs.Reading.{Fault, Read, ◌>>=◌, Step, steps, all_steps, separated, behind_comma, stop, enter, enter_as, expect, expect_both, opening, begins, is_sign, fits, number_run, number_at, integer_at, word_at, byte_of, byte_at, is_allowed, escape_as, escape_at, character_at, next_quoted, quoted_step, quoted_at, string_marks, byte_marks, atom_marks}
+use Rattle.term_text.specs.Reading.{Fault, Read, ◌>>=◌, Step, steps, all_steps, separated, behind_comma, stop, enter, enter_as, expect, expect_both, opening, begins, is_sign, fits, number_run, number_at, integer_at, word_at, byte_of, byte_at, is_allowed, escape_as, escape_at, character_at, next_quoted, pushed, quoted_step, quoted_at, string_marks, byte_marks, atom_marks}
 use Rattle.term_text.proofs.Steps.{bind_holds, if_holds}
 use Rattle.term_text.proofs.Tokens.{Behind, IsCharacter, character_holds}
 use Rattle.term_text.proofs.Tokens.IsCharacter.{as_it_is, as_escape}
@@ -111,7 +111,7 @@ expect_blames whole a (c ∷ cs) = if_blames (Blames whole) (c == a) _ _ (λ _. 
 pub expect_both_blames : (whole : List ℕ) (a b : ℕ) (text : List ℕ) → IfErr (expect_both a b text) (Blames whole)
 expect_both_blames whole a b [] = tt
 expect_both_blames whole a b (x ∷ []) = tt
-expect_both_blames whole a b (x ∷ y ∷ ys) = if_blames (Blames whole) (Rattle.std.proofs.Common.◌&&◌ (x == a) (y == b)) _ _ (λ _. tt) (λ _. tt)
+expect_both_blames whole a b (x ∷ y ∷ ys) = if_blames (Blames whole) (x == a && y == b) _ _ (λ _. tt) (λ _. tt)
 
 sign_is : (c : ℕ) → is_sign c ≡ true → (c ≡ plus) ⊎ (c ≡ minus)
 sign_is c h = elim (or_cases (c == plus) (c == minus) h) [ inl p ↦ inl (eqb-true c plus p) | inr m ↦ inr (eqb-true c minus m) ]
@@ -256,7 +256,7 @@ module _ (whole : List ℕ) (m : Marks) (q : Quotes) (before : ℕ) (are : AreOf
   unfolding quoted_step next_quoted
   step_good cs [] d = tt
   step_good cs (c ∷ text) d =
-      bind_holds (λ (x : Option ℕ × List ℕ). StaysGood (quoted_step m) IsDue (Blames whole) (Rattle.term_text.specs.Reading.pushed cs x.0 x.1)) _ _ _
+      bind_holds (λ (x : Option ℕ × List ℕ). StaysGood (quoted_step m) IsDue (Blames whole) (pushed cs x.0 x.1)) _ _ _
       (if_holds _ (c == m.mark) _ _ (λ e. λ no. absurd cc)
       (λ e. if_holds _ (length cs == m.room) _ _ (λ _. tt)
       (λ r. bind_holds (λ (x : ℕ × List ℕ). IsCharacter m.only_bytes c text x.0 x.1) _ (character_at m.only_bytes (c ∷ text)) _ (character_holds m.only_bytes c text)

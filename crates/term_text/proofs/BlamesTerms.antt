@@ -14,7 +14,7 @@ use Rattle.term_core.specs.Datum.{Datum, cells}
 use Rattle.term_core.specs.Order.{datum_cmp}
 use Rattle.term_core.specs.OrderLaws.{datum_cmp-equal}
 use Rattle.term_core.specs.declared.TheConstants.{MAX_CHARACTERS, MAX_TUPLE, MAX_MAP, MAX_LIST, MAX_BINARY, MAX_DEPTH}
-use Rattle.term_text.specs.Character.{comma, equals, greater, single_quote, double_quote, open_brace, close_brace, open_bracket, close_bracket, bar, number_sign, less}
+use Rattle.term_text.specs.Character.{comma, dot, equals, greater, single_quote, double_quote, open_brace, close_brace, open_bracket, close_bracket, bar, number_sign, less}
 use Rattle.term_text.specs.declared.fault.Cause.{Cause}
 use Rattle.term_text.specs.declared.fault.Cause.TheVariants as causes
 use Rattle.term_text.specs.declared.fault.Stop.{Stop}
@@ -36,12 +36,12 @@ use Rattle.term_text.specs.Causes.IsNoEscape.{no_escape}
 use Rattle.term_text.specs.Reading.{Fault, Read, Fails, ◌>>=◌, TermReader, TailReader, after_gap, behind, behind_both, separated, steps, all_steps, enter, expect, expect_both, opening, quoted_at, atom_marks, byte_marks, string_marks, string_at, segment_as, segment_at, segments_at, one_byte_at, byte_at, bytes_at, binary_at, integer_at, integer_term_at, word_at, word_term_at, quoted_atom_at, element_at, elements_at, items_at, tuple_at, list_at, list_end, list_from, end_at, has_key, pair_at, pairs_at, map_at, form_at, tail_form, term_at, tail_at, dot_at, begins_gap, sentence_at, sentence_step, text_at}
 use Rattle.term_text.proofs.Tokens.{Behind, gap_holds}
 use Rattle.term_text.proofs.Items.{gap_some, gap_within}
-use Rattle.term_text.proofs.Shorter.{spelled_shorter, segment_shorter, pair_shorter}
+use Rattle.term_text.proofs.Shorter.{spelled_shorter, elements_shorter, segment_shorter, pair_shorter}
 use Rattle.term_text.proofs.Words.{Opens, BeginsWord, opening_holds, behind_holds}
-use Rattle.term_text.proofs.Sound.{IsReader, IsTailReader, ElementRead, ElementsRead, SegmentRead, PairRead, element_holds, elements_hold, segment_holds, pair_holds, expect_holds, expect_both_holds, term_holds, tail_holds}
+use Rattle.term_text.proofs.Sound.{IsReader, IsTailReader, ElementRead, ElementsRead, SegmentRead, PairRead, enter_holds, element_holds, elements_hold, segment_holds, pair_holds, expect_holds, expect_both_holds, term_holds, tail_holds}
 use Rattle.term_text.proofs.Steps.{bind_holds}
 use Rattle.term_text.proofs.Texts.{SentenceRead, sentence_holds}
-use Rattle.term_text.proofs.Keys.{put_permutes}
+use Rattle.term_text.proofs.Keys.{put_permutes, is_eq-equal}
 use Rattle.term_text.proofs.Ends.{EndsIn, due_ends, then, behind as behind_first}
 use Rattle.term_text.proofs.Blames.{Left, Blames, at_once, DueSome, StaysGood, bind_blames, bind_any, if_blames, steps_blame, separated_blames, expect_blames, expect_both_blames, term_starts, term_some, enter_blames, integer_blames, byte_blames, word_blames, AreOf, quoted_blames, atom_are, byte_are, string_are}
 use Rattle.term_text.proofs.Words.{BeginsInteger as IsIntegerStart}
@@ -126,7 +126,7 @@ binary_blames whole text n k d =
 has_one : (k : Datum) (es : List (Datum × Datum)) → has_key k es ≡ true → (v : Datum) × Contains es (k, v)
 has_one k [] h = absurd cc
 has_one k (e ∷ es) h = elim (or_cases (is_eq (datum_cmp k e.0)) (has_key k es) h) [
-  | inl same ↦ let key : k ≡ e.0 = datum_cmp-equal k e.0 (Rattle.term_text.proofs.Keys.is_eq-equal (datum_cmp k e.0) same) in (e.1, (0, omega arith, ap (λ (x : Datum). (x, e.1)) (sym key)))
+  | inl same ↦ let key : k ≡ e.0 = datum_cmp-equal k e.0 (is_eq-equal (datum_cmp k e.0) same) in (e.1, (0, omega arith, ap (λ (x : Datum). (x, e.1)) (sym key)))
   | inr later ↦ let there = has_one k es later in (there.0, (suc there.1.0, (let less = there.1.1 in omega arith), there.1.2))
 ]
 
@@ -194,7 +194,7 @@ module _ (whole : List ℕ) (n : ℕ) (read : TermReader) (reads : IsReader n re
     tail_due front g ds t u d found h some =
         let m = found (rw h (omega arith)) in
         let es : Elements n g m.more (bar ∷ u) = rw h at m.elements in
-        let l = last_element (length front) es (d (let lt = Rattle.term_text.proofs.Shorter.elements_shorter es in omega arith)) in
+        let l = last_element (length front) es (d (let lt = elements_shorter es in omega arith)) in
         let len : length ds ≡ suc l.before = ap length m.joined ∙ length-append front m.more ∙ l.count_is in
         rw len (due.tail l.place l.spelled l.gap (gap_some u some))
 
@@ -296,14 +296,14 @@ mutual
   term_blames : (whole : List ℕ) (n : ℕ) → BlamesTerm whole n (term_at n)
   term_blames whole zero room text d long = bind_any (Blames whole) (enter 0 room text) _ (enter_blames whole 0 room text (λ b _. deep_term (d (term_some b)) b) long) (λ o. tt)
   term_blames whole (suc n) room text d long =
-      bind_blames (λ (o : Opening × List ℕ). Opens o.0 text o.1 × (0 < suc n) × (0 < room)) (Blames whole) (enter (suc n) room text) _ (Rattle.term_text.proofs.Sound.enter_holds (suc n) room text)
+      bind_blames (λ (o : Opening × List ℕ). Opens o.0 text o.1 × (0 < suc n) × (0 < room)) (Blames whole) (enter (suc n) room text) _ (enter_holds (suc n) room text)
       (enter_blames whole (suc n) room text (λ b none. absurd (omega arith)) long)
       (λ o h. form_blames whole n (term_at n) (term_holds n) (term_blames whole n) (tail_at n) (tail_blames whole n) o.0 text o.1 h.0 (opened whole (a_term (suc n) 0) o.0 text o.1 h.0 d))
 
   tail_blames : (whole : List ℕ) (n : ℕ) → BlamesTail whole n (tail_at n)
   tail_blames whole zero front text few d = bind_any (Blames whole) (enter 0 1 text) _ (enter_blames whole 0 1 text (λ b _. deep_term (d (term_some b)) b) (λ b none. absurd (omega arith))) (λ o. tt)
   tail_blames whole (suc n) front text few d =
-      bind_blames (λ (o : Opening × List ℕ). Opens o.0 text o.1 × (0 < suc n) × (0 < 1)) (Blames whole) (enter (suc n) 1 text) _ (Rattle.term_text.proofs.Sound.enter_holds (suc n) 1 text)
+      bind_blames (λ (o : Opening × List ℕ). Opens o.0 text o.1 × (0 < suc n) × (0 < 1)) (Blames whole) (enter (suc n) 1 text) _ (enter_holds (suc n) 1 text)
       (enter_blames whole (suc n) 1 text (λ b none. absurd (omega arith)) (λ b none. absurd (omega arith)))
       (λ o h. tail_form_blames whole n (term_at n) (term_holds n) (term_blames whole n) (tail_at n) (tail_blames whole n) front o.0 text o.1 few h.0 (opened whole (a_term (suc n) (length front)) o.0 text o.1 h.0 d))
 
@@ -311,7 +311,7 @@ mutual
 
 dot_blames : (whole text : List ℕ) → IfErr (dot_at text) (Blames whole)
 dot_blames whole [] = tt
-dot_blames whole (c ∷ cs) = if_blames (Blames whole) (c == Rattle.term_text.specs.Character.dot && begins_gap cs) _ _ (λ _. tt) (λ _. tt)
+dot_blames whole (c ∷ cs) = if_blames (Blames whole) (c == dot && begins_gap cs) _ _ (λ _. tt) (λ _. tt)
 
 sentence_blames : (whole text : List ℕ) → DueSome whole a_sentence text → IfErr (sentence_at text) (Blames whole)
 unfolding sentence_at

@@ -1,5 +1,5 @@
 -- What is left of a text is its end.
-use Rattle.std.proofs.Common.{◌≡◌, ℕ, suc, List, [], ◌∷◌, ◌++◌, length, take, refl, sym, ap, ◌∙◌, append_assoc}
+use Rattle.std.proofs.Common.{◌≡◌, ℕ, ℤ, Bool, List, [], ◌∷◌, ◌++◌, refl, sym, ap, ◌∙◌, append_assoc}
 use Rattle.term_core.specs.Datum.{Datum}
 use Rattle.term_text.specs.Text.{Gap, Comment, Quoted, Run, Number, Integer, Segment, Segments, Spelled, Elements, Pair, Pairs}
 use Rattle.term_text.specs.Text.Gap.{no_gap, white, comment}
@@ -48,13 +48,13 @@ quoted_ends (closed {rest}) = past _ (here rest)
 quoted_ends (plain {c} n b q) = past c (quoted_ends q)
 quoted_ends (escape {e} h q) = past _ (past e (quoted_ends q))
 
-run_ends : {p : ℕ → Rattle.std.proofs.Common.Bool} {text run rest : List ℕ} → Run p text run rest → EndsIn text rest
+run_ends : {p : ℕ → Bool} {text run rest : List ℕ} → Run p text run rest → EndsIn text rest
 run_ends {p} {text} {run} r = record { front = run; whole = r.whole }
 
 number_ends : {text rest : List ℕ} {n : ℕ} → Number text n rest → EndsIn text rest
 number_ends h = record { front = h.digits; whole = h.run.whole }
 
-integer_ends : {text rest : List ℕ} {z : Rattle.std.proofs.Common.ℤ} → Integer text z rest → EndsIn text rest
+integer_ends : {text rest : List ℕ} {z : ℤ} → Integer text z rest → EndsIn text rest
 integer_ends (unsigned h l) = number_ends h
 integer_ends (positive h l) = past _ (number_ends h)
 integer_ends (negative h l) = past _ (number_ends h)

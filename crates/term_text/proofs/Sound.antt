@@ -21,10 +21,9 @@ use Rattle.std.specs.List.Sorted.{IsPermutation}
 use Rattle.std.specs.BTreeMap.{insert_entry}
 use Rattle.std.proofs.lemmas.List.Sorted.{IsPermutation-sym, IsPermutation-trans, IsPermutation-middle, IsPermutation-append_right, length_permutation}
 use Rattle.term_core.specs.Order.{datum_cmp}
-use Rattle.term_text.specs.Text.{AreRising}
 use Rattle.term_text.specs.Text.Pair.{arrow}
 use Rattle.term_text.specs.Text.Pairs.{last_pair, more_pairs}
-use Rattle.term_text.proofs.Keys.{put_permutes, put_rises}
+use Rattle.term_text.proofs.Keys.{AreRising, put_permutes, put_rises}
 use Rattle.term_text.specs.Reading.{has_key, pair_at, pairs_at, all_steps, Fault, Read, is_allowed, integer_at, word_at, byte_of, byte_at, byte_marks, segment_as, segment_at, segments_at, bytes_at, binary_at, behind_both, expect_both, map_at, ◌>>=◌, TermReader, TailReader, after_gap, behind, expect, opening, enter, enter_as, quoted_at, atom_marks, string_marks, string_at, integer_term_at, word_term_at, quoted_atom_at, element_at, elements_at, separated, items_at, tuple_at, list_at, list_end, list_from, end_at, form_at, tail_form, term_at, tail_at}
 use Rattle.term_text.proofs.Steps.{bind_holds, if_holds, weaker, Shrinks}
 use Rattle.term_text.proofs.Tokens.{Reads, quoted_holds}
