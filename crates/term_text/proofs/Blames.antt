@@ -3,7 +3,7 @@ use Rattle.std.proofs.Common.{◌≡◌, ◌≢◌, ◌&&◌, ℕ, zero, suc, �
 use Rattle.std.specs.Prelude.{IfOk, IfErr, IfSome, ◌==◌, nat_lt, nat_le}
 use Rattle.std.specs.List.{prefix_len}
 use Rattle.std.specs.Char.{is_ascii_digit, is_ascii_lowercase}
-use Rattle.std.proofs.lemmas.Bool.{eqb-true, eqb-false, ne_eqb, leb-false, ltb-true, ltb-false, cases_Bool, or_cases, or_parts}
+use Rattle.std.proofs.lemmas.Bool.{eqb-true, eqb-false, eq-eqb, ne_eqb, leb-false, ltb-true, ltb-false, cases_Bool, or_cases, or_parts}
 use Rattle.std.proofs.lemmas.List.{length-append}
 use Rattle.term_core.specs.Datum.{Datum}
 use Rattle.term_core.specs.declared.TheConstants.{MAX_CHARACTERS, MAX_LIST, MAX_BINARY}
@@ -13,7 +13,8 @@ use Rattle.term_text.specs.declared.token.Marks.{Marks}
 use Rattle.term_text.specs.declared.token.Opening.{Opening}
 use Rattle.term_text.specs.declared.token.Opening.TheVariants as opens
 use Rattle.term_text.specs.Text.{Gap, Integer}
-use Rattle.term_text.specs.Causes.{Place, Due as due, Due, Quotes, mark_of, most_characters, BeginsInteger, BeginsTerm, IsTooDeep, IsTooLong, IsKeyTwice, IsWide, IsNoByte, IsOutOfRange, IsNoEscape}
+use Rattle.term_text.specs.Causes.{Place, Due as due, Due, Quotes, mark_of, most_characters, BeginsInteger, BeginsTerm, IsTooDeep, IsTooLong, IsKeyTwice, IsWide, IsNoByte, IsOutOfRange, IsNoEscape, BeginsWith, BeginsWithBoth, IsUnexpected}
+use Rattle.term_text.specs.Causes.IsUnexpected.{the_end}
 use Rattle.term_text.specs.Causes.Place.{a_term, a_segment, a_character, a_letter}
 use Rattle.term_text.specs.Causes.Quotes.{of_atom, of_string, of_bytes}
 use Rattle.term_text.specs.Causes.BeginsInteger.{digit, sign}
@@ -23,13 +24,13 @@ use Rattle.term_text.specs.Causes.IsTooLong.{one_character, one_letter}
 use Rattle.term_text.specs.Causes.IsWide.{wide, wide_positive, wide_negative}
 use Rattle.term_text.specs.Causes.IsOutOfRange.{wide_segment, no_byte, no_byte_character}
 use Rattle.term_text.specs.Causes.IsNoEscape.{no_escape}
-use Rattle.term_text.specs.Reading.{Fault, Read, ◌>>=◌, Step, steps, all_steps, separated, behind_comma, stop, enter, enter_as, expect, expect_both, opening, begins, is_sign, fits, number_run, number_at, integer_at, word_at, byte_of, byte_at, is_allowed, escape_as, escape_at, character_at, next_quoted, pushed, quoted_step, quoted_at, string_marks, byte_marks, atom_marks}
-use Rattle.term_text.proofs.Steps.{bind_holds, if_holds}
-use Rattle.term_text.proofs.Tokens.{Behind, IsCharacter, character_holds}
+use Rattle.term_text.specs.Reading.{Fault, Read, ◌>>=◌, Step, steps, all_steps, separated, after_gap, comma_in, behind_comma, behind_item, stop, enter, enter_as, expect, expect_both, opening, begins, is_sign, fits, number_run, number_at, integer_at, word_at, byte_of, byte_at, is_allowed, escape_as, escape_at, character_at, next_quoted, pushed, quoted_step, quoted_at, string_marks, byte_marks, atom_marks}
+use Rattle.term_text.proofs.Steps.{bind_holds, if_holds, Hands, steps_hold}
+use Rattle.term_text.proofs.Tokens.{Behind, IsCharacter, character_holds, if_is}
 use Rattle.term_text.proofs.Tokens.IsCharacter.{as_it_is, as_escape}
 use Rattle.term_text.proofs.Items.{AfterItem, after_item}
 use Rattle.term_text.proofs.Items.AfterItem.{more_come, no_more_come}
-use Rattle.term_text.proofs.Words.{Opens, BeginsWord, opening_holds, integer_holds, number_holds}
+use Rattle.term_text.proofs.Words.{Opens, BeginsWord, opening_holds, opening_integer, opening_word, integer_holds, number_holds}
 use Rattle.term_text.proofs.Words.{BeginsInteger as IsIntegerStart}
 
 -- so many characters from the end of a text begins what is such
@@ -43,12 +44,23 @@ abbrev pub Blames : List ℕ → Fault → Type 0
 Blames whole (causes.TooDeep, left) = Left left (IsTooDeep whole)
 Blames whole (causes.TooLong, left) = Left left (IsTooLong whole)
 Blames whole (causes.DuplicateKey, left) = Left left (IsKeyTwice whole)
-Blames whole (causes.Syntax, left) = Unit {0}
+Blames whole (causes.Syntax, left) = Left left (IsUnexpected whole)
 Blames whole (causes.IntegerRange, left) = Left left (IsOutOfRange whole)
 Blames whole (causes.UnsupportedEscape, left) = Left left (IsNoEscape whole)
 
 pub at_once : {IsSuch : List ℕ → Type 0} (rest : List ℕ) → IsSuch rest → Left (length rest) IsSuch
 at_once rest h = record { rest = rest; here = refl; such = h }
+
+pub at_end : (whole : List ℕ) → Blames whole (causes.Syntax, 0)
+at_end whole = at_once [] the_end
+
+-- unexpected, where anything stands there at all
+abbrev pub UnexpectedSome : List ℕ → List ℕ → Type 0
+UnexpectedSome whole text = 0 < length text → IsUnexpected whole text
+
+pub at_some : (whole text : List ℕ) → UnexpectedSome whole text → Left (length text) (IsUnexpected whole)
+at_some whole [] h = at_end whole
+at_some whole (c ∷ cs) h = at_once (c ∷ cs) (h (omega arith))
 
 -- due, where anything stands there at all
 abbrev pub DueSome : List ℕ → Place → List ℕ → Type 0
@@ -102,16 +114,47 @@ module _ {S : Type 0} (item : S → List ℕ → Read S) (Item : S → List ℕ 
       (λ s text g. bind_any E (item s text) _ (blames s text g) (λ x. tt))
       (suc (length text)) s text g
 
+-- no comma stands behind the last item
+any_ok : {A : Type 0} (r : Result A Fault) → IfOk r (λ _. Unit {0})
+any_ok (Ok x) = tt
+any_ok (Err e) = tt
+
+no_comma_in : (g : List ℕ) → (comma_in g).0 ≡ false → ¬ BeginsWith comma (comma_in g).1
+no_comma_in [] e = λ h. h
+no_comma_in (c ∷ cs) e = if_is (λ (p : Bool × List ℕ). p.0 ≡ false → ¬ BeginsWith comma p.1) (c == comma) _ _ (λ t. λ no. absurd cc) (λ f. λ _ h. eqb-false c comma f h) e
+
+module _ {S : Type 0} (item : S → List ℕ → Read S) where
+  abbrev NoComma : S → List ℕ → S → List ℕ → Type 0
+  NoComma s text u rest = 0 < length rest → ¬ BeginsWith comma rest
+
+  comma_or_none : (s : S) (text : List ℕ) (t : Bool × S × List ℕ) → (t.0 ≡ false → ¬ BeginsWith comma t.2) → Hands (separated item) NoComma s text t
+  comma_or_none s text (true, u, rest) h = λ v end r. r
+  comma_or_none s text (false, u, rest) h = λ some. h refl
+
+  pub no_comma : (s : S) (text : List ℕ) → IfOk (all_steps (separated item) s text) (λ x. 0 < length x.1 → ¬ BeginsWith comma x.1)
+  no_comma s text =
+      steps_hold (separated item) NoComma
+      (λ s text. bind_holds (λ (x : S × List ℕ). Unit {0}) (Hands (separated item) NoComma s text) (item s text) _ (any_ok (item s text))
+      (λ x _. comma_or_none s text (behind_item x.0 x.1) (no_comma_in (after_gap false x.1))))
+      (suc (length text)) s text
+
+pub both_ok : {A : Type 0} (P Q : A → Type 0) (r : Result A Fault) → IfOk r P → IfOk r Q → IfOk r (λ x. P x × Q x)
+both_ok P Q (Ok x) h k = (h, k)
+both_ok P Q (Err e) h k = tt
+
 -- ---- tokens
 
-pub expect_blames : (whole : List ℕ) (a : ℕ) (text : List ℕ) → IfErr (expect a text) (Blames whole)
-expect_blames whole a [] = tt
-expect_blames whole a (c ∷ cs) = if_blames (Blames whole) (c == a) _ _ (λ _. tt) (λ _. tt)
+pub expect_blames : (whole : List ℕ) (a : ℕ) (text : List ℕ) → (0 < length text → ¬ BeginsWith a text → IsUnexpected whole text) → IfErr (expect a text) (Blames whole)
+expect_blames whole a [] h = at_end whole
+expect_blames whole a (c ∷ cs) h = if_blames (Blames whole) (c == a) _ _ (λ _. tt) (λ n. at_once (c ∷ cs) (h (omega arith) (eqb-false c a n)))
 
-pub expect_both_blames : (whole : List ℕ) (a b : ℕ) (text : List ℕ) → IfErr (expect_both a b text) (Blames whole)
-expect_both_blames whole a b [] = tt
-expect_both_blames whole a b (x ∷ []) = tt
-expect_both_blames whole a b (x ∷ y ∷ ys) = if_blames (Blames whole) (x == a && y == b) _ _ (λ _. tt) (λ _. tt)
+not_both : (x y a b : ℕ) (ys : List ℕ) → (x == a && y == b) ≡ false → ¬ BeginsWithBoth a b (x ∷ y ∷ ys)
+not_both x y a b ys n h = let both : (x == a && y == b) ≡ true = rw (eq-eqb x a h.0, eq-eqb y b h.1) refl in absurd cc
+
+pub expect_both_blames : (whole : List ℕ) (a b : ℕ) (text : List ℕ) → (0 < length text → ¬ BeginsWithBoth a b text → IsUnexpected whole text) → IfErr (expect_both a b text) (Blames whole)
+expect_both_blames whole a b [] h = at_end whole
+expect_both_blames whole a b (x ∷ []) h = at_once (x ∷ []) (h (omega arith) (λ both. both.1))
+expect_both_blames whole a b (x ∷ y ∷ ys) h = if_blames (Blames whole) (x == a && y == b) _ _ (λ _. tt) (λ n. at_once (x ∷ y ∷ ys) (h (omega arith) (not_both x y a b ys n)))
 
 sign_is : (c : ℕ) → is_sign c ≡ true → (c ≡ plus) ⊎ (c ≡ minus)
 sign_is c h = elim (or_cases (c == plus) (c == minus) h) [ inl p ↦ inl (eqb-true c plus p) | inr m ↦ inr (eqb-true c minus m) ]
@@ -136,6 +179,11 @@ term_starts opens.List text rest h = rw h begins_term.a_list
 term_starts opens.Map text rest h = rw h begins_term.a_map
 term_starts opens.Binary text rest h = rw h begins_term.a_binary
 
+pub integer_begun : {text : List ℕ} → BeginsInteger text → IsIntegerStart text
+integer_begun (digit d) = inl d
+integer_begun (sign (inl p) d) = inr (rw p refl, d)
+integer_begun (sign (inr m) d) = inr (rw m refl, d)
+
 integer_some : {text : List ℕ} → BeginsInteger text → 0 < length text
 integer_some (digit d) = omega arith
 integer_some (sign s d) = omega arith
@@ -150,16 +198,27 @@ term_some begins_term.a_list = omega arith
 term_some begins_term.a_map = omega arith
 term_some begins_term.a_binary = omega arith
 
-enter_as_blames : (whole : List ℕ) (levels room : ℕ) (text : List ℕ) (o : Option (Opening × List ℕ)) → IfSome o (λ o. Opens o.0 text o.1) → (BeginsTerm text → levels ≡ 0 → IsTooDeep whole text) → (BeginsTerm text → room ≡ 0 → IsTooLong whole text) → IfErr (enter_as levels room text o) (Blames whole)
-enter_as_blames whole levels room text None h deep long = tt
-enter_as_blames whole levels room text (Some o) h deep long =
+-- what begins a term is found to do so
+pub opens_none : (text : List ℕ) → opening text ≡ None → ¬ BeginsTerm text
+opens_none text e (begins_term.an_integer i) = absurd (let some = opening_integer text (integer_begun i) in cc)
+opens_none text e (begins_term.a_word {c} {text = cs} l) = absurd (let some = opening_word c cs l in cc)
+opens_none text e begins_term.an_atom = absurd cc
+opens_none text e begins_term.a_string = absurd cc
+opens_none text e begins_term.a_tuple = absurd cc
+opens_none text e begins_term.a_list = absurd cc
+opens_none text e begins_term.a_map = absurd cc
+opens_none text e begins_term.a_binary = absurd cc
+
+enter_as_blames : (whole : List ℕ) (levels room : ℕ) (text : List ℕ) (o : Option (Opening × List ℕ)) → IfSome o (λ o. Opens o.0 text o.1) → opening text ≡ o → (0 < length text → ¬ BeginsTerm text → IsUnexpected whole text) → (BeginsTerm text → levels ≡ 0 → IsTooDeep whole text) → (BeginsTerm text → room ≡ 0 → IsTooLong whole text) → IfErr (enter_as levels room text o) (Blames whole)
+enter_as_blames whole levels room text None h e none deep long = at_some whole text (λ some. none some (opens_none text e))
+enter_as_blames whole levels room text (Some o) h e none deep long =
     let starts = term_starts o.0 text o.1 h in
     if_blames (Blames whole) (levels == 0) _ _ (λ e. at_once text (deep starts (eqb-true levels 0 e)))
     (λ _. if_blames (Blames whole) (room == 0) _ _ (λ e. at_once text (long starts (eqb-true room 0 e))) (λ _. tt))
 
-pub enter_blames : (whole : List ℕ) (levels room : ℕ) (text : List ℕ) → (BeginsTerm text → levels ≡ 0 → IsTooDeep whole text) → (BeginsTerm text → room ≡ 0 → IsTooLong whole text) → IfErr (enter levels room text) (Blames whole)
+pub enter_blames : (whole : List ℕ) (levels room : ℕ) (text : List ℕ) → (0 < length text → ¬ BeginsTerm text → IsUnexpected whole text) → (BeginsTerm text → levels ≡ 0 → IsTooDeep whole text) → (BeginsTerm text → room ≡ 0 → IsTooLong whole text) → IfErr (enter levels room text) (Blames whole)
 unfolding enter
-enter_blames whole levels room text deep long = enter_as_blames whole levels room text (opening text) (opening_holds text) deep long
+enter_blames whole levels room text none deep long = enter_as_blames whole levels room text (opening text) (opening_holds text) refl none deep long
 
 -- ---- integers
 
@@ -268,7 +327,7 @@ module _ (whole : List ℕ) (m : Marks) (q : Quotes) (before : ℕ) (are : AreOf
   escape_blames k e rest (Some x) d h = tt
 
   escaped_blames : (k c : ℕ) (text : List ℕ) → c ≡ backslash → Due whole (a_character q k) (c ∷ text) → IfErr (escape_at (c ∷ text) text) (Blames whole)
-  escaped_blames k c [] b d = tt
+  escaped_blames k c [] b d = at_end whole
   escaped_blames k c (e ∷ rest) b d = rw b (escape_blames k e rest (escaped e) (rw b at d) refl)
 
   not_allowed : (g : Bool) (c : ℕ) → is_allowed g c ≡ false → (g ≡ true) × (255 < c)
@@ -286,7 +345,7 @@ module _ (whole : List ℕ) (m : Marks) (q : Quotes) (before : ℕ) (are : AreOf
 
   step_blames : (cs text : List ℕ) → IsDue cs text → IfErr (quoted_step m cs text) (Blames whole)
   unfolding quoted_step next_quoted
-  step_blames cs [] d = tt
+  step_blames cs [] d = at_end whole
   step_blames cs (c ∷ text) d =
       bind_any (Blames whole) _ _
       (if_blames (Blames whole) (c == m.mark) _ _ (λ _. tt)
@@ -297,7 +356,7 @@ module _ (whole : List ℕ) (m : Marks) (q : Quotes) (before : ℕ) (are : AreOf
   pub quoted_blames : (text : List ℕ) → Due whole (a_character q before) text → IfErr (quoted_at m text) (Blames whole)
   quoted_blames text d =
       let same : before + 0 ≡ before = omega arith in
-      steps_blame (quoted_step m) IsDue (Blames whole) tt (λ cs text d. step_good cs text d) (λ cs text d. step_blames cs text d) (suc (length text)) [] text (rw same d)
+      steps_blame (quoted_step m) IsDue (Blames whole) (at_end whole) (λ cs text d. step_good cs text d) (λ cs text d. step_blames cs text d) (suc (length text)) [] text (rw same d)
 
 pub atom_are : (whole : List ℕ) → AreOf whole atom_marks of_atom 0
 atom_are whole = record {

@@ -6,8 +6,8 @@ use Rattle.std.specs.List.{Contains}
 use Rattle.std.specs.List.Sorted.{IsPermutation}
 use Rattle.std.specs.Ordering.{is_eq}
 use Rattle.std.specs.Str.{encode_utf8_all, chars}
-use Rattle.std.proofs.lemmas.Bool.{eqb-true, eqb-false, cases_Bool, or_cases}
-use Rattle.std.proofs.lemmas.List.{length-append, take_at}
+use Rattle.std.proofs.lemmas.Bool.{eqb-true, eqb-false, eq-eqb, cases_Bool, or_cases}
+use Rattle.std.proofs.lemmas.List.{append-nil, length-append, take_at}
 use Rattle.std.proofs.lemmas.List.Sorted.{Contains-permutation, IsPermutation-refl, IsPermutation-sym, IsPermutation-cons, IsPermutation-trans, length_permutation}
 use Rattle.std.proofs.lemmas.Result.{IfErr-at_err}
 use Rattle.term_core.specs.Datum.{Datum, cells}
@@ -21,10 +21,14 @@ use Rattle.term_text.specs.declared.fault.Stop.{Stop}
 use Rattle.term_text.specs.declared.fault.Stop.TheVariants as stops
 use Rattle.term_text.specs.declared.token.Opening.{Opening}
 use Rattle.term_text.specs.declared.token.Opening.TheVariants as opens
-use Rattle.term_text.specs.Text.{Gap, Integer, Segment, Spelled, Elements, Pair}
+use Rattle.term_text.specs.Text.{Gap, Integer, Segment, Segments, Spelled, Elements, Pair, Pairs}
+use Rattle.term_text.specs.Text.Segments.{last_segment, more_segments}
+use Rattle.term_text.specs.Text.Pairs.{last_pair, more_pairs}
 use Rattle.term_text.specs.Text.Elements.{last, more as more_elements}
 use Rattle.term_text.specs.Fault.{fault_of}
-use Rattle.term_text.specs.Causes.{Place, Due, Due as due, Row, most_elements, BeginsTerm, IsTooDeep, IsTooLong, IsKeyTwice, IsOutOfRange, IsNoEscape, StandsAt, HasCause}
+use Rattle.term_text.specs.Causes.{Place, Due, Due as due, Row, most_elements, BeginsTerm, IsTooDeep, IsTooLong, IsKeyTwice, IsOutOfRange, IsNoEscape, StandsAt, HasCause, BeginsInteger, BeginsWith, BeginsWithBoth, BeginsDot, FollowsElement, IsUnexpected}
+use Rattle.term_text.specs.Causes.{BeginsTerm as begins_term}
+use Rattle.term_text.specs.Causes.IsUnexpected.{the_end, no_term, no_segment, behind_element, behind_tail, behind_key, behind_pair, behind_segment, no_dot}
 use Rattle.term_text.specs.Causes.Place.{a_sentence, a_term, an_element, a_pair, a_segment, a_character}
 use Rattle.term_text.specs.Causes.Row.{in_tuple, in_list}
 use Rattle.term_text.specs.Causes.Quotes.{of_atom, of_string, of_bytes}
@@ -36,14 +40,14 @@ use Rattle.term_text.specs.Causes.IsNoEscape.{no_escape}
 use Rattle.term_text.specs.Reading.{Fault, Read, Fails, ◌>>=◌, TermReader, TailReader, after_gap, behind, behind_both, separated, steps, all_steps, enter, expect, expect_both, opening, quoted_at, atom_marks, byte_marks, string_marks, string_at, segment_as, segment_at, segments_at, one_byte_at, byte_at, bytes_at, binary_at, integer_at, integer_term_at, word_at, word_term_at, quoted_atom_at, element_at, elements_at, items_at, tuple_at, list_at, list_end, list_from, end_at, has_key, pair_at, pairs_at, map_at, form_at, tail_form, term_at, tail_at, dot_at, begins_gap, sentence_at, sentence_step, text_at}
 use Rattle.term_text.proofs.Tokens.{Behind, gap_holds}
 use Rattle.term_text.proofs.Items.{gap_some, gap_within}
-use Rattle.term_text.proofs.Shorter.{spelled_shorter, elements_shorter, segment_shorter, pair_shorter}
-use Rattle.term_text.proofs.Words.{Opens, BeginsWord, opening_holds, behind_holds}
-use Rattle.term_text.proofs.Sound.{IsReader, IsTailReader, ElementRead, ElementsRead, SegmentRead, PairRead, enter_holds, element_holds, elements_hold, segment_holds, pair_holds, expect_holds, expect_both_holds, term_holds, tail_holds}
+use Rattle.term_text.proofs.Shorter.{spelled_shorter, elements_shorter, segment_shorter, segments_shorter, pair_shorter, pairs_shorter}
+use Rattle.term_text.proofs.Words.{Opens, BeginsWord, opening_holds, opening_integer, behind_holds}
+use Rattle.term_text.proofs.Sound.{IsReader, IsTailReader, ElementRead, ElementsRead, SegmentRead, SegmentsRead, PairRead, PairsRead, TailRead, segments_hold, pairs_hold, enter_holds, element_holds, elements_hold, segment_holds, pair_holds, expect_holds, expect_both_holds, term_holds, tail_holds}
 use Rattle.term_text.proofs.Steps.{bind_holds}
-use Rattle.term_text.proofs.Texts.{SentenceRead, sentence_holds}
+use Rattle.term_text.proofs.Texts.{SentenceRead, sentence_holds, begins_from}
 use Rattle.term_text.proofs.Keys.{put_permutes, is_eq-equal}
-use Rattle.term_text.proofs.Ends.{EndsIn, due_ends, then, behind as behind_first}
-use Rattle.term_text.proofs.Blames.{Left, Blames, at_once, DueSome, StaysGood, bind_blames, bind_any, if_blames, steps_blame, separated_blames, expect_blames, expect_both_blames, term_starts, term_some, enter_blames, integer_blames, byte_blames, word_blames, AreOf, quoted_blames, atom_are, byte_are, string_are}
+use Rattle.term_text.proofs.Ends.{EndsIn, due_ends, gap_ends, spelled_ends, segment_ends, pair_ends, then}
+use Rattle.term_text.proofs.Blames.{Left, Blames, at_once, at_end, at_some, no_comma, both_ok, opens_none, integer_begun, DueSome, StaysGood, bind_blames, bind_any, if_blames, steps_blame, separated_blames, expect_blames, expect_both_blames, term_starts, term_some, enter_blames, integer_blames, byte_blames, word_blames, AreOf, quoted_blames, atom_are, byte_are, string_are}
 use Rattle.term_text.proofs.Words.{BeginsInteger as IsIntegerStart}
 use Rattle.term_text.proofs.Blames.{integer_starts}
 
@@ -85,21 +89,42 @@ record SegmentDue (whole bytes text : List ℕ) : Type 0 where
   few : length bytes ≤ MAX_BINARY
   place : DueSome whole (a_segment (length bytes)) text
 
-segment_as_blames : (whole bytes text : List ℕ) (o : Option (Opening × List ℕ)) → IfSome o (λ o. Opens o.0 text o.1) → SegmentDue whole bytes text → IfErr (segment_as o bytes text) (Blames whole)
-segment_as_blames whole bytes text None h g = tt
-segment_as_blames whole bytes text (Some (opens.Integer, rest)) h g =
+quote_starts : (text : List ℕ) → BeginsWith double_quote text → BeginsTerm text
+quote_starts [] h = absurd h
+quote_starts (c ∷ cs) h = rw h begins_term.a_string
+
+no_segment_starts : (text : List ℕ) → opening text ≡ None → (¬ BeginsInteger text) × (¬ BeginsWith double_quote text)
+no_segment_starts text e = (λ i. opens_none text e (begins_term.an_integer i), λ q. opens_none text e (quote_starts text q))
+
+opening_of : (o p : Opening) (rest text : List ℕ) (found : Option (Opening × List ℕ)) → found ≡ Some (o, rest) → found ≡ Some (p, text) → o ≡ p
+opening_of o p rest text found e f =
+    let both : Some (o, rest) ≡ Some (p, text) = sym e ∙ f in
+    let pair : (o, rest) ≡ (p, text) = cc in
+    ap (λ (x : Opening × List ℕ). x.0) pair
+
+opening_quote : (text rest : List ℕ) (o : Opening) → (o ≡ opens.String → ⊥) → opening text ≡ Some (o, rest) → ¬ BeginsWith double_quote text
+opening_quote [] rest o other e h = h
+opening_quote (c ∷ cs) rest o other e h = other (opening_of o opens.String rest cs (opening (c ∷ cs)) e (rw h refl))
+
+other_starts : (text rest : List ℕ) (o : Opening) → (o ≡ opens.Integer → ⊥) → (o ≡ opens.String → ⊥) → opening text ≡ Some (o, rest) → (¬ BeginsInteger text) × (¬ BeginsWith double_quote text)
+other_starts text rest o no_integer no_string e =
+    (λ i. no_integer (opening_of o opens.Integer rest text (opening text) e (opening_integer text (integer_begun i))), opening_quote text rest o no_string e)
+
+segment_as_blames : (whole bytes text : List ℕ) (o : Option (Opening × List ℕ)) → IfSome o (λ o. Opens o.0 text o.1) → opening text ≡ o → SegmentDue whole bytes text → IfErr (segment_as o bytes text) (Blames whole)
+segment_as_blames whole bytes text None h e g = let no = no_segment_starts text e in at_some whole text (λ some. no_segment (g.place some) no.0 no.1)
+segment_as_blames whole bytes text (Some (opens.Integer, rest)) h e g =
     let some : 0 < length text = term_some (term_starts opens.Integer text rest h) in
     if_blames (Blames whole) (length bytes == MAX_BINARY) _ _ (λ f. at_once text (one_byte (g.place some) (eqb-true (length bytes) MAX_BINARY f) (integer_starts text h.1)))
     (λ _. bind_any (Blames whole) (byte_at text) _ (byte_blames whole text (length bytes) h.1 (g.place some)) (λ b. tt))
-segment_as_blames whole bytes text (Some (opens.String, rest)) h g =
+segment_as_blames whole bytes text (Some (opens.String, rest)) h e g =
     let some : 0 < length text = term_some (term_starts opens.String text rest h) in
     let here = rw h at (g.place some) in
     bind_any (Blames whole) (quoted_at (byte_marks (length bytes)) rest) _ (quoted_blames whole (byte_marks (length bytes)) of_bytes (length bytes) (byte_are whole (length bytes) g.few) rest (due.in_bytes here)) (λ x. tt)
-segment_as_blames whole bytes text (Some (o, rest)) h g = tt
+segment_as_blames whole bytes text (Some (o, rest)) h e g = let no = other_starts text rest o (λ p. absurd cc) (λ p. absurd cc) e in at_some whole text (λ some. no_segment (g.place some) no.0 no.1)
 
 segment_blames : (whole bytes text : List ℕ) → SegmentDue whole bytes text → IfErr (segment_at bytes text) (Blames whole)
 unfolding segment_at
-segment_blames whole bytes text g = segment_as_blames whole bytes text (opening text) (opening_holds text) g
+segment_blames whole bytes text g = segment_as_blames whole bytes text (opening text) (opening_holds text) refl g
 
 next_segment_due : (whole s text u t w rest : List ℕ) → SegmentDue whole s text → SegmentRead s text u t → Gap t (comma ∷ w) → Behind w rest → SegmentDue whole u rest
 next_segment_due whole s text u t w rest g r gap b = record {
@@ -110,11 +135,33 @@ next_segment_due whole s text u t w rest g r gap b = record {
 
 segments_blame : (whole text : List ℕ) → DueSome whole (a_segment 0) text → IfErr (segments_at [] text) (Blames whole)
 segments_blame whole text d =
-    separated_blames segment_at SegmentRead (SegmentDue whole) (Blames whole) tt segment_holds (λ s text u t w rest g r gap b. next_segment_due whole s text u t w rest g r gap b) (λ s text g. segment_blames whole s text g) [] text (record { few = omega arith; place = d })
+    separated_blames segment_at SegmentRead (SegmentDue whole) (Blames whole) (at_end whole) segment_holds (λ s text u t w rest g r gap b. next_segment_due whole s text u t w rest g r gap b) (λ s text g. segment_blames whole s text g) [] text (record { few = omega arith; place = d })
+
+-- the last of some segments, and what stands behind it
+record LastSegment (whole rest : List ℕ) : Type 0 where
+  before : ℕ
+  text : List ℕ
+  behind : List ℕ
+  bytes : List ℕ
+  place : Due whole (a_segment before) text
+  spelled : Segment text bytes behind
+  gap : Gap behind rest
+
+last_segment_of : {whole text bytes rest : List ℕ} (k : ℕ) → Segments text bytes rest → Due whole (a_segment k) text → LastSegment whole rest
+last_segment_of k (last_segment {text} {t} {bs} s g) d = record { before = k; text = text; behind = t; bytes = bs; place = d; spelled = s; gap = g }
+last_segment_of k (more_segments {bs} s g h ss) d = last_segment_of (k + length bs) ss (due.next_segment d s g h)
+
+after_segments : (whole g bytes t : List ℕ) → DueSome whole (a_segment 0) g → SegmentsRead [] g bytes t → ¬ BeginsWith comma t → ¬ BeginsWithBoth greater greater t → IsUnexpected whole t
+after_segments whole g bytes t d r no_comma no_end =
+    let l = last_segment_of 0 r.segments (d (let lt = segments_shorter r.segments in omega arith)) in
+    behind_segment l.place l.spelled l.gap no_comma no_end
 
 bytes_blame : (whole g : List ℕ) (o : Option (List ℕ)) → DueSome whole (a_segment 0) g → IfErr (bytes_at o g) (Blames whole)
 bytes_blame whole g (Some rest) d = tt
-bytes_blame whole g None d = bind_any (Blames whole) (segments_at [] g) _ (segments_blame whole g d) (λ x. bind_any (Blames whole) (expect_both greater greater x.1) _ (expect_both_blames whole greater greater x.1) (λ rest. tt))
+bytes_blame whole g None d =
+    bind_blames (λ (x : List ℕ × List ℕ). (0 < length x.1 → SegmentsRead [] g x.0 x.1) × (0 < length x.1 → ¬ BeginsWith comma x.1)) (Blames whole) (segments_at [] g) _
+    (both_ok (λ (x : List ℕ × List ℕ). 0 < length x.1 → SegmentsRead [] g x.0 x.1) (λ (x : List ℕ × List ℕ). 0 < length x.1 → ¬ BeginsWith comma x.1) (segments_at [] g) (segments_hold [] g) (no_comma segment_at [] g)) (segments_blame whole g d)
+    (λ x r. bind_any (Blames whole) (expect_both greater greater x.1) _ (expect_both_blames whole greater greater x.1 (λ some no. after_segments whole g x.0 x.1 d (r.0 some) (r.1 some) no)) (λ rest. tt))
 
 binary_blames : (whole text : List ℕ) (n k : ℕ) → Due whole (a_term (suc n) k) (less ∷ less ∷ text) → IfErr (binary_at text) (Blames whole)
 unfolding binary_at
@@ -154,15 +201,45 @@ module _ (whole : List ℕ) (n : ℕ) (read : TermReader) (reads : IsReader n re
 
     elements_blame : (front : List Datum) (text : List ℕ) → length front ≤ limit → DueSome whole (an_element r n (length front)) text → IfErr (elements_at read limit front text) (Blames whole)
     elements_blame front text few d =
-        separated_blames (element_at read limit) (ElementRead n limit) ElementDue (Blames whole) tt (element_holds n read reads limit) next_element_due element_blames front text (record { few = few; place = d })
+        separated_blames (element_at read limit) (ElementRead n limit) ElementDue (Blames whole) (at_end whole) (element_holds n read reads limit) next_element_due element_blames front text (record { few = few; place = d })
+
+  -- the last of some elements, and what stands behind it
+  record LastElement (r : Row) (count : ℕ) (rest : List ℕ) : Type 0 where
+    before : ℕ
+    text : List ℕ
+    behind : List ℕ
+    element : Datum
+    place : Due whole (an_element r n before) text
+    spelled : Spelled n text element behind
+    gap : Gap behind rest
+    count_is : count ≡ suc before
+
+  last_element : {r : Row} {text rest : List ℕ} {ds : List Datum} (k : ℕ) → Elements n text ds rest → Due whole (an_element r n k) text → LastElement r (k + length ds) rest
+  last_element k (last {text} {t} {d} s g) due_here = record { before = k; text = text; behind = t; element = d; place = due_here; spelled = s; gap = g; count_is = omega arith }
+  last_element k (more_elements {ds} s g h es) due_here =
+      let same : k + suc (length ds) ≡ suc k + length ds = omega arith in
+      rw same (last_element (suc k) es (due.next_element due_here s g h))
+
+  after_elements : (r : Row) (k : ℕ) (g : List ℕ) (ds : List Datum) (t : List ℕ) → DueSome whole (an_element r n k) g → Elements n g ds t → ¬ FollowsElement r t → IsUnexpected whole t
+  after_elements r k g ds t d es other =
+      let l = last_element k es (d (let lt = elements_shorter es in omega arith)) in
+      behind_element l.place l.spelled l.gap other
+
+  -- elements that were read, and no comma behind them
+  abbrev ElementsEnd : ℕ → List Datum → List ℕ → List Datum × List ℕ → Type 0
+  ElementsEnd limit front g x = (0 < length x.1 → ElementsRead n limit front g x.0 x.1) × (0 < length x.1 → ¬ BeginsWith comma x.1)
+
+  elements_end : (limit : ℕ) (front : List Datum) (g : List ℕ) → IfOk (elements_at read limit front g) (ElementsEnd limit front g)
+  elements_end limit front g =
+      both_ok (λ (x : List Datum × List ℕ). 0 < length x.1 → ElementsRead n limit front g x.0 x.1) (λ (x : List Datum × List ℕ). 0 < length x.1 → ¬ BeginsWith comma x.1) (elements_at read limit front g) (elements_hold n read reads limit front g) (no_comma (element_at read limit) front g)
 
   -- ---- tuples
 
   items_blame : (g : List ℕ) (o : Option (List ℕ)) → DueSome whole (an_element in_tuple n 0) g → IfErr (items_at read o g) (Blames whole)
   items_blame g (Some rest) d = tt
   items_blame g None d =
-      bind_any (Blames whole) (elements_at read MAX_TUPLE [] g) _ (elements_blame in_tuple MAX_TUPLE refl [] g (omega arith) d)
-      (λ x. bind_any (Blames whole) (expect close_brace x.1) _ (expect_blames whole close_brace x.1) (λ rest. tt))
+      bind_blames (ElementsEnd MAX_TUPLE [] g) (Blames whole) (elements_at read MAX_TUPLE [] g) _ (elements_end MAX_TUPLE [] g) (elements_blame in_tuple MAX_TUPLE refl [] g (omega arith) d)
+      (λ x r. bind_any (Blames whole) (expect close_brace x.1) _ (expect_blames whole close_brace x.1 (λ some no. let m = r.0 some in after_elements in_tuple 0 g m.more x.1 d m.elements (λ f. elim f [ inl c ↦ r.1 some c | inr e ↦ no e ]))) (λ rest. tt))
 
   tuple_blames : (k : ℕ) (text : List ℕ) → Due whole (a_term (suc n) k) (open_brace ∷ text) → IfErr (tuple_at read text) (Blames whole)
   unfolding tuple_at
@@ -172,46 +249,49 @@ module _ (whole : List ℕ) (n : ℕ) (read : TermReader) (reads : IsReader n re
 
   -- ---- lists
 
-  -- the last of some elements, and what stands behind it
-  record LastElement (count : ℕ) (rest : List ℕ) : Type 0 where
-    before : ℕ
-    text : List ℕ
-    behind : List ℕ
-    element : Datum
-    place : Due whole (an_element in_list n before) text
-    spelled : Spelled n text element behind
-    gap : Gap behind rest
-    count_is : count ≡ suc before
+  -- where no bar stands, none is found
+  no_bar : (a : ℕ) (text : List ℕ) → behind a text ≡ None → ¬ BeginsWith a text
+  no_bar a [] e h = h
+  no_bar a (c ∷ cs) e h = let found = rw (eq-eqb c a h) at e in absurd cc
 
-  last_element : {text rest : List ℕ} {ds : List Datum} (k : ℕ) → Elements n text ds rest → Due whole (an_element in_list n k) text → LastElement (k + length ds) rest
-  last_element k (last {text} {t} {d} s g) due_here = record { before = k; text = text; behind = t; element = d; place = due_here; spelled = s; gap = g; count_is = omega arith }
-  last_element k (more_elements {ds} s g h es) due_here =
-      let same : k + suc (length ds) ≡ suc k + length ds = omega arith in
-      rw same (last_element (suc k) es (due.next_element due_here s g h))
+  module _ (read_tail : TailReader) (tails : BlamesTail whole n read_tail) (tail_reads : IsTailReader n read_tail) where
+    -- the tail behind so many elements
+    record TailDue (count : ℕ) (text : List ℕ) : Type 0 where
+      before : ℕ
+      some_before : count ≡ suc before
+      place : DueSome whole (a_term n (suc before)) text
 
-  module _ (read_tail : TailReader) (tails : BlamesTail whole n read_tail) where
-    tail_due : (front : List Datum) (g : List ℕ) (ds : List Datum) (t u : List ℕ) → DueSome whole (an_element in_list n (length front)) g → (0 < length t → ElementsRead n MAX_LIST front g ds t) → t ≡ bar ∷ u → DueSome whole (a_term n (length ds)) (after_gap false u)
-    tail_due front g ds t u d found h some =
+    tail_due : (front : List Datum) (g : List ℕ) (ds : List Datum) (t u : List ℕ) → DueSome whole (an_element in_list n (length front)) g → (0 < length t → ElementsRead n MAX_LIST front g ds t) → t ≡ bar ∷ u → TailDue (length ds) (after_gap false u)
+    tail_due front g ds t u d found h =
         let m = found (rw h (omega arith)) in
         let es : Elements n g m.more (bar ∷ u) = rw h at m.elements in
         let l = last_element (length front) es (d (let lt = elements_shorter es in omega arith)) in
         let len : length ds ≡ suc l.before = ap length m.joined ∙ length-append front m.more ∙ l.count_is in
-        rw len (due.tail l.place l.spelled l.gap (gap_some u some))
+        record { before = l.before; some_before = len; place = λ some. due.tail l.place l.spelled l.gap (gap_some u some) }
 
-    end_blames : (front : List Datum) (g : List ℕ) (ds : List Datum) (t : List ℕ) (o : Option (List ℕ)) → DueSome whole (an_element in_list n (length front)) g → (0 < length t → ElementsRead n MAX_LIST front g ds t) → IfSome o (λ rest. t ≡ bar ∷ rest) → IfErr (end_at read_tail ds o t) (Blames whole)
-    end_blames front g ds t (Some u) d found h =
-        bind_any (Blames whole) (read_tail ds (after_gap false u)) _ (tails ds (after_gap false u) (let m = found (rw h (omega arith)) in m.within) (tail_due front g ds t u d found h))
-        (λ x. bind_any (Blames whole) (expect close_bracket (after_gap false x.1)) _ (expect_blames whole close_bracket (after_gap false x.1)) (λ rest. tt))
-    end_blames front g ds t None d found h = bind_any (Blames whole) (expect close_bracket t) _ (expect_blames whole close_bracket t) (λ rest. tt)
+    -- what stands behind a tail
+    after_tail : (count : ℕ) (text : List ℕ) (d : Datum) (t : List ℕ) → TailDue count text → Spelled n text d t → 0 < length (after_gap false t) → ¬ BeginsWith close_bracket (after_gap false t) → IsUnexpected whole (after_gap false t)
+    after_tail count text d t due_here s some other = behind_tail (due_here.place (let lt = spelled_shorter s in omega arith)) s (gap_some t some) other
 
-    list_end_blames : (front : List Datum) (g : List ℕ) (ds : List Datum) (t : List ℕ) → DueSome whole (an_element in_list n (length front)) g → (0 < length t → ElementsRead n MAX_LIST front g ds t) → IfErr (list_end read_tail ds t) (Blames whole)
+    end_blames : (front : List Datum) (g : List ℕ) (ds : List Datum) (t : List ℕ) (o : Option (List ℕ)) → DueSome whole (an_element in_list n (length front)) g → ElementsEnd MAX_LIST front g (ds, t) → behind bar t ≡ o → IfSome o (λ rest. t ≡ bar ∷ rest) → IfErr (end_at read_tail ds o t) (Blames whole)
+    end_blames front g ds t (Some u) d r e h =
+        let place = tail_due front g ds t u d r.0 h in
+        bind_blames (λ (x : Datum × List ℕ). TailRead n ds (after_gap false u) x.0 x.1) (Blames whole) (read_tail ds (after_gap false u)) _ (tail_reads ds (after_gap false u))
+        (tails ds (after_gap false u) (let m = r.0 (rw h (omega arith)) in m.within) (rw place.some_before place.place))
+        (λ x tail. bind_any (Blames whole) (expect close_bracket (after_gap false x.1)) _ (expect_blames whole close_bracket (after_gap false x.1) (after_tail (length ds) (after_gap false u) tail.tail x.1 place tail.spelled)) (λ rest. tt))
+    end_blames front g ds t None d r e h =
+        bind_any (Blames whole) (expect close_bracket t) _
+        (expect_blames whole close_bracket t (λ some no. let m = r.0 some in after_elements in_list (length front) g m.more t d m.elements (λ f. elim f [ inl c ↦ r.1 some c | inr more ↦ elim more [ inl b ↦ no_bar bar t e b | inr c ↦ no c ] ])))
+        (λ rest. tt)
+
+    list_end_blames : (front : List Datum) (g : List ℕ) (ds : List Datum) (t : List ℕ) → DueSome whole (an_element in_list n (length front)) g → ElementsEnd MAX_LIST front g (ds, t) → IfErr (list_end read_tail ds t) (Blames whole)
     unfolding list_end
-    list_end_blames front g ds t d found = end_blames front g ds t (behind bar t) d found (behind_holds bar t)
+    list_end_blames front g ds t d found = end_blames front g ds t (behind bar t) d found refl (behind_holds bar t)
 
     list_from_blames : (front : List Datum) (g : List ℕ) (o : Option (List ℕ)) → length front ≤ MAX_LIST → DueSome whole (an_element in_list n (length front)) g → IfErr (list_from read read_tail front o g) (Blames whole)
     list_from_blames front g (Some rest) few d = tt
     list_from_blames front g None few d =
-        bind_blames (λ (x : List Datum × List ℕ). 0 < length x.1 → ElementsRead n MAX_LIST front g x.0 x.1) (Blames whole) (elements_at read MAX_LIST front g) _ (elements_hold n read reads MAX_LIST front g) (elements_blame in_list MAX_LIST refl front g few d)
+        bind_blames (ElementsEnd MAX_LIST front g) (Blames whole) (elements_at read MAX_LIST front g) _ (elements_end MAX_LIST front g) (elements_blame in_list MAX_LIST refl front g few d)
         (λ x found. list_end_blames front g x.0 x.1 d found)
 
     list_blames : (front : List Datum) (text : List ℕ) → length front ≤ MAX_LIST → Due whole (a_term (suc n) (length front)) (open_bracket ∷ text) → IfErr (list_at read read_tail front text) (Blames whole)
@@ -236,7 +316,8 @@ module _ (whole : List ℕ) (n : ℕ) (read : TermReader) (reads : IsReader n re
       bind_blames (λ (k : Datum × List ℕ). Spelled n text k.0 k.1 × (0 < MAX_MAP - length es)) (Blames whole) (read (MAX_MAP - length es) text) _ (reads (MAX_MAP - length es) text)
       (blames (MAX_MAP - length es) text (λ some. due.key (g.place some)) (λ b none. one_pair (g.place (term_some b)) (let few = g.few in let len = length_permutation es g.seen g.permuted in omega arith) b))
       (λ k key. if_blames (Blames whole) (has_key k.0 es) _ _ (λ h. at_once text (twice es text k.0 k.1 g key.0 h))
-      (λ _. bind_blames (λ (rest : List ℕ). after_gap false k.1 ≡ equals ∷ greater ∷ rest) (Blames whole) (expect_both equals greater (after_gap false k.1)) _ (expect_both_holds equals greater (after_gap false k.1)) (expect_both_blames whole equals greater (after_gap false k.1))
+      (λ _. bind_blames (λ (rest : List ℕ). after_gap false k.1 ≡ equals ∷ greater ∷ rest) (Blames whole) (expect_both equals greater (after_gap false k.1)) _ (expect_both_holds equals greater (after_gap false k.1))
+      (expect_both_blames whole equals greater (after_gap false k.1) (λ some no. behind_key (g.place (let lt = spelled_shorter key.0 in omega arith)) key.0 (gap_some k.1 some) no))
       (λ rest e. bind_any (Blames whole) (read 1 (after_gap false rest)) _
       (blames 1 (after_gap false rest) (λ some. let gap = gap_some k.1 (rw e (omega arith)) in due.value (g.place (let lt = spelled_shorter key.0 in omega arith)) key.0 (rw e at gap) (gap_some rest some)) (λ b none. absurd (omega arith)))
       (λ v. tt))))
@@ -251,12 +332,33 @@ module _ (whole : List ℕ) (n : ℕ) (read : TermReader) (reads : IsReader n re
         place = λ some. due.next_pair (g.place (let lt = pair_shorter p.spelled in omega arith)) p.spelled gap (gap_within w rest b some);
       }
 
+  -- the last of some pairs, and what stands behind it
+  record LastPair (rest : List ℕ) : Type 0 where
+    before : List (Datum × Datum)
+    text : List ℕ
+    behind : List ℕ
+    key : Datum
+    value : Datum
+    place : Due whole (a_pair n before) text
+    spelled : Pair n text key value behind
+    gap : Gap behind rest
+
+  last_pair_of : {text rest : List ℕ} {es : List (Datum × Datum)} (before : List (Datum × Datum)) → Pairs n text es rest → Due whole (a_pair n before) text → LastPair rest
+  last_pair_of before (last_pair {text} {t} {key} {value} p g) d = record { before = before; text = text; behind = t; key = key; value = value; place = d; spelled = p; gap = g }
+  last_pair_of before (more_pairs {key} {value} p g h ps) d = last_pair_of ((key, value) ∷ before) ps (due.next_pair d p g h)
+
+  after_pairs : (g : List ℕ) (es : List (Datum × Datum)) (t : List ℕ) → DueSome whole (a_pair n []) g → PairsRead n [] g es t → ¬ BeginsWith comma t → ¬ BeginsWith close_brace t → IsUnexpected whole t
+  after_pairs g es t d r no_comma no_end =
+      let l = last_pair_of [] r.pairs (d (let lt = pairs_shorter r.pairs in omega arith)) in
+      behind_pair l.place l.spelled l.gap no_comma no_end
+
   pairs_blame : (g : List ℕ) (o : Option (List ℕ)) → DueSome whole (a_pair n []) g → IfErr (pairs_at read o g) (Blames whole)
   pairs_blame g (Some rest) d = tt
   pairs_blame g None d =
-      bind_any (Blames whole) (all_steps (separated (pair_at read)) [] g) _
-      (separated_blames (pair_at read) (PairRead n) PairDue (Blames whole) tt (pair_holds n read reads) next_pair_due pair_blames [] g (record { seen = []; permuted = IsPermutation-refl []; few = omega arith; place = d }))
-      (λ x. bind_any (Blames whole) (expect close_brace x.1) _ (expect_blames whole close_brace x.1) (λ rest. tt))
+      bind_blames (λ (x : List (Datum × Datum) × List ℕ). (0 < length x.1 → PairsRead n [] g x.0 x.1) × (0 < length x.1 → ¬ BeginsWith comma x.1)) (Blames whole) (all_steps (separated (pair_at read)) [] g) _
+      (both_ok (λ (x : List (Datum × Datum) × List ℕ). 0 < length x.1 → PairsRead n [] g x.0 x.1) (λ (x : List (Datum × Datum) × List ℕ). 0 < length x.1 → ¬ BeginsWith comma x.1) (all_steps (separated (pair_at read)) [] g) (pairs_hold n read reads g) (no_comma (pair_at read) [] g))
+      (separated_blames (pair_at read) (PairRead n) PairDue (Blames whole) (at_end whole) (pair_holds n read reads) next_pair_due pair_blames [] g (record { seen = []; permuted = IsPermutation-refl []; few = omega arith; place = d }))
+      (λ x r. bind_any (Blames whole) (expect close_brace x.1) _ (expect_blames whole close_brace x.1 (λ some no. after_pairs g x.0 x.1 d (r.0 some) (r.1 some) no)) (λ rest. tt))
 
   map_blames : (k : ℕ) (text : List ℕ) → Due whole (a_term (suc n) k) (number_sign ∷ open_brace ∷ text) → IfErr (map_at read text) (Blames whole)
   unfolding map_at
@@ -266,14 +368,14 @@ module _ (whole : List ℕ) (n : ℕ) (read : TermReader) (reads : IsReader n re
 
   -- ---- terms
 
-  module _ (read_tail : TailReader) (tails : BlamesTail whole n read_tail) where
+  module _ (read_tail : TailReader) (tails : BlamesTail whole n read_tail) (tail_reads : IsTailReader n read_tail) where
     form_blames : (o : Opening) (text rest : List ℕ) → Opens o text rest → Due whole (a_term (suc n) 0) text → IfErr (form_at read read_tail n o rest) (Blames whole)
     form_blames opens.Integer text rest h d = integer_term_blames whole text rest (suc n) 0 h d
     form_blames opens.Word text rest h d = word_term_blames whole text rest n 0 h d
     form_blames opens.QuotedAtom text rest h d = quoted_atom_blames whole rest n 0 (rw h at d)
     form_blames opens.String text rest h d = string_blames whole rest n [] (omega arith) (rw h at d)
     form_blames opens.Tuple text rest h d = tuple_blames 0 rest (rw h at d)
-    form_blames opens.List text rest h d = list_blames read_tail tails [] rest (omega arith) (rw h at d)
+    form_blames opens.List text rest h d = list_blames read_tail tails tail_reads [] rest (omega arith) (rw h at d)
     form_blames opens.Map text rest h d = map_blames 0 rest (rw h at d)
     form_blames opens.Binary text rest h d = binary_blames whole rest n 0 (rw h at d)
 
@@ -283,7 +385,7 @@ module _ (whole : List ℕ) (n : ℕ) (read : TermReader) (reads : IsReader n re
     tail_form_blames front opens.QuotedAtom text rest few h d = bind_any (Blames whole) (quoted_atom_at rest) _ (quoted_atom_blames whole rest n (length front) (rw h at d)) (λ x. tt)
     tail_form_blames front opens.String text rest few h d = string_blames whole rest n front few (rw h at d)
     tail_form_blames front opens.Tuple text rest few h d = bind_any (Blames whole) (tuple_at read rest) _ (tuple_blames (length front) rest (rw h at d)) (λ x. tt)
-    tail_form_blames front opens.List text rest few h d = list_blames read_tail tails front rest few (rw h at d)
+    tail_form_blames front opens.List text rest few h d = list_blames read_tail tails tail_reads front rest few (rw h at d)
     tail_form_blames front opens.Map text rest few h d = bind_any (Blames whole) (map_at read rest) _ (map_blames (length front) rest (rw h at d)) (λ x. tt)
     tail_form_blames front opens.Binary text rest few h d = bind_any (Blames whole) (binary_at rest) _ (binary_blames whole rest n (length front) (rw h at d)) (λ x. tt)
 
@@ -294,30 +396,37 @@ mutual
   unfolding term_at tail_at
 
   term_blames : (whole : List ℕ) (n : ℕ) → BlamesTerm whole n (term_at n)
-  term_blames whole zero room text d long = bind_any (Blames whole) (enter 0 room text) _ (enter_blames whole 0 room text (λ b _. deep_term (d (term_some b)) b) long) (λ o. tt)
+  term_blames whole zero room text d long =
+      bind_blames (λ (o : Opening × List ℕ). Opens o.0 text o.1 × (0 < 0) × (0 < room)) (Blames whole) (enter 0 room text) _ (enter_holds 0 room text)
+      (enter_blames whole 0 room text (λ some no. no_term (d some) no) (λ b _. deep_term (d (term_some b)) b) long) (λ o h. absurd (let none = h.1 in omega arith))
   term_blames whole (suc n) room text d long =
       bind_blames (λ (o : Opening × List ℕ). Opens o.0 text o.1 × (0 < suc n) × (0 < room)) (Blames whole) (enter (suc n) room text) _ (enter_holds (suc n) room text)
-      (enter_blames whole (suc n) room text (λ b none. absurd (omega arith)) long)
-      (λ o h. form_blames whole n (term_at n) (term_holds n) (term_blames whole n) (tail_at n) (tail_blames whole n) o.0 text o.1 h.0 (opened whole (a_term (suc n) 0) o.0 text o.1 h.0 d))
+      (enter_blames whole (suc n) room text (λ some no. no_term (d some) no) (λ b none. absurd (omega arith)) long)
+      (λ o h. form_blames whole n (term_at n) (term_holds n) (term_blames whole n) (tail_at n) (tail_blames whole n) (tail_holds n) o.0 text o.1 h.0 (opened whole (a_term (suc n) 0) o.0 text o.1 h.0 d))
 
   tail_blames : (whole : List ℕ) (n : ℕ) → BlamesTail whole n (tail_at n)
-  tail_blames whole zero front text few d = bind_any (Blames whole) (enter 0 1 text) _ (enter_blames whole 0 1 text (λ b _. deep_term (d (term_some b)) b) (λ b none. absurd (omega arith))) (λ o. tt)
+  tail_blames whole zero front text few d =
+      bind_blames (λ (o : Opening × List ℕ). Opens o.0 text o.1 × (0 < 0) × (0 < 1)) (Blames whole) (enter 0 1 text) _ (enter_holds 0 1 text)
+      (enter_blames whole 0 1 text (λ some no. no_term (d some) no) (λ b _. deep_term (d (term_some b)) b) (λ b none. absurd (omega arith))) (λ o h. absurd (let none = h.1 in omega arith))
   tail_blames whole (suc n) front text few d =
       bind_blames (λ (o : Opening × List ℕ). Opens o.0 text o.1 × (0 < suc n) × (0 < 1)) (Blames whole) (enter (suc n) 1 text) _ (enter_holds (suc n) 1 text)
-      (enter_blames whole (suc n) 1 text (λ b none. absurd (omega arith)) (λ b none. absurd (omega arith)))
-      (λ o h. tail_form_blames whole n (term_at n) (term_holds n) (term_blames whole n) (tail_at n) (tail_blames whole n) front o.0 text o.1 few h.0 (opened whole (a_term (suc n) (length front)) o.0 text o.1 h.0 d))
+      (enter_blames whole (suc n) 1 text (λ some no. no_term (d some) no) (λ b none. absurd (omega arith)) (λ b none. absurd (omega arith)))
+      (λ o h. tail_form_blames whole n (term_at n) (term_holds n) (term_blames whole n) (tail_at n) (tail_blames whole n) (tail_holds n) front o.0 text o.1 few h.0 (opened whole (a_term (suc n) (length front)) o.0 text o.1 h.0 d))
 
 -- ---- whole texts
 
-dot_blames : (whole text : List ℕ) → IfErr (dot_at text) (Blames whole)
-dot_blames whole [] = tt
-dot_blames whole (c ∷ cs) = if_blames (Blames whole) (c == dot && begins_gap cs) _ _ (λ _. tt) (λ _. tt)
+no_dot_here : (c : ℕ) (cs : List ℕ) → (c == dot && begins_gap cs) ≡ false → ¬ BeginsDot (c ∷ cs)
+no_dot_here c cs n h = let both : (c == dot && begins_gap cs) ≡ true = rw (eq-eqb c dot h.0, begins_from cs h.1) refl in absurd cc
+
+dot_blames : (whole text : List ℕ) → (0 < length text → ¬ BeginsDot text → IsUnexpected whole text) → IfErr (dot_at text) (Blames whole)
+dot_blames whole [] h = at_end whole
+dot_blames whole (c ∷ cs) h = if_blames (Blames whole) (c == dot && begins_gap cs) _ _ (λ _. tt) (λ n. at_once (c ∷ cs) (h (omega arith) (no_dot_here c cs n)))
 
 sentence_blames : (whole text : List ℕ) → DueSome whole a_sentence text → IfErr (sentence_at text) (Blames whole)
 unfolding sentence_at
 sentence_blames whole text d =
-    bind_any (Blames whole) (term_at MAX_DEPTH 1 text) _ (term_blames whole MAX_DEPTH 1 text (λ some. due.outermost (d some)) (λ b none. absurd (omega arith)))
-    (λ x. bind_any (Blames whole) (dot_at (after_gap false x.1)) _ (dot_blames whole (after_gap false x.1)) (λ rest. tt))
+    bind_blames (λ (x : Datum × List ℕ). Spelled MAX_DEPTH text x.0 x.1 × (0 < 1)) (Blames whole) (term_at MAX_DEPTH 1 text) _ (term_holds MAX_DEPTH 1 text) (term_blames whole MAX_DEPTH 1 text (λ some. due.outermost (d some)) (λ b none. absurd (omega arith)))
+    (λ x s. bind_any (Blames whole) (dot_at (after_gap false x.1)) _ (dot_blames whole (after_gap false x.1) (λ some no. no_dot (d (let lt = spelled_shorter s.0 in omega arith)) s.0 (gap_some x.1 some) no)) (λ rest. tt))
 
 abbrev SentenceDue : List ℕ → List Datum → List ℕ → Type 0
 SentenceDue whole ds text = DueSome whole a_sentence text
@@ -338,7 +447,7 @@ pub text_blames : (text : List ℕ) → IfErr (text_at text) (Blames text)
 unfolding text_at
 text_blames text =
     bind_any (Blames text) (all_steps sentence_step [] (after_gap false text)) _
-    (steps_blame sentence_step (SentenceDue text) (Blames text) tt (step_good text) (step_blames text) (suc (length (after_gap false text))) [] (after_gap false text) (λ some. due.first (gap_some text some)))
+    (steps_blame sentence_step (SentenceDue text) (Blames text) (at_end text) (step_good text) (step_blames text) (suc (length (after_gap false text))) [] (after_gap false text) (λ some. due.first (gap_some text some)))
     (λ x. tt)
 
 -- ---- from characters to bytes
@@ -374,11 +483,22 @@ range_ends text rest (no_byte_character d l) = due_ends d
 escape_ends : (text rest : List ℕ) → IsNoEscape text rest → EndsIn text rest
 escape_ends text rest (no_escape d n) = due_ends d
 
+unexpected_ends : (text rest : List ℕ) → IsUnexpected text rest → EndsIn text rest
+unexpected_ends text rest the_end = record { front = text; whole = sym (append-nil text) }
+unexpected_ends text rest (no_term d b) = due_ends d
+unexpected_ends text rest (no_segment d b q) = due_ends d
+unexpected_ends text rest (behind_element d s g n) = then (due_ends d) (then (spelled_ends s) (gap_ends g))
+unexpected_ends text rest (behind_tail d s g n) = then (due_ends d) (then (spelled_ends s) (gap_ends g))
+unexpected_ends text rest (behind_key d s g n) = then (due_ends d) (then (spelled_ends s) (gap_ends g))
+unexpected_ends text rest (behind_pair d p g c n) = then (due_ends d) (then (pair_ends p) (gap_ends g))
+unexpected_ends text rest (behind_segment d s g c n) = then (due_ends d) (then (segment_ends s) (gap_ends g))
+unexpected_ends text rest (no_dot d s g n) = then (due_ends d) (then (spelled_ends s) (gap_ends g))
+
 has_cause_in : (bytes text : List ℕ) (cause : Cause) (left : ℕ) → text ≡ chars bytes → Blames text (cause, left) → HasCause bytes (fault_of (stops.At cause left) text)
 has_cause_in bytes text causes.TooDeep left e b = rw (← e) (stands left text (IsTooDeep text) b (deep_ends text))
 has_cause_in bytes text causes.TooLong left e b = rw (← e) (stands left text (IsTooLong text) b (long_ends text))
 has_cause_in bytes text causes.DuplicateKey left e b = rw (← e) (stands left text (IsKeyTwice text) b (twice_ends text))
-has_cause_in bytes text causes.Syntax left e b = tt
+has_cause_in bytes text causes.Syntax left e b = rw (← e) (stands left text (IsUnexpected text) b (unexpected_ends text))
 has_cause_in bytes text causes.IntegerRange left e b = rw (← e) (stands left text (IsOutOfRange text) b (range_ends text))
 has_cause_in bytes text causes.UnsupportedEscape left e b = rw (← e) (stands left text (IsNoEscape text) b (escape_ends text))
 

@@ -422,7 +422,7 @@ module _ (n : ℕ) (read : TermReader) (reads : IsReader n read) where
   pub pair_shrinks : Shrinks (separated (pair_at read))
   pair_shrinks = separated_shrinks (PairRead n) (pair_at read) pair_holds (pair_begun n)
 
-  pairs_hold : (text : List ℕ) → IfOk (all_steps (separated (pair_at read)) [] text) (λ x. 0 < length x.1 → PairsRead n [] text x.0 x.1)
+  pub pairs_hold : (text : List ℕ) → IfOk (all_steps (separated (pair_at read)) [] text) (λ x. 0 < length x.1 → PairsRead n [] text x.0 x.1)
   pairs_hold text =
       weaker (λ (x : List (Datum × Datum) × List ℕ). 0 < length x.1 → Items (PairRead n) [] text x.0 x.1) _ (all_steps (separated (pair_at read)) [] text) (λ x h some. pairs_from n (h some))
       (separated_holds (PairRead n) (pair_at read) pair_holds (pair_begun n) [] text)

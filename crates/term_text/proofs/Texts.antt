@@ -25,7 +25,7 @@ begins_at : (rest : List ℕ) → begins_gap rest ≡ true → BeginsGap rest
 begins_at [] h = tt
 begins_at (c ∷ cs) h = elim (or_cases (is_white_space c) (c == percent) h) [ inl w ↦ inl w | inr p ↦ inr (eqb-true c percent p) ]
 
-begins_from : (rest : List ℕ) → BeginsGap rest → begins_gap rest ≡ true
+pub begins_from : (rest : List ℕ) → BeginsGap rest → begins_gap rest ≡ true
 begins_from [] h = refl
 begins_from (c ∷ cs) (inl w) = or_left (is_white_space c) (c == percent) w
 begins_from (c ∷ cs) (inr p) = or_right (is_white_space c) (c == percent) (eq-eqb c percent p)

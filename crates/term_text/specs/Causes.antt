@@ -5,7 +5,7 @@ use Rattle.std.specs.Char.{is_ascii_digit, is_ascii_lowercase}
 use Rattle.std.specs.Str.{encode_utf8_all, chars}
 use Rattle.term_core.specs.Datum.{Datum}
 use Rattle.term_core.specs.declared.TheConstants.{MAX_CHARACTERS, MAX_TUPLE, MAX_MAP, MAX_LIST, MAX_BINARY, MAX_DEPTH}
-use Rattle.term_text.specs.Character.{plus, minus, comma, dot, backslash, single_quote, double_quote, open_brace, open_bracket, bar, number_sign, equals, less, greater, is_word, escaped}
+use Rattle.term_text.specs.Character.{plus, minus, comma, dot, backslash, single_quote, double_quote, open_brace, close_brace, open_bracket, close_bracket, bar, number_sign, equals, less, greater, is_word, escaped}
 use Rattle.term_text.specs.Text.{Gap, Number, Integer, Segment, Spelled, Pair, BeginsGap}
 use Rattle.term_text.specs.declared.fault.TextFault.{TextFault}
 use Rattle.term_text.specs.declared.fault.TextFault.TheVariants as faults
@@ -134,6 +134,38 @@ pub data IsOutOfRange (text : List ℕ) : List ℕ → Type 0 where
 pub data IsNoEscape (text : List ℕ) : List ℕ → Type 0 where
   no_escape : {q : Quotes} {k e : ℕ} {rest : List ℕ} → Due text (a_character q k) (backslash ∷ e ∷ rest) → escaped e ≡ None → IsNoEscape text (backslash ∷ e ∷ rest)
 
+-- a character stands first
+abbrev pub BeginsWith : ℕ → List ℕ → Type 0
+BeginsWith c [] = ⊥
+BeginsWith c (x ∷ text) = x ≡ c
+
+-- two characters that are one token stand first
+abbrev pub BeginsWithBoth : ℕ → ℕ → List ℕ → Type 0
+BeginsWithBoth a b [] = ⊥
+BeginsWithBoth a b (x ∷ text) = (x ≡ a) × BeginsWith b text
+
+-- a dot stands first, and what may follow it
+abbrev pub BeginsDot : List ℕ → Type 0
+BeginsDot [] = ⊥
+BeginsDot (x ∷ text) = (x ≡ dot) × BeginsGap text
+
+-- what may stand behind an element
+abbrev pub FollowsElement : Row → List ℕ → Type 0
+FollowsElement in_tuple text = BeginsWith comma text ⊎ BeginsWith close_brace text
+FollowsElement in_list text = BeginsWith comma text ⊎ (BeginsWith bar text ⊎ BeginsWith close_bracket text)
+
+-- the end of the text, or what can't stand where it does
+pub data IsUnexpected (text : List ℕ) : List ℕ → Type 0 where
+  the_end : IsUnexpected text []
+  no_term : {n k : ℕ} {rest : List ℕ} → Due text (a_term n k) rest → ¬ BeginsTerm rest → IsUnexpected text rest
+  no_segment : {k : ℕ} {rest : List ℕ} → Due text (a_segment k) rest → ¬ BeginsInteger rest → ¬ BeginsWith double_quote rest → IsUnexpected text rest
+  behind_element : {r : Row} {n k : ℕ} {t u rest : List ℕ} {d : Datum} → Due text (an_element r n k) t → Spelled n t d u → Gap u rest → ¬ FollowsElement r rest → IsUnexpected text rest
+  behind_tail : {n k : ℕ} {t u rest : List ℕ} {d : Datum} → Due text (a_term n (suc k)) t → Spelled n t d u → Gap u rest → ¬ BeginsWith close_bracket rest → IsUnexpected text rest
+  behind_key : {n : ℕ} {es : List (Datum × Datum)} {t u rest : List ℕ} {d : Datum} → Due text (a_pair n es) t → Spelled n t d u → Gap u rest → ¬ BeginsWithBoth equals greater rest → IsUnexpected text rest
+  behind_pair : {n : ℕ} {es : List (Datum × Datum)} {t u rest : List ℕ} {key value : Datum} → Due text (a_pair n es) t → Pair n t key value u → Gap u rest → ¬ BeginsWith comma rest → ¬ BeginsWith close_brace rest → IsUnexpected text rest
+  behind_segment : {k : ℕ} {t u rest bytes : List ℕ} → Due text (a_segment k) t → Segment t bytes u → Gap u rest → ¬ BeginsWith comma rest → ¬ BeginsWithBoth greater greater rest → IsUnexpected text rest
+  no_dot : {t u rest : List ℕ} {d : Datum} → Due text a_sentence t → Spelled MAX_DEPTH t d u → Gap u rest → ¬ BeginsDot rest → IsUnexpected text rest
+
 -- at this byte of the characters, in UTF-8, begins what is such
 pub record StandsAt (at : ℕ) (text : List ℕ) (IsSuch : List ℕ → Type 0) : Type 0 where
   pub front : List ℕ
@@ -142,11 +174,12 @@ pub record StandsAt (at : ℕ) (text : List ℕ) (IsSuch : List ℕ → Type 0) 
   pub place : at ≡ length (encode_utf8_all front)
   pub such : IsSuch rest
 
--- what a refusal names stands at its place in the text; of syntax nothing is said here
+-- what a refusal names stands at its place in the text
 abbrev pub HasCause : List ℕ → TextFault → Type 0
 HasCause bytes (faults.TooDeep at) = StandsAt at (chars bytes) (IsTooDeep (chars bytes))
 HasCause bytes (faults.TooLong at) = StandsAt at (chars bytes) (IsTooLong (chars bytes))
 HasCause bytes (faults.DuplicateKey at) = StandsAt at (chars bytes) (IsKeyTwice (chars bytes))
+HasCause bytes (faults.Syntax at) = StandsAt at (chars bytes) (IsUnexpected (chars bytes))
 HasCause bytes (faults.IntegerRange at) = StandsAt at (chars bytes) (IsOutOfRange (chars bytes))
 HasCause bytes (faults.UnsupportedEscape at) = StandsAt at (chars bytes) (IsNoEscape (chars bytes))
 HasCause bytes fault = Unit {0}
