@@ -3,5 +3,6 @@ pub mod DepthLemmas
 pub mod GrammarLemmas
 pub mod PatternLemmas
 pub mod RisingLemmas
+pub mod ExpressionLemmas
 pub mod SizeLemmas
 pub mod ReadingLemmas

@@ -26,7 +26,7 @@ IsAtomPattern-faults i cs word.Object p h = refl
 IsAtomPattern-faults i cs word.Bindings p h = refl
 IsAtomPattern-faults i cs word.Plain p h = refl
 
-both_empty : {X : Type 0} {xs ys : List X} → xs ≡ [] → ys ≡ [] → xs ++ ys ≡ []
+pub both_empty : {X : Type 0} {xs ys : List X} → xs ≡ [] → ys ≡ [] → xs ++ ys ≡ []
 both_empty {X} {xs} {ys} e f = ap (λ l. l ++ ys) e ∙ f
 
 IsKey-faults : (i : ℕ) (k : Datum) → IsKey k → key_faults i k ≡ []
@@ -168,7 +168,7 @@ pub record ReadsFront (clause : ℕ) (ds : List Datum) (i : ℕ) (ps : List Patt
   pub whole : (rest : Patterns) → ArePatterns (items_of (drop i ds)) rest → ArePatterns (items_of ds) (patterns_before ps rest)
   pub clean : items_faults clause (items_of (drop i ds)) ≡ items_faults clause (items_of ds)
 
-split_at : {X : Type 0} (xs : List X) (i : ℕ) (x : X) → i < length xs → x ≡ get_or xs i x → drop i xs ≡ x ∷ drop (i + 1) xs
+pub split_at : {X : Type 0} (xs : List X) (i : ℕ) (x : X) → i < length xs → x ≡ get_or xs i x → drop i xs ≡ x ∷ drop (i + 1) xs
 split_at xs i x h e = drop-cons xs i x h ∙ ap (λ y. y ∷ drop (suc i) xs) (sym e) ∙ ap (λ j. x ∷ drop j xs) (sym (add-one i))
 
 pub ReadsFront-more : (clause : ℕ) (ds : List Datum) (i : ℕ) (x : Datum) (ps qs : List Pattern) (p : Pattern) → i < length ds → x ≡ get_or ds i x → IsPattern x p → qs ≡ ps ++ p ∷ [] → ReadsFront clause ds i ps → ReadsFront clause ds (i + 1) qs

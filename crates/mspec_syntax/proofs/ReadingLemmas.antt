@@ -18,7 +18,8 @@ use Rattle.mspec_syntax.specs.declared.word.Word.{Word}
 use Rattle.mspec_syntax.specs.declared.word.Word.TheVariants as word
 use Rattle.mspec_syntax.specs.declared.fault.SpecFault.{SpecFault}
 use Rattle.mspec_syntax.specs.declared.fault.SpecFault.TheVariants.{Memory, NotAList, NotAClause, BadExpression}
-use Rattle.mspec_syntax.proofs.PatternLemmas.{IsPattern-variables, IsPattern-one, ArePatterns-faults, Refuses-before, Refuses-behind, Refuses-same}
+use Rattle.mspec_syntax.proofs.PatternLemmas.{both_empty, split_at, IsPattern-variables, IsPattern-one, ArePatterns-faults, Refuses-before, Refuses-behind, Refuses-same}
+use Rattle.mspec_syntax.proofs.ExpressionLemmas.{IsExpression-faults, IsExpression-one}
 
 proper_elements-cells : (ds : List Datum) → proper_elements (cells ds nil) ≡ Some ds
 proper_elements-cells [] = refl
@@ -46,59 +47,16 @@ pub improper-elements : (ds : List Datum) (t : Option Datum) (tail d : Datum) �
 improper-elements ds None tail d e is h = absurd (cc)
 improper-elements ds (Some x) tail d e is h = sym (proper_elements-improper ds x h) ∙ ap proper_elements is
 
--- a list is no expression
-pub list-expression : (clause : ℕ) (variables : List ℕ) (ds : List Datum) (t d : Datum) → cells ds t ≡ d → 0 < length ds → Refuses (BadExpression clause) (expression_faults clause variables d)
-list-expression clause variables [] t d is some = absurd (omega arith)
-list-expression clause variables (x ∷ ds) t d is some =
-    Refuses-same (BadExpression clause) _ _ (ap (expression_faults clause variables) is) (inr (record { others = []; first = refl }))
-
 -- a list is no clause
 pub list-clause : (clause : ℕ) (ds : List Datum) (t d : Datum) → cells ds t ≡ d → 0 < length ds → Refuses (NotAClause clause) (clause_faults clause d)
 list-clause clause [] t d is some = absurd (omega arith)
 list-clause clause (x ∷ ds) t d is some =
     Refuses-same (NotAClause clause) _ _ (ap (clause_faults clause) is) (inr (record { others = []; first = refl }))
 
-IsAtomExpression-faults : (i : ℕ) (vs cs : List ℕ) (w : Word) (e : Expression) → IsAtomExpression vs cs w e → word_faults i vs w ≡ []
-IsAtomExpression-faults i vs cs (word.Variable n) e h = rw h.0 refl
-IsAtomExpression-faults i vs cs word.Misnumbered e h = absurd h
-IsAtomExpression-faults i vs cs word.Underscore e h = refl
-IsAtomExpression-faults i vs cs word.Object e h = refl
-IsAtomExpression-faults i vs cs word.Bindings e h = refl
-IsAtomExpression-faults i vs cs word.Plain e h = refl
-
-IsExpression-faults : (i : ℕ) (vs : List ℕ) (d : Datum) (e : Expression) → IsExpression vs d e → expression_faults i vs d ≡ []
-IsExpression-faults i vs (integer z) e h = refl
-IsExpression-faults i vs (atom cs) e h = IsAtomExpression-faults i vs cs (word_of cs) e h
-IsExpression-faults i vs (tuple ds) e h = absurd h
-IsExpression-faults i vs (map es) e h = absurd h
-IsExpression-faults i vs nil e h = refl
-IsExpression-faults i vs (cons head tail) e h = absurd h
-IsExpression-faults i vs (binary bs) e h = absurd h
-
-both_empty : {X : Type 0} {xs ys : List X} → xs ≡ [] → ys ≡ [] → xs ++ ys ≡ []
-both_empty {X} {xs} {ys} e f = ap (λ l. l ++ ys) e ∙ f
-
 AreExpressions-faults : (i : ℕ) (vs : List ℕ) (ds : List Datum) (es : List Expression) → AreExpressions vs ds es → expressions_faults i vs ds ≡ []
 AreExpressions-faults i vs [] es h = refl
 AreExpressions-faults i vs (d ∷ ds) [] h = absurd h
 AreExpressions-faults i vs (d ∷ ds) (e ∷ es) h = both_empty (IsExpression-faults i vs d e h.0) (AreExpressions-faults i vs ds es h.1)
-
-IsAtomExpression-one : (vs cs : List ℕ) (w : Word) (e f : Expression) → IsAtomExpression vs cs w e → IsAtomExpression vs cs w f → e ≡ f
-IsAtomExpression-one vs cs (word.Variable n) e f h k = h.1 ∙ sym k.1
-IsAtomExpression-one vs cs word.Misnumbered e f h k = absurd h
-IsAtomExpression-one vs cs word.Underscore e f h k = h ∙ sym k
-IsAtomExpression-one vs cs word.Object e f h k = h ∙ sym k
-IsAtomExpression-one vs cs word.Bindings e f h k = h ∙ sym k
-IsAtomExpression-one vs cs word.Plain e f h k = h ∙ sym k
-
-IsExpression-one : (vs : List ℕ) (d : Datum) (e f : Expression) → IsExpression vs d e → IsExpression vs d f → e ≡ f
-IsExpression-one vs (integer z) e f h k = h ∙ sym k
-IsExpression-one vs (atom cs) e f h k = IsAtomExpression-one vs cs (word_of cs) e f h k
-IsExpression-one vs (tuple ds) e f h k = absurd h
-IsExpression-one vs (map es) e f h k = absurd h
-IsExpression-one vs nil e f h k = h ∙ sym k
-IsExpression-one vs (cons head tail) e f h k = absurd h
-IsExpression-one vs (binary bs) e f h k = absurd h
 
 AreExpressions-one : (vs : List ℕ) (ds : List Datum) (es fs : List Expression) → AreExpressions vs ds es → AreExpressions vs ds fs → es ≡ fs
 AreExpressions-one vs [] [] [] h k = refl
@@ -114,23 +72,13 @@ AreBodyExpressions-one vs None es fs h k = absurd h
 AreBodyExpressions-one vs (Some []) es fs h k = absurd h
 AreBodyExpressions-one vs (Some (d ∷ ds)) es fs h k = AreExpressions-one vs (d ∷ ds) es fs h k
 
-AreConditions-one : (vs : List ℕ) (d : Datum) (es fs : List Expression) → AreConditions vs d es → AreConditions vs d fs → es ≡ fs
-AreConditions-one vs (integer z) es fs h k = absurd h
-AreConditions-one vs (atom cs) es fs h k = absurd h
-AreConditions-one vs (tuple ds) es fs h k = absurd h
-AreConditions-one vs (map ms) es fs h k = absurd h
-AreConditions-one vs nil es fs h k = h ∙ sym k
-AreConditions-one vs (cons head tail) es fs h k = absurd h
-AreConditions-one vs (binary bs) es fs h k = absurd h
+AreConditions-one : (vs : List ℕ) (o : Option (List Datum)) (es fs : List Expression) → AreConditions vs o es → AreConditions vs o fs → es ≡ fs
+AreConditions-one vs None es fs h k = absurd h
+AreConditions-one vs (Some ds) es fs h k = AreExpressions-one vs ds es fs h k
 
-AreConditions-faults : (i : ℕ) (vs : List ℕ) (d : Datum) (es : List Expression) → AreConditions vs d es → conditions_faults i vs d ≡ []
-AreConditions-faults i vs (integer z) es h = absurd h
-AreConditions-faults i vs (atom cs) es h = absurd h
-AreConditions-faults i vs (tuple ds) es h = absurd h
-AreConditions-faults i vs (map ms) es h = absurd h
-AreConditions-faults i vs nil es h = refl
-AreConditions-faults i vs (cons head tail) es h = absurd h
-AreConditions-faults i vs (binary bs) es h = absurd h
+AreConditions-faults : (i : ℕ) (vs : List ℕ) (o : Option (List Datum)) (es : List Expression) → AreConditions vs o es → conditions_faults i vs o ≡ []
+AreConditions-faults i vs None es h = absurd h
+AreConditions-faults i vs (Some ds) es h = AreExpressions-faults i vs ds es h
 
 AreBodyExpressions-faults : (i : ℕ) (vs : List ℕ) (o : Option (List Datum)) (es : List Expression) → AreBodyExpressions vs o es → body_faults i vs o ≡ []
 AreBodyExpressions-faults i vs None es h = absurd h
@@ -161,9 +109,6 @@ IsHead-faults i (binary bs) p h form = absurd (subst IsHeadForm h form)
 -- the variables of a head that was read
 pub head-variables : (d : Datum) (p : Pattern) → IsPattern d p → rising (pattern_variables p) ≡ rising (named_variables d)
 head-variables d p h = ap rising (sym (IsPattern-variables d p h))
-
-split_at : {X : Type 0} (xs : List X) (i : ℕ) (x : X) → i < length xs → x ≡ get_or xs i x → drop i xs ≡ x ∷ drop (i + 1) xs
-split_at xs i x h e = drop-cons xs i x h ∙ ap (λ y. y ∷ drop (suc i) xs) (sym e) ∙ ap (λ j. x ∷ drop j xs) (sym (add-one i))
 
 -- the first i terms are read as these expressions
 pub record ExpressionsFront (clause : ℕ) (variables : List ℕ) (ds : List Datum) (i : ℕ) (es : List Expression) : Type 0 where
@@ -244,28 +189,28 @@ no_triple-faults i (binary bs) h = refl
 pub no_triple-refused : (i : ℕ) (d : Datum) → IsNoTriple d → Refuses (NotAClause i) (clause_faults i d)
 no_triple-refused i d h = Refuses-same (NotAClause i) _ _ (sym (no_triple-faults i d h)) (inr (record { others = []; first = refl }))
 
-pub conditions-refused : (i : ℕ) (h cs b d : Datum) (p : Pattern) (vs : List ℕ) (f : SpecFault) → triple h cs b ≡ d → IsPattern h p × IsHeadForm p → vs ≡ rising (pattern_variables p) → Refuses f (conditions_faults i vs cs) → Refuses f (clause_faults i d)
+pub conditions-refused : (i : ℕ) (h cs b d : Datum) (p : Pattern) (vs : List ℕ) (f : SpecFault) → triple h cs b ≡ d → IsPattern h p × IsHeadForm p → vs ≡ rising (pattern_variables p) → Refuses f (conditions_faults i vs (proper_elements cs)) → Refuses f (clause_faults i d)
 conditions-refused i h cs b d p vs f is head same refused =
     let names = same ∙ head-variables h p head.0 in
     let rest = body_faults i (rising (named_variables h)) (proper_elements b) in
     Refuses-same f _ _ (ap (clause_faults i) is)
-    (Refuses-behind f (head_faults i h) (conditions_faults i (rising (named_variables h)) cs ++ rest) (IsHead-faults i h p head.0 head.1)
-    (Refuses-before f (conditions_faults i (rising (named_variables h)) cs) rest (Refuses-same f _ _ (ap (λ l. conditions_faults i l cs) names) refused)))
+    (Refuses-behind f (head_faults i h) (conditions_faults i (rising (named_variables h)) (proper_elements cs) ++ rest) (IsHead-faults i h p head.0 head.1)
+    (Refuses-before f (conditions_faults i (rising (named_variables h)) (proper_elements cs)) rest (Refuses-same f _ _ (ap (λ l. conditions_faults i l (proper_elements cs)) names) refused)))
 
-pub bodies-refused : (i : ℕ) (h cs b d : Datum) (p : Pattern) (vs : List ℕ) (es : List Expression) (f : SpecFault) → triple h cs b ≡ d → IsPattern h p × IsHeadForm p → vs ≡ rising (pattern_variables p) → AreConditions vs cs es → Refuses f (body_faults i vs (proper_elements b)) → Refuses f (clause_faults i d)
+pub bodies-refused : (i : ℕ) (h cs b d : Datum) (p : Pattern) (vs : List ℕ) (es : List Expression) (f : SpecFault) → triple h cs b ≡ d → IsPattern h p × IsHeadForm p → vs ≡ rising (pattern_variables p) → AreConditions vs (proper_elements cs) es → Refuses f (body_faults i vs (proper_elements b)) → Refuses f (clause_faults i d)
 bodies-refused i h cs b d p vs es f is head same conditions refused =
     let names = same ∙ head-variables h p head.0 in
     let rest = body_faults i (rising (named_variables h)) (proper_elements b) in
-    let clean = sym (ap (λ l. conditions_faults i l cs) names) ∙ AreConditions-faults i vs cs es conditions in
+    let clean = sym (ap (λ l. conditions_faults i l (proper_elements cs)) names) ∙ AreConditions-faults i vs (proper_elements cs) es conditions in
     Refuses-same f _ _ (ap (clause_faults i) is)
-    (Refuses-behind f (head_faults i h) (conditions_faults i (rising (named_variables h)) cs ++ rest) (IsHead-faults i h p head.0 head.1)
-    (Refuses-behind f (conditions_faults i (rising (named_variables h)) cs) rest clean (Refuses-same f _ _ (ap (λ l. body_faults i l (proper_elements b)) names) refused)))
+    (Refuses-behind f (head_faults i h) (conditions_faults i (rising (named_variables h)) (proper_elements cs) ++ rest) (IsHead-faults i h p head.0 head.1)
+    (Refuses-behind f (conditions_faults i (rising (named_variables h)) (proper_elements cs)) rest clean (Refuses-same f _ _ (ap (λ l. body_faults i l (proper_elements b)) names) refused)))
 
 IsTriple-faults : (i : ℕ) (h cs b : Datum) (c : Clause) → IsClause (triple h cs b) c → clause_faults i (triple h cs b) ≡ []
 IsTriple-faults i h cs b c k =
     let names = head-variables h c.head k.0 in
     both_empty (IsHead-faults i h c.head k.0 k.1)
-    (both_empty (sym (ap (λ l. conditions_faults i l cs) names) ∙ AreConditions-faults i (clause_variables c) cs c.conditions k.2)
+    (both_empty (sym (ap (λ l. conditions_faults i l (proper_elements cs)) names) ∙ AreConditions-faults i (clause_variables c) (proper_elements cs) c.conditions k.2)
     (sym (ap (λ l. body_faults i l (proper_elements b)) names) ∙ AreBodyExpressions-faults i (clause_variables c) (proper_elements b) c.body k.3))
 
 IsTuple-faults : (i : ℕ) (ds : Items) (c : Clause) → IsClause (tuple ds) c → clause_faults i (tuple ds) ≡ []
@@ -292,10 +237,10 @@ IsTriple-one : (h cs b : Datum) (c d : Clause) → IsClause (triple h cs b) c �
 IsTriple-one h cs b c d k l =
     let head = IsPattern-one h c.head d.head k.0 l.0 in
     let names : clause_variables d ≡ clause_variables c = ap (λ p. rising (pattern_variables p)) (sym head) in
-    let P : List ℕ → Type 0 = λ vs. AreConditions vs cs d.conditions in
+    let P : List ℕ → Type 0 = λ vs. AreConditions vs (proper_elements cs) d.conditions in
     let Q : List ℕ → Type 0 = λ vs. AreBodyExpressions vs (proper_elements b) d.body in
     same_clause c d head
-    (AreConditions-one (clause_variables c) cs c.conditions d.conditions k.2 (subst P names l.2))
+    (AreConditions-one (clause_variables c) (proper_elements cs) c.conditions d.conditions k.2 (subst P names l.2))
     (AreBodyExpressions-one (clause_variables c) (proper_elements b) c.body d.body k.3 (subst Q names l.3))
 
 IsTuple-one : (ds : Items) (c d : Clause) → IsClause (tuple ds) c → IsClause (tuple ds) d → c ≡ d

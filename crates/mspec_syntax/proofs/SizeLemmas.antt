@@ -1,4 +1,4 @@
--- Parts of patterns are smaller, and what a list of cells sums up to.
+-- Parts of patterns and expressions are smaller, and what a list of cells sums up to.
 use Rattle.std.proofs.Common.{◌≡◌, ℕ, zero, suc, ◌+◌, ◌<◌, ◌≤◌, Option, Some, None, Box, List, [], ◌∷◌, ◌++◌, length, get_or, drop, refl, sym, ◌∙◌, ap, subst, arith, drop-cons, add-one}
 use Rattle.std.proofs.lemmas.List.{append_assoc}
 use Rattle.std.proofs.lemmas.List.Sums.{sum_by-cons}
@@ -6,6 +6,10 @@ use Rattle.term_core.specs.Datum.{Datum}
 use Rattle.term_core.specs.Datum.Datum.{integer, atom, tuple, map, nil, cons, binary}
 use Rattle.mspec_syntax.specs.Pattern.{Pattern, patterns_of, fields_of, cells_of, pattern_size, patterns_size, fields_size, pattern_variables, patterns_variables, pattern_nodes, patterns_nodes, tail_nodes, IsNoListPattern}
 use Rattle.mspec_syntax.specs.PatternView.{tail_pattern, IsTailPattern}
+use Rattle.mspec_syntax.specs.Pattern.{literal_tail_nodes}
+use Rattle.mspec_syntax.specs.Expression.{Expression, expressions_of, assignments_of, new_cells, expression_size, expressions_size, assignments_size, expression_nodes, expressions_nodes, rest_nodes, IsNoListExpression}
+use Rattle.mspec_syntax.specs.Expression.Expression.{bound, object, bindings, constant, quoted, call, and_also, or_else, new_tuple, new_cell, new_map}
+use Rattle.mspec_syntax.specs.ExpressionView.{tail_expression, IsTailExpression}
 use Rattle.mspec_syntax.specs.Specification.{Clause, clause_nodes, specification_nodes, Leaves}
 use Rattle.mspec_syntax.specs.Pattern.Pattern.{variable, anything, literal, tuple_of, cell_of, map_of}
 
@@ -113,3 +117,102 @@ clauses-split cs i c h e = drop-cons cs i c h ∙ ap (λ y. y ∷ drop (suc i) c
 
 pub specification_nodes-step : (cs : List Clause) (i : ℕ) (c : Clause) → i < length cs → c ≡ get_or cs i c → specification_nodes (drop i cs) ≡ clause_nodes c + specification_nodes (drop (i + 1) cs)
 specification_nodes-step cs i c h e = ap specification_nodes (clauses-split cs i c h e) ∙ sum_by-cons clause_nodes c (drop (i + 1) cs)
+
+-- ---- expressions
+
+expressions_size-get : (es : List Expression) (i : ℕ) (e : Expression) → i < length es → expression_size (get_or es i e) ≤ expressions_size (expressions_of es)
+expressions_size-get [] i e h = absurd (omega arith)
+expressions_size-get (x ∷ xs) zero e h = omega arith
+expressions_size-get (x ∷ xs) (suc i) e h = omega (arith, expressions_size-get xs i e (omega arith))
+
+-- an element is at most as large as the elements
+pub expressions_size-at : (es : List Expression) (i : ℕ) (e : Expression) → i < length es → e ≡ get_or es i e → expression_size e ≤ expressions_size (expressions_of es)
+expressions_size-at es i e h is = omega (arith, expressions_size-get es i e h, ap expression_size is)
+
+assignments_size-get : (ms : List (Datum × Expression)) (i : ℕ) (m : Datum × Expression) → i < length ms → expression_size (get_or ms i m).1 ≤ assignments_size (assignments_of ms)
+assignments_size-get [] i m h = absurd (omega arith)
+assignments_size-get (x ∷ xs) zero m h = omega arith
+assignments_size-get (x ∷ xs) (suc i) m h = omega (arith, assignments_size-get xs i m (omega arith))
+
+pub assignments_size-at : (ms : List (Datum × Expression)) (i : ℕ) (m : Datum × Expression) → i < length ms → m ≡ get_or ms i m → expression_size m.1 ≤ assignments_size (assignments_of ms)
+assignments_size-at ms i m h is = omega (arith, assignments_size-get ms i m h, ap (λ x. expression_size x.1) is)
+
+expression_size-some : (e : Expression) → 0 < expression_size e
+expression_size-some (bound n) = omega arith
+expression_size-some object = omega arith
+expression_size-some bindings = omega arith
+expression_size-some (constant d) = omega arith
+expression_size-some (quoted d) = omega arith
+expression_size-some (call f es) = omega arith
+expression_size-some (and_also es) = omega arith
+expression_size-some (or_else es) = omega arith
+expression_size-some (new_tuple es) = omega arith
+expression_size-some (new_cell e f) = omega arith
+expression_size-some (new_map ms) = omega arith
+
+new_cells-size : (es : List Expression) (f : Expression) → expression_size (new_cells es f) ≡ expressions_size (expressions_of es) + expression_size f
+new_cells-size [] f = omega arith
+new_cells-size (e ∷ es) f = omega (arith, new_cells-size es f)
+
+-- a list is larger than its elements and its tail
+pub new_cells-fall : (es : List Expression) (f e : Expression) → new_cells es f ≡ e → 0 < length es → (expressions_size (expressions_of es) < expression_size e) × (expression_size f < expression_size e)
+new_cells-fall [] f e is some = absurd (omega arith)
+new_cells-fall (x ∷ es) f e is some =
+    let whole = new_cells-size (x ∷ es) f in
+    (omega (arith, whole, ap expression_size is, expression_size-some f), omega (arith, whole, ap expression_size is))
+
+expression_nodes-some : (variables : ℕ) (e : Expression) → 0 < expression_nodes variables e
+expression_nodes-some variables (bound n) = omega arith
+expression_nodes-some variables object = omega arith
+expression_nodes-some variables bindings = omega arith
+expression_nodes-some variables (constant d) = omega arith
+expression_nodes-some variables (quoted d) = omega arith
+expression_nodes-some variables (call f es) = omega arith
+expression_nodes-some variables (and_also es) = omega arith
+expression_nodes-some variables (or_else es) = omega arith
+expression_nodes-some variables (new_tuple es) = omega arith
+expression_nodes-some variables (new_cell e f) = omega arith
+expression_nodes-some variables (new_map ms) = omega arith
+
+-- no room for one node is none for an expression
+pub no_room_expression : (variables room : ℕ) (e : Expression) → (1 ≤ room → ⊥) → room < expression_nodes variables e
+no_room_expression variables zero e h = expression_nodes-some variables e
+no_room_expression variables (suc room) e h = absurd (h (omega arith))
+
+constant-nodes : (d : Datum) → IsNoListExpression (constant d) → literal_tail_nodes d ≡ 1
+constant-nodes (integer z) h = refl
+constant-nodes (atom cs) h = refl
+constant-nodes (tuple ds) h = refl
+constant-nodes (map es) h = refl
+constant-nodes nil h = absurd h
+constant-nodes (cons head tail) h = refl
+constant-nodes (binary bs) h = refl
+
+rest_nodes-no_list : (variables : ℕ) (f : Expression) → IsNoListExpression f → rest_nodes variables f ≡ expression_nodes variables f
+rest_nodes-no_list variables (bound n) h = refl
+rest_nodes-no_list variables object h = refl
+rest_nodes-no_list variables bindings h = refl
+rest_nodes-no_list variables (constant d) h = constant-nodes d h
+rest_nodes-no_list variables (quoted d) h = refl
+rest_nodes-no_list variables (call f es) h = refl
+rest_nodes-no_list variables (and_also es) h = refl
+rest_nodes-no_list variables (or_else es) h = refl
+rest_nodes-no_list variables (new_tuple es) h = refl
+rest_nodes-no_list variables (new_cell e f) h = absurd h
+rest_nodes-no_list variables (new_map ms) h = refl
+
+new_cells-rest_nodes : (variables : ℕ) (es : List Expression) (f : Expression) → rest_nodes variables (new_cells es f) ≡ expressions_nodes variables (expressions_of es) + rest_nodes variables f
+new_cells-rest_nodes variables [] f = omega arith
+new_cells-rest_nodes variables (e ∷ es) f = omega (arith, new_cells-rest_nodes variables es f)
+
+-- a list counts one, its elements, and its tail where that is no list
+pub new_cells-nodes : (variables : ℕ) (es xs : List Expression) (f e : Expression) → new_cells es f ≡ e → 0 < length es → xs ≡ es → expression_nodes variables e ≡ suc (expressions_nodes variables (expressions_of xs) + rest_nodes variables f)
+new_cells-nodes variables [] xs f e is some same = absurd (omega arith)
+new_cells-nodes variables (x ∷ es) xs f e is some same =
+    omega (arith, new_cells-rest_nodes variables es f, ap (expression_nodes variables) is, ap (λ l. expressions_nodes variables (expressions_of l)) same)
+
+pub rest-nodes : {A : Type 0} (variables : ℕ) (t : Option (Box Expression A)) (b : Box Expression A) (f : Expression) → t ≡ Some b → f ≡ b.value → IsTailExpression t → rest_nodes variables (tail_expression t) ≡ expression_nodes variables f
+rest-nodes {A} variables t b f e same h =
+    let P : Option (Box Expression A) → Type 0 = λ x. IsTailExpression x in
+    let no_list : IsNoListExpression b.value = subst P e h in
+    ap (λ x. rest_nodes variables (tail_expression x)) e ∙ rest_nodes-no_list variables b.value no_list ∙ ap (expression_nodes variables) (sym same)

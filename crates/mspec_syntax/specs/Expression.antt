@@ -3,18 +3,19 @@
 use Rattle.std.specs.Prelude.{ℕ, suc, ◌+◌, List, [], ◌∷◌}
 use Rattle.term_core.specs.Datum.{Datum}
 use Rattle.term_core.specs.Datum.Datum.{nil}
-use Rattle.prims.specs.declared.prim.Prim.{Prim}
+use Rattle.prims.specs.declared.prim.Primitive.{Primitive}
 use Rattle.mspec_syntax.specs.Pattern.{literal_tail_nodes}
 
 mutual
-  -- A variable's value, the object ('$_'), the list of all variables' values ('$$'), or a term that stands for itself;
-  -- a call of a function, of andalso or of orelse; a tuple, a cell of a list or a map that is made of values.
+  -- A variable's value, the object ('$_'), the list of all variables' values ('$$'), a term that stands for itself, or one
+  -- behind const; a call of a function, of andalso or of orelse; a tuple, a cell of a list or a map that is made of values.
   pub data Expression : Type 0 where
     bound : ℕ → Expression
     object : Expression
     bindings : Expression
     constant : Datum → Expression
-    call : Prim → Expressions → Expression
+    quoted : Datum → Expression
+    call : Primitive → Expressions → Expression
     and_also : Expressions → Expression
     or_else : Expressions → Expression
     new_tuple : Expressions → Expression
@@ -60,6 +61,7 @@ abbrev mutual
   expression_nodes variables object = 1
   expression_nodes variables bindings = suc variables
   expression_nodes variables (constant d) = 1
+  expression_nodes variables (quoted d) = 1
   expression_nodes variables (call f es) = suc (expressions_nodes variables es)
   expression_nodes variables (and_also es) = suc (expressions_nodes variables es)
   expression_nodes variables (or_else es) = suc (expressions_nodes variables es)
@@ -81,6 +83,7 @@ abbrev mutual
   rest_nodes variables object = 1
   rest_nodes variables bindings = suc variables
   rest_nodes variables (constant d) = literal_tail_nodes d
+  rest_nodes variables (quoted d) = 1
   rest_nodes variables (call f es) = suc (expressions_nodes variables es)
   rest_nodes variables (and_also es) = suc (expressions_nodes variables es)
   rest_nodes variables (or_else es) = suc (expressions_nodes variables es)
@@ -95,6 +98,7 @@ abbrev mutual
   expression_size object = 1
   expression_size bindings = 1
   expression_size (constant d) = 1
+  expression_size (quoted d) = 1
   expression_size (call f es) = suc (expressions_size es)
   expression_size (and_also es) = suc (expressions_size es)
   expression_size (or_else es) = suc (expressions_size es)

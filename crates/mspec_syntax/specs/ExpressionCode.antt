@@ -6,20 +6,20 @@ use Rattle.std.proofs.Common.{◌∙◌, ap}
 use Rattle.term_core.specs.Datum.{Datum}
 use Rattle.term_core.specs.Datum.Datum.{nil}
 use Rattle.term_core.specs.DatumCode.{datum_code}
-use Rattle.prims.specs.PrimCode.{prim_code}
-use Rattle.prims.specs.declared.prim.Prim.{Prim}
-use Rattle.prims.specs.declared.prim.Prim.TheVariants as prim
+use Rattle.prims.specs.PrimitiveCode.{primitive_code}
+use Rattle.prims.specs.declared.prim.Primitive.{Primitive}
+use Rattle.prims.specs.declared.prim.Primitive.TheVariants as prim
 use Rattle.prims.specs.declared.prim.BooleanFunction.TheVariants as boolean
 use Rattle.mspec_syntax.specs.Expression.{Expression, Expressions, Assignments}
-use Rattle.mspec_syntax.specs.Expression.Expression.{bound, object, bindings, constant, call, and_also, or_else, new_tuple, new_cell, new_map}
+use Rattle.mspec_syntax.specs.Expression.Expression.{bound, object, bindings, constant, quoted, call, and_also, or_else, new_tuple, new_cell, new_map}
 use Rattle.mspec_syntax.specs.Expression.Expressions.{no_expressions, expression}
 use Rattle.mspec_syntax.specs.Expression.Assignments.{no_assignments, assignment}
 
 -- a kind of part, a variable's number, a term and a function
 abbrev pub Mark : Type 0
-Mark = ℕ × (ℕ × (Datum × Prim))
+Mark = ℕ × (ℕ × (Datum × Primitive))
 
-abbrev pub no_function : Prim
+abbrev pub no_function : Primitive
 no_function = prim.Boolean boolean.Not
 
 abbrev pub part : ℕ → Mark
@@ -31,7 +31,7 @@ of_variable n = (0, (n, (nil, no_function)))
 abbrev pub of_term : ℕ → Datum → Mark
 of_term kind d = (kind, (0, (d, no_function)))
 
-abbrev pub of_function : Prim → Mark
+abbrev pub of_function : Primitive → Mark
 of_function f = (4, (0, (nil, f)))
 
 abbrev mutual
@@ -40,6 +40,7 @@ abbrev mutual
   row object rest = part 1 ∷ rest
   row bindings rest = part 2 ∷ rest
   row (constant d) rest = of_term 3 d ∷ rest
+  row (quoted d) rest = of_term 14 d ∷ rest
   row (call f es) rest = expressions_row es (of_function f ∷ rest)
   row (and_also es) rest = expressions_row es (part 5 ∷ rest)
   row (or_else es) rest = expressions_row es (part 6 ∷ rest)
@@ -95,6 +96,7 @@ taken m held =
     else if m.0 == 10 then some no_expressions ∷ held
     else if m.0 == 11 then to_expressions held
     else if m.0 == 12 then assigned no_assignments ∷ held
+    else if m.0 == 14 then one (quoted m.1.1.0) ∷ held
     else to_assignments m.1.1.0 held
 
 abbrev pub read : List Mark → List Held → List Held
@@ -111,6 +113,7 @@ mutual
   row_back object rest held = refl
   row_back bindings rest held = refl
   row_back (constant d) rest held = refl
+  row_back (quoted d) rest held = refl
   row_back (call f es) rest held = expressions_back es (of_function f ∷ rest) held
   row_back (and_also es) rest held = expressions_back es (part 5 ∷ rest) held
   row_back (or_else es) rest held = expressions_back es (part 6 ∷ rest) held
@@ -130,5 +133,5 @@ mutual
 
 abbrev pub expression_code : Coded Expression
 expression_code =
-    code_by (List Mark) (coded_list (coded× coded_ℕ (coded× coded_ℕ (coded× datum_code prim_code)))) (λ e. row e []) (λ ms. top (read ms []))
+    code_by (List Mark) (coded_list (coded× coded_ℕ (coded× coded_ℕ (coded× datum_code primitive_code)))) (λ e. row e []) (λ ms. top (read ms []))
     (λ e. ap top (row_back e [] []))

@@ -31,6 +31,7 @@ parts_fall G (kind.Variable n) h = omega arith
 parts_fall G kind.Object h = omega arith
 parts_fall G kind.Bindings h = omega arith
 parts_fall G (kind.Constant d) h = omega arith
+parts_fall G (kind.Quoted d) h = omega arith
 parts_fall G (kind.Call f es) h = let e = expressions_fall es.items in omega arith
 parts_fall G (kind.AndAlso es) h = let e = expressions_fall es.items in omega arith
 parts_fall G (kind.OrElse es) h = let e = expressions_fall es.items in omega arith

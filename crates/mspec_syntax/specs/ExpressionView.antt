@@ -2,7 +2,7 @@
 use Rattle.std.specs.Prelude.{◌<◌, length, Option, Some, None, Box}
 use Rattle.term_core.specs.Datum.Datum.{nil}
 use Rattle.mspec_syntax.specs.Expression.{Expression, expressions_of, assignments_of, new_cells, IsNoListExpression}
-use Rattle.mspec_syntax.specs.Expression.Expression.{bound, object, bindings, constant, call, and_also, or_else, new_tuple, new_map}
+use Rattle.mspec_syntax.specs.Expression.Expression.{bound, object, bindings, constant, quoted, call, and_also, or_else, new_tuple, new_map}
 use Rattle.mspec_syntax.specs.declared.expression.ExpressionKind.{ExpressionKind}
 use Rattle.mspec_syntax.specs.declared.expression.ExpressionKind.TheVariants as kind
 
@@ -16,6 +16,7 @@ expression_of (kind.Variable n) = bound n
 expression_of kind.Object = object
 expression_of kind.Bindings = bindings
 expression_of (kind.Constant d) = constant d
+expression_of (kind.Quoted d) = quoted d
 expression_of (kind.Call f es) = call f (expressions_of es.items)
 expression_of (kind.AndAlso es) = and_also (expressions_of es.items)
 expression_of (kind.OrElse es) = or_else (expressions_of es.items)

@@ -1,18 +1,21 @@
 -- What is wrong with a term as a specification: its faults in reading order. An outer term's fault stands before those
 -- inside it, these from the left, and a map's pairs by rising key.
 use Rattle.std.specs.Prelude.{ℕ, suc, ◌≡◌, ◌⊎◌, Bool, true, false, if◌then◌else◌, Option, Some, None, List, [], ◌∷◌, ◌++◌}
-use Rattle.term_core.specs.Datum.{Datum, Items, Entries}
+use Rattle.term_core.specs.Datum.{Datum, Items, Entries, item_count}
 use Rattle.term_core.specs.Datum.Datum.{integer, atom, tuple, map, nil, cons, binary}
 use Rattle.term_core.specs.Datum.Items.{no_items, item}
 use Rattle.term_core.specs.Datum.Entries.{no_entries, entry}
 use Rattle.mspec_syntax.specs.Word.{word_of}
+use Rattle.mspec_syntax.specs.Callee.{callee_of}
 use Rattle.mspec_syntax.specs.Rising.{rising}
 use Rattle.mspec_syntax.specs.Grammar.{is_hole, is_misnumbered, mentions, is_among, proper_elements, IsSpecification}
 use Rattle.mspec_syntax.specs.Specification.{Specification, IsWithinLimits}
+use Rattle.mspec_syntax.specs.declared.word.Callee.{Callee}
+use Rattle.mspec_syntax.specs.declared.word.Callee.TheVariants as callee
 use Rattle.mspec_syntax.specs.declared.word.Word.{Word}
 use Rattle.mspec_syntax.specs.declared.word.Word.TheVariants as word
 use Rattle.mspec_syntax.specs.declared.fault.SpecFault.{SpecFault}
-use Rattle.mspec_syntax.specs.declared.fault.SpecFault.TheVariants.{Memory, NotAList, NotAClause, BadHead, BadConditions, BadBody, Unbound, BadVariableName, BadExpression, VariableInMapKey, TooLarge}
+use Rattle.mspec_syntax.specs.declared.fault.SpecFault.TheVariants.{Memory, NotAList, NotAClause, BadHead, BadConditions, BadBody, UnknownCall, Unbound, BadVariableName, BadExpression, VariableInMapKey, TooLarge}
 
 -- one fault where a test says so
 abbrev pub fault_if : Bool → SpecFault → List SpecFault
@@ -76,21 +79,46 @@ word_faults i variables (word.Variable n) = fault_if (if is_among variables n th
 word_faults i variables word.Misnumbered = BadVariableName i ∷ []
 word_faults i variables w = []
 
--- the faults of a term in a condition or the body of clause i, whose head names these variables
-abbrev pub expression_faults : ℕ → List ℕ → Datum → List SpecFault
-expression_faults i variables (integer z) = []
-expression_faults i variables (atom cs) = word_faults i variables (word_of cs)
-expression_faults i variables nil = []
-expression_faults i variables d = BadExpression i ∷ []
+-- of a call whose arguments have these faults
+abbrev pub call_faults : ℕ → Callee → List SpecFault → List SpecFault
+call_faults i callee.Quote faults = []
+call_faults i callee.Unknown faults = UnknownCall i ∷ []
+call_faults i c faults = faults
+
+abbrev mutual
+  -- the faults of a term in a condition or the body of clause i, whose head names these variables
+  pub expression_faults : ℕ → List ℕ → Datum → List SpecFault
+  expression_faults i variables (integer z) = []
+  expression_faults i variables (atom cs) = word_faults i variables (word_of cs)
+  expression_faults i variables (tuple ds) = tuple_faults i variables ds
+  expression_faults i variables (map es) = values_faults i variables es
+  expression_faults i variables nil = []
+  expression_faults i variables (cons head tail) = expression_faults i variables head ++ expression_faults i variables tail
+  expression_faults i variables (binary bs) = []
+
+  -- of a tuple: an atom first has to call something, and else the tuple holds one tuple
+  pub tuple_faults : ℕ → List ℕ → Items → List SpecFault
+  tuple_faults i variables (item (atom cs) ds) = call_faults i (callee_of cs (item_count ds)) (parts_faults i variables ds)
+  tuple_faults i variables (item (tuple ds) no_items) = parts_faults i variables ds
+  tuple_faults i variables ds = BadExpression i ∷ []
+
+  pub parts_faults : ℕ → List ℕ → Items → List SpecFault
+  parts_faults i variables no_items = []
+  parts_faults i variables (item d ds) = expression_faults i variables d ++ parts_faults i variables ds
+
+  -- of a map's values; its keys stand for themselves
+  pub values_faults : ℕ → List ℕ → Entries → List SpecFault
+  values_faults i variables no_entries = []
+  values_faults i variables (entry k v es) = expression_faults i variables v ++ values_faults i variables es
 
 abbrev pub expressions_faults : ℕ → List ℕ → List Datum → List SpecFault
 expressions_faults i variables [] = []
 expressions_faults i variables (d ∷ ds) = expression_faults i variables d ++ expressions_faults i variables ds
 
--- only the empty list so far
-abbrev pub conditions_faults : ℕ → List ℕ → Datum → List SpecFault
-conditions_faults i variables nil = []
-conditions_faults i variables d = BadConditions i ∷ []
+-- a proper list
+abbrev pub conditions_faults : ℕ → List ℕ → Option (List Datum) → List SpecFault
+conditions_faults i variables None = BadConditions i ∷ []
+conditions_faults i variables (Some ds) = expressions_faults i variables ds
 
 -- a proper list with an element at least
 abbrev pub body_faults : ℕ → List ℕ → Option (List Datum) → List SpecFault
@@ -102,7 +130,7 @@ body_faults i variables (Some (d ∷ ds)) = expressions_faults i variables (d �
 abbrev pub clause_faults : ℕ → Datum → List SpecFault
 clause_faults i (tuple (item head (item conditions (item body no_items)))) =
     head_faults i head
-    ++ (conditions_faults i (rising (named_variables head)) conditions ++ body_faults i (rising (named_variables head)) (proper_elements body))
+    ++ (conditions_faults i (rising (named_variables head)) (proper_elements conditions) ++ body_faults i (rising (named_variables head)) (proper_elements body))
 clause_faults i d = NotAClause i ∷ []
 
 -- the faults of the clauses from number i on

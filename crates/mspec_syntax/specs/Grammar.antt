@@ -1,7 +1,7 @@
 -- Which term is read as which specification. (ERTS User's Guide, "Match Specifications in Erlang", "Grammar".)
 use Rattle.std.specs.Prelude.{ℕ, ◌≡◌, ◌==◌, Bool, true, false, ◌||◌, Option, Some, None, option_map, List, [], ◌∷◌}
 use Rattle.std.specs.List.{list_any}
-use Rattle.term_core.specs.Datum.{Datum, Items, Entries}
+use Rattle.term_core.specs.Datum.{Datum, Items, Entries, item_count}
 use Rattle.term_core.specs.Datum.Datum.{integer, atom, tuple, map, nil, cons, binary}
 use Rattle.term_core.specs.Datum.Items.{no_items, item}
 use Rattle.term_core.specs.Datum.Entries.{no_entries, entry}
@@ -10,9 +10,14 @@ use Rattle.mspec_syntax.specs.Pattern.{Pattern, Patterns, Fields}
 use Rattle.mspec_syntax.specs.Pattern.Pattern.{variable, anything, literal, tuple_of, cell_of, map_of}
 use Rattle.mspec_syntax.specs.Pattern.Patterns.{no_patterns, pattern}
 use Rattle.mspec_syntax.specs.Pattern.Fields.{no_fields, field}
-use Rattle.mspec_syntax.specs.Expression.{Expression}
-use Rattle.mspec_syntax.specs.Expression.Expression.{bound, object, bindings, constant}
+use Rattle.mspec_syntax.specs.Callee.{callee_of}
+use Rattle.mspec_syntax.specs.Expression.{Expression, Expressions, Assignments}
+use Rattle.mspec_syntax.specs.Expression.Expression.{bound, object, bindings, constant, quoted, call, and_also, or_else, new_tuple, new_cell, new_map}
+use Rattle.mspec_syntax.specs.Expression.Expressions.{no_expressions, expression}
+use Rattle.mspec_syntax.specs.Expression.Assignments.{no_assignments, assignment}
 use Rattle.mspec_syntax.specs.Specification.{Clause, Specification, clause_variables}
+use Rattle.mspec_syntax.specs.declared.word.Callee.{Callee}
+use Rattle.mspec_syntax.specs.declared.word.Callee.TheVariants as callee
 use Rattle.mspec_syntax.specs.declared.word.Word.{Word}
 use Rattle.mspec_syntax.specs.declared.word.Word.TheVariants as word
 
@@ -99,12 +104,48 @@ IsAtomExpression variables cs word.Object e = e ≡ object
 IsAtomExpression variables cs word.Bindings e = e ≡ bindings
 IsAtomExpression variables cs w e = e ≡ constant (atom cs)
 
--- a term in a condition or a body
-abbrev pub IsExpression : List ℕ → Datum → Expression → Type 0
-IsExpression variables (integer z) e = e ≡ constant (integer z)
-IsExpression variables (atom cs) e = IsAtomExpression variables cs (word_of cs) e
-IsExpression variables nil e = e ≡ constant nil
-IsExpression variables d e = ⊥
+-- the term behind const
+abbrev pub IsQuoted : Items → Expression → Type 0
+IsQuoted (item d no_items) e = e ≡ quoted d
+IsQuoted ds e = ⊥
+
+-- what an atom calls, of these terms, which are read as such arguments
+abbrev pub IsCall : Callee → (Expressions → Type 0) → Items → Expression → Type 0
+IsCall callee.Quote Arguments ds e = IsQuoted ds e
+IsCall callee.AndAlso Arguments ds (and_also es) = Arguments es
+IsCall callee.OrElse Arguments ds (or_else es) = Arguments es
+IsCall (callee.Function f) Arguments ds (call g es) = (g ≡ f) × Arguments es
+IsCall c Arguments ds e = ⊥
+
+abbrev mutual
+  -- a term in a condition or a body
+  pub IsExpression : List ℕ → Datum → Expression → Type 0
+  IsExpression variables (integer z) e = e ≡ constant (integer z)
+  IsExpression variables (atom cs) e = IsAtomExpression variables cs (word_of cs) e
+  IsExpression variables (tuple ds) e = IsTupleExpression variables ds e
+  IsExpression variables (map es) (new_map ms) = AreAssignments variables es ms
+  IsExpression variables nil e = e ≡ constant nil
+  IsExpression variables (cons head tail) (new_cell e f) = IsExpression variables head e × IsExpression variables tail f
+  IsExpression variables (binary bs) e = e ≡ constant (binary bs)
+  IsExpression variables d e = ⊥
+
+  -- the elements of a tuple: an atom that calls something and its arguments, or one tuple, whose elements are to be made
+  pub IsTupleExpression : List ℕ → Items → Expression → Type 0
+  IsTupleExpression variables (item (atom cs) ds) e = IsCall (callee_of cs (item_count ds)) (AreParts variables ds) ds e
+  IsTupleExpression variables (item (tuple ds) no_items) (new_tuple es) = AreParts variables ds es
+  IsTupleExpression variables ds e = ⊥
+
+  -- arguments or elements, each an expression
+  pub AreParts : List ℕ → Items → Expressions → Type 0
+  AreParts variables no_items no_expressions = Unit {0}
+  AreParts variables (item d ds) (expression e es) = IsExpression variables d e × AreParts variables ds es
+  AreParts variables ds es = ⊥
+
+  -- the pairs of a map, whose keys stand for themselves, each value an expression
+  pub AreAssignments : List ℕ → Entries → Assignments → Type 0
+  AreAssignments variables no_entries no_assignments = Unit {0}
+  AreAssignments variables (entry k v es) (assignment l e ms) = (l ≡ k) × IsExpression variables v e × AreAssignments variables es ms
+  AreAssignments variables es ms = ⊥
 
 -- the elements of a proper list
 abbrev pub proper_elements : Datum → Option (List Datum)
@@ -117,10 +158,10 @@ AreExpressions variables [] [] = Unit {0}
 AreExpressions variables (d ∷ ds) (e ∷ es) = IsExpression variables d e × AreExpressions variables ds es
 AreExpressions variables ds es = ⊥
 
--- a list of conditions: so far only the empty one
-abbrev pub AreConditions : List ℕ → Datum → List Expression → Type 0
-AreConditions variables nil es = es ≡ []
-AreConditions variables d es = ⊥
+-- the elements of a list of conditions
+abbrev pub AreConditions : List ℕ → Option (List Datum) → List Expression → Type 0
+AreConditions variables None es = ⊥
+AreConditions variables (Some ds) es = AreExpressions variables ds es
 
 -- the elements of a body, of which there is one at least
 abbrev pub AreBodyExpressions : List ℕ → Option (List Datum) → List Expression → Type 0
@@ -141,7 +182,7 @@ abbrev pub IsClause : Datum → Clause → Type 0
 IsClause (tuple (item head (item conditions (item body no_items)))) c =
     IsPattern head c.head
     × IsHeadForm c.head
-    × AreConditions (clause_variables c) conditions c.conditions
+    × AreConditions (clause_variables c) (proper_elements conditions) c.conditions
     × AreBodyExpressions (clause_variables c) (proper_elements body) c.body
 IsClause d c = ⊥
 

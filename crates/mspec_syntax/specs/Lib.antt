@@ -10,6 +10,7 @@ pub mod Rising
 pub mod Specification
 pub mod SpecificationCode
 pub mod Word
+pub mod Callee
 pub mod Sought
 pub mod Grammar
 pub mod Faults

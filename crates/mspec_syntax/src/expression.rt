@@ -1,5 +1,5 @@
 //! What stands in conditions and bodies.
-use prims::Prim;
+use prims::Primitive;
 use std::alloc::{Allocator, Global};
 use std::marker::Model;
 use term_core::Term;
@@ -21,10 +21,12 @@ pub enum ExpressionKind<A: Allocator> {
     Object,
     /// `'$$'`: the list of the values of all variables, in rising order of their numbers.
     Bindings,
-    /// A term that stands for itself.
+    /// An integer, an atom, `[]` or a binary, which stands for itself.
     Constant(Term<A>),
+    /// `{const, T}`: the term `T`, whatever it is.
+    Quoted(Term<A>),
     /// A function of the values of these arguments, of which there are as many as it takes.
-    Call(Prim, Vec<Expression<A>, A>),
+    Call(Primitive, Vec<Expression<A>, A>),
     /// `andalso` of one or more arguments.
     AndAlso(Vec<Expression<A>, A>),
     /// `orelse` of one or more arguments.

@@ -23,6 +23,10 @@ pub enum SpecFault {
     /// The clause's body is no proper list with an element.
     #[error("the body of clause {0} is no proper list with an element")]
     BadBody(usize),
+    /// The clause has a tuple in a condition or its body that begins with an atom, and this is no function that takes so
+    /// many arguments.
+    #[error("clause {0} calls what is no function of so many arguments")]
+    UnknownCall(usize),
     /// A condition or the body of the clause names this variable, and its head does not.
     #[error("clause {0} names the variable {1}, which its head does not bind")]
     Unbound(usize, u32),
@@ -55,6 +59,7 @@ impl SpecFault {
             SpecFault::BadHead(_) => 12,
             SpecFault::BadConditions(_) => 13,
             SpecFault::BadBody(_) => 14,
+            SpecFault::UnknownCall(_) => 15,
             SpecFault::Unbound(_, _) => 16,
             SpecFault::BadVariableName(_) => 17,
             SpecFault::BadExpression(_) => 18,
@@ -74,6 +79,7 @@ impl SpecFault {
             | SpecFault::BadConditions(clause)
             | SpecFault::BadBody(clause)
             | SpecFault::Unbound(clause, _)
+            | SpecFault::UnknownCall(clause)
             | SpecFault::BadVariableName(clause)
             | SpecFault::BadExpression(clause)
             | SpecFault::VariableInMapKey(clause) => Some(clause),

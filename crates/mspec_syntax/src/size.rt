@@ -66,14 +66,15 @@ fn after_expression<A: Allocator>(
 {
     let room = room.checked_sub(1)?;
     match expression.kind() {
-        ExpressionKind::Variable(_) | ExpressionKind::Object | ExpressionKind::Constant(_) => {
-            Some(room)
-        }
+        ExpressionKind::Variable(_)
+        | ExpressionKind::Object
+        | ExpressionKind::Constant(_)
+        | ExpressionKind::Quoted(_) => Some(room),
         ExpressionKind::Bindings => room.checked_sub(variables),
-        ExpressionKind::Call(_, parts)
-        | ExpressionKind::AndAlso(parts)
-        | ExpressionKind::OrElse(parts)
-        | ExpressionKind::Tuple(parts) => after_parts(room, variables, parts.as_slice()),
+        ExpressionKind::Call(_, arguments) => after_parts(room, variables, arguments.as_slice()),
+        ExpressionKind::AndAlso(arguments) => after_parts(room, variables, arguments.as_slice()),
+        ExpressionKind::OrElse(arguments) => after_parts(room, variables, arguments.as_slice()),
+        ExpressionKind::Tuple(elements) => after_parts(room, variables, elements.as_slice()),
         ExpressionKind::List(elements, tail) => {
             let room = after_parts(room, variables, elements.as_slice())?;
             match tail {
@@ -114,8 +115,8 @@ fn after_assignments<A: Allocator>(
 {
     let mut left = room;
     for (_, expression) in assignments {
-        let rest = left.checked_sub(1)?;
-        left = after_expression(rest, variables, expression)?;
+        let behind_key = left.checked_sub(1)?;
+        left = after_expression(behind_key, variables, expression)?;
     }
     Some(left)
 }

@@ -6,6 +6,14 @@ ghost use Rattle.std.specs.Str.Parse.{digits_value};
 ghost use Rattle.mspec_syntax.specs.Word.{is_number};
 
 use crate::{DOLLAR, MAX_DIGITS, UNDERSCORE, ZERO};
+use prims::Primitive;
+
+/// The characters of `const`, which quotes a term.
+const CONST: [char; 5] = ['c', 'o', 'n', 's', 't'];
+/// The characters of `andalso`.
+const ANDALSO: [char; 7] = ['a', 'n', 'd', 'a', 'l', 's', 'o'];
+/// The characters of `orelse`.
+const ORELSE: [char; 6] = ['o', 'r', 'e', 'l', 's', 'e'];
 
 /// What an atom says in a specification.
 #[derive(Clone, Copy, Debug, PartialEq, Eq)]
@@ -31,6 +39,45 @@ pub(crate) enum Sought {
     Hole,
     /// `$` and digits that are no variable's number.
     Misnumbered,
+}
+
+/// What an atom at the front of a tuple says, by how many terms stand behind it.
+#[derive(Clone, Copy, Debug, PartialEq, Eq)]
+pub(crate) enum Callee {
+    /// `const` of one term, which stands for itself.
+    Quote,
+    /// `andalso` of one or more arguments.
+    AndAlso,
+    /// `orelse` of one or more arguments.
+    OrElse,
+    /// A function that takes so many arguments.
+    Function(Primitive),
+    /// Nothing that takes so many.
+    Unknown,
+}
+
+impl Callee {
+    ghost use Rattle.std.specs.Prelude.{◌≡◌};
+    ghost use Rattle.mspec_syntax.specs.Callee.{callee_of};
+
+    /// What the atom of these characters says in front of so many terms.
+    pub(crate) fn new(characters: &[char], arguments: usize) -> Callee
+        ensures { result ≡ callee_of characters.now arguments }
+    {
+        if arguments == 1 && characters == CONST.as_slice() {
+            return Callee::Quote;
+        }
+        if arguments > 0 && characters == ANDALSO.as_slice() {
+            return Callee::AndAlso;
+        }
+        if arguments > 0 && characters == ORELSE.as_slice() {
+            return Callee::OrElse;
+        }
+        match Primitive::named(characters, arguments) {
+            Some(prim) => Callee::Function(prim),
+            None => Callee::Unknown,
+        }
+    }
 }
 
 impl Word {

@@ -18,8 +18,8 @@ use Rattle.prims.specs.Calls.{at_integers, unary_of, binary_of, ternary_of, func
 use Rattle.prims.specs.Gives.{gives_of, IsGiven}
 use Rattle.prims.specs.declared.gives.Gives.TheVariants as gives
 use Rattle.prims.specs.declared.operand.Operand.{Operand}
-use Rattle.prims.specs.declared.prim.Prim.{Prim}
-use Rattle.prims.specs.declared.prim.Prim.TheVariants as prim
+use Rattle.prims.specs.declared.prim.Primitive.{Primitive}
+use Rattle.prims.specs.declared.prim.Primitive.TheVariants as prim
 use Rattle.prims.specs.declared.prim.TupleFunction.TheVariants as tuple
 use Rattle.prims.specs.declared.prim.ListFunction.TheVariants as list
 use Rattle.prims.specs.declared.prim.MapFunction.TheVariants as map
@@ -32,7 +32,7 @@ given_integer : (o : Option ℤ) (d : Datum) → option_map integer o ≡ Some d
 given_integer None d e = absurd (none-some d e)
 given_integer (Some z) d e = (z, sym (same_Some (integer z) d e))
 
-given_unary : (function : Prim) (x d : Datum) → unary_of function x ≡ Some d → IsGiven (gives_of function) d
+given_unary : (function : Primitive) (x d : Datum) → unary_of function x ≡ Some d → IsGiven (gives_of function) d
 given_unary (prim.Test test) x d e = given_boolean (Some (test_of test x)) d e
 given_unary (prim.Integer function) x d e = given_integer (option_and_then (integer_function_of function) (integer_of x)) d e
 given_unary (prim.List list.Hd) x d e = tt
@@ -42,7 +42,7 @@ given_unary (prim.Map map.MapSize) x d e = given_integer (map_size_of x) d e
 given_unary (prim.Size function) x d e = given_integer (size_of function x) d e
 given_unary function x d e = absurd (none-some d e)
 
-given_binary : (function : Prim) (x y d : Datum) → binary_of function x y ≡ Some d → IsGiven (gives_of function) d
+given_binary : (function : Primitive) (x y d : Datum) → binary_of function x y ≡ Some d → IsGiven (gives_of function) d
 given_binary (prim.Comparison comparison) x y d e = given_boolean (Some (comparison_of comparison x y)) d e
 given_binary (prim.Extreme extreme) x y d e = tt
 given_binary (prim.Arithmetic function) x y d e = given_integer (at_integers (arithmetic_of function) (integer_of x) (integer_of y)) d e
@@ -51,11 +51,11 @@ given_binary (prim.Map map.IsMapKey) x y d e = given_boolean (is_map_key_of x y)
 given_binary (prim.Map map.MapGet) x y d e = tt
 given_binary function x y d e = absurd (none-some d e)
 
-given_ternary : (function : Prim) (x y z d : Datum) → ternary_of function x y z ≡ Some d → IsGiven (gives_of function) d
+given_ternary : (function : Primitive) (x y z d : Datum) → ternary_of function x y z ≡ Some d → IsGiven (gives_of function) d
 given_ternary (prim.Tuple tuple.IsRecord) x y z d e = given_boolean (is_record_of x y z) d e
 given_ternary function x y z d e = absurd (none-some d e)
 
-given : (function : Prim) (ds : List Datum) (d : Datum) → function_of function ds ≡ Some d → IsGiven (gives_of function) d
+given : (function : Primitive) (ds : List Datum) (d : Datum) → function_of function ds ≡ Some d → IsGiven (gives_of function) d
 given (prim.Boolean function) ds d e = given_boolean (boolean_function_of function ds) d e
 given function [] d e = absurd (none-some d e)
 given function (x ∷ []) d e = given_unary function x d e
@@ -63,6 +63,6 @@ given function (x ∷ y ∷ []) d e = given_binary function x y d e
 given function (x ∷ y ∷ z ∷ []) d e = given_ternary function x y z d e
 given function (x ∷ y ∷ z ∷ w ∷ ds) d e = absurd (none-some d e)
 
-pub given_result : {A : Type 0} (r : Option (Operand A)) (function : Prim) (ds : List Datum) → option_map operand_datum r ≡ function_of function ds → IfSome r (λ v. IsGiven (gives_of function) (operand_datum v))
+pub given_result : {A : Type 0} (r : Option (Operand A)) (function : Primitive) (ds : List Datum) → option_map operand_datum r ≡ function_of function ds → IfSome r (λ v. IsGiven (gives_of function) (operand_datum v))
 given_result None function ds e = tt
 given_result (Some v) function ds e = given function ds (operand_datum v) (sym e)

@@ -6,10 +6,10 @@ use Rattle.std.specs.Cmp.Lexicographic.{pointwise, bytes_decides}
 use Rattle.std.proofs.lemmas.Option.{none-some, same_Some}
 use Rattle.std.proofs.lemmas.Bool.Decides.{Decides-eqb}
 use Rattle.prims.specs.Names.{name_of, arity_of, takes, found}
-use Rattle.prims.specs.PrimCode.{found_at}
+use Rattle.prims.specs.PrimitiveCode.{found_at}
 use Rattle.prims.specs.declared.names.TheConstants.{ALL}
-use Rattle.prims.specs.declared.prim.Prim.{Prim}
-use Rattle.prims.specs.declared.prim.Prim.TheVariants as prim
+use Rattle.prims.specs.declared.prim.Primitive.{Primitive}
+use Rattle.prims.specs.declared.prim.Primitive.TheVariants as prim
 use Rattle.prims.specs.declared.prim.Test.TheVariants as test
 use Rattle.prims.specs.declared.prim.BooleanFunction.TheVariants as boolean
 use Rattle.prims.specs.declared.prim.Comparison.TheVariants as comparison
@@ -21,14 +21,14 @@ use Rattle.prims.specs.declared.prim.ListFunction.TheVariants as list
 use Rattle.prims.specs.declared.prim.MapFunction.TheVariants as map
 use Rattle.prims.specs.declared.prim.SizeFunction.TheVariants as size
 
-found_itself : (function : Prim) (n : ℕ) → takes function n ≡ true → found (name_of function) n ALL ≡ Some function
+found_itself : (function : Primitive) (n : ℕ) → takes function n ≡ true → found (name_of function) n ALL ≡ Some function
 found_itself (prim.Boolean boolean.And) n takes_n = ap (λ b. cond b (Some (prim.Boolean boolean.And)) None) takes_n
 found_itself (prim.Boolean boolean.Or) n takes_n = ap (λ b. cond b (Some (prim.Boolean boolean.Or)) None) takes_n
 found_itself function n takes_n =
     subst (λ m. found (name_of function) m ALL ≡ Some function) (sym ((Decides-eqb n (arity_of function)).0 takes_n)) (found_at function)
 
 -- what is found has the name and takes so many arguments
-found_says : (cs : List ℕ) (n : ℕ) (functions : List Prim) (function : Prim) → found cs n functions ≡ Some function → (name_of function ≡ cs) × (takes function n ≡ true)
+found_says : (cs : List ℕ) (n : ℕ) (functions : List Primitive) (function : Primitive) → found cs n functions ≡ Some function → (name_of function ≡ cs) × (takes function n ≡ true)
 found_says cs n [] function e = absurd (none-some function e)
 found_says cs n (first ∷ rest) function e =
     by (pointwise nat_eq (name_of first) cs && takes first n) refl (found_says cs n rest function) e
@@ -40,6 +40,6 @@ found_says cs n (first ∷ rest) function e =
     by false passes later e = later e
 
 -- the table both ways
-pub named_is : (cs : List ℕ) (n : ℕ) (r : Option Prim) → r ≡ found cs n ALL → (function : Prim) → (r ≡ Some function) ↔ ((name_of function ≡ cs) × IsTrue (takes function n))
+pub named_is : (cs : List ℕ) (n : ℕ) (r : Option Primitive) → r ≡ found cs n ALL → (function : Primitive) → (r ≡ Some function) ↔ ((name_of function ≡ cs) × IsTrue (takes function n))
 named_is cs n r r_is function =
     (λ e. found_says cs n ALL function (sym r_is ∙ e), λ h. r_is ∙ subst (λ ds. found ds n ALL ≡ Some function) h.0 (found_itself function n h.1))

@@ -12,14 +12,14 @@ use Rattle.prims.specs.Tuples.{element_of, is_record_of}
 use Rattle.prims.specs.Lists.{head_of, tail_behind, length_of}
 use Rattle.prims.specs.Maps.{is_map_key_of, map_get_of, map_size_of}
 use Rattle.prims.specs.Sizes.{size_of}
-use Rattle.prims.specs.declared.prim.Prim.{Prim}
-use Rattle.prims.specs.declared.prim.Prim.TheVariants as prim
+use Rattle.prims.specs.declared.prim.Primitive.{Primitive}
+use Rattle.prims.specs.declared.prim.Primitive.TheVariants as prim
 use Rattle.prims.specs.declared.prim.TupleFunction.TheVariants.{IsRecord, Element}
 use Rattle.prims.specs.declared.prim.ListFunction.TheVariants.{Hd, Tl, Length}
 use Rattle.prims.specs.declared.prim.MapFunction.TheVariants.{IsMapKey, MapGet, MapSize}
 
 -- what a function gives of one term
-abbrev pub unary_of : Prim → Datum → Option Datum
+abbrev pub unary_of : Primitive → Datum → Option Datum
 unary_of (prim.Test test) d = Some (boolean (test_of test d))
 unary_of (prim.Integer function) d = option_map integer (option_and_then (integer_function_of function) (integer_of d))
 unary_of (prim.List Hd) d = head_of d
@@ -35,7 +35,7 @@ at_integers f (Some x) (Some y) = f x y
 at_integers f x y = None
 
 -- what a function gives of two terms
-abbrev pub binary_of : Prim → Datum → Datum → Option Datum
+abbrev pub binary_of : Primitive → Datum → Datum → Option Datum
 binary_of (prim.Comparison comparison) d e = Some (boolean (comparison_of comparison d e))
 binary_of (prim.Extreme extreme) d e = Some (extreme_of extreme d e)
 binary_of (prim.Arithmetic function) d e = option_map integer (at_integers (arithmetic_of function) (integer_of d) (integer_of e))
@@ -45,12 +45,12 @@ binary_of (prim.Map MapGet) d e = map_get_of d e
 binary_of function d e = None
 
 -- what a function gives of three terms
-abbrev pub ternary_of : Prim → Datum → Datum → Datum → Option Datum
+abbrev pub ternary_of : Primitive → Datum → Datum → Datum → Option Datum
 ternary_of (prim.Tuple IsRecord) d e f = option_map boolean (is_record_of d e f)
 ternary_of function d e f = None
 
 -- what a function gives of a list of terms, none where it takes another number of them
-abbrev pub function_of : Prim → List Datum → Option Datum
+abbrev pub function_of : Primitive → List Datum → Option Datum
 function_of (prim.Boolean function) ds = option_map boolean (boolean_function_of function ds)
 function_of function (d ∷ []) = unary_of function d
 function_of function (d ∷ e ∷ []) = binary_of function d e

@@ -5,14 +5,14 @@ use Rattle.term_core.specs.Datum.Datum.{integer}
 use Rattle.prims.specs.Operand.{boolean}
 use Rattle.prims.specs.declared.gives.Gives.{Gives}
 use Rattle.prims.specs.declared.gives.Gives.TheVariants.{Boolean, Integer, Any}
-use Rattle.prims.specs.declared.prim.Prim.{Prim}
-use Rattle.prims.specs.declared.prim.Prim.TheVariants as prim
+use Rattle.prims.specs.declared.prim.Primitive.{Primitive}
+use Rattle.prims.specs.declared.prim.Primitive.TheVariants as prim
 use Rattle.prims.specs.declared.prim.TupleFunction.TheVariants as tuple
 use Rattle.prims.specs.declared.prim.ListFunction.TheVariants as list
 use Rattle.prims.specs.declared.prim.MapFunction.TheVariants as map
 
 -- tests, comparisons and functions of truth values give a boolean; numbers and sizes are integers; the rest give any term
-abbrev pub gives_of : Prim → Gives
+abbrev pub gives_of : Primitive → Gives
 gives_of (prim.Test test) = Boolean
 gives_of (prim.Boolean function) = Boolean
 gives_of (prim.Comparison comparison) = Boolean

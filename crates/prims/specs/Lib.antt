@@ -12,6 +12,6 @@ pub mod Maps
 pub mod Sizes
 pub mod Calls
 pub mod Names
-pub mod PrimCode
+pub mod PrimitiveCode
 pub mod Gives
 pub mod Bits

@@ -2,8 +2,8 @@
 use Rattle.std.specs.Prelude.{ℕ, Bool, ◌&&◌, if◌then◌else◌, List, [], ◌∷◌, Option, Some, None, nat_eq, nat_lt, codes}
 use Rattle.std.specs.Cmp.Lexicographic.{pointwise}
 use Rattle.prims.specs.declared.names.TheConstants.{ALL}
-use Rattle.prims.specs.declared.prim.Prim.{Prim}
-use Rattle.prims.specs.declared.prim.Prim.TheVariants as prim
+use Rattle.prims.specs.declared.prim.Primitive.{Primitive}
+use Rattle.prims.specs.declared.prim.Primitive.TheVariants as prim
 use Rattle.prims.specs.declared.prim.Test.TheVariants as test
 use Rattle.prims.specs.declared.prim.BooleanFunction.TheVariants as boolean
 use Rattle.prims.specs.declared.prim.Comparison.TheVariants as comparison
@@ -16,7 +16,7 @@ use Rattle.prims.specs.declared.prim.MapFunction.TheVariants as map
 use Rattle.prims.specs.declared.prim.SizeFunction.TheVariants as size
 
 -- the atom that names the function, as its characters
-abbrev pub name_of : Prim → List ℕ
+abbrev pub name_of : Primitive → List ℕ
 name_of (prim.Test test.IsAtom) = codes "is_atom"
 name_of (prim.Test test.IsInteger) = codes "is_integer"
 name_of (prim.Test test.IsList) = codes "is_list"
@@ -75,7 +75,7 @@ name_of (prim.Size size.ByteSize) = codes "byte_size"
 name_of (prim.Size size.BitSize) = codes "bit_size"
 
 -- how many arguments the function takes, and and or at least
-abbrev pub arity_of : Prim → ℕ
+abbrev pub arity_of : Primitive → ℕ
 arity_of (prim.Test test) = 1
 arity_of (prim.Boolean boolean.Not) = 1
 arity_of (prim.Boolean boolean.And) = 1
@@ -94,17 +94,17 @@ arity_of (prim.Map map.MapSize) = 1
 arity_of (prim.Size function) = 1
 
 -- whether the function takes so many arguments
-abbrev pub takes : Prim → ℕ → Bool
+abbrev pub takes : Primitive → ℕ → Bool
 takes (prim.Boolean boolean.And) n = nat_lt 0 n
 takes (prim.Boolean boolean.Or) n = nat_lt 0 n
 takes function n = nat_eq n (arity_of function)
 
 -- the first of these functions that has the name and takes so many arguments
-abbrev pub found : List ℕ → ℕ → List Prim → Option Prim
+abbrev pub found : List ℕ → ℕ → List Primitive → Option Primitive
 found cs n [] = None
 found cs n (function ∷ functions) =
     if pointwise nat_eq (name_of function) cs && takes function n then Some function else found cs n functions
 
 -- the function of that name that takes so many arguments
-abbrev pub named : List ℕ → ℕ → Option Prim
+abbrev pub named : List ℕ → ℕ → Option Primitive
 named cs n = found cs n ALL

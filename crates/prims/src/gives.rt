@@ -2,7 +2,7 @@
 ghost use Rattle.std.specs.Prelude.{◌≡◌};
 ghost use Rattle.prims.specs.Gives.{gives_of};
 
-use crate::prim::{ListFunction, MapFunction, Prim, TupleFunction};
+use crate::prim::{ListFunction, MapFunction, Primitive, TupleFunction};
 
 /// Which kind of term a function gives, where it gives one.
 #[derive(Clone, Copy, Debug, PartialEq, Eq)]
@@ -15,20 +15,20 @@ pub enum Gives {
     Any,
 }
 
-impl Prim {
+impl Primitive {
     /// Which kind of term the function gives.
     pub const fn gives(self) -> Gives
         ensures { result ≡ gives_of self }
     {
         match self {
-            Prim::Test(_) | Prim::Boolean(_) | Prim::Comparison(_) => Gives::Boolean,
-            Prim::Tuple(TupleFunction::IsRecord) | Prim::Map(MapFunction::IsMapKey) => {
+            Primitive::Test(_) | Primitive::Boolean(_) | Primitive::Comparison(_) => Gives::Boolean,
+            Primitive::Tuple(TupleFunction::IsRecord) | Primitive::Map(MapFunction::IsMapKey) => {
                 Gives::Boolean
             }
-            Prim::Integer(_) | Prim::Arithmetic(_) | Prim::Size(_) => Gives::Integer,
-            Prim::List(ListFunction::Length) | Prim::Map(MapFunction::MapSize) => Gives::Integer,
-            Prim::Extreme(_) | Prim::Tuple(TupleFunction::Element) => Gives::Any,
-            Prim::List(ListFunction::Hd | ListFunction::Tl) | Prim::Map(MapFunction::MapGet) => {
+            Primitive::Integer(_) | Primitive::Arithmetic(_) | Primitive::Size(_) => Gives::Integer,
+            Primitive::List(ListFunction::Length) | Primitive::Map(MapFunction::MapSize) => Gives::Integer,
+            Primitive::Extreme(_) | Primitive::Tuple(TupleFunction::Element) => Gives::Any,
+            Primitive::List(ListFunction::Hd | ListFunction::Tl) | Primitive::Map(MapFunction::MapGet) => {
                 Gives::Any
             }
         }

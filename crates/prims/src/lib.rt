@@ -36,5 +36,5 @@ pub use gives::Gives;
 pub use operand::Operand;
 pub use prim::{
     Arithmetic, BooleanFunction, Comparison, Extreme, IntegerFunction, ListFunction, MapFunction,
-    Prim, SizeFunction, Test, TupleFunction,
+    Primitive, SizeFunction, Test, TupleFunction,
 };

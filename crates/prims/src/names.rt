@@ -2,72 +2,72 @@
 ghost use Rattle.std.specs.Prelude.{◌≡◌, ◌↔◌, nat_eq, IsTrue, Some};
 ghost use Rattle.std.specs.Cmp.Lexicographic.{pointwise};
 ghost use Rattle.prims.specs.Names as spec;
-ghost use Rattle.prims.specs.declared.prim.Prim.{Prim as Function};
-ghost use Rattle.prims.specs.declared.prim.Prim.TheVariants as prim;
+ghost use Rattle.prims.specs.declared.prim.Primitive.{Primitive as Function};
+ghost use Rattle.prims.specs.declared.prim.Primitive.TheVariants as prim;
 
 use crate::prim::{
     Arithmetic, BooleanFunction, Comparison, Extreme, IntegerFunction, ListFunction, MapFunction,
-    Prim, SizeFunction, Test, TupleFunction,
+    Primitive, SizeFunction, Test, TupleFunction,
 };
 
 /// All functions.
-const ALL: [Prim; 56] = [
-    Prim::Test(Test::IsAtom),
-    Prim::Test(Test::IsInteger),
-    Prim::Test(Test::IsList),
-    Prim::Test(Test::IsNumber),
-    Prim::Test(Test::IsTuple),
-    Prim::Test(Test::IsMap),
-    Prim::Test(Test::IsBinary),
-    Prim::Test(Test::IsBitstring),
-    Prim::Test(Test::IsBoolean),
-    Prim::Test(Test::IsFloat),
-    Prim::Test(Test::IsPid),
-    Prim::Test(Test::IsPort),
-    Prim::Test(Test::IsReference),
-    Prim::Test(Test::IsFunction),
-    Prim::Boolean(BooleanFunction::Not),
-    Prim::Boolean(BooleanFunction::And),
-    Prim::Boolean(BooleanFunction::Or),
-    Prim::Boolean(BooleanFunction::Xor),
-    Prim::Comparison(Comparison::Greater),
-    Prim::Comparison(Comparison::GreaterOrEqual),
-    Prim::Comparison(Comparison::Less),
-    Prim::Comparison(Comparison::LessOrEqual),
-    Prim::Comparison(Comparison::ExactlyEqual),
-    Prim::Comparison(Comparison::ExactlyUnequal),
-    Prim::Comparison(Comparison::Equal),
-    Prim::Comparison(Comparison::Unequal),
-    Prim::Extreme(Extreme::Max),
-    Prim::Extreme(Extreme::Min),
-    Prim::Integer(IntegerFunction::Abs),
-    Prim::Integer(IntegerFunction::Round),
-    Prim::Integer(IntegerFunction::Trunc),
-    Prim::Integer(IntegerFunction::Plus),
-    Prim::Integer(IntegerFunction::Negate),
-    Prim::Integer(IntegerFunction::Bnot),
-    Prim::Arithmetic(Arithmetic::Add),
-    Prim::Arithmetic(Arithmetic::Subtract),
-    Prim::Arithmetic(Arithmetic::Multiply),
-    Prim::Arithmetic(Arithmetic::Div),
-    Prim::Arithmetic(Arithmetic::Rem),
-    Prim::Arithmetic(Arithmetic::Band),
-    Prim::Arithmetic(Arithmetic::Bor),
-    Prim::Arithmetic(Arithmetic::Bxor),
-    Prim::Arithmetic(Arithmetic::Bsl),
-    Prim::Arithmetic(Arithmetic::Bsr),
-    Prim::Tuple(TupleFunction::IsRecord),
-    Prim::Tuple(TupleFunction::Element),
-    Prim::List(ListFunction::Hd),
-    Prim::List(ListFunction::Tl),
-    Prim::List(ListFunction::Length),
-    Prim::Map(MapFunction::IsMapKey),
-    Prim::Map(MapFunction::MapGet),
-    Prim::Map(MapFunction::MapSize),
-    Prim::Size(SizeFunction::Size),
-    Prim::Size(SizeFunction::TupleSize),
-    Prim::Size(SizeFunction::ByteSize),
-    Prim::Size(SizeFunction::BitSize),
+const ALL: [Primitive; 56] = [
+    Primitive::Test(Test::IsAtom),
+    Primitive::Test(Test::IsInteger),
+    Primitive::Test(Test::IsList),
+    Primitive::Test(Test::IsNumber),
+    Primitive::Test(Test::IsTuple),
+    Primitive::Test(Test::IsMap),
+    Primitive::Test(Test::IsBinary),
+    Primitive::Test(Test::IsBitstring),
+    Primitive::Test(Test::IsBoolean),
+    Primitive::Test(Test::IsFloat),
+    Primitive::Test(Test::IsPid),
+    Primitive::Test(Test::IsPort),
+    Primitive::Test(Test::IsReference),
+    Primitive::Test(Test::IsFunction),
+    Primitive::Boolean(BooleanFunction::Not),
+    Primitive::Boolean(BooleanFunction::And),
+    Primitive::Boolean(BooleanFunction::Or),
+    Primitive::Boolean(BooleanFunction::Xor),
+    Primitive::Comparison(Comparison::Greater),
+    Primitive::Comparison(Comparison::GreaterOrEqual),
+    Primitive::Comparison(Comparison::Less),
+    Primitive::Comparison(Comparison::LessOrEqual),
+    Primitive::Comparison(Comparison::ExactlyEqual),
+    Primitive::Comparison(Comparison::ExactlyUnequal),
+    Primitive::Comparison(Comparison::Equal),
+    Primitive::Comparison(Comparison::Unequal),
+    Primitive::Extreme(Extreme::Max),
+    Primitive::Extreme(Extreme::Min),
+    Primitive::Integer(IntegerFunction::Abs),
+    Primitive::Integer(IntegerFunction::Round),
+    Primitive::Integer(IntegerFunction::Trunc),
+    Primitive::Integer(IntegerFunction::Plus),
+    Primitive::Integer(IntegerFunction::Negate),
+    Primitive::Integer(IntegerFunction::Bnot),
+    Primitive::Arithmetic(Arithmetic::Add),
+    Primitive::Arithmetic(Arithmetic::Subtract),
+    Primitive::Arithmetic(Arithmetic::Multiply),
+    Primitive::Arithmetic(Arithmetic::Div),
+    Primitive::Arithmetic(Arithmetic::Rem),
+    Primitive::Arithmetic(Arithmetic::Band),
+    Primitive::Arithmetic(Arithmetic::Bor),
+    Primitive::Arithmetic(Arithmetic::Bxor),
+    Primitive::Arithmetic(Arithmetic::Bsl),
+    Primitive::Arithmetic(Arithmetic::Bsr),
+    Primitive::Tuple(TupleFunction::IsRecord),
+    Primitive::Tuple(TupleFunction::Element),
+    Primitive::List(ListFunction::Hd),
+    Primitive::List(ListFunction::Tl),
+    Primitive::List(ListFunction::Length),
+    Primitive::Map(MapFunction::IsMapKey),
+    Primitive::Map(MapFunction::MapGet),
+    Primitive::Map(MapFunction::MapSize),
+    Primitive::Size(SizeFunction::Size),
+    Primitive::Size(SizeFunction::TupleSize),
+    Primitive::Size(SizeFunction::ByteSize),
+    Primitive::Size(SizeFunction::BitSize),
 ];
 
 const fn test_name(test: Test) -> &'static str
@@ -213,7 +213,7 @@ fn is_text(characters: &[char], text: &str) -> bool
 }
 
 /// The first of these functions that has the name and takes so many arguments.
-fn find(prims: &[Prim], name: &[char], arguments: usize) -> Option<Prim>
+fn find(prims: &[Primitive], name: &[char], arguments: usize) -> Option<Primitive>
     ensures { result ≡ spec.found name.now arguments prims.now }
 {
     for prim in prims {
@@ -224,26 +224,26 @@ fn find(prims: &[Prim], name: &[char], arguments: usize) -> Option<Prim>
     None
 }
 
-impl Prim {
+impl Primitive {
     ghost use Rattle.std.specs.Prelude.{◌≡◌, ◌↔◌, IsTrue, Some};
     ghost use Rattle.prims.specs.Names as spec;
-    ghost use Rattle.prims.specs.declared.prim.Prim.{Prim as Function};
+    ghost use Rattle.prims.specs.declared.prim.Primitive.{Primitive as Function};
 
     /// The atom that names the function.
     pub const fn name(self) -> &'static str
         ensures { result.now ≡ spec.name_of self }
     {
         match self {
-            Prim::Test(test) => test_name(test),
-            Prim::Boolean(boolean) => boolean_name(boolean),
-            Prim::Comparison(comparison) => comparison_name(comparison),
-            Prim::Extreme(extreme) => extreme_name(extreme),
-            Prim::Integer(integer) => integer_name(integer),
-            Prim::Arithmetic(arithmetic) => arithmetic_name(arithmetic),
-            Prim::Tuple(tuple) => tuple_name(tuple),
-            Prim::List(list) => list_name(list),
-            Prim::Map(map) => map_name(map),
-            Prim::Size(size) => size_name(size),
+            Primitive::Test(test) => test_name(test),
+            Primitive::Boolean(boolean) => boolean_name(boolean),
+            Primitive::Comparison(comparison) => comparison_name(comparison),
+            Primitive::Extreme(extreme) => extreme_name(extreme),
+            Primitive::Integer(integer) => integer_name(integer),
+            Primitive::Arithmetic(arithmetic) => arithmetic_name(arithmetic),
+            Primitive::Tuple(tuple) => tuple_name(tuple),
+            Primitive::List(list) => list_name(list),
+            Primitive::Map(map) => map_name(map),
+            Primitive::Size(size) => size_name(size),
         }
     }
 
@@ -252,14 +252,14 @@ impl Prim {
         ensures { result ≡ spec.arity_of self }
     {
         match self {
-            Prim::Test(_) | Prim::Integer(_) | Prim::List(_) | Prim::Size(_) => 1,
-            Prim::Comparison(_) | Prim::Extreme(_) | Prim::Arithmetic(_) => 2,
-            Prim::Boolean(BooleanFunction::Not | BooleanFunction::And | BooleanFunction::Or) => 1,
-            Prim::Boolean(BooleanFunction::Xor) => 2,
-            Prim::Tuple(TupleFunction::IsRecord) => 3,
-            Prim::Tuple(TupleFunction::Element) => 2,
-            Prim::Map(MapFunction::IsMapKey | MapFunction::MapGet) => 2,
-            Prim::Map(MapFunction::MapSize) => 1,
+            Primitive::Test(_) | Primitive::Integer(_) | Primitive::List(_) | Primitive::Size(_) => 1,
+            Primitive::Comparison(_) | Primitive::Extreme(_) | Primitive::Arithmetic(_) => 2,
+            Primitive::Boolean(BooleanFunction::Not | BooleanFunction::And | BooleanFunction::Or) => 1,
+            Primitive::Boolean(BooleanFunction::Xor) => 2,
+            Primitive::Tuple(TupleFunction::IsRecord) => 3,
+            Primitive::Tuple(TupleFunction::Element) => 2,
+            Primitive::Map(MapFunction::IsMapKey | MapFunction::MapGet) => 2,
+            Primitive::Map(MapFunction::MapSize) => 1,
         }
     }
 
@@ -268,13 +268,13 @@ impl Prim {
         ensures { result ≡ spec.takes self arguments }
     {
         match self {
-            Prim::Boolean(BooleanFunction::And | BooleanFunction::Or) => 0 < arguments,
+            Primitive::Boolean(BooleanFunction::And | BooleanFunction::Or) => 0 < arguments,
             _ => arguments == self.arity(),
         }
     }
 
     /// The function of that name that takes so many arguments, none where there is none.
-    pub fn named(name: &[char], arguments: usize) -> Option<Prim>
+    pub fn named(name: &[char], arguments: usize) -> Option<Primitive>
         ensures value { result ≡ spec.named name.now arguments }
         ensures table { (p : Function) → (result ≡ Some p) ↔ ((spec.name_of p ≡ name.now) × IsTrue (spec.takes p arguments)) }
     {

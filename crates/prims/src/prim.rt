@@ -3,7 +3,7 @@
 /// A function of match specifications (ERTS User's Guide, "Match Specifications in Erlang", and the functions of the
 /// same names in the Erlang Reference Manual, "Expressions", and module erlang).
 #[derive(Clone, Copy, Debug, PartialEq, Eq)]
-pub enum Prim {
+pub enum Primitive {
     /// What kind of term one is.
     Test(Test),
     /// Of truth values.

@@ -105,15 +105,15 @@ enum Answer {
 }
 
 /// The function of that name and number of arguments.
-fn prim(heap: Global, name: &str, arguments: usize) -> Option<Prim> {
+fn prim(heap: Global, name: &str, arguments: usize) -> Option<Primitive> {
     let characters: Vec<char> = name.chars().collect(heap).ok()?;
-    Prim::named(characters.as_slice(), arguments)
+    Primitive::named(characters.as_slice(), arguments)
 }
 
 /// Where the operand stands among the terms.
 fn place(terms: &[Term], operand: Operand<'_>) -> Option<usize> {
     for (place, term) in terms.iter().enumerate() {
-        let same = Prim::Comparison(Comparison::ExactlyEqual);
+        let same = Primitive::Comparison(Comparison::ExactlyEqual);
         if let Some(Operand::Bool(true)) = call(same, &[Operand::Term(term), operand]) {
             return Some(place);
         }

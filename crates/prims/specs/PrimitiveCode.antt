@@ -4,8 +4,8 @@ use Rattle.std.specs.Coded.{Coded, code_by, coded×, coded_ℕ, coded_list}
 use Rattle.std.proofs.Common.{ap}
 use Rattle.prims.specs.Names.{name_of, arity_of, found}
 use Rattle.prims.specs.declared.names.TheConstants.{ALL}
-use Rattle.prims.specs.declared.prim.Prim.{Prim}
-use Rattle.prims.specs.declared.prim.Prim.TheVariants as prim
+use Rattle.prims.specs.declared.prim.Primitive.{Primitive}
+use Rattle.prims.specs.declared.prim.Primitive.TheVariants as prim
 use Rattle.prims.specs.declared.prim.Test.TheVariants as test
 use Rattle.prims.specs.declared.prim.BooleanFunction.TheVariants as boolean
 use Rattle.prims.specs.declared.prim.Comparison.TheVariants as comparison
@@ -18,7 +18,7 @@ use Rattle.prims.specs.declared.prim.MapFunction.TheVariants as map
 use Rattle.prims.specs.declared.prim.SizeFunction.TheVariants as size
 
 -- each function stands in the table, and nothing before it has its name and number of arguments
-pub found_at : (function : Prim) → found (name_of function) (arity_of function) ALL ≡ Some function
+pub found_at : (function : Primitive) → found (name_of function) (arity_of function) ALL ≡ Some function
 found_at (prim.Test test.IsAtom) = refl
 found_at (prim.Test test.IsInteger) = refl
 found_at (prim.Test test.IsList) = refl
@@ -76,11 +76,11 @@ found_at (prim.Size size.TupleSize) = refl
 found_at (prim.Size size.ByteSize) = refl
 found_at (prim.Size size.BitSize) = refl
 
-abbrev pub function_or_not : Option Prim → Prim
+abbrev pub function_or_not : Option Primitive → Primitive
 function_or_not (Some function) = function
 function_or_not None = prim.Boolean boolean.Not
 
-abbrev pub prim_code : Coded Prim
-prim_code =
+abbrev pub primitive_code : Coded Primitive
+primitive_code =
     code_by (List ℕ × ℕ) (coded× (coded_list coded_ℕ) coded_ℕ) (λ function. (name_of function, arity_of function)) (λ named. function_or_not (found named.0 named.1 ALL))
     (λ function. ap function_or_not (found_at function))

@@ -1,0 +1,21 @@
+-- What an atom at the front of a tuple says, by how many terms stand behind it. (ERTS User's Guide, "Match Specifications
+-- in Erlang", "Grammar": BoolFunction, GuardFunction, and const.)
+use Rattle.std.specs.Prelude.{ℕ, ◌==◌, nat_eq, nat_lt, ◌&&◌, if◌then◌else◌, List, Option, Some, None, codes}
+use Rattle.std.specs.Cmp.Lexicographic.{pointwise}
+use Rattle.prims.specs.Names.{named}
+use Rattle.prims.specs.declared.prim.Primitive.{Primitive}
+use Rattle.mspec_syntax.specs.declared.word.Callee.{Callee}
+use Rattle.mspec_syntax.specs.declared.word.Callee.TheVariants.{Quote, AndAlso, OrElse, Function, Unknown}
+
+-- a function, where there is one of that name that takes so many arguments
+abbrev pub function_callee : Option Primitive → Callee
+function_callee None = Unknown
+function_callee (Some f) = Function f
+
+-- const of one term, andalso and orelse of one or more arguments, or a function
+abbrev pub callee_of : List ℕ → ℕ → Callee
+callee_of cs n =
+    if n == 1 && pointwise nat_eq cs (codes "const") then Quote
+    else if nat_lt 0 n && pointwise nat_eq cs (codes "andalso") then AndAlso
+    else if nat_lt 0 n && pointwise nat_eq cs (codes "orelse") then OrElse
+    else function_callee (named cs n)
