@@ -100,6 +100,10 @@ pub first-answers : (c : Clause) (cs : Specification) (o : Datum) (answer : Opti
 first-answers c cs o answer a (inl h) = inl h
 first-answers c cs o answer a (inr h) = absurd (h.0 a)
 
+pub first-alone : (c : Clause) (cs : Specification) (o : Datum) (answer : Option Datum) → IsApplicable c o → Means (c ∷ []) o answer → Means (c ∷ cs) o answer
+first-alone c cs o answer a (inl h) = inl h
+first-alone c cs o answer a (inr h) = absurd (h.0 a)
+
 pub others-answer : (c : Clause) (cs : Specification) (o : Datum) (answer : Option Datum) → ¬ IsApplicable c o → Means (c ∷ cs) o answer → Means cs o answer
 others-answer c cs o answer never (inl h) = absurd (never (record { substitution = h.0; applies = h.1 }))
 others-answer c cs o answer never (inr h) = h.1

@@ -3,3 +3,5 @@ pub mod SlotLemmas
 pub mod FitLemmas
 pub mod MatchLemmas
 pub mod HoldLemmas
+pub mod ValueLemmas
+pub mod OwnLemmas

@@ -126,8 +126,16 @@ abbrev mutual
 
   -- the tail of a list that is made, of which the limits are looked at as a whole
   pub tail_value : Mode → Expression → Substitution → Datum → Option Datum
+  tail_value mode (bound n) s o = lookup s n
+  tail_value mode object s o = Some o
+  tail_value mode bindings s o = made mode (cells (values_of s) nil)
+  tail_value mode (constant d) s o = Some d
+  tail_value mode (call f es) s o = called mode f (argument_values mode es s o)
+  tail_value mode (and_also es) s o = all_true mode es s o
+  tail_value mode (or_else es) s o = any_true mode es s o
+  tail_value mode (new_tuple es) s o = made_of mode (option_map (λ ds. tuple (items_of ds)) (argument_values mode es s o))
   tail_value mode (new_cell e f) s o = joined (value_of mode e s o) (tail_value mode f s o)
-  tail_value mode e s o = value_of mode e s o
+  tail_value mode (new_map ms) s o = made_of mode (option_map map (entry_values mode ms s o))
 
   -- whether all of these are true, looked at from the left up to the first that is false
   pub all_true : Mode → Expressions → Substitution → Datum → Option Datum

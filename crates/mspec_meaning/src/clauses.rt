@@ -2,24 +2,25 @@
 ghost use Rattle.std.specs.Prelude.{◌≡◌, length, IfOk, OnOk, MatchBool, MatchOption};
 ghost use Rattle.mspec_meaning.specs.Match.{Matches};
 ghost use Rattle.mspec_meaning.specs.Meaning.{AllHold, IsApplicable, Applies, Means, body_value, true_term};
+ghost use Rattle.mspec_meaning.specs.Value.{value_datum};
 ghost use Rattle.mspec_meaning.specs.Slots.{seen, substitution_of, AreFree, NeverMatches, MatchesBy};
 
 use crate::bind::{Slot, bind};
+use crate::held::Value;
 use crate::part::Part;
 use crate::value::{Mode, value_of};
 use mspec_syntax::{Clause, Expression, Spec, Variables};
 use std::alloc::{AllocError, Allocator};
-use term_core::{Term, View};
+use term_core::Term;
 
-/// Whether a term is the atom `true`.
-fn is_true<A: Allocator>(term: &Term<A>) -> bool
-    ensures { MatchBool result (term.now ≡ true_term) (term.now ≡ true_term → ⊥) }
+/// Whether a value is the atom `true`.
+fn is_true<A: Allocator + Copy>(value: Value<'_, A>) -> bool
+    ensures { MatchBool result (value_datum value.entry ≡ true_term) (value_datum value.entry ≡ true_term → ⊥) }
 {
-    match term.view() {
-        View::Atom(['t', 'r', 'u', 'e']) => true,
-        View::Atom(_) => false,
-        View::Integer(_) | View::Nil | View::Tuple(_) | View::Map(_) | View::Binary(_) => false,
-        View::List(_, _) => false,
+    match value.into_boolean() {
+        Some(true) => true,
+        Some(false) => false,
+        None => false,
     }
 }
 
@@ -60,12 +61,12 @@ fn matched<'a, A: Allocator + Copy>(
 }
 
 /// Whether all conditions have the value `true`.
-fn all_hold<A: Allocator + Copy>(
+fn all_hold<'a, A: Allocator + Copy>(
     alloc: A,
-    conditions: &[Expression<A>],
+    conditions: &'a [Expression<A>],
     variables: &Variables<A>,
-    slots: &[Slot<'_, A>],
-    object: &Term<A>,
+    slots: &[Slot<'a, A>],
+    object: &'a Term<A>,
 ) -> Result<bool, AllocError>
     requires { length slots.now ≡ length variables.now }
     ensures { IfOk result (λ holds. MatchBool holds
@@ -75,7 +76,7 @@ fn all_hold<A: Allocator + Copy>(
     for condition in conditions {
         match value_of(alloc, Mode::Condition, condition, variables, slots, object)? {
             Some(answer) => {
-                if !is_true(&answer) {
+                if !is_true(answer) {
                     return Ok(false);
                 }
             }
@@ -86,18 +87,21 @@ fn all_hold<A: Allocator + Copy>(
 }
 
 /// The value of the last expression of a body.
-fn body_answer<A: Allocator + Copy>(
+fn body_answer<'a, A: Allocator + Copy>(
     alloc: A,
-    body: &[Expression<A>],
+    body: &'a [Expression<A>],
     variables: &Variables<A>,
-    slots: &[Slot<'_, A>],
-    object: &Term<A>,
+    slots: &[Slot<'a, A>],
+    object: &'a Term<A>,
 ) -> Result<Option<Term<A>>, AllocError>
     requires { length slots.now ≡ length variables.now }
     ensures { IfOk result (λ answer. answer ≡ body_value body.now (substitution_of variables.now (seen slots.now)) object.now) }
 {
-    match body.last() {
-        Some(last) => value_of(alloc, Mode::Body, last, variables, slots, object),
+    let Some(last) = body.last() else {
+        return Ok(None);
+    };
+    match value_of(alloc, Mode::Body, last, variables, slots, object)? {
+        Some(value) => Ok(Some(value.into_term(alloc)?)),
         None => Ok(None),
     }
 }

@@ -1,5 +1,5 @@
 //! Laws of matching and meaning, each the contract of a function that does nothing.
-ghost use Rattle.mspec_meaning.specs.Laws.{HasOneMatch, EmptyAnswersNothing, FirstAnswers, OthersAnswer};
+ghost use Rattle.mspec_meaning.specs.Laws.{HasOneMatch, EmptyAnswersNothing, FirstAnswers, OthersAnswer, OwnTermMatches};
 
 /// At most one substitution makes a pattern match a term.
 pub fn one_substitution_matches()
@@ -11,7 +11,12 @@ pub fn empty_answers_nothing()
     ensures { EmptyAnswersNothing }
 {}
 
-/// A specification answers as its first clause does where that applies, else as the others do.
+/// A pattern in which neither a variable, `'_'` nor a map stands matches the term that it spells, and no other.
+pub fn own_term_matches()
+    ensures { OwnTermMatches }
+{}
+
+/// A specification answers exactly what its first clause does where that applies, else exactly what the others do.
 pub fn first_clause_decides()
     ensures first { FirstAnswers }
     ensures others { OthersAnswer }

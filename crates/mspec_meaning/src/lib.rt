@@ -10,13 +10,18 @@
 #![tactic(auto)]
 
 mod bind;
+mod called;
 mod clauses;
+mod held;
 mod laws;
+mod made;
 mod part;
 #[cfg(test)]
 mod tests;
 mod value;
 
 pub use clauses::evaluate;
-pub use laws::{empty_answers_nothing, first_clause_decides, one_substitution_matches};
+pub use laws::{
+    empty_answers_nothing, first_clause_decides, one_substitution_matches, own_term_matches,
+};
 pub use value::Mode;

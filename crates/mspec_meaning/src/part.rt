@@ -1,11 +1,12 @@
 //! Parts of an object.
-ghost use Rattle.std.specs.Prelude.{◌≡◌, MatchBool, IfOk};
+ghost use Rattle.std.specs.Prelude.{◌≡◌, MatchBool};
 ghost use Rattle.std.specs.Option.{option_copied};
 ghost use Rattle.mspec_meaning.specs.Part.{part_of, rest_of, joined, IsListSplit, IsWellSplit};
 ghost use Rattle.term_core.specs.Datum.{cells};
 ghost use Rattle.term_core.specs.Term.{tail_of};
 
-use std::alloc::{AllocError, Allocator};
+use prims::Operand;
+use std::alloc::Allocator;
 use term_core::{Term, View};
 
 /// A part of an object, which is a term.
@@ -91,31 +92,6 @@ fn split_behind<'a, A: Allocator>(
     }
 }
 
-/// Copies of these terms.
-fn copy_all<A: Allocator + Copy>(alloc: A, terms: &[Term<A>]) -> Result<Vec<Term<A>, A>, AllocError>
-    ensures { IfOk result (λ copies. copies.items ≡ terms.now) }
-{
-    let mut copies = Vec::with_capacity(alloc, terms.len())?;
-    for term in terms {
-        let copied = term.copy(alloc)?;
-        copies.push(copied)?;
-    }
-    Ok(copies)
-}
-
-/// A copy of a list's tail.
-fn copy_tail<A: Allocator + Copy>(
-    alloc: A,
-    tail: Option<&Term<A>>,
-) -> Result<Option<Term<A>>, AllocError>
-    ensures { IfOk result (λ copied. copied ≡ option_copied tail.entry) }
-{
-    match tail {
-        Some(tail) => Ok(Some(tail.copy(alloc)?)),
-        None => Ok(None),
-    }
-}
-
 /// Whether two parts are the same term.
 pub(crate) fn same_part<A: Allocator + Copy>(a: Part<'_, A>, b: Part<'_, A>) -> bool
     ensures { MatchBool result (part_of a.entry ≡ part_of b.entry) (part_of a.entry ≡ part_of b.entry → ⊥) }
@@ -129,9 +105,10 @@ pub(crate) fn same_part<A: Allocator + Copy>(a: Part<'_, A>, b: Part<'_, A>) -> 
 }
 
 impl<'a, A: Allocator + Copy> Part<'a, A> {
-    ghost use Rattle.std.specs.Prelude.{◌≡◌, ◌<◌, ◌≤◌, length, MatchBool, IfOk, IfSome, IfNone};
+    ghost use Rattle.std.specs.Prelude.{◌≡◌, ◌<◌, ◌≤◌, length, MatchBool, IfSome, IfNone};
     ghost use Rattle.term_core.specs.Datum.{items_of, entries_of, cells, cell_count};
     ghost use Rattle.term_core.specs.Datum.Datum.{nil, tuple, map as table};
+    ghost use Rattle.prims.specs.Operand.{operand_datum};
     ghost use Rattle.mspec_meaning.specs.Part.{part_of, rest_of, joined, IsWellSplit, IsNoTuple, IsNoMap};
 
     /// The part taken apart where it is a list.
@@ -222,20 +199,13 @@ impl<'a, A: Allocator + Copy> Part<'a, A> {
         }
     }
 
-    /// A copy of the part.
-    pub(crate) fn copy(self, alloc: A) -> Result<Term<A>, AllocError>
-        ensures { IfOk result (λ term. term ≡ part_of self.entry) }
+    /// The part as an operand.
+    pub(crate) fn operand(self) -> Operand<'a, A>
+        ensures { operand_datum result ≡ part_of self.entry }
     {
         match self.split() {
-            Split::Other(term) => term.copy(alloc),
-            Split::List(elements, tail) => {
-                let copies = copy_all(alloc, elements)?;
-                let tail = copy_tail(alloc, tail)?;
-                match Term::list(alloc, copies, tail) {
-                    Ok(list) => Ok(list),
-                    Err(_) => Err(AllocError),
-                }
-            }
+            Split::List(elements, tail) => Operand::Rest(elements, tail),
+            Split::Other(term) => Operand::Term(term),
         }
     }
 }

@@ -1,0 +1,317 @@
+-- Values of expressions, part by part.
+use Rattle.std.proofs.Common.{◌≡◌, ◌≢◌, ℕ, zero, suc, ◌+◌, ◌<◌, ◌≤◌, Bool, true, false, ◌||◌, cond, Option, Some, None, option_map, Box, Result, Ok, Err, List, [], ◌∷◌, ◌++◌, map, length, get_or, drop, refl, sym, ◌∙◌, ap, subst, arith, drop-cons, add-one}
+use Rattle.std.specs.Prelude.{IfOk, nat_lt, nat_eq, codes}
+use Rattle.std.proofs.lemmas.List.{drop_all, append_assoc, append-nil}
+use Rattle.std.specs.Cmp.Lexicographic.{pointwise, bytes_decides}
+use Rattle.std.proofs.lemmas.Bool.{le-ltb, lt-ltb}
+use Rattle.prims.specs.Booleans.{boolean_of}
+use Rattle.term_core.specs.Datum.{Datum, Entries, cells, entries_of, entry_count}
+use Rattle.term_core.specs.Datum.Datum.{integer, atom, tuple, map as table, nil, cons, binary}
+use Rattle.term_core.specs.Datum.Entries.{no_entries, entry}
+use Rattle.term_core.specs.Fault.{IsFault}
+use Rattle.term_core.specs.Limits.{IsTerm, depth}
+use Rattle.term_core.specs.MapPairs.{AreRising, IsMapFault}
+use Rattle.term_core.specs.Order.{IsBelow, IsBelowFirst}
+use Rattle.term_core.specs.declared.TheConstants.{MAX_DEPTH, MAX_MAP}
+use Rattle.term_core.specs.declared.fault.Fault.{Fault}
+use Rattle.term_core.specs.declared.fault.Fault.TheVariants.{Memory, TooDeep, TooLong, DuplicateKey}
+use Rattle.term_core.proofs.MapLemmas.{apart-no_twin, apart_from_rising}
+use Rattle.mspec_syntax.specs.Expression.{Expression, Expressions, Assignments, expressions_of, assignments_of, new_cells, expression_size, expressions_size, assignments_size, AreKeysRising, IsBelowNext, IsNoListExpression}
+use Rattle.mspec_syntax.specs.Expression.Expression.{bound, object, bindings, constant, call, and_also, or_else, new_tuple, new_cell, new_map}
+use Rattle.mspec_syntax.specs.Expression.Assignments.{no_assignments, assignment}
+use Rattle.mspec_syntax.specs.ExpressionView.{tail_expression, IsTailExpression}
+use Rattle.mspec_meaning.specs.Match.{Substitution}
+use Rattle.mspec_meaning.specs.Meaning.{true_term, is_too_long, is_past_limits, failed, made, made_of, before, at_key, joined, and_step, and_at, or_step, or_at, value_of, argument_values, entry_values, tail_value, all_true, any_true}
+use Rattle.mspec_meaning.specs.Value.{joined_to}
+use Rattle.mspec_meaning.specs.declared.value.Mode.{Mode}
+
+-- two facts of what a call gives
+pub IfOk-both : {T E : Type 0} (r : Result T E) (P Q R : T → Type 0) → ((v : T) → P v → Q v → R v) → IfOk r P → IfOk r Q → IfOk r R
+IfOk-both (Ok v) P Q R f p q = f v p q
+IfOk-both (Err e) P Q R f p q = tt
+
+-- a list is no truth value
+pub list-no_boolean : (ds : List Datum) (t d : Datum) → cells ds t ≡ d → 0 < length ds → None ≡ boolean_of d
+list-no_boolean [] t d is some = absurd (omega arith)
+list-no_boolean (x ∷ ds) t d is some = ap boolean_of is
+
+no-true : (b : Bool) → Some true ≡ cond b (Some false) None → ⊥
+no-true true e = absurd (cc)
+no-true false e = absurd (cc)
+
+-- the truth value true is the atom true
+pub boolean-true : (d : Datum) → Some true ≡ boolean_of d → d ≡ true_term
+boolean-true (atom cs) e = by (pointwise nat_eq cs (codes "true")) refl e
+  where
+    by : (b : Bool) → pointwise nat_eq cs (codes "true") ≡ b → Some true ≡ cond b (Some true) (cond (pointwise nat_eq cs (codes "false")) (Some false) None) → atom cs ≡ true_term
+    by true same f = ap atom ((bytes_decides cs (codes "true")).0 same)
+    by false same f = absurd (no-true (pointwise nat_eq cs (codes "false")) f)
+boolean-true (integer z) e = absurd (cc)
+boolean-true (tuple ds) e = absurd (cc)
+boolean-true (table es) e = absurd (cc)
+boolean-true nil e = absurd (cc)
+boolean-true (cons head tail) e = absurd (cc)
+boolean-true (binary bs) e = absurd (cc)
+
+pub boolean-other : (b : Option Bool) (d : Datum) → b ≡ boolean_of d → (b ≡ Some true → ⊥) → d ≡ true_term → ⊥
+boolean-other b d is other e = other (is ∙ ap boolean_of e)
+
+table-within : (es : Entries) → IsTerm (table es) → is_past_limits (table es) ≡ false
+table-within es term =
+    ap (λ b. b || nat_lt MAX_MAP (entry_count es)) (le-ltb MAX_DEPTH (depth (table es)) term.shallow)
+    ∙ le-ltb MAX_MAP (entry_count es) term.sound.0
+
+-- a map that is made, or is refused
+pub map-made : (mode : Mode) (es : Entries) (t : Datum) → table es ≡ t → IsTerm t → Some t ≡ made mode (table es)
+map-made mode es t is term =
+    ap Some (sym is) ∙ sym (ap (λ b. cond b (failed mode) (Some (table es))) (table-within es (subst IsTerm (sym is) term)))
+
+pub map-refused : (mode : Mode) (fault : Fault) (es : List (Datum × Datum)) (value : Option Datum) → IsMapFault fault es → AreRising (entries_of es) → value ≡ failed mode → fault ≢ Memory → value ≡ made mode (table (entries_of es))
+map-refused mode Memory es value f rising e other = absurd (other refl)
+map-refused mode TooDeep es value f rising e other =
+    let whole = table (entries_of es) in
+    e ∙ sym (ap (λ b. cond (b || is_too_long whole) (failed mode) (Some whole)) (lt-ltb MAX_DEPTH (depth whole) f))
+map-refused mode TooLong es value f rising e other =
+    let whole = table (entries_of es) in
+    e
+    ∙ sym (ap (λ b. cond (b || is_too_long whole) (failed mode) (Some whole)) (le-ltb MAX_DEPTH (depth whole) f.0)
+    ∙ ap (λ b. cond b (failed mode) (Some whole)) (lt-ltb MAX_MAP (entry_count (entries_of es)) f.1))
+map-refused mode DuplicateKey es value f rising e other = absurd (apart-no_twin es (apart_from_rising es rising) f.2)
+
+split_at : {X : Type 0} (xs : List X) (i : ℕ) (x : X) → i < length xs → x ≡ get_or xs i x → drop i xs ≡ x ∷ drop (i + 1) xs
+split_at xs i x h e = drop-cons xs i x h ∙ ap (λ y. y ∷ drop (suc i) xs) (sym e) ∙ ap (λ j. x ∷ drop j xs) (sym (add-one i))
+
+expressions_size-get : (es : List Expression) (i : ℕ) (e : Expression) → i < length es → expression_size (get_or es i e) < expressions_size (expressions_of es)
+expressions_size-get [] i e h = absurd (omega arith)
+expressions_size-get (x ∷ es) zero e h = omega arith
+expressions_size-get (x ∷ es) (suc i) e h = omega (arith, expressions_size-get es i e (omega arith))
+
+-- an argument is smaller than the arguments
+pub expressions_size-at : (es : List Expression) (i : ℕ) (e : Expression) → i < length es → e ≡ get_or es i e → expression_size e < expressions_size (expressions_of es)
+expressions_size-at es i e h is = omega (arith, expressions_size-get es i e h, ap expression_size is)
+
+assignments_size-get : (ms : List (Datum × Expression)) (i : ℕ) (m : Datum × Expression) → i < length ms → expression_size (get_or ms i m).1 < assignments_size (assignments_of ms)
+assignments_size-get [] i m h = absurd (omega arith)
+assignments_size-get (x ∷ ms) zero m h = omega arith
+assignments_size-get (x ∷ ms) (suc i) m h = omega (arith, assignments_size-get ms i m (omega arith))
+
+pub assignments_size-at : (ms : List (Datum × Expression)) (i : ℕ) (m : Datum × Expression) → i < length ms → m ≡ get_or ms i m → expression_size m.1 < assignments_size (assignments_of ms)
+assignments_size-at ms i m h is = omega (arith, assignments_size-get ms i m h, ap (λ x. expression_size x.1) is)
+
+-- the size of a list
+pub cells-size : (es : List Expression) (t : Expression) → expression_size (new_cells es t) ≡ expressions_size (expressions_of es) + expression_size t
+cells-size [] t = omega arith
+cells-size (e ∷ es) t = omega (arith, cells-size es t)
+
+pub size-some : (e : Expression) → 0 < expression_size e
+size-some (bound n) = omega arith
+size-some object = omega arith
+size-some bindings = omega arith
+size-some (constant d) = omega arith
+size-some (call f es) = omega arith
+size-some (and_also es) = omega arith
+size-some (or_else es) = omega arith
+size-some (new_tuple es) = omega arith
+size-some (new_cell e f) = omega arith
+size-some (new_map ms) = omega arith
+
+pub some-size : (es : List Expression) → 0 < length es → 0 < expressions_size (expressions_of es)
+some-size [] h = absurd (omega arith)
+some-size (e ∷ es) h = omega arith
+
+-- pairs, and then those of a map
+abbrev pub entries_before : List (Datum × Datum) → Entries → Entries
+entries_before [] es = es
+entries_before (p ∷ ps) es = entry p.0 p.1 (entries_before ps es)
+
+entries-push : (ps : List (Datum × Datum)) (p : Datum × Datum) (es : Entries) → entries_before ps (entry p.0 p.1 es) ≡ entries_before (ps ++ p ∷ []) es
+entries-push [] p es = refl
+entries-push (q ∷ ps) p es = ap (entry q.0 q.1) (entries-push ps p es)
+
+entries-all : (ps : List (Datum × Datum)) → entries_of ps ≡ entries_before ps no_entries
+entries-all [] = refl
+entries-all (q ∷ ps) = ap (entry q.0 q.1) (entries-all ps)
+
+nothing_before : (found : Option Entries) → option_map (entries_before []) found ≡ found
+nothing_before None = refl
+nothing_before (Some es) = refl
+
+before-push : (vs : List Datum) (v : Datum) (found : Option (List Datum)) → option_map (λ r. (vs ++ v ∷ []) ++ r) found ≡ option_map (λ r. vs ++ r) (before (Some v) found)
+before-push vs v None = refl
+before-push vs v (Some r) = ap Some (append_assoc vs (v ∷ []) r)
+
+before-none : (found : Option (List Datum)) → before None found ≡ None
+before-none None = refl
+before-none (Some r) = refl
+
+at_key-push : (ps : List (Datum × Datum)) (k v : Datum) (found : Option Entries) → option_map (entries_before (ps ++ (k, v) ∷ [])) found ≡ option_map (entries_before ps) (at_key k (Some v) found)
+at_key-push ps k v None = refl
+at_key-push ps k v (Some es) = ap Some (sym (entries-push ps (k, v) es))
+
+at_key-none : (k : Datum) (found : Option Entries) → at_key k None found ≡ None
+at_key-none k None = refl
+at_key-none k (Some es) = refl
+
+joined-before : (a : Option Datum) (b : Option (List Datum)) (c : Option Datum) → joined a (joined_to b c) ≡ joined_to (before a b) c
+joined-before None None c = refl
+joined-before None (Some ds) None = refl
+joined-before None (Some ds) (Some d) = refl
+joined-before (Some x) None c = refl
+joined-before (Some x) (Some ds) None = refl
+joined-before (Some x) (Some ds) (Some d) = refl
+
+pub joined_to-none : (c : Option Datum) → None ≡ joined_to None c
+joined_to-none None = refl
+joined_to-none (Some d) = refl
+
+pub joined_to-nothing : (b : Option (List Datum)) → None ≡ joined_to b None
+joined_to-nothing None = refl
+joined_to-nothing (Some ds) = refl
+
+joined-nothing : (c : Option Datum) → c ≡ joined_to (Some []) c
+joined-nothing None = refl
+joined-nothing (Some d) = refl
+
+below-at : (k l : Datum) (v : Option Datum) (found : Option Entries) (es : Entries) → Some es ≡ at_key l v found → IsBelow k l → IsBelowFirst k es
+below-at k l None found es is h = absurd (let e = is ∙ at_key-none l found in cc)
+below-at k l (Some v) None es is h = absurd (cc)
+below-at k l (Some v) (Some fs) es is h = let same : entry l v fs ≡ es = cc in subst (IsBelowFirst k) same h
+
+rises-at : (k : Datum) (v : Option Datum) (found : Option Entries) (es : Entries) → Some es ≡ at_key k v found → ((fs : Entries) → Some fs ≡ found → IsBelowFirst k fs × AreRising fs) → AreRising es
+rises-at k None found es is h = absurd (let e = is ∙ at_key-none k found in cc)
+rises-at k (Some v) None es is h = absurd (cc)
+rises-at k (Some v) (Some fs) es is h = let same : entry k v fs ≡ es = cc in subst AreRising same (h fs refl)
+
+module _ (mode : Mode) (s : Substitution) (o : Datum) where
+  -- the values so far, and those of the arguments that are left
+  abbrev pub ValuesFront : List Expression → ℕ → List Datum → Type 0
+  ValuesFront es i vs =
+      option_map (λ r. vs ++ r) (argument_values mode (expressions_of (drop i es)) s o) ≡ argument_values mode (expressions_of es) s o
+
+  abbrev pub EntriesFront : List (Datum × Expression) → ℕ → List (Datum × Datum) → Type 0
+  EntriesFront ms i ps =
+      option_map (entries_before ps) (entry_values mode (assignments_of (drop i ms)) s o) ≡ entry_values mode (assignments_of ms) s o
+
+  pub ValuesFront-more : (es : List Expression) (i : ℕ) (e : Expression) (vs : List Datum) (v : Datum) → i < length es → e ≡ get_or es i e → Some v ≡ value_of mode e s o → ValuesFront es i vs → ValuesFront es (i + 1) (vs ++ v ∷ [])
+  ValuesFront-more es i e vs v h is value front =
+      let rest = argument_values mode (expressions_of (drop (i + 1) es)) s o in
+      before-push vs v rest
+      ∙ ap (λ x. option_map (λ r. vs ++ r) (before x rest)) value
+      ∙ ap (λ l. option_map (λ r. vs ++ r) (argument_values mode (expressions_of l) s o)) (sym (split_at es i e h is))
+      ∙ front
+
+  pub ValuesFront-none : (es : List Expression) (i : ℕ) (e : Expression) (vs : List Datum) → i < length es → e ≡ get_or es i e → None ≡ value_of mode e s o → ValuesFront es i vs → None ≡ argument_values mode (expressions_of es) s o
+  ValuesFront-none es i e vs h is value front =
+      let rest = argument_values mode (expressions_of (drop (i + 1) es)) s o in
+      ap (option_map (λ r. vs ++ r)) (sym (before-none rest))
+      ∙ ap (λ x. option_map (λ r. vs ++ r) (before x rest)) value
+      ∙ ap (λ l. option_map (λ r. vs ++ r) (argument_values mode (expressions_of l) s o)) (sym (split_at es i e h is))
+      ∙ front
+
+  pub ValuesFront-all : (es : List Expression) (i : ℕ) (vs : List Datum) → length es ≤ i → ValuesFront es i vs → Some vs ≡ argument_values mode (expressions_of es) s o
+  ValuesFront-all es i vs end front =
+      ap Some (sym (append-nil vs))
+      ∙ ap (λ l. option_map (λ r. vs ++ r) (argument_values mode (expressions_of l) s o)) (sym (drop_all i es end))
+      ∙ front
+
+  pub EntriesFront-start : (ms : List (Datum × Expression)) → EntriesFront ms 0 []
+  EntriesFront-start ms = nothing_before (entry_values mode (assignments_of ms) s o)
+
+  pub EntriesFront-more : (ms : List (Datum × Expression)) (i : ℕ) (m : Datum × Expression) (ps : List (Datum × Datum)) (v : Datum) → i < length ms → m ≡ get_or ms i m → Some v ≡ value_of mode m.1 s o → EntriesFront ms i ps → EntriesFront ms (i + 1) (ps ++ (m.0, v) ∷ [])
+  EntriesFront-more ms i m ps v h is value front =
+      let rest = entry_values mode (assignments_of (drop (i + 1) ms)) s o in
+      at_key-push ps m.0 v rest
+      ∙ ap (λ x. option_map (entries_before ps) (at_key m.0 x rest)) value
+      ∙ ap (λ l. option_map (entries_before ps) (entry_values mode (assignments_of l) s o)) (sym (split_at ms i m h is))
+      ∙ front
+
+  pub EntriesFront-none : (ms : List (Datum × Expression)) (i : ℕ) (m : Datum × Expression) (ps : List (Datum × Datum)) → i < length ms → m ≡ get_or ms i m → None ≡ value_of mode m.1 s o → EntriesFront ms i ps → None ≡ entry_values mode (assignments_of ms) s o
+  EntriesFront-none ms i m ps h is value front =
+      let rest = entry_values mode (assignments_of (drop (i + 1) ms)) s o in
+      ap (option_map (entries_before ps)) (sym (at_key-none m.0 rest))
+      ∙ ap (λ x. option_map (entries_before ps) (at_key m.0 x rest)) value
+      ∙ ap (λ l. option_map (entries_before ps) (entry_values mode (assignments_of l) s o)) (sym (split_at ms i m h is))
+      ∙ front
+
+  pub EntriesFront-all : (ms : List (Datum × Expression)) (i : ℕ) (ps : List (Datum × Datum)) → length ms ≤ i → EntriesFront ms i ps → Some (entries_of ps) ≡ entry_values mode (assignments_of ms) s o
+  EntriesFront-all ms i ps end front =
+      ap Some (entries-all ps)
+      ∙ ap (λ l. option_map (entries_before ps) (entry_values mode (assignments_of l) s o)) (sym (drop_all i ms end))
+      ∙ front
+
+  -- the arguments that are left decide
+  abbrev pub AllFront : List Expression → ℕ → Type 0
+  AllFront es i = all_true mode (expressions_of (drop i es)) s o ≡ all_true mode (expressions_of es) s o
+
+  abbrev pub AnyFront : List Expression → ℕ → Type 0
+  AnyFront es i = any_true mode (expressions_of (drop i es)) s o ≡ any_true mode (expressions_of es) s o
+
+  -- what an argument's value makes of the arguments behind it
+  pub AllFront-step : (es : List Expression) (i : ℕ) (e : Expression) (value : Option Datum) → i < length es → e ≡ get_or es i e → value ≡ value_of mode e s o → AllFront es i → and_step mode value (all_true mode (expressions_of (drop (i + 1) es)) s o) ≡ all_true mode (expressions_of es) s o
+  AllFront-step es i e value h is same front =
+      ap (λ x. and_step mode x (all_true mode (expressions_of (drop (i + 1) es)) s o)) same
+      ∙ ap (λ l. all_true mode (expressions_of l) s o) (sym (split_at es i e h is))
+      ∙ front
+
+  pub AnyFront-step : (es : List Expression) (i : ℕ) (e : Expression) (value : Option Datum) → i < length es → e ≡ get_or es i e → value ≡ value_of mode e s o → AnyFront es i → or_step mode value (any_true mode (expressions_of (drop (i + 1) es)) s o) ≡ any_true mode (expressions_of es) s o
+  AnyFront-step es i e value h is same front =
+      ap (λ x. or_step mode x (any_true mode (expressions_of (drop (i + 1) es)) s o)) same
+      ∙ ap (λ l. any_true mode (expressions_of l) s o) (sym (split_at es i e h is))
+      ∙ front
+
+  -- the same at an argument's truth value
+  pub AllFront-at : (es : List Expression) (i : ℕ) (e : Expression) (v : Datum) (b : Option Bool) → i < length es → e ≡ get_or es i e → Some v ≡ value_of mode e s o → b ≡ boolean_of v → AllFront es i → and_at mode b (all_true mode (expressions_of (drop (i + 1) es)) s o) ≡ all_true mode (expressions_of es) s o
+  AllFront-at es i e v b h is same says front =
+      ap (λ x. and_at mode x (all_true mode (expressions_of (drop (i + 1) es)) s o)) says ∙ AllFront-step es i e (Some v) h is same front
+
+  pub AnyFront-at : (es : List Expression) (i : ℕ) (e : Expression) (v : Datum) (b : Option Bool) → i < length es → e ≡ get_or es i e → Some v ≡ value_of mode e s o → b ≡ boolean_of v → AnyFront es i → or_at mode b (any_true mode (expressions_of (drop (i + 1) es)) s o) ≡ any_true mode (expressions_of es) s o
+  AnyFront-at es i e v b h is same says front =
+      ap (λ x. or_at mode x (any_true mode (expressions_of (drop (i + 1) es)) s o)) says ∙ AnyFront-step es i e (Some v) h is same front
+
+  pub AllFront-all : (es : List Expression) (i : ℕ) → length es ≤ i → AllFront es i → all_true mode (expressions_of []) s o ≡ all_true mode (expressions_of es) s o
+  AllFront-all es i end front = ap (λ l. all_true mode (expressions_of l) s o) (sym (drop_all i es end)) ∙ front
+
+  pub AnyFront-all : (es : List Expression) (i : ℕ) → length es ≤ i → AnyFront es i → any_true mode (expressions_of []) s o ≡ any_true mode (expressions_of es) s o
+  AnyFront-all es i end front = ap (λ l. any_true mode (expressions_of l) s o) (sym (drop_all i es end)) ∙ front
+
+  tail-value : {A : Type 0} (tail : Option (Box Expression A)) → IsTailExpression tail → tail_value mode (tail_expression tail) s o ≡ value_of mode (tail_expression tail) s o
+  tail-value None h = refl
+  tail-value (Some b) h = at b.value h
+    where
+      at : (t : Expression) → IsNoListExpression t → tail_value mode t s o ≡ value_of mode t s o
+      at (bound n) h = refl
+      at object h = refl
+      at bindings h = refl
+      at (constant d) h = refl
+      at (call f es) h = refl
+      at (and_also es) h = refl
+      at (or_else es) h = refl
+      at (new_tuple es) h = refl
+      at (new_cell e f) h = absurd h
+      at (new_map ms) h = refl
+
+  cells-tail : (es : List Expression) (t : Expression) → tail_value mode t s o ≡ value_of mode t s o → tail_value mode (new_cells es t) s o ≡ joined_to (argument_values mode (expressions_of es) s o) (value_of mode t s o)
+  cells-tail [] t h = h ∙ joined-nothing (value_of mode t s o)
+  cells-tail (e ∷ es) t h =
+      ap (joined (value_of mode e s o)) (cells-tail es t h)
+      ∙ joined-before (value_of mode e s o) (argument_values mode (expressions_of es) s o) (value_of mode t s o)
+
+  cells-value : (es : List Expression) (t : Expression) → 0 < length es → value_of mode (new_cells es t) s o ≡ made_of mode (tail_value mode (new_cells es t) s o)
+  cells-value [] t h = absurd (omega arith)
+  cells-value (e ∷ es) t h = refl
+
+  -- the value of a list of elements and a tail
+  pub list-value : {A : Type 0} (es : List Expression) (tail : Option (Box Expression A)) → 0 < length es → IsTailExpression tail → made_of mode (joined_to (argument_values mode (expressions_of es) s o) (value_of mode (tail_expression tail) s o)) ≡ value_of mode (new_cells es (tail_expression tail)) s o
+  list-value es tail some h =
+      sym (cells-value es (tail_expression tail) some ∙ ap (made_of mode) (cells-tail es (tail_expression tail) (tail-value tail h)))
+
+  below-next : (k : Datum) (ms : Assignments) (es : Entries) → Some es ≡ entry_values mode ms s o → IsBelowNext k ms → IsBelowFirst k es
+  below-next k no_assignments es is h = let same : no_entries ≡ es = cc in subst (IsBelowFirst k) same tt
+  below-next k (assignment l e ms) es is h = below-at k l (value_of mode e s o) (entry_values mode ms s o) es is h
+
+  -- a map's keys stay as they are
+  pub entries-rise : (ms : Assignments) (es : Entries) → Some es ≡ entry_values mode ms s o → AreKeysRising ms → AreRising es
+  entries-rise no_assignments es is h = let same : no_entries ≡ es = cc in subst AreRising same tt
+  entries-rise (assignment k e ms) es is h =
+      rises-at k (value_of mode e s o) (entry_values mode ms s o) es is
+      (λ fs same. (below-next k ms fs same h.0, entries-rise ms fs same h.1))
