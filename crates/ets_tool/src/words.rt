@@ -70,7 +70,7 @@ fn program<'a>(alloc: Global) -> Result<Command<'a>, AllocError> {
         .about(ABOUT)
         .after_help(EXAMPLE)
         .subcommand_required(true)
-        .subcommand(run)
+        .subcommand(run)?
         .subcommand(test)
 }
 

@@ -9,7 +9,7 @@ ghost use Rattle.mspec_meaning.specs.Value.{value_datum};
 use crate::held::{Value, copied, held};
 use crate::made::failure;
 use crate::value::Mode;
-use prims::{Operand, Prim, call};
+use prims::{Operand, Primitive, call};
 use std::alloc::{AllocError, Allocator};
 
 /// These values as operands.
@@ -61,7 +61,7 @@ fn unborrowed<'a, A: Allocator + Copy>(
 fn called_of_made<'a, A: Allocator + Copy>(
     alloc: A,
     mode: Mode,
-    prim: Prim,
+    prim: Primitive,
     values: &[Value<'_, A>],
 ) -> Result<Option<Value<'a, A>>, AllocError>
     ensures { IfOk result (λ value. option_map value_datum value ≡ or_failed mode (function_of prim (map value_datum values.now))) }
@@ -77,7 +77,7 @@ fn called_of_made<'a, A: Allocator + Copy>(
 pub(crate) fn called<'a, A: Allocator + Copy>(
     alloc: A,
     mode: Mode,
-    prim: Prim,
+    prim: Primitive,
     values: &[Value<'a, A>],
 ) -> Result<Option<Value<'a, A>>, AllocError>
     ensures { IfOk result (λ value. option_map value_datum value ≡ or_failed mode (function_of prim (map value_datum values.now))) }

@@ -191,4 +191,4 @@ read_construction-returns-clause-ok g t c =
 
 pub read_expression-new-requires-in-Map : goal.read_expression-new-requires-in-Map
 read_expression-new-requires-in-Map g t c =
-    keys-rising c.args.variables.now (entries_of c.in-Map.pairs.now) (assignments_of c.in_ok-assignments.assignments.items) c.args.term.now c.in-Map.ensures.value c.in-Map.ensures.within c.in_ok-assignments.ensures.ok
+    keys-rising c.args.variables.now (entries_of c.in-Map.pairs.now) (assignments_of c.in_ok-assignments-in-Map.assignments.items) c.args.term.now c.in-Map.ensures.value c.in-Map.ensures.within c.in_ok-assignments-in-Map.ensures.ok
