@@ -17,7 +17,7 @@ use Rattle.term_core.specs.declared.fault.Fault.{Fault}
 use Rattle.term_core.specs.declared.fault.Fault.TheVariants.{Memory, TooDeep, TooLong, DuplicateKey}
 use Rattle.term_core.proofs.MapLemmas.{apart-no_twin, apart_from_rising}
 use Rattle.mspec_syntax.specs.Expression.{Expression, Expressions, Assignments, expressions_of, assignments_of, new_cells, expression_size, expressions_size, assignments_size, AreKeysRising, IsBelowNext, IsNoListExpression}
-use Rattle.mspec_syntax.specs.Expression.Expression.{bound, object, bindings, constant, call, and_also, or_else, new_tuple, new_cell, new_map}
+use Rattle.mspec_syntax.specs.Expression.Expression.{bound, object, bindings, constant, quoted, call, and_also, or_else, new_tuple, new_cell, new_map}
 use Rattle.mspec_syntax.specs.Expression.Assignments.{no_assignments, assignment}
 use Rattle.mspec_syntax.specs.ExpressionView.{tail_expression, IsTailExpression}
 use Rattle.mspec_meaning.specs.Match.{Substitution}
@@ -108,6 +108,7 @@ size-some (bound n) = omega arith
 size-some object = omega arith
 size-some bindings = omega arith
 size-some (constant d) = omega arith
+size-some (quoted d) = omega arith
 size-some (call f es) = omega arith
 size-some (and_also es) = omega arith
 size-some (or_else es) = omega arith
@@ -283,6 +284,7 @@ module _ (mode : Mode) (s : Substitution) (o : Datum) where
       at object h = refl
       at bindings h = refl
       at (constant d) h = refl
+      at (quoted d) h = refl
       at (call f es) h = refl
       at (and_also es) h = refl
       at (or_else es) h = refl

@@ -3,14 +3,14 @@ use Rattle.std.specs.Prelude.{ℕ, ◌≡◌, ◌⊎◌, nat_lt, Bool, true, fal
 use Rattle.prims.specs.Booleans.{boolean_of}
 use Rattle.prims.specs.Calls.{function_of}
 use Rattle.prims.specs.Operand.{boolean}
-use Rattle.prims.specs.declared.prim.Prim.{Prim}
+use Rattle.prims.specs.declared.prim.Primitive.{Primitive}
 use Rattle.term_core.specs.Datum.{Datum, Entries, item_count, entry_count, cell_count, cells, items_of}
 use Rattle.term_core.specs.Datum.Entries.{no_entries, entry}
 use Rattle.term_core.specs.Datum.Datum.{integer, atom, tuple, map, nil, cons, binary}
 use Rattle.term_core.specs.Limits.{depth}
 use Rattle.term_core.specs.declared.TheConstants.{MAX_DEPTH, MAX_CHARACTERS, MAX_TUPLE, MAX_MAP, MAX_LIST, MAX_BINARY}
 use Rattle.mspec_syntax.specs.Expression.{Expression, Expressions, Assignments}
-use Rattle.mspec_syntax.specs.Expression.Expression.{bound, object, bindings, constant, call, and_also, or_else, new_tuple, new_cell, new_map}
+use Rattle.mspec_syntax.specs.Expression.Expression.{bound, object, bindings, constant, quoted, call, and_also, or_else, new_tuple, new_cell, new_map}
 use Rattle.mspec_syntax.specs.Expression.Expressions.{no_expressions, expression}
 use Rattle.mspec_syntax.specs.Expression.Assignments.{no_assignments, assignment}
 use Rattle.mspec_syntax.specs.Specification.{Clause, Specification}
@@ -59,7 +59,7 @@ or_failed mode None = failed mode
 or_failed mode (Some d) = Some d
 
 -- what a call comes to, of its arguments' values where all have one
-abbrev pub called : Mode → Prim → Option (List Datum) → Option Datum
+abbrev pub called : Mode → Primitive → Option (List Datum) → Option Datum
 called mode f None = None
 called mode f (Some ds) = or_failed mode (function_of f ds)
 
@@ -107,6 +107,7 @@ abbrev mutual
   value_of mode object s o = Some o
   value_of mode bindings s o = made mode (cells (values_of s) nil)
   value_of mode (constant d) s o = Some d
+  value_of mode (quoted d) s o = Some d
   value_of mode (call f es) s o = called mode f (argument_values mode es s o)
   value_of mode (and_also es) s o = all_true mode es s o
   value_of mode (or_else es) s o = any_true mode es s o
@@ -130,6 +131,7 @@ abbrev mutual
   tail_value mode object s o = Some o
   tail_value mode bindings s o = made mode (cells (values_of s) nil)
   tail_value mode (constant d) s o = Some d
+  tail_value mode (quoted d) s o = Some d
   tail_value mode (call f es) s o = called mode f (argument_values mode es s o)
   tail_value mode (and_also es) s o = all_true mode es s o
   tail_value mode (or_else es) s o = any_true mode es s o

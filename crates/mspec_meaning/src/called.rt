@@ -9,7 +9,7 @@ ghost use Rattle.mspec_meaning.specs.Value.{value_datum};
 use crate::held::{Value, copied, held};
 use crate::made::failure;
 use crate::value::Mode;
-use prims::{Operand, Prim, call};
+use prims::{Operand, Primitive, call};
 use std::alloc::{AllocError, Allocator};
 
 /// These values as operands.
@@ -61,13 +61,13 @@ fn unborrowed<'a, A: Allocator + Copy>(
 fn called_of_made<'a, A: Allocator + Copy>(
     alloc: A,
     mode: Mode,
-    prim: Prim,
+    function: Primitive,
     values: &[Value<'_, A>],
 ) -> Result<Option<Value<'a, A>>, AllocError>
-    ensures { IfOk result (λ value. option_map value_datum value ≡ or_failed mode (function_of prim (map value_datum values.now))) }
+    ensures { IfOk result (λ value. option_map value_datum value ≡ or_failed mode (function_of function (map value_datum values.now))) }
 {
     let operands = operands_of(alloc, values)?;
-    match call(prim, operands.as_slice()) {
+    match call(function, operands.as_slice()) {
         Some(operand) => Ok(Some(unborrowed(alloc, operand)?)),
         None => Ok(held(failure(alloc, mode)?)),
     }
@@ -77,15 +77,15 @@ fn called_of_made<'a, A: Allocator + Copy>(
 pub(crate) fn called<'a, A: Allocator + Copy>(
     alloc: A,
     mode: Mode,
-    prim: Prim,
+    function: Primitive,
     values: &[Value<'a, A>],
 ) -> Result<Option<Value<'a, A>>, AllocError>
-    ensures { IfOk result (λ value. option_map value_datum value ≡ or_failed mode (function_of prim (map value_datum values.now))) }
+    ensures { IfOk result (λ value. option_map value_datum value ≡ or_failed mode (function_of function (map value_datum values.now))) }
 {
     let Some(operands) = borrowed(alloc, values)? else {
-        return called_of_made(alloc, mode, prim, values);
+        return called_of_made(alloc, mode, function, values);
     };
-    match call(prim, operands.as_slice()) {
+    match call(function, operands.as_slice()) {
         Some(operand) => Ok(Some(Value::Borrowed(operand))),
         None => Ok(held(failure(alloc, mode)?)),
     }
