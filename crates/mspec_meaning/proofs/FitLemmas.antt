@@ -9,7 +9,8 @@ use Rattle.mspec_syntax.specs.Pattern.{Pattern, Patterns, Fields, patterns_of, f
 use Rattle.mspec_syntax.specs.Pattern.Pattern.{variable, anything, literal, tuple_of, cell_of, map_of}
 use Rattle.mspec_syntax.specs.Pattern.Patterns.{no_patterns, pattern}
 use Rattle.mspec_syntax.specs.Pattern.Fields.{no_fields, field}
-use Rattle.mspec_meaning.specs.Match.{Fits, AllFit, FieldsFit, value_at}
+use Rattle.prims.specs.Maps.{value_at}
+use Rattle.mspec_meaning.specs.Match.{Fits, AllFit, FieldsFit}
 use Rattle.mspec_meaning.specs.Part.{rest_of}
 use Rattle.mspec_meaning.specs.Slots.{assigned, Extends, IsOver, Binds, NeverHolds, Answers}
 

@@ -1,11 +1,9 @@
 -- When a pattern matches a term. (ERTS User's Guide, "Match Specifications in Erlang", "Semantics".)
 use Rattle.std.specs.Prelude.{ℕ, ◌≡◌, ◌==◌, if◌then◌else◌, Option, Some, None, List, [], ◌∷◌, map}
-use Rattle.std.specs.Ordering.{is_eq}
+use Rattle.prims.specs.Maps.{value_at}
 use Rattle.term_core.specs.Datum.{Datum, Items, Entries}
 use Rattle.term_core.specs.Datum.Datum.{integer, atom, nil, binary, tuple, cons, map as table}
 use Rattle.term_core.specs.Datum.Items.{no_items, item}
-use Rattle.term_core.specs.Datum.Entries.{no_entries, entry}
-use Rattle.term_core.specs.Order.{datum_cmp}
 use Rattle.mspec_syntax.specs.Pattern.{Pattern, Patterns, Fields, pattern_variables}
 use Rattle.mspec_syntax.specs.Pattern.Pattern.{variable, anything, literal, tuple_of, cell_of, map_of}
 use Rattle.mspec_syntax.specs.Pattern.Patterns.{no_patterns, pattern}
@@ -28,11 +26,6 @@ values_of s = map (λ e. e.1) s
 abbrev pub lookup : Substitution → ℕ → Option Datum
 lookup [] n = None
 lookup (e ∷ s) n = if e.0 == n then Some e.1 else lookup s n
-
--- the value of a key
-abbrev pub value_at : Datum → Entries → Option Datum
-value_at k no_entries = None
-value_at k (entry l v es) = if is_eq (datum_cmp l k) then Some v else value_at k es
 
 abbrev mutual
   -- The term is the pattern with each variable replaced by its value, each '_' by any term, and each map by a map that

@@ -2,8 +2,10 @@
 ghost use Rattle.std.specs.Prelude.{◌≡◌, length};
 ghost use Rattle.std.specs.Option.{option_copied};
 ghost use Rattle.term_core.specs.Datum.{items_of, entries_of};
+ghost use Rattle.term_core.specs.Limits.{ArePairsSound};
 ghost use Rattle.mspec_syntax.specs.Pattern.{patterns_of, fields_of};
-ghost use Rattle.mspec_meaning.specs.Match.{Fits, AllFit, FieldsFit, value_at};
+ghost use Rattle.prims.specs.Maps.{value_at};
+ghost use Rattle.mspec_meaning.specs.Match.{Fits, AllFit, FieldsFit};
 ghost use Rattle.mspec_meaning.specs.Part.{part_of};
 ghost use Rattle.mspec_meaning.specs.Slots.{seen, Answers};
 
@@ -107,7 +109,8 @@ fn bind_fields<'a, A: Allocator + Copy>(
     fields: &[(Term<A>, Pattern<A>)],
     pairs: &'a [(Term<A>, Term<A>)],
 ) -> bool
-    requires { length slots.old ≡ length variables.now }
+    requires slots { length slots.old ≡ length variables.now }
+    requires sound { ArePairsSound (entries_of pairs.now) }
     ensures { Answers result variables.now (seen slots.old) (seen slots.new) (λ s. FieldsFit (fields_of fields.now) s (entries_of pairs.entry.now)) }
 {
     for (key, pattern) in fields {
@@ -121,14 +124,13 @@ fn bind_fields<'a, A: Allocator + Copy>(
     true
 }
 
-/// The value of a key.
+/// The value of a key among pairs whose keys rise.
 fn find<'a, A: Allocator>(pairs: &'a [(Term<A>, Term<A>)], key: &Term<A>) -> Option<&'a Term<A>>
+    requires { ArePairsSound (entries_of pairs.now) }
     ensures { option_copied result ≡ value_at key.now (entries_of pairs.entry.now) }
 {
-    for (other, value) in pairs {
-        if other == key {
-            return Some(value);
-        }
+    match pairs.binary_search_by(|(name, _)| name.cmp(key)) {
+        Ok(place) => Some(&pairs[place].1),
+        Err(_) => None,
     }
-    None
 }

@@ -61,13 +61,13 @@ fn unborrowed<'a, A: Allocator + Copy>(
 fn called_of_made<'a, A: Allocator + Copy>(
     alloc: A,
     mode: Mode,
-    prim: Primitive,
+    function: Primitive,
     values: &[Value<'_, A>],
 ) -> Result<Option<Value<'a, A>>, AllocError>
-    ensures { IfOk result (λ value. option_map value_datum value ≡ or_failed mode (function_of prim (map value_datum values.now))) }
+    ensures { IfOk result (λ value. option_map value_datum value ≡ or_failed mode (function_of function (map value_datum values.now))) }
 {
     let operands = operands_of(alloc, values)?;
-    match call(prim, operands.as_slice()) {
+    match call(function, operands.as_slice()) {
         Some(operand) => Ok(Some(unborrowed(alloc, operand)?)),
         None => Ok(held(failure(alloc, mode)?)),
     }
@@ -77,15 +77,15 @@ fn called_of_made<'a, A: Allocator + Copy>(
 pub(crate) fn called<'a, A: Allocator + Copy>(
     alloc: A,
     mode: Mode,
-    prim: Primitive,
+    function: Primitive,
     values: &[Value<'a, A>],
 ) -> Result<Option<Value<'a, A>>, AllocError>
-    ensures { IfOk result (λ value. option_map value_datum value ≡ or_failed mode (function_of prim (map value_datum values.now))) }
+    ensures { IfOk result (λ value. option_map value_datum value ≡ or_failed mode (function_of function (map value_datum values.now))) }
 {
     let Some(operands) = borrowed(alloc, values)? else {
-        return called_of_made(alloc, mode, prim, values);
+        return called_of_made(alloc, mode, function, values);
     };
-    match call(prim, operands.as_slice()) {
+    match call(function, operands.as_slice()) {
         Some(operand) => Ok(Some(Value::Borrowed(operand))),
         None => Ok(held(failure(alloc, mode)?)),
     }

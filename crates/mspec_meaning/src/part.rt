@@ -108,6 +108,7 @@ impl<'a, A: Allocator + Copy> Part<'a, A> {
     ghost use Rattle.std.specs.Prelude.{◌≡◌, ◌<◌, ◌≤◌, length, MatchBool, IfSome, IfNone};
     ghost use Rattle.term_core.specs.Datum.{items_of, entries_of, cells, cell_count};
     ghost use Rattle.term_core.specs.Datum.Datum.{nil, tuple, map as table};
+    ghost use Rattle.term_core.specs.Limits.{ArePairsSound};
     ghost use Rattle.prims.specs.Operand.{operand_datum};
     ghost use Rattle.mspec_meaning.specs.Part.{part_of, rest_of, joined, IsWellSplit, IsNoTuple, IsNoMap};
 
@@ -144,6 +145,7 @@ impl<'a, A: Allocator + Copy> Part<'a, A> {
     /// The pairs, where the part is a map.
     pub(crate) fn pairs(self) -> Option<&'a [(Term<A>, Term<A>)]>
         ensures found { IfSome result (λ pairs. table (entries_of pairs.now) ≡ part_of self.entry) }
+        ensures sound { IfSome result (λ pairs. ArePairsSound (entries_of pairs.now)) }
         ensures missing { IfNone result (IsNoMap (part_of self.entry)) }
     {
         match self.split() {

@@ -80,9 +80,9 @@ pub(crate) fn value_of<'a, A: Allocator + Copy>(
         ExpressionKind::Bindings => Ok(held(made::bindings(alloc, mode, slots)?)),
         ExpressionKind::Constant(term) => Ok(Some(Value::Borrowed(Operand::Term(term)))),
         ExpressionKind::Quoted(term) => Ok(Some(Value::Borrowed(Operand::Term(term)))),
-        ExpressionKind::Call(prim, arguments) => {
+        ExpressionKind::Call(function, arguments) => {
             match argument_values(alloc, mode, arguments.as_slice(), variables, slots, object)? {
-                Some(values) => called(alloc, mode, *prim, values.as_slice()),
+                Some(values) => called(alloc, mode, *function, values.as_slice()),
                 None => Ok(None),
             }
         }

@@ -37,7 +37,7 @@ bind_fields-returns-in_default g t c =
 
 pub bind_fields-bind-requires : goal.bind_fields-bind-requires
 bind_fields-bind-requires g t c κs within =
-    (omega (arith, fields_size-at _ _ _ c.loop-key-test.true c.loop-key-item.is, c.decreases), (within, c.loop-key.auto.slots ∙ c.requires))
+    (omega (arith, fields_size-at _ _ _ c.loop-key-test.true c.loop-key-item.is, c.decreases), (within, c.loop-key.auto.slots ∙ c.requires.slots))
 
 pub bind_fields-returns-then-not-bind : goal.bind_fields-returns-then-not-bind
 bind_fields-returns-then-not-bind g t c =

@@ -239,6 +239,13 @@ value_of-returns-in-Constant g t c =
     let is = rw c.in-Constant.is at c.kind.ensures.value in
     ap (λ e. value_of c.args.mode e s o) is
 
+pub value_of-returns-in-Quoted : goal.value_of-returns-in-Quoted
+value_of-returns-in-Quoted g t c =
+    let s = substitution_of c.args.variables.now (seen c.args.slots.now) in
+    let o = c.args.object.now in
+    let is = rw c.in-Quoted.is at c.kind.ensures.value in
+    ap (λ e. value_of c.args.mode e s o) is
+
 pub value_of-returns-in_ok-bindings-in-Bindings : goal.value_of-returns-in_ok-bindings-in-Bindings
 value_of-returns-in_ok-bindings-in-Bindings g t c =
     let s = substitution_of c.args.variables.now (seen c.args.slots.now) in
@@ -309,9 +316,9 @@ value_of-returns-in-Some g t c =
     let found = rw c.in-Some.is at c.in_ok-values-in-Call.ensures in
     IfOk-weaker c.called.result _ _
     (λ v h.
-    h ∙ ap (λ l. or_failed c.args.mode (function_of c.in-Call.prim (map value_datum l))) c.as_slice-in-Some.ensures.value
-    ∙ ap (called c.args.mode c.in-Call.prim) found
-    ∙ ap (λ l. called c.args.mode c.in-Call.prim (argument_values c.args.mode (expressions_of l) s o)) c.as_slice.ensures.value
+    h ∙ ap (λ l. or_failed c.args.mode (function_of c.in-Call.function (map value_datum l))) c.as_slice-in-Some.ensures.value
+    ∙ ap (called c.args.mode c.in-Call.function) found
+    ∙ ap (λ l. called c.args.mode c.in-Call.function (argument_values c.args.mode (expressions_of l) s o)) c.as_slice.ensures.value
     ∙ ap (λ e. value_of c.args.mode e s o) is)
     c.called.ensures
 
@@ -321,8 +328,8 @@ value_of-returns-in-None g t c =
     let o = c.args.object.now in
     let is = rw c.in-Call.is at c.kind.ensures.value in
     let found = rw c.in-None.is at c.in_ok-values-in-Call.ensures in
-    ap (called c.args.mode c.in-Call.prim) found
-    ∙ ap (λ l. called c.args.mode c.in-Call.prim (argument_values c.args.mode (expressions_of l) s o)) c.as_slice.ensures.value
+    ap (called c.args.mode c.in-Call.function) found
+    ∙ ap (λ l. called c.args.mode c.in-Call.function (argument_values c.args.mode (expressions_of l) s o)) c.as_slice.ensures.value
     ∙ ap (λ e. value_of c.args.mode e s o) is
 
 pub value_of-returns-in_ok-tuple-in-Some-2 : goal.value_of-returns-in_ok-tuple-in-Some-2
