@@ -1,6 +1,7 @@
 #!/usr/bin/env bash
-# Times `ets_tool run`, as `rt run` builds it, over inputs that are made here: objects {N,a} in growing numbers, a term
-# 255 deep, a list of a million integers, a map of 65,535 pairs in falling order. Time and memory are to be linear.
+# Times `ets_tool run`, as `rt run` builds it, over inputs that are made here: objects {N,a} in growing numbers, without and
+# with a condition, a term 255 deep, a list of a million integers, a map of 65,535 pairs in falling order, specifications of up to
+# 8,000 nodes and 256 variables, and a long list that a condition looks at. Time and memory are to be linear.
 # usage: bench/run.sh [PROGRAM]
 set -eu
 top=$(cd "$(dirname "$0")/.." && pwd)
@@ -21,6 +22,18 @@ wide() {
 map() {
   awk -v n="$1" 'BEGIN { print "[{'\''$1'\'',[],['\''$1'\'']}]."; printf "#{%d=>0", n; for (i = n - 1; i > 0; i--) printf ",%d=>0", i; print "}." }'
 }
+conditions() {
+  awk -v n="$1" 'BEGIN { print "[{{'\''$1'\'','\''$2'\''},[{'\''=:='\'',{'\''rem'\'','\''$1'\'',2},0}],[{'\''+'\'','\''$1'\'',1}]}]."; for (i = 1; i <= n; i++) print "{" i ",a}." }'
+}
+nodes() {
+  awk -v n="$1" 'BEGIN { printf "[{{'\''$1'\''},[],[{{'\''$1'\''"; for (i = 1; i < n; i++) printf ",{'\''+'\'','\''$1'\'',%d}", i; print "}}]}]."; for (i = 1; i <= 10; i++) print "{" i "}." }'
+}
+variables() {
+  awk -v n="$1" 'BEGIN { printf "[{{'\''$0'\''"; for (i = 1; i < n; i++) printf ",'\''$%d'\''", i; print "},[],['\''$$'\'']}]."; for (j = 0; j < 1000; j++) { printf "{0"; for (i = 1; i < n; i++) printf ",%d", i; print "}." } }'
+}
+looked_at() {
+  awk -v n="$1" 'BEGIN { print "[{{'\''$1'\''},[{is_list,'\''$1'\''},{'\''=:='\'',{hd,{tl,'\''$1'\''}},1}],[{length,'\''$1'\''}]}]."; printf "{[0"; for (i = 1; i < n; i++) printf ",%d", i; print "]}." }'
+}
 measure() {
   name=$1 file=$2
   { command time -f '%e %M' "$program" run < "$file" > "$work/out"; } 2> "$work/time" || true
@@ -30,3 +43,7 @@ for n in 1000 10000 100000 1000000; do objects "$n" > "$work/in"; measure "$n ob
 deep > "$work/in"; measure "a list 255 deep" "$work/in"
 for n in 10000 100000 1000000; do wide "$n" > "$work/in"; measure "a list of $n integers" "$work/in"; done
 for n in 6553 65535; do map "$n" > "$work/in"; measure "a map of $n pairs" "$work/in"; done
+for n in 10000 100000 1000000; do conditions "$n" > "$work/in"; measure "$n objects, a condition" "$work/in"; done
+for n in 665 1330 2660; do nodes "$n" > "$work/in"; measure "$((n * 3)) nodes in a body" "$work/in"; done
+for n in 64 128 256; do variables "$n" > "$work/in"; measure "$n variables, 1,000 objects" "$work/in"; done
+for n in 10000 100000 1000000; do looked_at "$n" > "$work/in"; measure "a list of $n in a condition" "$work/in"; done

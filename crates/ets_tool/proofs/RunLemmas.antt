@@ -1,4 +1,4 @@
--- Answers that are gathered, and then written.
+-- Lines that are gathered, and then written.
 use Rattle.std.proofs.Common.{◌≡◌, ℕ, ◌+◌, ◌-◌, ◌<◌, inl, inr, Option, Some, None, List, [], ◌∷◌, ◌++◌, take, drop, get_or, slice_get, length, refl, ap, sym, append_assoc, arith}
 use Rattle.std.proofs.lemmas.List.{take_more, append-nil, take-append-drop, take_all}
 use Rattle.std.specs.Io.KnownBytes.{Appends}
@@ -12,15 +12,16 @@ use Rattle.mspec_syntax.specs.Faults.{IsRefusal}
 use Rattle.mspec_syntax.specs.declared.fault.SpecFault.{SpecFault}
 use Rattle.mspec_syntax.specs.declared.fault.SpecFault.TheVariants as specification
 use Rattle.mspec_meaning.specs.Meaning.{Means}
+use Rattle.ets_tool.specs.declared.run.Report.{Report}
 use Rattle.ets_tool.specs.declared.fault.ToolFault.{ToolFault}
 use Rattle.ets_tool.specs.declared.fault.ToolFault.TheVariants as fault
-use Rattle.ets_tool.specs.Run.{IsQuery, WritesOutput, StopsRun, EndsBy, StopsAnswers, IsNoSpecification, IsInputFault, of_specification, of_text, AreAnswers, Puts, Passes, answer_line, WritesAnswers}
+use Rattle.ets_tool.specs.Run.{IsQuery, WritesOutput, StopsRun, EndsBy, StopsLines, IsNoSpecification, IsInputFault, of_specification, of_text, AreLines, Puts, Passes, report_line, WritesLines}
 
--- one more answer
-answers-more : (s : Specification) (ds : List Datum) (d : Datum) (answer : Option Datum) (out : List ℕ) → AreAnswers s ds out → Means s d answer → AreAnswers s (ds ++ d ∷ []) (out ++ answer_line answer)
-answers-more s [] d answer out h m = (answer, [], m, refl, rw (h, append-nil))
-answers-more s (e ∷ ds) d answer out h m =
-    (h.0, h.1 ++ answer_line answer, h.2, answers-more s ds d answer h.1 h.3 m, rw h.4 (append_assoc (answer_line h.0) h.1 (answer_line answer)))
+-- the line of one more object
+lines-more : (r : Report) (s : Specification) (ds : List Datum) (d : Datum) (answer : Option Datum) (out : List ℕ) → AreLines r s ds out → Means s d answer → AreLines r s (ds ++ d ∷ []) (out ++ report_line r answer)
+lines-more r s [] d answer out h m = (answer, [], m, refl, rw (h, append-nil))
+lines-more r s (e ∷ ds) d answer out h m =
+    (h.0, h.1 ++ report_line r answer, h.2, lines-more r s ds d answer h.1 h.3 m, rw h.4 (append_assoc (report_line r h.0) h.1 (report_line r answer)))
 
 appends-join : (a b c : Option (List ℕ)) (x y : List ℕ) → Appends a b x → Appends b c y → Appends a c (x ++ y)
 appends-join None b c x y p q = tt
@@ -28,31 +29,31 @@ appends-join (Some u) None c x y p q = absurd p
 appends-join (Some u) (Some v) None x y p q = absurd q
 appends-join (Some u) (Some v) (Some w) x y p q = rw (q, p) (append_assoc u x y)
 
--- lines gathered after what was written are the answers so far
-pub record Gathered (s : Specification) (objects : List Datum) (old now : Option (List ℕ)) (lines : List ℕ) : Type 0 where
+-- lines gathered after what was written are those of the objects so far
+pub record Gathered (r : Report) (s : Specification) (objects : List Datum) (old now : Option (List ℕ)) (lines : List ℕ) : Type 0 where
   pub done : List ℕ
   pub gained : Appends old now done
-  pub answers : AreAnswers s objects (done ++ lines)
+  pub answers : AreLines r s objects (done ++ lines)
 
 appends-none : (a : Option (List ℕ)) → Appends a a []
 appends-none None = tt
 appends-none (Some xs) = sym (append-nil xs)
 
-pub gathered-none : (s : Specification) (objects : List Datum) (old : Option (List ℕ)) → Gathered s (take 0 objects) old old []
-gathered-none s objects old = record { done = []; gained = appends-none old; answers = refl }
+pub gathered-none : (r : Report) (s : Specification) (objects : List Datum) (old : Option (List ℕ)) → Gathered r s (take 0 objects) old old []
+gathered-none r s objects old = record { done = []; gained = appends-none old; answers = refl }
 
 -- one more line
-pub gathered-more : (s : Specification) (objects : List Datum) (i : ℕ) (d : Datum) (old now : Option (List ℕ)) (lines more : List ℕ) → i < length objects → d ≡ get_or objects i d → Gathered s (take i objects) old now lines → Puts s d lines more → Gathered s (take (i + 1) objects) old now more
-gathered-more s objects i d old now lines more there is g p =
+pub gathered-more : (r : Report) (s : Specification) (objects : List Datum) (i : ℕ) (d : Datum) (old now : Option (List ℕ)) (lines more : List ℕ) → i < length objects → d ≡ get_or objects i d → Gathered r s (take i objects) old now lines → Puts r s d lines more → Gathered r s (take (i + 1) objects) old now more
+gathered-more r s objects i d old now lines more there is g p =
     record {
       done = g.done;
       gained = g.gained;
-      answers = rw (take_more objects i d there, ← is, p.grown, ← append_assoc g.done lines (answer_line p.answer)) (answers-more s (take i objects) d p.answer (g.done ++ lines) g.answers p.means);
+      answers = rw (take_more objects i d there, ← is, p.grown, ← append_assoc g.done lines (report_line r p.answer)) (lines-more r s (take i objects) d p.answer (g.done ++ lines) g.answers p.means);
     }
 
 -- lines are passed on
-pub gathered-passed : (s : Specification) (objects : List Datum) (old now later : Option (List ℕ)) (lines rest : List ℕ) → Gathered s objects old now lines → Passes now later lines rest → Gathered s objects old later rest
-gathered-passed s objects old now later lines rest g p =
+pub gathered-passed : (r : Report) (s : Specification) (objects : List Datum) (old now later : Option (List ℕ)) (lines rest : List ℕ) → Gathered r s objects old now lines → Passes now later lines rest → Gathered r s objects old later rest
+gathered-passed r s objects old now later lines rest g p =
     record {
       done = g.done ++ p.part;
       gained = appends-join old now later g.done p.part g.gained p.gained;
@@ -60,35 +61,35 @@ gathered-passed s objects old now later lines rest g p =
     }
 
 -- all lines are written
-pub gathered-written : (s : Specification) (objects : List Datum) (old now later : Option (List ℕ)) (lines : List ℕ) → Gathered s objects old now lines → Appends now later lines → WritesAnswers s objects old later
-gathered-written s objects old now later lines g p =
-    record { out = g.done ++ lines; answers = g.answers; gained = appends-join old now later g.done lines g.gained p }
+pub gathered-written : (r : Report) (s : Specification) (objects : List Datum) (old now later : Option (List ℕ)) (lines : List ℕ) → Gathered r s objects old now lines → Appends now later lines → WritesLines r s objects old later
+gathered-written r s objects old now later lines g p =
+    record { out = g.done ++ lines; lines = g.answers; gained = appends-join old now later g.done lines g.gained p }
 
--- where memory runs out, the answers so far are written
-pub stops-early : (s : Specification) (objects : List Datum) (i : ℕ) (old now later : Option (List ℕ)) (lines : List ℕ) (f : ToolFault) → Gathered s (take i objects) old now lines → EndsBy now later lines f → StopsAnswers s objects old later f
-stops-early s objects i old now later lines fault.Memory g e =
-    record { front = take i objects; rest = drop i objects; whole = sym (take-append-drop i objects); written = gathered-written s (take i objects) old now later lines g e }
-stops-early s objects i old now later lines fault.WriteFailed g e = tt
-stops-early s objects i old now later lines (fault.Text f) g e = absurd e
-stops-early s objects i old now later lines (fault.Specification f) g e = absurd e
-stops-early s objects i old now later lines fault.ReadFailed g e = absurd e
+-- where memory runs out, the lines so far are written
+pub stops-early : (r : Report) (s : Specification) (objects : List Datum) (i : ℕ) (old now later : Option (List ℕ)) (lines : List ℕ) (f : ToolFault) → Gathered r s (take i objects) old now lines → EndsBy now later lines f → StopsLines r s objects old later f
+stops-early r s objects i old now later lines fault.Memory g e =
+    record { front = take i objects; rest = drop i objects; whole = sym (take-append-drop i objects); written = gathered-written r s (take i objects) old now later lines g e }
+stops-early r s objects i old now later lines fault.WriteFailed g e = tt
+stops-early r s objects i old now later lines (fault.Text f) g e = absurd e
+stops-early r s objects i old now later lines (fault.Specification f) g e = absurd e
+stops-early r s objects i old now later lines fault.ReadFailed g e = absurd e
 
 -- the terms behind the first, as a range of all of them
 behind-first : (terms : List Datum) (first : Datum) (objects : List Datum) → terms ≡ first ∷ objects → take (length terms - 1) (drop 1 terms) ≡ objects
 behind-first terms first objects e = rw e (take_all (length (first ∷ objects) - 1) objects (omega arith))
 
--- answers on the terms behind the first are the output
-pub output-written : (input : List ℕ) (terms : List Datum) (s : Specification) (old new : Option (List ℕ)) → IsQuery input terms s → WritesAnswers s (take (length terms - 1) (drop 1 terms)) old new → WritesOutput input old new
-output-written input terms s old new q w =
+-- lines on the terms behind the first are the output
+pub output-written : (r : Report) (input : List ℕ) (terms : List Datum) (s : Specification) (old new : Option (List ℕ)) → IsQuery input terms s → WritesLines r s (take (length terms - 1) (drop 1 terms)) old new → WritesOutput r input old new
+output-written r input terms s old new q w =
     record { specification = s; terms = terms; query = q; answered = rw (behind-first terms q.first q.objects q.whole) at w }
 
 -- how answering ends is how the run does
-pub run-stopped : (input : List ℕ) (terms : List Datum) (s : Specification) (old new : Option (List ℕ)) (f : ToolFault) → IsQuery input terms s → StopsAnswers s (take (length terms - 1) (drop 1 terms)) old new f → StopsRun input old new f
-run-stopped input terms s old new fault.Memory q h = inr (s, terms, q, rw (behind-first terms q.first q.objects q.whole) at h)
-run-stopped input terms s old new fault.WriteFailed q h = tt
-run-stopped input terms s old new (fault.Text f) q h = absurd h
-run-stopped input terms s old new (fault.Specification f) q h = absurd h
-run-stopped input terms s old new fault.ReadFailed q h = absurd h
+pub run-stopped : (r : Report) (input : List ℕ) (terms : List Datum) (s : Specification) (old new : Option (List ℕ)) (f : ToolFault) → IsQuery input terms s → StopsLines r s (take (length terms - 1) (drop 1 terms)) old new f → StopsRun r input old new f
+run-stopped r input terms s old new fault.Memory q h = inr (s, terms, q, rw (behind-first terms q.first q.objects q.whole) at h)
+run-stopped r input terms s old new fault.WriteFailed q h = tt
+run-stopped r input terms s old new (fault.Text f) q h = absurd h
+run-stopped r input terms s old new (fault.Specification f) q h = absurd h
+run-stopped r input terms s old new fault.ReadFailed q h = absurd h
 
 -- a specification is read of the first of these terms
 pub query-read : (input : List ℕ) (terms : List Datum) (first : Datum) (s : Specification) → Some first ≡ slice_get terms 0 → Spells input terms → IsSpecification first s × IsWithinLimits s → IsQuery input terms s
@@ -111,6 +112,7 @@ query-refused input terms first (specification.NotAClause n) there spelled refus
 query-refused input terms first (specification.BadHead n) there spelled refusal = no-specification input terms first (specification.BadHead n) there spelled refusal
 query-refused input terms first (specification.BadConditions n) there spelled refusal = no-specification input terms first (specification.BadConditions n) there spelled refusal
 query-refused input terms first (specification.BadBody n) there spelled refusal = no-specification input terms first (specification.BadBody n) there spelled refusal
+query-refused input terms first (specification.UnknownCall n) there spelled refusal = no-specification input terms first (specification.UnknownCall n) there spelled refusal
 query-refused input terms first (specification.Unbound n v) there spelled refusal = no-specification input terms first (specification.Unbound n v) there spelled refusal
 query-refused input terms first (specification.BadVariableName n) there spelled refusal = no-specification input terms first (specification.BadVariableName n) there spelled refusal
 query-refused input terms first (specification.BadExpression n) there spelled refusal = no-specification input terms first (specification.BadExpression n) there spelled refusal

@@ -1,8 +1,10 @@
--- What a run writes for what it reads.
-use Rattle.std.specs.Prelude.{ℕ, ◌≡◌, ◌⊎◌, Option, Some, None, List, [], ◌∷◌, ◌++◌, length}
+-- What the program writes for what it reads.
+use Rattle.std.specs.Prelude.{ℕ, ◌≡◌, ◌⊎◌, Option, Some, None, List, [], ◌∷◌, ◌++◌, length, codes}
 use Rattle.std.specs.Io.KnownBytes.{Appends, Keeps}
 use Rattle.std.specs.Str.{encode_utf8_all}
 use Rattle.term_core.specs.Datum.{Datum}
+use Rattle.term_core.specs.Datum.Datum.{atom, tuple}
+use Rattle.term_core.specs.Datum.Items.{no_items, item}
 use Rattle.term_text.specs.Text.{Spells}
 use Rattle.term_text.specs.Canonical.{canonical}
 use Rattle.term_text.specs.declared.fault.TextFault.{TextFault}
@@ -13,6 +15,8 @@ use Rattle.mspec_syntax.specs.Specification.{Specification, IsWithinLimits}
 use Rattle.mspec_syntax.specs.declared.fault.SpecFault.{SpecFault}
 use Rattle.mspec_syntax.specs.declared.fault.SpecFault.TheVariants as specification
 use Rattle.mspec_meaning.specs.Meaning.{Means}
+use Rattle.ets_tool.specs.declared.run.Report.{Report}
+use Rattle.ets_tool.specs.declared.run.Report.TheVariants.{Answers, Outcomes}
 use Rattle.ets_tool.specs.declared.fault.ToolFault.{ToolFault}
 use Rattle.ets_tool.specs.declared.fault.ToolFault.TheVariants as fault
 
@@ -25,11 +29,28 @@ abbrev pub answer_line : Option Datum → List ℕ
 answer_line None = []
 answer_line (Some d) = line d
 
--- the line of the answer on an object is put at the end
-pub record Puts (s : Specification) (object : Datum) (old new : List ℕ) : Type 0 where
+-- the atoms ok and false
+abbrev pub ok_term : Datum
+ok_term = atom (codes "ok")
+
+abbrev pub false_term : Datum
+false_term = atom (codes "false")
+
+-- {ok,A} for an answer A, false where there is none
+abbrev pub outcome_of : Option Datum → Datum
+outcome_of None = false_term
+outcome_of (Some d) = tuple (item ok_term (item d no_items))
+
+-- what a report says of an object by its answer: the answers alone, or how each object came out
+abbrev pub report_line : Report → Option Datum → List ℕ
+report_line Answers answer = answer_line answer
+report_line Outcomes answer = line (outcome_of answer)
+
+-- the line on an object is put at the end
+pub record Puts (r : Report) (s : Specification) (object : Datum) (old new : List ℕ) : Type 0 where
   pub answer : Option Datum
   pub means : Means s object answer
-  pub grown : new ≡ old ++ answer_line answer
+  pub grown : new ≡ old ++ report_line r answer
 
 -- what is gathered is passed to the writer, or stays
 pub record Passes (before after : Option (List ℕ)) (old new : List ℕ) : Type 0 where
@@ -37,30 +58,30 @@ pub record Passes (before after : Option (List ℕ)) (old new : List ℕ) : Type
   pub gained : Appends before after part
   pub kept : part ++ new ≡ old
 
--- the lines of the answers on these objects, in their order
-abbrev pub AreAnswers : Specification → List Datum → List ℕ → Type 0
-AreAnswers s [] out = out ≡ []
-AreAnswers s (d ∷ ds) out =
-    (answer : Option Datum) × (rest : List ℕ) × Means s d answer × AreAnswers s ds rest × (out ≡ answer_line answer ++ rest)
+-- the lines on these objects, in their order
+abbrev pub AreLines : Report → Specification → List Datum → List ℕ → Type 0
+AreLines r s [] out = out ≡ []
+AreLines r s (d ∷ ds) out =
+    (answer : Option Datum) × (rest : List ℕ) × Means s d answer × AreLines r s ds rest × (out ≡ report_line r answer ++ rest)
 
--- the writer gains the lines of all answers
-pub record WritesAnswers (s : Specification) (objects : List Datum) (old new : Option (List ℕ)) : Type 0 where
+-- the writer gains the lines on all objects
+pub record WritesLines (r : Report) (s : Specification) (objects : List Datum) (old new : Option (List ℕ)) : Type 0 where
   pub out : List ℕ
-  pub answers : AreAnswers s objects out
+  pub lines : AreLines r s objects out
   pub gained : Appends old new out
 
--- the writer gains the lines of the answers on a beginning of the objects
-pub record WritesBeginning (s : Specification) (objects : List Datum) (old new : Option (List ℕ)) : Type 0 where
+-- the writer gains the lines on a beginning of the objects
+pub record WritesBeginning (r : Report) (s : Specification) (objects : List Datum) (old new : Option (List ℕ)) : Type 0 where
   pub front : List Datum
   pub rest : List Datum
   pub whole : objects ≡ front ++ rest
-  pub written : WritesAnswers s front old new
+  pub written : WritesLines r s front old new
 
 -- how answering ends early: for want of memory, or where the writer failed, and then nothing is said of what it got
-abbrev pub StopsAnswers : Specification → List Datum → Option (List ℕ) → Option (List ℕ) → ToolFault → Type 0
-StopsAnswers s objects old new fault.Memory = WritesBeginning s objects old new
-StopsAnswers s objects old new fault.WriteFailed = Unit {0}
-StopsAnswers s objects old new f = ⊥
+abbrev pub StopsLines : Report → Specification → List Datum → Option (List ℕ) → Option (List ℕ) → ToolFault → Type 0
+StopsLines r s objects old new fault.Memory = WritesBeginning r s objects old new
+StopsLines r s objects old new fault.WriteFailed = Unit {0}
+StopsLines r s objects old new f = ⊥
 
 -- what was gathered is written where memory ran out
 abbrev pub EndsBy : Option (List ℕ) → Option (List ℕ) → List ℕ → ToolFault → Type 0
@@ -77,12 +98,12 @@ pub record IsQuery (input : List ℕ) (terms : List Datum) (s : Specification) :
   pub read : IsSpecification first s
   pub within : IsWithinLimits s
 
--- the writer gains the answers of the specification that the input begins with, on the objects that follow it
-pub record WritesOutput (input : List ℕ) (old new : Option (List ℕ)) : Type 0 where
+-- the writer gains the lines of the specification that the input begins with, on the objects that follow it
+pub record WritesOutput (r : Report) (input : List ℕ) (old new : Option (List ℕ)) : Type 0 where
   pub specification : Specification
   pub terms : List Datum
   pub query : IsQuery input terms specification
-  pub answered : WritesAnswers specification query.objects old new
+  pub answered : WritesLines r specification query.objects old new
 
 -- faults of the text and of the specification as faults of the program
 abbrev pub of_text : TextFault → ToolFault
@@ -116,12 +137,12 @@ IsInputFault input (fault.Text f) = IsTextFault input f
 IsInputFault input (fault.Specification f) = IsNoSpecification input f
 IsInputFault input f = ⊥
 
--- How a run ends early. Nothing is written but where memory runs out over the objects, and then the answers on a
+-- How a run ends early. Nothing is written but where memory runs out over the objects, and then the lines on a
 -- beginning of them; where the writer failed nothing is said of what it got.
-abbrev pub StopsRun : List ℕ → Option (List ℕ) → Option (List ℕ) → ToolFault → Type 0
-StopsRun input old new fault.Memory =
-    Keeps old new ⊎ ((s : Specification) × (terms : List Datum) × (q : IsQuery input terms s) × WritesBeginning s q.objects old new)
-StopsRun input old new (fault.Text f) = IsTextFault input f × Keeps old new
-StopsRun input old new (fault.Specification f) = IsNoSpecification input f × Keeps old new
-StopsRun input old new fault.ReadFailed = Keeps old new
-StopsRun input old new fault.WriteFailed = Unit {0}
+abbrev pub StopsRun : Report → List ℕ → Option (List ℕ) → Option (List ℕ) → ToolFault → Type 0
+StopsRun r input old new fault.Memory =
+    Keeps old new ⊎ ((s : Specification) × (terms : List Datum) × (q : IsQuery input terms s) × WritesBeginning r s q.objects old new)
+StopsRun r input old new (fault.Text f) = IsTextFault input f × Keeps old new
+StopsRun r input old new (fault.Specification f) = IsNoSpecification input f × Keeps old new
+StopsRun r input old new fault.ReadFailed = Keeps old new
+StopsRun r input old new fault.WriteFailed = Unit {0}

@@ -1,7 +1,7 @@
 //! `ets_tool`: match specifications of ets over terms, from standard input to standard output.
 //!
-//! The one contract is that of `tool_run`: what is written is the output for what was read, by the text of terms, the
-//! grammar of specifications and their meaning; a refused input writes nothing.
+//! The one contract is that of `tool_run` and `tool_test`: what is written is the output for what was read, by the text
+//! of terms, the grammar of specifications and their meaning; a refused input writes nothing.
 //!
 //! - `words`: what the words of the command line ask for.
 //! - `input`: the input, read whole.
@@ -17,7 +17,7 @@ mod tests;
 mod words;
 
 use fault::{ToolFault, fault_line};
-use run::tool_run;
+use run::{tool_run, tool_test};
 use std::alloc::AllocError;
 use std::io::{self, Write};
 use std::process::ExitCode;
@@ -38,6 +38,10 @@ fn main(rt: HostRuntime) -> anyhow::Result<ExitCode> {
     match read_words(alloc, words.as_slice()) {
         Ok(Request::Run) => {
             let outcome = tool_run(alloc, &mut rt.stdin(), &mut io::writer(&rt));
+            end(&rt, outcome)
+        }
+        Ok(Request::Test) => {
+            let outcome = tool_test(alloc, &mut rt.stdin(), &mut io::writer(&rt));
             end(&rt, outcome)
         }
         Err(error) => {

@@ -1,7 +1,10 @@
 //! A specification answered on objects, from bytes to bytes.
 ghost use Rattle.std.specs.Prelude.{◌≡◌, ◌++◌, [], IfOk, IfErr, IfSome, OnOk, OnErr};
 ghost use Rattle.std.specs.Io.KnownBytes.{Appends};
-ghost use Rattle.ets_tool.specs.Run.{IsQuery, IsInputFault, Puts, Passes, EndsBy, line, of_text, of_specification, WritesOutput, StopsRun, WritesAnswers, StopsAnswers};
+ghost use Rattle.std.specs.Str.{encode_utf8_all};
+ghost use Rattle.term_text.specs.Canonical.{canonical};
+ghost use Rattle.std.specs.Option.{option_copied};
+ghost use Rattle.ets_tool.specs.Run.{IsQuery, IsInputFault, answer_line, Puts, Passes, EndsBy, line, outcome_of, of_text, of_specification, WritesOutput, StopsRun, WritesLines, StopsLines};
 
 use crate::fault::ToolFault;
 use crate::input::read_whole;
@@ -22,6 +25,15 @@ struct Query<A: Allocator> {
     terms: Vec<Term<A>, A>,
 }
 
+/// What is written of an object.
+#[derive(Clone, Copy, Debug, PartialEq, Eq)]
+pub(crate) enum Report {
+    /// The answer, where there is one.
+    Answers,
+    /// `{ok,A}` for an answer `A`, and `false` where there is none.
+    Outcomes,
+}
+
 /// Reads a specification and objects, to the reader's end, and writes each answer: its canonical text, a dot and a line
 /// feed, in the order of the objects. An input that is refused writes nothing; where memory runs out while the objects
 /// are answered, the lines of a beginning of the objects are written.
@@ -30,24 +42,39 @@ pub fn tool_run<A: Allocator + Copy, R: Read, W: Write>(
     reader: &mut R,
     writer: &mut W,
 ) -> Result<(), ToolFault>
-    ensures ok { OnOk result (IfSome (R.remaining reader.old) (λ input. WritesOutput input (W.contents writer.old) (W.contents writer.new))) }
-    ensures refused { IfErr result (λ fault. IfSome (R.remaining reader.old) (λ input. StopsRun input (W.contents writer.old) (W.contents writer.new) fault)) }
+    ensures ok { OnOk result (IfSome (R.remaining reader.old) (λ input. WritesOutput Report.Answers input (W.contents writer.old) (W.contents writer.new))) }
+    ensures refused { IfErr result (λ fault. IfSome (R.remaining reader.old) (λ input. StopsRun Report.Answers input (W.contents writer.old) (W.contents writer.new) fault)) }
 {
     let input = read_whole(alloc, reader)?;
-    run_on(alloc, input.as_slice(), writer)
+    run_on(alloc, Report::Answers, input.as_slice(), writer)
 }
 
-/// Writes the answers that an input asks for.
+/// As `tool_run`, but a line is written of each object: `{ok,A}.` where the specification answers `A`, and `false.`
+/// where it answers nothing.
+pub fn tool_test<A: Allocator + Copy, R: Read, W: Write>(
+    alloc: A,
+    reader: &mut R,
+    writer: &mut W,
+) -> Result<(), ToolFault>
+    ensures ok { OnOk result (IfSome (R.remaining reader.old) (λ input. WritesOutput Report.Outcomes input (W.contents writer.old) (W.contents writer.new))) }
+    ensures refused { IfErr result (λ fault. IfSome (R.remaining reader.old) (λ input. StopsRun Report.Outcomes input (W.contents writer.old) (W.contents writer.new) fault)) }
+{
+    let whole = read_whole(alloc, reader)?;
+    run_on(alloc, Report::Outcomes, whole.as_slice(), writer)
+}
+
+/// Writes the lines that an input asks for.
 fn run_on<A: Allocator + Copy, W: Write>(
     alloc: A,
+    report: Report,
     input: &[u8],
     writer: &mut W,
 ) -> Result<(), ToolFault>
-    ensures ok { OnOk result (WritesOutput input.now (W.contents writer.old) (W.contents writer.new)) }
-    ensures refused { IfErr result (StopsRun input.now (W.contents writer.old) (W.contents writer.new)) }
+    ensures ok { OnOk result (WritesOutput report input.now (W.contents writer.old) (W.contents writer.new)) }
+    ensures refused { IfErr result (StopsRun report input.now (W.contents writer.old) (W.contents writer.new)) }
 {
     let query = query_of(alloc, input)?;
-    write_answers(alloc, &query.specification, &query.terms[1..], writer)
+    write_answers(alloc, report, &query.specification, &query.terms[1..], writer)
 }
 
 /// The query that an input spells.
@@ -91,19 +118,20 @@ fn specification_fault(fault: SpecFault) -> ToolFault
     }
 }
 
-/// Writes the answers on these objects.
+/// Writes the lines on these objects.
 fn write_answers<A: Allocator + Copy, W: Write>(
     alloc: A,
+    report: Report,
     specification: &Spec<A>,
     objects: &[Term<A>],
     writer: &mut W,
 ) -> Result<(), ToolFault>
-    ensures ok { OnOk result (WritesAnswers specification.now objects.now (W.contents writer.old) (W.contents writer.new)) }
-    ensures stopped { IfErr result (StopsAnswers specification.now objects.now (W.contents writer.old) (W.contents writer.new)) }
+    ensures ok { OnOk result (WritesLines report specification.now objects.now (W.contents writer.old) (W.contents writer.new)) }
+    ensures stopped { IfErr result (StopsLines report specification.now objects.now (W.contents writer.old) (W.contents writer.new)) }
 {
     let mut lines = Vec::new(alloc);
     for object in objects {
-        match put_answer(alloc, specification, object, &mut lines) {
+        match put_report(alloc, report, specification, object, &mut lines) {
             Ok(()) => write_if_many(writer, &mut lines)?,
             Err(AllocError) => return Err(out_of_memory(writer, &mut lines)),
         }
@@ -111,30 +139,70 @@ fn write_answers<A: Allocator + Copy, W: Write>(
     write_lines(writer, &mut lines)
 }
 
-/// Puts the line of the answer on an object at the end, where there is one.
-fn put_answer<A: Allocator + Copy>(
+/// Puts the line on an object at the end, where there is one.
+fn put_report<A: Allocator + Copy>(
     alloc: A,
+    report: Report,
     specification: &Spec<A>,
     object: &Term<A>,
     lines: &mut Vec<u8, A>,
 ) -> Result<(), AllocError>
-    ensures ok { OnOk result (Puts specification.now object.now lines.old.items lines.new.items) }
+    ensures ok { OnOk result (Puts report specification.now object.now lines.old.items lines.new.items) }
     ensures err { OnErr result (lines.new.items ≡ lines.old.items) }
 {
-    match evaluate(alloc, specification, object)? {
-        Some(answer) => put_line(&answer, lines),
+    let answer = evaluate(alloc, specification, object)?;
+    match report {
+        Report::Answers => put_answer(answer.as_ref(), lines),
+        Report::Outcomes => put_outcome(answer.as_ref(), lines),
+    }
+}
+
+/// Puts the line of an answer at the end, where there is one.
+fn put_answer<A: Allocator + Copy>(
+    answer: Option<&Term<A>>,
+    lines: &mut Vec<u8, A>,
+) -> Result<(), AllocError>
+    ensures ok { OnOk result (lines.new.items ≡ lines.old.items ++ answer_line (option_copied answer)) }
+    ensures err { OnErr result (lines.new.items ≡ lines.old.items) }
+{
+    match answer {
+        Some(answer) => put_line(b"", answer, b".\n", lines),
         None => Ok(()),
     }
 }
 
-/// Puts the line of a term at the end.
-fn put_line<A: Allocator + Copy>(term: &Term<A>, lines: &mut Vec<u8, A>) -> Result<(), AllocError>
-    ensures ok { OnOk result (lines.new.items ≡ lines.old.items ++ line term.now) }
+/// Puts the line that says how an object came out at the end.
+#[tactic(auto, using(crate::proofs::OutcomeLemmas::outcome_line, crate::proofs::OutcomeLemmas::false_line))]
+fn put_outcome<A: Allocator + Copy>(
+    answer: Option<&Term<A>>,
+    lines: &mut Vec<u8, A>,
+) -> Result<(), AllocError>
+    ensures ok { OnOk result (lines.new.items ≡ lines.old.items ++ line (outcome_of (option_copied answer))) }
+    ensures err { OnErr result (lines.new.items ≡ lines.old.items) }
+{
+    match answer {
+        Some(answer) => put_line(b"{ok,", answer, b"}.\n", lines),
+        None => lines.extend_from_slice(b"false.\n"),
+    }
+}
+
+/// Puts the canonical text of a term at the end, between these bytes.
+fn put_line<A: Allocator + Copy>(
+    before: &[u8],
+    term: &Term<A>,
+    after: &[u8],
+    lines: &mut Vec<u8, A>,
+) -> Result<(), AllocError>
+    ensures ok { OnOk result (lines.new.items ≡ lines.old.items ++ (before.now ++ (encode_utf8_all (canonical term.now) ++ after.now))) }
     ensures err { OnErr result (lines.new.items ≡ lines.old.items) }
 {
     let start = lines.len();
-    write_term(term, lines)?;
-    match lines.extend_from_slice(b".\n") {
+    lines.extend_from_slice(before)?;
+    if let Err(AllocError) = write_term(term, lines) {
+        lines.truncate(start);
+        return Err(AllocError);
+    }
+    match lines.extend_from_slice(after) {
         Ok(()) => Ok(()),
         Err(AllocError) => {
             lines.truncate(start);

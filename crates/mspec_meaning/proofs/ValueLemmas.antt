@@ -30,11 +30,6 @@ pub IfOk-both : {T E : Type 0} (r : Result T E) (P Q R : T → Type 0) → ((v :
 IfOk-both (Ok v) P Q R f p q = f v p q
 IfOk-both (Err e) P Q R f p q = tt
 
--- a list is no truth value
-pub list-no_boolean : (ds : List Datum) (t d : Datum) → cells ds t ≡ d → 0 < length ds → None ≡ boolean_of d
-list-no_boolean [] t d is some = absurd (omega arith)
-list-no_boolean (x ∷ ds) t d is some = ap boolean_of is
-
 no-true : (b : Bool) → Some true ≡ cond b (Some false) None → ⊥
 no-true true e = absurd (cc)
 no-true false e = absurd (cc)

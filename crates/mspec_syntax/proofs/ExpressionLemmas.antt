@@ -10,9 +10,11 @@ use Rattle.term_core.specs.Datum.Datum.{integer, atom, tuple, map, nil, cons, bi
 use Rattle.term_core.specs.Datum.Items.{no_items, item}
 use Rattle.term_core.specs.Datum.Entries.{no_entries, entry}
 use Rattle.term_core.specs.Term.{tail_of, IsTail}
-use Rattle.term_core.specs.Limits.{depth, items_depth}
+use Rattle.term_core.specs.Limits.{depth, items_depth, IsTerm, IsSound, ArePairsSound}
+use Rattle.term_core.specs.Order.{IsBelowFirst}
+use Rattle.term_core.proofs.LimitLemmas.{item_count-items_of}
 use Rattle.prims.specs.Names.{named}
-use Rattle.mspec_syntax.specs.Expression.{Expression, Expressions, Assignments, expressions_of, assignments_of, new_cells, IsNoListExpression}
+use Rattle.mspec_syntax.specs.Expression.{Expression, Expressions, Assignments, expressions_of, assignments_of, new_cells, IsNoListExpression, IsBelowNext, AreKeysRising}
 use Rattle.mspec_syntax.specs.Expression.Expression.{constant, call, and_also, or_else, new_tuple, new_cell, new_map}
 use Rattle.mspec_syntax.specs.Expression.Expressions.{no_expressions, expression}
 use Rattle.mspec_syntax.specs.Expression.Assignments.{no_assignments, assignment}
@@ -338,10 +340,6 @@ tail-no_list vs None tail f e no_list h = absurd (cc)
 tail-no_list vs (Some x) tail f e no_list h =
     let same : x ≡ tail = cc in IsExpression-no_list vs tail f (subst IsNoList same no_list) h
 
-pub item_count-items : (ds : List Datum) → item_count (items_of ds) ≡ length ds
-item_count-items [] = refl
-item_count-items (d ∷ ds) = ap suc (item_count-items ds)
-
 -- const quotes one term
 pub quotes-one : (cs : List ℕ) (n : ℕ) → callee_of cs n ≡ callee.Quote → n ≡ 1
 quotes-one cs n e = by (n == 1) refl (pointwise nat_eq cs (codes "const")) refl (nat_lt 0 n && pointwise nat_eq cs (codes "andalso")) (nat_lt 0 n && pointwise nat_eq cs (codes "orelse")) e
@@ -367,14 +365,14 @@ call-read vs ds d rest cs c r split is named h =
     let P : Callee → Type 0 = λ x. IfOk r (λ e. IsCall x (AreParts vs (items_of rest)) (items_of rest) e) in
     let Q : Datum → Type 0 = λ x. IfOk r (λ e. IsTupleExpression vs (item x (items_of rest)) e) in
     let R : List Datum → Type 0 = λ l. IfOk r (λ e. IsTupleExpression vs (items_of l) e) in
-    subst R (sym split) (subst Q is (subst P (named ∙ ap (callee_of cs) (sym (item_count-items rest))) h))
+    subst R (sym split) (subst Q is (subst P (named ∙ ap (callee_of cs) (sym (item_count-items_of rest))) h))
 
 pub call-refused : (i : ℕ) (vs : List ℕ) (ds : List Datum) (d : Datum) (rest : List Datum) (cs : List ℕ) (c : Callee) (r : Result Expression SpecFault) → ds ≡ d ∷ rest → atom cs ≡ d → c ≡ callee_of cs (length rest) → IfErr r (λ f. Refuses f (call_faults i c (parts_faults i vs (items_of rest)))) → IfErr r (λ f. Refuses f (tuple_faults i vs (items_of ds)))
 call-refused i vs ds d rest cs c r split is named h =
     let P : Callee → Type 0 = λ x. IfErr r (λ f. Refuses f (call_faults i x (parts_faults i vs (items_of rest)))) in
     let Q : Datum → Type 0 = λ x. IfErr r (λ f. Refuses f (tuple_faults i vs (item x (items_of rest)))) in
     let R : List Datum → Type 0 = λ l. IfErr r (λ f. Refuses f (tuple_faults i vs (items_of l))) in
-    subst R (sym split) (subst Q is (subst P (named ∙ ap (callee_of cs) (sym (item_count-items rest))) h))
+    subst R (sym split) (subst Q is (subst P (named ∙ ap (callee_of cs) (sym (item_count-items_of rest))) h))
 
 -- a tuple that begins with a tuple
 pub tuple-read : (vs : List ℕ) (ds : List Datum) (d : Datum) (rest parts : List Datum) (r : Result Expression SpecFault) → ds ≡ d ∷ rest → tuple (items_of parts) ≡ d → IfOk r (λ e. IsTupleExpression vs (item (tuple (items_of parts)) (items_of rest)) e) → IfOk r (λ e. IsTupleExpression vs (items_of ds) e)
@@ -431,3 +429,20 @@ alone-refused i vs ds (x ∷ xs) f b is empty h = absurd (omega (arith, eqb-true
 pub crowded-refused : (i : ℕ) (vs : List ℕ) (ds : Items) (rest : List Datum) (b : Bool) → b ≡ (length rest == 0) → b ≡ false → Refuses (BadExpression i) (tuple_faults i vs (item (tuple ds) (items_of rest)))
 crowded-refused i vs ds [] b is some = absurd (cc)
 crowded-refused i vs ds (x ∷ xs) b is some = inr (record { others = []; first = refl })
+
+below-next : (vs : List ℕ) (k l : Datum) (es : Entries) (ms : Assignments) → l ≡ k → AreAssignments vs es ms → IsBelowFirst k es → IsBelowNext l ms
+below-next vs k l no_entries no_assignments same h below = tt
+below-next vs k l no_entries (assignment m e ms) same h below = absurd h
+below-next vs k l (entry n v es) no_assignments same h below = absurd h
+below-next vs k l (entry n v es) (assignment m e ms) same h below = rw (same, h.0) below
+
+rising-assignments : (vs : List ℕ) (es : Entries) (ms : Assignments) → AreAssignments vs es ms → ArePairsSound es → AreKeysRising ms
+rising-assignments vs no_entries no_assignments h sound = tt
+rising-assignments vs no_entries (assignment l e ms) h sound = absurd h
+rising-assignments vs (entry k v es) no_assignments h sound = absurd h
+rising-assignments vs (entry k v es) (assignment l e ms) h sound = (below-next vs k l es ms h.0 h.2 sound.2, rising-assignments vs es ms h.2 sound.3)
+
+-- the keys of a map that is read rise
+pub keys-rising : (vs : List ℕ) (es : Entries) (ms : Assignments) (d : Datum) → map es ≡ d → IsTerm d → AreAssignments vs es ms → AreKeysRising ms
+keys-rising vs es ms d is term h =
+    let sound : IsSound (map es) = subst IsSound (sym is) term.sound in rising-assignments vs es ms h sound.1

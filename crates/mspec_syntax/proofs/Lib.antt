@@ -1,5 +1,4 @@
 pub mod WordLemmas
-pub mod DepthLemmas
 pub mod GrammarLemmas
 pub mod PatternLemmas
 pub mod RisingLemmas

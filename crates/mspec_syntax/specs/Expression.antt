@@ -3,6 +3,7 @@
 use Rattle.std.specs.Prelude.{ℕ, suc, ◌+◌, List, [], ◌∷◌}
 use Rattle.term_core.specs.Datum.{Datum}
 use Rattle.term_core.specs.Datum.Datum.{nil}
+use Rattle.term_core.specs.Order.{IsBelow}
 use Rattle.prims.specs.declared.prim.Primitive.{Primitive}
 use Rattle.mspec_syntax.specs.Pattern.{literal_tail_nodes}
 
@@ -46,6 +47,16 @@ assignments_of (a ∷ ms) = assignment a.0 a.1 (assignments_of ms)
 abbrev pub new_cells : List Expression → Expression → Expression
 new_cells [] tail = tail
 new_cells (e ∷ es) tail = new_cell e (new_cells es tail)
+
+-- a key stands before the first of these
+abbrev pub IsBelowNext : Datum → Assignments → Type 0
+IsBelowNext k no_assignments = Unit {0}
+IsBelowNext k (assignment l e ms) = IsBelow k l
+
+-- each key stands before the next
+abbrev pub AreKeysRising : Assignments → Type 0
+AreKeysRising no_assignments = Unit {0}
+AreKeysRising (assignment k e ms) = IsBelowNext k ms × AreKeysRising ms
 
 -- neither [] nor a cell
 abbrev pub IsNoListExpression : Expression → Type 0

@@ -6,3 +6,4 @@ pub mod NameLemmas
 pub mod GivesLemmas
 pub mod BitLemmas
 pub mod MapLemmas
+mod TextLemmas

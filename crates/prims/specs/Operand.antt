@@ -1,9 +1,14 @@
 -- The term that an operand stands for.
-use Rattle.std.specs.Prelude.{Bool, if◌then◌else◌, codes}
+use Rattle.std.specs.Prelude.{◌<◌, ◌≤◌, Bool, if◌then◌else◌, codes}
 use Rattle.std.specs.Option.{option_copied}
 use Rattle.term_core.specs.Datum.{Datum, cells}
 use Rattle.term_core.specs.Datum.Datum.{integer, atom, cons}
+use Rattle.term_core.specs.Fault.{IsTooLong}
+use Rattle.term_core.specs.Limits.{depth}
 use Rattle.term_core.specs.Term.{tail_of}
+use Rattle.term_core.specs.declared.TheConstants.{MAX_DEPTH}
+use Rattle.term_core.specs.declared.fault.Fault.{Fault}
+use Rattle.term_core.specs.declared.fault.Fault.TheVariants.{Memory, TooDeep, TooLong, DuplicateKey}
 use Rattle.prims.specs.declared.operand.Operand.{Operand}
 use Rattle.prims.specs.declared.operand.Operand.TheVariants as operand
 
@@ -22,3 +27,10 @@ operand_datum (operand.Bool value) = boolean value
 abbrev pub IsNoCell : Datum → Type 0
 IsNoCell (cons head tail) = ⊥
 IsNoCell d = Unit {0}
+
+-- What a refusal says of the term that was to be copied: that it is past a limit, as only the rest of a list can be. Want of memory says nothing of it.
+abbrev pub IsRefusal : Fault → Datum → Type 0
+IsRefusal Memory d = Unit {0}
+IsRefusal TooDeep d = MAX_DEPTH < depth d
+IsRefusal TooLong d = (depth d ≤ MAX_DEPTH) × IsTooLong d
+IsRefusal DuplicateKey d = ⊥

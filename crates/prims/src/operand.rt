@@ -1,15 +1,19 @@
 //! What a function is given and what it gives.
-ghost use Rattle.std.specs.Prelude.{◌≡◌, ⊤, MatchOption};
-ghost use Rattle.term_core.specs.Datum.Datum.{cons};
+ghost use Rattle.std.specs.Prelude.{◌≡◌, ⊤, MatchOption, IfOk, IfErr};
+ghost use Rattle.std.specs.Option.{option_copied};
+ghost use Rattle.term_core.specs.Datum.{cells};
+ghost use Rattle.std.specs.Str.{chars};
+ghost use Rattle.term_core.specs.Datum.Datum.{atom, cons};
+ghost use Rattle.term_core.specs.Term.{tail_of};
 ghost use Rattle.prims.specs.View.{shown, IsWithin};
-ghost use Rattle.prims.specs.Operand.{operand_datum, IsNoCell};
+ghost use Rattle.prims.specs.Operand.{operand_datum, boolean as boolean_atom, IsNoCell, IsRefusal};
 ghost use Rattle.prims.specs.Order.{IsSimple};
 ghost use Rattle.prims.specs.Booleans.{boolean_of};
 ghost use Rattle.prims.specs.Integers.{integer_of};
 
 use crate::view::View;
 use std::alloc::{AllocError, Allocator, Global};
-use term_core::Term;
+use term_core::{Fault, Term, copy_all, copy_tail};
 
 /// The characters of the atom `true`.
 const TRUE: [char; 4] = ['t', 'r', 'u', 'e'];
@@ -41,6 +45,45 @@ impl<'a, A: Allocator> Clone for Operand<'a, A> {
     }
 }
 
+/// The text of the atom `true` or `false`.
+fn boolean_text(value: bool) -> &'static str
+    ensures { atom (chars result.now) ≡ boolean_atom value }
+{
+    if value { "true" } else { "false" }
+}
+
+/// The atom `true` or `false`.
+fn boolean_term<A: Allocator + Copy>(alloc: A, value: bool) -> Result<Term<A>, Fault>
+    ensures ok { IfOk result (λ t. t ≡ boolean_atom value) }
+    ensures refused { IfErr result (λ fault. IsRefusal fault (boolean_atom value)) }
+{
+    match Term::atom(alloc, boolean_text(value)) {
+        Ok(atom) => Ok(atom),
+        Err(fault) => Err(fault),
+    }
+}
+
+/// A list of copies of these elements and of this tail.
+fn list_term<A: Allocator + Copy>(
+    alloc: A,
+    elements: &[Term<A>],
+    tail: Option<&Term<A>>,
+) -> Result<Term<A>, Fault>
+    ensures ok { IfOk result (λ t. t ≡ cells elements.now (tail_of (option_copied tail.entry))) }
+    ensures refused { IfErr result (λ fault. IsRefusal fault (cells elements.now (tail_of (option_copied tail.entry)))) }
+{
+    let Ok(copies) = copy_all(alloc, elements) else {
+        return Err(Fault::Memory);
+    };
+    let Ok(tail) = copy_tail(alloc, tail) else {
+        return Err(Fault::Memory);
+    };
+    match Term::list(alloc, copies, tail) {
+        Ok(list) => Ok(list),
+        Err(refused) => Err(refused.fault),
+    }
+}
+
 impl<'a, A: Allocator> Operand<'a, A> {
     /// The operand taken apart one level down.
     pub(crate) fn view(self) -> View<'a, A>
@@ -59,7 +102,7 @@ impl<'a, A: Allocator> Operand<'a, A> {
     }
 
     /// The truth value that the operand is, where it is the atom `true` or `false`.
-    pub(crate) fn boolean(self) -> Option<bool>
+    pub fn boolean(self) -> Option<bool>
         ensures { result ≡ boolean_of (operand_datum self.entry) }
     {
         match self.view() {
@@ -70,7 +113,7 @@ impl<'a, A: Allocator> Operand<'a, A> {
     }
 
     /// The number that the operand is, where it is an integer.
-    pub(crate) fn integer(self) -> Option<i64>
+    pub fn integer(self) -> Option<i64>
         ensures { result ≡ integer_of (operand_datum self.entry) }
     {
         match self.view() {
@@ -79,8 +122,8 @@ impl<'a, A: Allocator> Operand<'a, A> {
         }
     }
 
-    /// The first element of a list and what follows it.
-    pub(crate) fn split(self) -> Option<(&'a Term<A>, Operand<'a, A>)>
+    /// The first element of a list and what follows it, none where the operand is no list with elements.
+    pub fn split(self) -> Option<(&'a Term<A>, Operand<'a, A>)>
         ensures { MatchOption result (IsNoCell (operand_datum self.entry)) (λ p. cons p.0.now (operand_datum p.1) ≡ operand_datum self.entry) }
     {
         match self.view() {
@@ -98,6 +141,22 @@ impl<'a, A: Allocator> Operand<'a, A> {
             Operand::Rest([], None) => None,
             Operand::Rest([_, ..], _) => None,
             Operand::Int(_) | Operand::Bool(_) => None,
+        }
+    }
+
+    /// The term that the operand stands for, in memory of its own. A list that is past the limits of terms, as the
+    /// rest of a list may be, is refused.
+    pub fn to_term(self, alloc: A) -> Result<Term<A>, Fault>
+    where
+        A: Copy,
+        ensures ok { IfOk result (λ t. t ≡ operand_datum self.entry) }
+        ensures refused { IfErr result (λ fault. IsRefusal fault (operand_datum self.entry)) }
+    {
+        match self {
+            Operand::Term(term) => term.copy(alloc).map_err(|_| Fault::Memory),
+            Operand::Rest(elements, tail) => list_term(alloc, elements, tail),
+            Operand::Int(value) => Ok(Term::int(value)),
+            Operand::Bool(value) => boolean_term(alloc, value),
         }
     }
 }

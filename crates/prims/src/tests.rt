@@ -2,8 +2,9 @@
 use self::Answer::{Fails, Number, Place, Truth, Unknown};
 use self::Given::{At, Bool, Int};
 use super::*;
-use std::alloc::Global;
-use term_core::Term;
+use failing_alloc::sweep;
+use std::alloc::{Allocator, Global};
+use term_core::{Fault, Term, View};
 
 /// The greatest and the least integer.
 const MAX: i64 = i64::MAX;
@@ -29,17 +30,21 @@ const ROW: usize = 7;
 
 const PAIR: usize = 8;
 
-const NIL: usize = 9;
+const EMPTY: usize = 9;
 
-const IMPROPER: usize = 10;
+const MAP: usize = 10;
 
-const PROPER: usize = 11;
+const NIL: usize = 11;
 
-const TAIL: usize = 12;
+const IMPROPER: usize = 12;
 
-const NOTHING: usize = 13;
+const PROPER: usize = 13;
 
-const BYTES: usize = 14;
+const TAIL: usize = 14;
+
+const NOTHING: usize = 15;
+
+const BYTES: usize = 16;
 
 fn atom(heap: Global, text: &str) -> Option<Term> {
     Term::atom(heap, text).ok()
@@ -57,7 +62,17 @@ fn binary(heap: Global, bytes: Vec<u8>) -> Option<Term> {
     Term::binary(heap, bytes).ok()
 }
 
-/// 1, 2, a, ab, false, true, {}, {1}, {a,1}, [], [1|2], [1,2], [2], <<>>, <<7,8>>
+/// `#{[1,2] => ab, true => 2, 1 => a}`
+fn map(heap: Global) -> Option<Term> {
+    let mut pairs = Vec::new(heap);
+    let key = list(heap, vec![in heap; Term::int(1), Term::int(2)].ok()?, None)?;
+    pairs.push((key, atom(heap, "ab")?)).ok()?;
+    pairs.push((atom(heap, "true")?, Term::int(2))).ok()?;
+    pairs.push((Term::int(1), atom(heap, "a")?)).ok()?;
+    Term::map(heap, pairs).ok()
+}
+
+/// 1, 2, a, ab, false, true, {}, {1}, {a,1}, #{}, #{1=>a,true=>2,[1,2]=>ab}, [], [1|2], [1,2], [2], <<>>, <<7,8>>
 fn terms(heap: Global) -> Option<Vec<Term>> {
     let mut terms = Vec::new(heap);
     terms.push(Term::int(1)).ok()?;
@@ -72,6 +87,8 @@ fn terms(heap: Global) -> Option<Vec<Term>> {
     terms
         .push(tuple(heap, vec![in heap; atom(heap, "a")?, Term::int(1)].ok()?)?)
         .ok()?;
+    terms.push(Term::map(heap, Vec::new(heap)).ok()?).ok()?;
+    terms.push(map(heap)?).ok()?;
     terms.push(Term::nil()).ok()?;
     terms
         .push(list(heap, vec![in heap; Term::int(1)].ok()?, Some(Term::int(2)))?)
@@ -249,6 +266,16 @@ fn shifts_by_any_number_of_places(rt: HostRuntime) {
         ("bsl", 1, MAX, Fails),
         ("bsl", 0, 1000, Number(0)),
         ("bsl", 0, MAX, Number(0)),
+        ("bsl", MIN, 0, Number(MIN)),
+        ("bsl", -1, MAX, Fails),
+        ("bsl", 0, 63, Number(0)),
+        ("bsl", 0, 64, Number(0)),
+        ("bsl", MAX, -63, Number(0)),
+        ("bsl", MIN, -63, Number(-1)),
+        ("bsl", MAX, -64, Number(0)),
+        ("bsl", -7, -64, Number(-1)),
+        ("bsl", 7, -MAX, Number(0)),
+        ("bsl", -7, -MAX, Number(-1)),
         ("bsl", -1, -1, Number(-1)),
         ("bsl", -7, -1, Number(-4)),
         ("bsl", 5, MIN, Number(0)),
@@ -258,6 +285,16 @@ fn shifts_by_any_number_of_places(rt: HostRuntime) {
         ("bsr", MIN, 0, Number(MIN)),
         ("bsr", MIN, 63, Number(-1)),
         ("bsr", MAX, 63, Number(0)),
+        ("bsr", 5, 0, Number(5)),
+        ("bsr", MAX, 62, Number(1)),
+        ("bsr", MIN, 62, Number(-2)),
+        ("bsr", MAX, 64, Number(0)),
+        ("bsr", -7, MAX, Number(-1)),
+        ("bsr", -1, -63, Number(MIN)),
+        ("bsr", 1, -64, Fails),
+        ("bsr", -1, -64, Fails),
+        ("bsr", 1, -MAX, Fails),
+        ("bsr", 0, -MAX, Number(0)),
         ("bsr", -8, 64, Number(-1)),
         ("bsr", 7, MAX, Number(0)),
         ("bsr", -1, 1000, Number(-1)),
@@ -275,6 +312,26 @@ fn shifts_by_any_number_of_places(rt: HostRuntime) {
 }
 
 #[test]
+fn functions_of_two_integers_want_integers(rt: HostRuntime) {
+    for name in [
+        "+", "-", "*", "div", "rem", "band", "bor", "bxor", "bsl", "bsr",
+    ] {
+        for row in [
+            [At(A), Int(1)],
+            [Int(1), At(NIL)],
+            [At(MAP), At(BYTES)],
+            [Bool(true), Int(1)],
+        ] {
+            assert_eq!(rt;
+                row_answer(rt.alloc(), name, &row),
+                Some(Fails),
+                "{name} {row:?}"
+            );
+        }
+    }
+}
+
+#[test]
 fn tests_of_kind(rt: HostRuntime) {
     for (name, places) in [
         ("is_atom", [A, AB, FALSE, TRUE].as_slice()),
@@ -282,7 +339,7 @@ fn tests_of_kind(rt: HostRuntime) {
         ("is_list", [NIL, IMPROPER, PROPER, TAIL].as_slice()),
         ("is_number", [ONE, TWO].as_slice()),
         ("is_tuple", [UNIT, ROW, PAIR].as_slice()),
-        ("is_map", [].as_slice()),
+        ("is_map", [EMPTY, MAP].as_slice()),
         ("is_binary", [NOTHING, BYTES].as_slice()),
         ("is_bitstring", [NOTHING, BYTES].as_slice()),
         ("is_boolean", [FALSE, TRUE].as_slice()),
@@ -347,35 +404,271 @@ fn numbers_and_truth_values_are_terms(rt: HostRuntime) {
     }
 }
 
-/// The terms at which the rests of lists stand that are made of 1 and 2 and of the terms.
-fn places_of_rests(heap: Global) -> Option<[Option<usize>; 7]> {
+/// Where the operand stands among the terms, and where its copy does.
+fn places(heap: Global, terms: &[Term], operand: Operand<'_>) -> (Option<usize>, Option<usize>) {
+    match operand.to_term(heap) {
+        Ok(copied) => (place(terms, operand), place(terms, Operand::Term(&copied))),
+        Err(_) => (None, None),
+    }
+}
+
+/// The terms at which the rests of lists stand that are made of 1 and 2 and of the terms, and their copies.
+fn places_of_rests(heap: Global) -> Option<[(Option<usize>, Option<usize>); 7]> {
     let terms = terms(heap)?;
     let terms = terms.as_slice();
     let numbers = terms.get(ONE..A)?;
     let one = terms.get(ONE..TWO)?;
     Some([
-        place(terms, Operand::Rest(&[], None)),
-        place(terms, Operand::Rest(&[], terms.get(PAIR))),
-        place(terms, Operand::Rest(&[], terms.get(IMPROPER))),
-        place(terms, Operand::Rest(numbers, None)),
-        place(terms, Operand::Rest(one, terms.get(TWO))),
-        place(terms, Operand::Rest(one, terms.get(TAIL))),
-        place(terms, Operand::Rest(numbers, terms.get(TAIL))),
+        places(heap, terms, Operand::Rest(&[], None)),
+        places(heap, terms, Operand::Rest(&[], terms.get(PAIR))),
+        places(heap, terms, Operand::Rest(&[], terms.get(IMPROPER))),
+        places(heap, terms, Operand::Rest(numbers, None)),
+        places(heap, terms, Operand::Rest(one, terms.get(TWO))),
+        places(heap, terms, Operand::Rest(one, terms.get(TAIL))),
+        places(heap, terms, Operand::Rest(numbers, terms.get(TAIL))),
     ])
 }
 
 #[test]
 fn a_rest_is_its_list(rt: HostRuntime) {
     let want = [
-        Some(NIL),
-        Some(PAIR),
-        Some(IMPROPER),
-        Some(PROPER),
-        Some(IMPROPER),
-        Some(PROPER),
-        None,
+        (Some(NIL), Some(NIL)),
+        (Some(PAIR), Some(PAIR)),
+        (Some(IMPROPER), Some(IMPROPER)),
+        (Some(PROPER), Some(PROPER)),
+        (Some(IMPROPER), Some(IMPROPER)),
+        (Some(PROPER), Some(PROPER)),
+        (None, None),
     ];
     assert_eq!(rt; places_of_rests(rt.alloc()), Some(want));
+}
+
+/// Where what a row gives stands among the terms, and where its copy does.
+fn places_of(heap: Global, given: Given) -> Option<(Option<usize>, Option<usize>)> {
+    let terms = terms(heap)?;
+    let operand = operand_of(terms.as_slice(), given)?;
+    Some(places(heap, terms.as_slice(), operand))
+}
+
+#[test]
+fn an_operand_is_its_term(rt: HostRuntime) {
+    for (given, want) in [
+        (Int(2), TWO),
+        (Bool(false), FALSE),
+        (Bool(true), TRUE),
+        (At(MAP), MAP),
+        (At(IMPROPER), IMPROPER),
+        (At(BYTES), BYTES),
+    ] {
+        assert_eq!(rt;
+            places_of(rt.alloc(), given),
+            Some((Some(want), Some(want))),
+            "{given:?}"
+        );
+    }
+}
+
+/// The truth value that what a row gives is, and the number that it is.
+fn values_of(heap: Global, given: Given) -> Option<(Option<bool>, Option<i64>)> {
+    let terms = terms(heap)?;
+    let operand = operand_of(terms.as_slice(), given)?;
+    Some((operand.boolean(), operand.integer()))
+}
+
+#[test]
+fn operands_have_values(rt: HostRuntime) {
+    for (given, want) in [
+        (Int(-7), (None, Some(-7))),
+        (At(TWO), (None, Some(2))),
+        (Bool(false), (Some(false), None)),
+        (At(TRUE), (Some(true), None)),
+        (At(FALSE), (Some(false), None)),
+        (At(A), (None, None)),
+        (At(NIL), (None, None)),
+    ] {
+        assert_eq!(rt; values_of(rt.alloc(), given), Some(want), "{given:?}");
+    }
+}
+
+/// The places of the first element and of the rest of the term at a place.
+fn split_at(heap: Global, whole: usize) -> Option<Option<(usize, usize)>> {
+    let terms = terms(heap)?;
+    let terms = terms.as_slice();
+    match Operand::Term(terms.get(whole)?).split() {
+        None => Some(None),
+        Some((head, rest)) => Some(Some((place(terms, Operand::Term(head))?, place(terms, rest)?))),
+    }
+}
+
+#[test]
+fn lists_are_split(rt: HostRuntime) {
+    for (whole, want) in [
+        (PROPER, Some((ONE, TAIL))),
+        (IMPROPER, Some((ONE, TWO))),
+        (TAIL, Some((TWO, NIL))),
+        (NIL, None),
+        (PAIR, None),
+    ] {
+        assert_eq!(rt; split_at(rt.alloc(), whole), Some(want), "{whole}");
+    }
+}
+
+/// How many elements the copy of a rest has that is made of so many integers and the list of one, or its fault.
+fn long_rest(heap: Global, count: usize) -> Option<Result<usize, Fault>> {
+    let mut elements = Vec::with_capacity(heap, count).ok()?;
+    for _ in 0..count {
+        elements.push(Term::int(1)).ok()?;
+    }
+    let tail = list(heap, vec![in heap; Term::int(2)].ok()?, None)?;
+    let rest = Operand::Rest(elements.as_slice(), Some(&tail));
+    match rest.to_term(heap) {
+        Ok(copied) => match copied.view() {
+            View::List(elements, None) => Some(Ok(elements.len())),
+            _ => None,
+        },
+        Err(fault) => Some(Err(fault)),
+    }
+}
+
+/// How deep the copy of a rest is whose one element is so deep, or its fault.
+fn deep_rest(heap: Global, levels: u16) -> Option<Result<u8, Fault>> {
+    let mut element = Term::int(7);
+    for _ in 1..levels {
+        element = tuple(heap, vec![in heap; element].ok()?)?;
+    }
+    let elements = vec![in heap; element].ok()?;
+    match Operand::Rest(elements.as_slice(), None).to_term(heap) {
+        Ok(copied) => Some(Ok(copied.depth())),
+        Err(fault) => Some(Err(fault)),
+    }
+}
+
+#[test]
+fn a_rest_past_a_limit_is_no_term(rt: HostRuntime) {
+    assert_eq!(rt; long_rest(rt.alloc(), 1_048_575), Some(Ok(1_048_576)));
+    assert_eq!(rt; long_rest(rt.alloc(), 1_048_576), Some(Err(Fault::TooLong)));
+    assert_eq!(rt; deep_rest(rt.alloc(), 254), Some(Ok(255)));
+    assert_eq!(rt; deep_rest(rt.alloc(), 255), Some(Err(Fault::TooDeep)));
+}
+
+/// Whether the copy of an operand that is made of these terms is right, none where memory is refused.
+fn is_copied<A: Allocator + Copy>(heap: A, terms: &[Term<A>], kind: u8) -> Option<bool> {
+    let operand = match kind {
+        0 => Operand::Rest(terms.get(..2)?, terms.last()),
+        1 => Operand::Term(terms.first()?),
+        2 => Operand::Bool(true),
+        _ => Operand::Int(-1),
+    };
+    let same = Primitive::Comparison(Comparison::ExactlyEqual);
+    match operand.to_term(heap) {
+        Ok(copied) => Some(matches!(
+            call(same, &[Operand::Term(&copied), operand]),
+            Some(Operand::Bool(true))
+        )),
+        Err(Fault::Memory) => None,
+        Err(_) => Some(false),
+    }
+}
+
+/// Whether copies made of `true`, 1 and `b` are right, none where memory is refused.
+fn are_copied<A: Allocator + Copy>(heap: A) -> Option<bool> {
+    let mut terms = Vec::new(heap);
+    terms.push(Term::atom(heap, "true").ok()?).ok()?;
+    terms.push(Term::int(1)).ok()?;
+    terms.push(Term::atom(heap, "b").ok()?).ok()?;
+    for kind in 0..4 {
+        if !is_copied(heap, terms.as_slice(), kind)? {
+            return Some(false);
+        }
+    }
+    Some(true)
+}
+
+#[test]
+fn each_request_refused_in_turn(rt: HostRuntime) {
+    let outcome = sweep(rt.alloc(), 100, |heap| match are_copied(heap) {
+        Some(same) => same,
+        None => heap.was_refused(),
+    });
+    assert!(rt; outcome.is_complete(), "{outcome:?}");
+    assert_eq!(rt; are_copied(rt.alloc()), Some(true));
+}
+
+/// Whether the call of so many ones fails.
+fn fails_of_ones(prim: Primitive, count: usize) -> Option<bool> {
+    let ones: [Operand<'_>; 4] = [Operand::Int(1); 4];
+    Some(call(prim, ones.get(..count)?).is_none())
+}
+
+#[test]
+fn another_number_of_operands_fails(rt: HostRuntime) {
+    for (prim, taken) in [
+        (Primitive::Test(Test::IsInteger), 1),
+        (Primitive::Comparison(Comparison::Equal), 2),
+        (Primitive::Extreme(Extreme::Max), 2),
+        (Primitive::Integer(IntegerFunction::Abs), 1),
+        (Primitive::Arithmetic(Arithmetic::Add), 2),
+    ] {
+        for count in 0..=4 {
+            assert_eq!(rt;
+                fails_of_ones(prim, count),
+                Some(count != taken),
+                "{prim:?} {count}"
+            );
+        }
+    }
+    assert_eq!(rt;
+        fails_of_ones(Primitive::Boolean(BooleanFunction::And), 0),
+        Some(true)
+    );
+}
+
+/// What kind of term the function gives, and whether that is its name.
+fn gives_of(heap: Global, name: &str, arguments: usize) -> Option<(Gives, bool)> {
+    let prim = prim(heap, name, arguments)?;
+    Some((prim.gives(), prim.name() == name && prim.takes(arguments)))
+}
+
+#[test]
+fn functions_give_kinds(rt: HostRuntime) {
+    for (name, arguments, want) in [
+        ("is_atom", 1, Gives::Boolean),
+        ("is_map_key", 2, Gives::Boolean),
+        ("is_record", 3, Gives::Boolean),
+        ("and", 3, Gives::Boolean),
+        ("or", 1, Gives::Boolean),
+        ("xor", 2, Gives::Boolean),
+        ("=<", 2, Gives::Boolean),
+        ("length", 1, Gives::Integer),
+        ("map_size", 1, Gives::Integer),
+        ("bit_size", 1, Gives::Integer),
+        ("-", 1, Gives::Integer),
+        ("-", 2, Gives::Integer),
+        ("bsl", 2, Gives::Integer),
+        ("element", 2, Gives::Any),
+        ("hd", 1, Gives::Any),
+        ("tl", 1, Gives::Any),
+        ("map_get", 2, Gives::Any),
+        ("max", 2, Gives::Any),
+    ] {
+        assert_eq!(rt;
+            gives_of(rt.alloc(), name, arguments),
+            Some((want, true)),
+            "{name}"
+        );
+    }
+    for (name, arguments) in [
+        ("and", 0),
+        ("or", 0),
+        ("not", 2),
+        ("element", 1),
+        ("andalso", 2),
+        ("is_ato", 1),
+        ("is_atoms", 1),
+        ("", 1),
+    ] {
+        assert_eq!(rt; gives_of(rt.alloc(), name, arguments), None, "{name}");
+    }
 }
 
 #[test]
@@ -408,9 +701,28 @@ fn functions_of_one_term(rt: HostRuntime) {
         ("byte_size", At(PAIR), Fails),
         ("bit_size", At(BYTES), Number(16)),
         ("bit_size", At(NIL), Fails),
+        ("size", At(MAP), Fails),
+        ("size", Int(5), Fails),
+        ("tuple_size", At(UNIT), Number(0)),
+        ("tuple_size", At(MAP), Fails),
+        ("byte_size", At(NOTHING), Number(0)),
+        ("map_size", At(MAP), Number(3)),
+        ("map_size", At(EMPTY), Number(0)),
         ("map_size", At(PAIR), Fails),
+        ("map_size", Bool(true), Fails),
         ("abs", At(A), Fails),
+        ("round", At(ONE), Number(1)),
+        ("round", At(PROPER), Fails),
+        ("trunc", At(MAP), Fails),
+        ("+", At(TWO), Number(2)),
+        ("+", At(BYTES), Fails),
+        ("-", At(TWO), Number(-2)),
+        ("-", Bool(true), Fails),
         ("bnot", At(NIL), Fails),
+        ("not", At(FALSE), Truth(true)),
+        ("not", Int(0), Fails),
+        ("and", At(NIL), Fails),
+        ("or", Int(1), Fails),
         ("foo", At(A), Unknown),
     ] {
         let row = [operand];
@@ -439,8 +751,27 @@ fn functions_of_two_terms(rt: HostRuntime) {
         ("element", At(A), At(PAIR), Fails),
         ("element", Int(1), At(PROPER), Fails),
         ("is_record", At(PAIR), At(A), Unknown),
+        ("map_get", Int(1), At(MAP), Place(A)),
+        ("map_get", At(TRUE), At(MAP), Place(TWO)),
+        ("map_get", Bool(true), At(MAP), Place(TWO)),
+        ("map_get", At(PROPER), At(MAP), Place(AB)),
+        ("map_get", At(A), At(MAP), Fails),
+        ("map_get", Int(0), At(MAP), Fails),
+        ("map_get", At(BYTES), At(MAP), Fails),
+        ("map_get", At(ONE), At(EMPTY), Fails),
         ("map_get", At(A), At(PAIR), Fails),
+        ("is_map_key", At(ONE), At(MAP), Truth(true)),
+        ("is_map_key", Bool(true), At(MAP), Truth(true)),
+        ("is_map_key", At(PROPER), At(MAP), Truth(true)),
+        ("is_map_key", Int(2), At(MAP), Truth(false)),
+        ("is_map_key", Bool(false), At(MAP), Truth(false)),
+        ("is_map_key", At(IMPROPER), At(MAP), Truth(false)),
+        ("is_map_key", At(ONE), At(EMPTY), Truth(false)),
         ("is_map_key", At(A), At(PAIR), Fails),
+        ("is_map_key", At(MAP), At(ONE), Fails),
+        ("max", At(MAP), At(EMPTY), Place(MAP)),
+        ("max", At(ONE), Int(1), Place(ONE)),
+        ("min", At(MAP), At(NIL), Place(MAP)),
         ("max", At(A), Int(5), Place(A)),
         ("max", Int(5), Int(4), Number(5)),
         ("min", At(PROPER), At(BYTES), Place(PROPER)),
@@ -462,14 +793,26 @@ fn functions_of_two_terms(rt: HostRuntime) {
 fn functions_of_three_terms(rt: HostRuntime) {
     for (name, first, second, third, want) in [
         ("or", At(FALSE), At(TRUE), At(FALSE), Truth(true)),
+        ("or", At(TRUE), At(FALSE), At(A), Fails),
+        ("and", At(TRUE), Bool(true), At(TRUE), Truth(true)),
+        ("and", At(TRUE), Bool(true), At(FALSE), Truth(false)),
+        ("and", Bool(false), At(NIL), At(TRUE), Fails),
+        ("xor", At(TRUE), At(TRUE), At(TRUE), Unknown),
         ("is_record", At(PAIR), At(A), Int(2), Truth(true)),
         ("is_record", At(PAIR), At(A), Int(3), Truth(false)),
         ("is_record", At(PAIR), At(AB), Int(2), Truth(false)),
         ("is_record", At(ROW), At(A), Int(1), Truth(false)),
         ("is_record", At(UNIT), At(A), Int(0), Truth(false)),
         ("is_record", At(PROPER), At(A), Int(-1), Truth(false)),
+        ("is_record", At(PAIR), At(A), At(TWO), Truth(true)),
+        ("is_record", At(PAIR), At(A), Int(0), Truth(false)),
+        ("is_record", At(PAIR), At(A), Int(MIN), Truth(false)),
+        ("is_record", At(PAIR), At(A), Int(MAX), Truth(false)),
+        ("is_record", At(PAIR), Bool(true), Int(2), Truth(false)),
         ("is_record", At(PAIR), At(ONE), Int(2), Fails),
+        ("is_record", At(MAP), At(ONE), Int(2), Fails),
         ("is_record", At(PAIR), At(A), At(A), Fails),
+        ("is_record", At(PAIR), At(A), Bool(true), Fails),
     ] {
         let row = [first, second, third];
         assert_eq!(rt;

@@ -3,3 +3,4 @@ pub mod LimitLemmas
 pub mod RowLemmas
 pub mod ViewLemmas
 pub mod MapLemmas
+pub mod DepthLemmas

@@ -10,3 +10,4 @@ pub mod ListParts
 pub mod View
 pub mod Fault
 pub mod MapPairs
+pub mod FaultNumbers

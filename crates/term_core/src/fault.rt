@@ -19,8 +19,13 @@ pub enum Fault {
 }
 
 impl Fault {
+    ghost use Rattle.std.specs.Prelude.{◌≡◌};
+    ghost use Rattle.term_core.specs.FaultNumbers.{number_of};
+
     /// The number that the fault has in what programs print.
-    pub const fn number(self) -> u8 {
+    pub const fn number(self) -> u8
+        ensures { result ≡ number_of self }
+    {
         match self {
             Fault::Memory => 1,
             Fault::TooDeep => 2,

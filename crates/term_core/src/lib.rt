@@ -10,7 +10,7 @@ mod tests;
 mod view;
 
 pub use fault::{Fault, Refused};
-pub use term::{ListParts, Term};
+pub use term::{ListParts, Term, copy_all, copy_tail};
 pub use view::View;
 
 /// The greatest depth of a term.

@@ -15,6 +15,7 @@ use crate::{MAX_BINARY, MAX_CHARACTERS, MAX_DEPTH, MAX_LIST, MAX_TUPLE};
 mod copy;
 mod map;
 
+pub use copy::{copy_all, copy_tail};
 use std::alloc::{AllocError, Allocator, Global};
 use std::marker::Model;
 

@@ -7,6 +7,9 @@ use std::alloc::{Allocator, Global};
 use std::cmp::Ordering;
 use std::test::Fail;
 
+mod limits;
+mod memory;
+
 /// A tuple round a tuple, so many levels deep, or the level at which it was refused.
 fn nested<A: Allocator + Copy>(alloc: A, levels: u16) -> Result<Term<A>, Fault> {
     let mut term = Term::int(7);
@@ -191,11 +194,14 @@ fn each_request_refused_in_turn(rt: HostRuntime) {
 
 #[test]
 fn faults_have_numbers_and_texts(rt: HostRuntime) -> Result<(), Fail> {
-    assert!(rt; Fault::Memory.number() == 1);
-    assert!(rt; Fault::DuplicateKey.number() == 4);
-    assert_eq!(rt;
-        Fault::TooDeep.to_string(rt.alloc())?.as_str(),
-        "the term is too deep"
-    );
+    for (fault, number, text) in [
+        (Fault::Memory, 1, "out of memory"),
+        (Fault::TooDeep, 2, "the term is too deep"),
+        (Fault::TooLong, 3, "the term is too long"),
+        (Fault::DuplicateKey, 4, "a key stands twice in a map"),
+    ] {
+        assert_eq!(rt; fault.number(), number, "{fault:?}");
+        assert_eq!(rt; fault.to_string(rt.alloc())?.as_str(), text);
+    }
     Ok(())
 }

@@ -13,7 +13,7 @@ use Rattle.term_text.proofs.Steps.{bind_holds, holds_at, weaker, Hands, steps_ho
 use Rattle.term_text.proofs.Tokens.{Behind, BehindComment, gap_holds, gap_again, if_is}
 use Rattle.term_text.proofs.Tokens.Behind.{something, nothing}
 
-gap_within : (text rest : List ℕ) → Behind text rest → 0 < length rest → Gap text rest
+pub gap_within : (text rest : List ℕ) → Behind text rest → 0 < length rest → Gap text rest
 gap_within text rest (something g) h = g
 gap_within text rest (nothing g l) h = absurd (omega arith)
 

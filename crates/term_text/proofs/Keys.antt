@@ -19,8 +19,11 @@ use Rattle.std.proofs.lemmas.Map.Keys.{sorted_head, sorted_tail}
 use Rattle.term_core.specs.Datum.Datum.{map}
 use Rattle.term_core.specs.MapPairs as map_pairs
 use Rattle.term_core.specs.MapPairs.{IsMapOf}
-use Rattle.term_text.specs.Text.{AreRising}
 use Rattle.term_text.specs.Reading.{has_key}
+
+-- each key below the next
+abbrev pub AreRising : List (Datum × Datum) → Type 0
+AreRising es = map_pairs.AreRising (entries_of es)
 
 below_at : (a b : Datum) (o : Ordering) → datum_cmp a b ≡ o → MatchOrdering o (IsBelow a b) (a ≡ b) (IsBelow b a)
 below_at a b o e = rw e at (datum_cmp-says a b)
@@ -139,7 +142,7 @@ has_no_key k (e ∷ es) h =
     let a = key_count-more k e es in
     or_from (is_eq (datum_cmp k e.0)) (has_key k es) (one_if-false (is_eq (datum_cmp k e.0)) (omega arith)) (has_no_key k es (omega arith))
 
-is_eq-equal : (o : Ordering) → is_eq o ≡ true → o ≡ Equal
+pub is_eq-equal : (o : Ordering) → is_eq o ≡ true → o ≡ Equal
 is_eq-equal Less h = absurd cc
 is_eq-equal Equal h = refl
 is_eq-equal Greater h = absurd cc

@@ -21,10 +21,9 @@ use Rattle.std.specs.List.Sorted.{IsPermutation}
 use Rattle.std.specs.BTreeMap.{insert_entry}
 use Rattle.std.proofs.lemmas.List.Sorted.{IsPermutation-sym, IsPermutation-trans, IsPermutation-middle, IsPermutation-append_right, length_permutation}
 use Rattle.term_core.specs.Order.{datum_cmp}
-use Rattle.term_text.specs.Text.{AreRising}
 use Rattle.term_text.specs.Text.Pair.{arrow}
 use Rattle.term_text.specs.Text.Pairs.{last_pair, more_pairs}
-use Rattle.term_text.proofs.Keys.{put_permutes, put_rises}
+use Rattle.term_text.proofs.Keys.{AreRising, put_permutes, put_rises}
 use Rattle.term_text.specs.Reading.{has_key, pair_at, pairs_at, all_steps, Fault, Read, is_allowed, integer_at, word_at, byte_of, byte_at, byte_marks, segment_as, segment_at, segments_at, bytes_at, binary_at, behind_both, expect_both, map_at, ◌>>=◌, TermReader, TailReader, after_gap, behind, expect, opening, enter, enter_as, quoted_at, atom_marks, string_marks, string_at, integer_term_at, word_term_at, quoted_atom_at, element_at, elements_at, separated, items_at, tuple_at, list_at, list_end, list_from, end_at, form_at, tail_form, term_at, tail_at}
 use Rattle.term_text.proofs.Steps.{bind_holds, if_holds, weaker, Shrinks}
 use Rattle.term_text.proofs.Tokens.{Reads, quoted_holds}
@@ -109,7 +108,7 @@ elements_from n limit (more {s} r g h is) =
     }
 
 module _ (n : ℕ) (read : TermReader) (reads : IsReader n read) where
-  element_holds : (limit : ℕ) (front : List Datum) (text : List ℕ) → IfOk (element_at read limit front text) (λ x. ElementRead n limit front text x.0 x.1)
+  pub element_holds : (limit : ℕ) (front : List Datum) (text : List ℕ) → IfOk (element_at read limit front text) (λ x. ElementRead n limit front text x.0 x.1)
   unfolding element_at
   element_holds limit front text =
       bind_holds (λ (x : Datum × List ℕ). Spelled n text x.0 x.1 × (0 < limit - length front)) (λ (x : List Datum × List ℕ). ElementRead n limit front text x.0 x.1) (read (limit - length front) text) _ (reads (limit - length front) text)
@@ -125,7 +124,7 @@ module _ (n : ℕ) (read : TermReader) (reads : IsReader n read) where
 
   -- ---- tuples
 
-  items_hold : (text g : List ℕ) (o : Option (List ℕ)) → (0 < length g → Gap text g) → IfSome o (λ rest. g ≡ close_brace ∷ rest) → IfOk (items_at read o g) (λ x. Spelled (suc n) (open_brace ∷ text) (tuple (items_of x.0)) x.1)
+  pub items_hold : (text g : List ℕ) (o : Option (List ℕ)) → (0 < length g → Gap text g) → IfSome o (λ rest. g ≡ close_brace ∷ rest) → IfOk (items_at read o g) (λ x. Spelled (suc n) (open_brace ∷ text) (tuple (items_of x.0)) x.1)
   items_hold text g (Some rest) gap h = an_empty_tuple (rw h at (gap (rw h (omega arith))))
   items_hold text g None gap h =
       bind_holds (λ (x : List Datum × List ℕ). 0 < length x.1 → ElementsRead n MAX_TUPLE [] g x.0 x.1) (λ (x : List Datum × List ℕ). Spelled (suc n) (open_brace ∷ text) (tuple (items_of x.0)) x.1) (elements_at read MAX_TUPLE [] g) _ (elements_hold MAX_TUPLE [] g)
@@ -217,7 +216,7 @@ spelled_string (suc n) before text cs rest r =
     let few : length cs ≤ MAX_LIST - before = some_room n before (length cs) (r.within (omega arith)) in
     a_string (rw (← r.joined) at r.quoted) (omega arith)
 
-room_within : (n before : ℕ) (text cs rest : List ℕ) → Reads (string_marks n before) [] text cs rest → before ≤ MAX_LIST → before + length cs ≤ MAX_LIST
+pub room_within : (n before : ℕ) (text cs rest : List ℕ) → Reads (string_marks n before) [] text cs rest → before ≤ MAX_LIST → before + length cs ≤ MAX_LIST
 room_within zero before text cs rest r h = let empty : length cs ≤ 0 = r.within (omega arith) in omega arith
 room_within (suc n) before text cs rest r h = let few : length cs ≤ MAX_LIST - before = some_room n before (length cs) (r.within (omega arith)) in omega arith
 
@@ -307,7 +306,7 @@ segment_as_holds bytes text (Some (opens.String, rest)) h =
     (λ x r. record { segment = x.0; made = refl; spelled = rw (h, r.joined) (some_bytes r.quoted (are_bytes r.more r.below)); within = λ l. let few = r.within (omega arith) in omega (arith, length-append bytes x.0) })
 segment_as_holds bytes text (Some (o, rest)) h = tt
 
-segment_holds : (bytes text : List ℕ) → IfOk (segment_at bytes text) (λ x. SegmentRead bytes text x.0 x.1)
+pub segment_holds : (bytes text : List ℕ) → IfOk (segment_at bytes text) (λ x. SegmentRead bytes text x.0 x.1)
 unfolding segment_at
 segment_holds bytes text = segment_as_holds bytes text (opening text) (opening_holds text)
 
@@ -339,7 +338,7 @@ expect_both_holds a b [] = tt
 expect_both_holds a b (x ∷ []) = tt
 expect_both_holds a b (x ∷ y ∷ ys) = if_holds (λ (rest : List ℕ). x ∷ y ∷ ys ≡ a ∷ b ∷ rest) (x == a && y == b) _ _ (λ e. two_are x y a b ys e) (λ _. tt)
 
-bytes_hold : (n : ℕ) (text g : List ℕ) (o : Option (List ℕ)) → (0 < length g → Gap text g) → IfSome o (λ rest. g ≡ greater ∷ greater ∷ rest) → IfOk (bytes_at o g) (λ x. Spelled (suc n) (less ∷ less ∷ text) (binary x.0) x.1)
+pub bytes_hold : (n : ℕ) (text g : List ℕ) (o : Option (List ℕ)) → (0 < length g → Gap text g) → IfSome o (λ rest. g ≡ greater ∷ greater ∷ rest) → IfOk (bytes_at o g) (λ x. Spelled (suc n) (less ∷ less ∷ text) (binary x.0) x.1)
 bytes_hold n text g (Some rest) gap h = an_empty_binary (rw h at (gap (rw h (omega arith))))
 bytes_hold n text g None gap h =
     bind_holds (λ (x : List ℕ × List ℕ). 0 < length x.1 → SegmentsRead [] g x.0 x.1) (λ (x : List ℕ × List ℕ). Spelled (suc n) (less ∷ less ∷ text) (binary x.0) x.1) (segments_at [] g) _ (segments_hold [] g)
@@ -402,7 +401,7 @@ pairs_from n (more {s} {u} {v} r g h is) =
     }
 
 module _ (n : ℕ) (read : TermReader) (reads : IsReader n read) where
-  pair_holds : (front : List (Datum × Datum)) (text : List ℕ) → IfOk (pair_at read front text) (λ x. PairRead n front text x.0 x.1)
+  pub pair_holds : (front : List (Datum × Datum)) (text : List ℕ) → IfOk (pair_at read front text) (λ x. PairRead n front text x.0 x.1)
   unfolding pair_at
   pair_holds front text =
       bind_holds (λ (k : Datum × List ℕ). Spelled n text k.0 k.1 × (0 < MAX_MAP - length front)) (λ (x : List (Datum × Datum) × List ℕ). PairRead n front text x.0 x.1) (read (MAX_MAP - length front) text) _ (reads (MAX_MAP - length front) text)
@@ -423,12 +422,12 @@ module _ (n : ℕ) (read : TermReader) (reads : IsReader n read) where
   pub pair_shrinks : Shrinks (separated (pair_at read))
   pair_shrinks = separated_shrinks (PairRead n) (pair_at read) pair_holds (pair_begun n)
 
-  pairs_hold : (text : List ℕ) → IfOk (all_steps (separated (pair_at read)) [] text) (λ x. 0 < length x.1 → PairsRead n [] text x.0 x.1)
+  pub pairs_hold : (text : List ℕ) → IfOk (all_steps (separated (pair_at read)) [] text) (λ x. 0 < length x.1 → PairsRead n [] text x.0 x.1)
   pairs_hold text =
       weaker (λ (x : List (Datum × Datum) × List ℕ). 0 < length x.1 → Items (PairRead n) [] text x.0 x.1) _ (all_steps (separated (pair_at read)) [] text) (λ x h some. pairs_from n (h some))
       (separated_holds (PairRead n) (pair_at read) pair_holds (pair_begun n) [] text)
 
-  map_pairs_hold : (text g : List ℕ) (o : Option (List ℕ)) → (0 < length g → Gap text g) → IfSome o (λ rest. g ≡ close_brace ∷ rest) → IfOk (pairs_at read o g) (λ x. Spelled (suc n) (number_sign ∷ open_brace ∷ text) (map (entries_of x.0)) x.1)
+  pub map_pairs_hold : (text g : List ℕ) (o : Option (List ℕ)) → (0 < length g → Gap text g) → IfSome o (λ rest. g ≡ close_brace ∷ rest) → IfOk (pairs_at read o g) (λ x. Spelled (suc n) (number_sign ∷ open_brace ∷ text) (map (entries_of x.0)) x.1)
   map_pairs_hold text g (Some rest) gap h = an_empty_map (rw h at (gap (rw h (omega arith))))
   map_pairs_hold text g None gap h =
       bind_holds (λ (x : List (Datum × Datum) × List ℕ). 0 < length x.1 → PairsRead n [] g x.0 x.1) (λ (x : List (Datum × Datum) × List ℕ). Spelled (suc n) (number_sign ∷ open_brace ∷ text) (map (entries_of x.0)) x.1) (all_steps (separated (pair_at read)) [] g) _ (pairs_hold g)
@@ -449,7 +448,7 @@ module _ (n : ℕ) (read : TermReader) (reads : IsReader n read) where
 -- ---- terms
 
 module _ (n : ℕ) (read : TermReader) (read_tail : TailReader) (reads : IsReader n read) (tails : IsTailReader n read_tail) where
-  form_holds : (o : Opening) (text rest : List ℕ) → Opens o text rest → IfOk (form_at read read_tail n o rest) (λ x. Spelled (suc n) text x.0 x.1)
+  pub form_holds : (o : Opening) (text rest : List ℕ) → Opens o text rest → IfOk (form_at read read_tail n o rest) (λ x. Spelled (suc n) text x.0 x.1)
   form_holds opens.Integer text rest h = weaker (λ (x : Datum × List ℕ). Alone n text x.0 x.1) _ _ (λ x a. a.0) (integer_term_holds n text rest h)
   form_holds opens.Word text rest h = weaker (λ (x : Datum × List ℕ). Alone n text x.0 x.1) _ _ (λ x a. a.0) (word_term_holds n text rest h)
   form_holds opens.QuotedAtom text rest h = rw h (weaker (λ (x : Datum × List ℕ). Alone n (single_quote ∷ rest) x.0 x.1) _ _ (λ x a. a.0) (quoted_atom_holds n rest))

@@ -25,7 +25,7 @@ begins_at : (rest : List ℕ) → begins_gap rest ≡ true → BeginsGap rest
 begins_at [] h = tt
 begins_at (c ∷ cs) h = elim (or_cases (is_white_space c) (c == percent) h) [ inl w ↦ inl w | inr p ↦ inr (eqb-true c percent p) ]
 
-begins_from : (rest : List ℕ) → BeginsGap rest → begins_gap rest ≡ true
+pub begins_from : (rest : List ℕ) → BeginsGap rest → begins_gap rest ≡ true
 begins_from [] h = refl
 begins_from (c ∷ cs) (inl w) = or_left (is_white_space c) (c == percent) w
 begins_from (c ∷ cs) (inr p) = or_right (is_white_space c) (c == percent) (eq-eqb c percent p)
@@ -40,13 +40,13 @@ dot_again : (rest : List ℕ) → BeginsGap rest → dot_at (dot ∷ rest) ≡ O
 dot_again rest h = rw (begins_from rest h) refl
 
 -- a term and its dot
-record SentenceRead (text : List ℕ) (d : Datum) (rest : List ℕ) : Type 0 where
-  behind : List ℕ
-  spelled : Spelled MAX_DEPTH text d behind
-  gap : Gap behind (dot ∷ rest)
-  begins : BeginsGap rest
+pub record SentenceRead (text : List ℕ) (d : Datum) (rest : List ℕ) : Type 0 where
+  pub behind : List ℕ
+  pub spelled : Spelled MAX_DEPTH text d behind
+  pub gap : Gap behind (dot ∷ rest)
+  pub begins : BeginsGap rest
 
-sentence_holds : (text : List ℕ) → IfOk (sentence_at text) (λ x. SentenceRead text x.0 x.1)
+pub sentence_holds : (text : List ℕ) → IfOk (sentence_at text) (λ x. SentenceRead text x.0 x.1)
 unfolding sentence_at
 sentence_holds text =
     bind_holds (λ (x : Datum × List ℕ). Spelled MAX_DEPTH text x.0 x.1 × (0 < 1)) (λ (x : Datum × List ℕ). SentenceRead text x.0 x.1) (term_at MAX_DEPTH 1 text) _ (term_holds MAX_DEPTH 1 text)

@@ -20,7 +20,7 @@ use Rattle.term_text.specs.Reading.{number_run, Fails}
 use Rattle.term_text.specs.Reading.{◌>>=◌, after_gap, character_at, marked, is_allowed, next_quoted, pushed, quoted_step, quoted_at, steps, all_steps}
 use Rattle.term_text.proofs.Steps.{bind_holds, if_holds, holds_at, weaker, Hands, steps_hold, Shrinks, all_steps_is}
 
-data IsCharacter (g : Bool) (c : ℕ) : List ℕ → ℕ → List ℕ → Type 0 where
+pub data IsCharacter (g : Bool) (c : ℕ) : List ℕ → ℕ → List ℕ → Type 0 where
   as_it_is : {text : List ℕ} → c ≢ backslash → is_allowed g c ≡ true → IsCharacter g c text c text
   as_escape : {e x : ℕ} {rest : List ℕ} → c ≡ backslash → escaped e ≡ Some x → IsCharacter g c (e ∷ rest) x rest
 
@@ -28,7 +28,7 @@ escape_holds : (g : Bool) (c e : ℕ) (rest start : List ℕ) (o : Option ℕ) �
 escape_holds g c e rest start None b h = tt
 escape_holds g c e rest start (Some x) b h = as_escape b h
 
-character_holds : (g : Bool) (c : ℕ) (text : List ℕ) → IfOk (character_at g (c ∷ text)) (λ x. IsCharacter g c text x.0 x.1)
+pub character_holds : (g : Bool) (c : ℕ) (text : List ℕ) → IfOk (character_at g (c ∷ text)) (λ x. IsCharacter g c text x.0 x.1)
 unfolding character_at
 character_holds g c [] = if_holds _ (c == backslash) _ _ (λ e. tt) (λ e. if_holds _ (is_allowed g c) _ _ (λ l. as_it_is (eqb-false c backslash e) l) (λ l. tt))
 character_holds g c (e ∷ rest) =

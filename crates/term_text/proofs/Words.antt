@@ -65,7 +65,7 @@ begins_some [] [] b e = absurd cc
 begins_some [] (c ∷ rest) b e = absurd cc
 begins_some (c ∷ digits) rest b e = omega arith
 
-number_holds : (text : List ℕ) → begins is_ascii_digit text ≡ true → Number text (number_run 0 text).0 (number_run 0 text).1
+pub number_holds : (text : List ℕ) → begins is_ascii_digit text ≡ true → Number text (number_run 0 text).0 (number_run 0 text).1
 number_holds text b =
     let d = digits_hold 0 text in
     record { digits = d.digits; some = begins_some d.digits _ (rw d.run.whole at b) d.run.ended; run = d.run; value = d.value }

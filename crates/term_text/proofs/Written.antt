@@ -21,7 +21,8 @@ use Rattle.std.specs.List.Sorted.{IsPermutation}
 use Rattle.std.proofs.lemmas.List.Sorted.{IsPermutation-refl}
 use Rattle.term_text.proofs.Sound.{cell_count-cells}
 use Rattle.term_text.specs.Character.{is_word, backslash, single_quote, escaped, comma, bar, equals, greater, less, number_sign, open_brace, close_brace, open_bracket, close_bracket}
-use Rattle.term_text.specs.Text.{Segment, Segments, Spelled, Elements, Pair, Pairs, AreRising}
+use Rattle.term_text.specs.Text.{Segment, Segments, Spelled, Elements, Pair, Pairs}
+use Rattle.term_text.proofs.Keys.{AreRising}
 use Rattle.term_text.specs.Text.Gap.{no_gap}
 use Rattle.term_text.specs.Text.Segment.{a_byte}
 use Rattle.term_text.specs.Text.Segments.{last_segment, more_segments}

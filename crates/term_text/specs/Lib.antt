@@ -1,5 +1,6 @@
 pub mod Character
 pub mod Text
+pub mod Causes
 pub mod Reading
 pub mod Canonical
 pub mod Fault

@@ -1,6 +1,6 @@
 -- Reading from left to right, with the first fault that is met. Only the crate's private clauses cite it: what a text
 -- spells stands in Text.antt.
-use Rattle.std.specs.Prelude.{ℕ, zero, suc, ◌≡◌, ◌+◌, ◌-◌, ◌*◌, ◌==◌, ◌&&◌, ◌||◌, ℤ, pos, negsuc, neg_ℤ, List, [], ◌∷◌, ◌++◌, length, take, drop, Bool, true, false, not, nat_le, nat_lt, Option, Some, None, Result, Ok, Err, if◌then◌else◌}
+use Rattle.std.specs.Prelude.{ℕ, zero, suc, ◌≡◌, ◌<◌, ◌≤◌, ◌+◌, ◌-◌, ◌*◌, ◌==◌, ◌&&◌, ◌||◌, ℤ, pos, negsuc, neg_ℤ, List, [], ◌∷◌, ◌++◌, length, take, drop, Bool, true, false, not, nat_le, nat_lt, Option, Some, None, Result, Ok, Err, if◌then◌else◌}
 use Rattle.std.specs.Prelude.{map as each}
 use Rattle.std.specs.List.{prefix_len}
 use Rattle.std.specs.Int.{is_in_range}
@@ -11,6 +11,8 @@ use Rattle.std.specs.BTreeMap.{insert_entry}
 use Rattle.term_core.specs.Datum.{Datum, items_of, entries_of, cells}
 use Rattle.term_core.specs.Datum.Datum.{integer, atom, tuple, map, nil, binary}
 use Rattle.term_core.specs.Order.{datum_cmp}
+use Rattle.term_core.specs.Limits.{depth, items_depth}
+use Rattle.term_core.specs.Fault.{IsTooLong}
 use Rattle.term_core.specs.declared.TheConstants.{MAX_CHARACTERS, MAX_TUPLE, MAX_MAP, MAX_LIST, MAX_BINARY, MAX_DEPTH}
 use Rattle.term_text.specs.declared.fault.Cause.{Cause}
 use Rattle.term_text.specs.declared.fault.Cause.TheVariants.{TooDeep, TooLong, DuplicateKey, Syntax, IntegerRange, UnsupportedEscape}
@@ -367,3 +369,12 @@ sentence_step ds (c ∷ cs) = sentence_at (c ∷ cs) >>= λ x. Ok (true, ds ++ x
 -- all terms of a text
 unfoldable pub text_at : List ℕ → Result (List Datum) Fault
 text_at text = all_steps sentence_step [] (after_gap false text) >>= λ x. Ok x.0
+
+-- within the limits, so that nothing but memory refuses the term
+abbrev pub IsWithin : Datum → Type 0
+IsWithin d = (depth d ≤ MAX_DEPTH) × ¬ IsTooLong d
+
+-- elements that a list may begin with
+pub record AreElements (ds : List Datum) : Type 0 where
+  pub few : length ds ≤ MAX_LIST
+  pub shallow : items_depth (items_of ds) < MAX_DEPTH

@@ -8,7 +8,7 @@ use Rattle.std.specs.Str.{IsUtf8, chars}
 use Rattle.std.specs.Str.Parse.{digits_value}
 use Rattle.std.specs.Prelude.{map as each}
 use Rattle.term_core.specs.Datum.{Datum, items_of, entries_of, cells, cell_count}
-use Rattle.term_core.specs.Order.{IsBelowFirst}
+use Rattle.term_core.specs.MapPairs.{AreRising}
 use Rattle.term_core.specs.Datum.Datum.{integer, atom, tuple, map, nil, binary}
 use Rattle.term_core.specs.declared.TheConstants.{MAX_CHARACTERS, MAX_TUPLE, MAX_MAP, MAX_LIST, MAX_BINARY, MAX_DEPTH}
 use Rattle.term_text.specs.Character.{line_feed, percent, plus, minus, comma, dot, backslash, single_quote, double_quote, open_brace, close_brace, open_bracket, close_bracket, bar, number_sign, equals, less, greater, is_white_space, is_word, escaped}
@@ -74,11 +74,6 @@ pub data Segments : List ℕ → List ℕ → List ℕ → Type 0 where
   last_segment : {text t rest bs : List ℕ} → Segment text bs t → Gap t rest → Segments text bs rest
   more_segments : {text t u v rest bs cs : List ℕ} → Segment text bs t → Gap t (comma ∷ u) → Gap u v → Segments v cs rest → Segments text (bs ++ cs) rest
 
--- each key below the next
-abbrev pub AreRising : List (Datum × Datum) → Type 0
-AreRising [] = Unit {0}
-AreRising (e ∷ es) = IsBelowFirst e.0 (entries_of es) × AreRising es
-
 mutual
   -- A term that is nested at most so many levels, itself one of them. Elements, tails, keys, values and the characters
   -- of a string are one level below their term.
@@ -94,7 +89,7 @@ mutual
     a_list : {n : ℕ} {text t rest : List ℕ} {ds : List Datum} → Gap text t → Elements n t ds (close_bracket ∷ rest) → length ds ≤ MAX_LIST → Spelled (suc n) (open_bracket ∷ text) (cells ds nil) rest
     a_list_with_tail : {n : ℕ} {text t u v w rest : List ℕ} {ds : List Datum} {d : Datum} → Gap text t → Elements n t ds (bar ∷ u) → Gap u v → Spelled n v d w → Gap w (close_bracket ∷ rest) → cell_count (cells ds d) ≤ MAX_LIST → Spelled (suc n) (open_bracket ∷ text) (cells ds d) rest
     an_empty_map : {n : ℕ} {text rest : List ℕ} → Gap text (close_brace ∷ rest) → Spelled (suc n) (number_sign ∷ open_brace ∷ text) (map (entries_of [])) rest
-    a_map : {n : ℕ} {text t rest : List ℕ} {es ordered : List (Datum × Datum)} → Gap text t → Pairs n t es (close_brace ∷ rest) → length es ≤ MAX_MAP → IsPermutation es ordered → AreRising ordered → Spelled (suc n) (number_sign ∷ open_brace ∷ text) (map (entries_of ordered)) rest
+    a_map : {n : ℕ} {text t rest : List ℕ} {es ordered : List (Datum × Datum)} → Gap text t → Pairs n t es (close_brace ∷ rest) → length es ≤ MAX_MAP → IsPermutation es ordered → AreRising (entries_of ordered) → Spelled (suc n) (number_sign ∷ open_brace ∷ text) (map (entries_of ordered)) rest
     an_empty_binary : {n : ℕ} {text rest : List ℕ} → Gap text (greater ∷ greater ∷ rest) → Spelled (suc n) (less ∷ less ∷ text) (binary []) rest
     a_binary : {n : ℕ} {text t rest bytes : List ℕ} → Gap text t → Segments t bytes (greater ∷ greater ∷ rest) → length bytes ≤ MAX_BINARY → Spelled (suc n) (less ∷ less ∷ text) (binary bytes) rest
 

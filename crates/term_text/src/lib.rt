@@ -1,8 +1,9 @@
 //! Term text: terms read from text and written as text.
 //!
 //! The contract: `read_terms` answers the terms that a text spells (`Spells`, in `specs/Text.antt`) and refuses any other
-//! text; `write_term` writes the one canonical text of a term (`canonical`, in `specs/Canonical.antt`); the law
-//! `canonical_text_is_read_back` says that a canonical text spells its term and no other.
+//! text, naming what stands at the place of the refusal (`HasCause`, in `specs/Causes.antt`); `write_term` writes the one
+//! canonical text of a term (`canonical`, in `specs/Canonical.antt`); the law `canonical_text_is_read_back` says that a
+//! canonical text spells its term and no other.
 //!
 //! - Reading: `text.rt` for bytes, `read.rt` for characters by `token.rt`, which follow `specs/Reading.antt`.
 //! - Writing: `write.rt`.

@@ -10,7 +10,7 @@ ghost use Rattle.term_text.specs.Text.{code_point};
 ghost use Rattle.term_core.specs.Datum.Datum.{atom, tuple, binary, map};
 ghost use Rattle.term_core.specs.Term.{tail_of};
 ghost use Rattle.term_text.specs.Character.{close_brace};
-ghost use Rattle.term_text.specs.Reading.{Gives, string_marks, enter, behind_comma, elements_at, term_at, tail_at, tuple_at, list_at, list_end, string_at, word_term_at, quoted_atom_at, integer_term_at, binary_at, segments_at, segment_at, byte_at, form_at, byte_marks, one_byte_at, is_allowed, pair_at, map_at, all_steps, separated, sentence_at, text_at};
+ghost use Rattle.term_text.specs.Reading.{Gives, IsWithin, AreElements, string_marks, enter, behind_comma, elements_at, term_at, tail_at, tuple_at, list_at, list_end, string_at, word_term_at, quoted_atom_at, integer_term_at, binary_at, segments_at, segment_at, byte_at, form_at, byte_marks, one_byte_at, is_allowed, pair_at, map_at, all_steps, separated, sentence_at, text_at};
 
 use crate::fault::{Cause, Stop};
 use crate::token::{
@@ -19,7 +19,7 @@ use crate::token::{
 };
 use std::alloc::{AllocError, Allocator};
 use std::collections::BTreeMap;
-use term_core::{MAX_BINARY, MAX_CHARACTERS, MAX_DEPTH, MAX_LIST, MAX_MAP, MAX_TUPLE, Term};
+use term_core::{Fault, MAX_BINARY, MAX_CHARACTERS, MAX_DEPTH, MAX_LIST, MAX_MAP, MAX_TUPLE, Term};
 
 /// What begins the term that has to stand there, where so many levels of nesting and so many terms are left.
 #[tactic(auto, unfolding(crate::specs::Reading::enter))]
@@ -59,11 +59,26 @@ fn integer_term<A: Allocator>(text: &[char]) -> Result<(Term<A>, &[char]), Stop>
     Ok((Term::int(value), rest))
 }
 
-/// An atom of these characters, at most `MAX_CHARACTERS`.
+/// What stops the reader where a term within its limits is refused: nothing but want of memory refuses it.
+fn memory_alone(fault: Fault) -> Stop
+    requires { fault ≡ Fault.Memory }
+    ensures { result ≡ Stop.Memory }
+{
+    match fault {
+        Fault::Memory => Stop::Memory,
+        Fault::TooDeep | Fault::TooLong | Fault::DuplicateKey => unreachable!(),
+    }
+}
+
+/// An atom of these characters.
 fn atom_of<A: Allocator>(alloc: A, characters: Vec<char, A>) -> Result<Term<A>, Stop>
+    requires { IsWithin (atom characters.items) }
     ensures { Gives (λ t. t) result (Ok (atom characters.items)) }
 {
-    Term::from_characters(alloc, characters).map_err(|_| Stop::Memory)
+    match Term::from_characters(alloc, characters) {
+        Ok(term) => Ok(term),
+        Err(refused) => Err(memory_alone(refused.fault)),
+    }
 }
 
 /// A bare word as a term.
@@ -91,15 +106,19 @@ fn quoted_atom<A: Allocator + Copy>(alloc: A, text: &[char]) -> Result<(Term<A>,
     Ok((atom_of(alloc, characters)?, rest))
 }
 
-/// The list of these elements, which end in this tail or in none, all within the limits.
+/// The list of these elements, which end in this tail or in none.
 fn list_of<A: Allocator>(
     alloc: A,
     elements: Vec<Term<A>, A>,
     tail: Option<Term<A>>,
 ) -> Result<Term<A>, Stop>
+    requires { IsWithin (cells elements.items (tail_of tail)) }
     ensures { Gives (λ t. t) result (Ok (cells elements.items (tail_of tail))) }
 {
-    Term::list(alloc, elements, tail).map_err(|_| Stop::Memory)
+    match Term::list(alloc, elements, tail) {
+        Ok(term) => Ok(term),
+        Err(refused) => Err(memory_alone(refused.fault)),
+    }
 }
 
 /// A list that begins with these elements and goes on with a string, behind its opening mark. Its characters have so
@@ -111,6 +130,7 @@ fn string<A: Allocator + Copy>(
     elements: Vec<Term<A>, A>,
     text: &[char],
 ) -> Result<(Term<A>, &[char]), Stop>
+    requires { AreElements elements.items }
     ensures { Gives (λ x. (x.0, x.1.now)) result (string_at levels elements.items text.now) }
 {
     let marks = string_marks(levels, elements.len());
@@ -239,11 +259,15 @@ fn segments<A: Allocator + Copy>(alloc: A, text: &[char]) -> Result<(Vec<u8, A>,
     }
 }
 
-/// A binary of these bytes, at most `MAX_BINARY`.
+/// A binary of these bytes.
 fn binary_of<A: Allocator>(alloc: A, bytes: Vec<u8, A>) -> Result<Term<A>, Stop>
+    requires { IsWithin (binary bytes.items) }
     ensures { Gives (λ t. t) result (Ok (binary bytes.items)) }
 {
-    Term::binary(alloc, bytes).map_err(|_| Stop::Memory)
+    match Term::binary(alloc, bytes) {
+        Ok(term) => Ok(term),
+        Err(refused) => Err(memory_alone(refused.fault)),
+    }
 }
 
 /// A binary, behind its opening.
@@ -274,22 +298,27 @@ fn in_order<A: Allocator>(
     pairs.into_iter().collect(alloc)
 }
 
-/// A map of these pairs, within the limits.
+/// A map of these pairs.
 fn map_of<A: Allocator + Copy>(alloc: A, pairs: Pairs<A>) -> Result<Term<A>, Stop>
+    requires { IsWithin (map (entries_of pairs.entries)) }
     ensures { Gives (λ t. t) result (Ok (map (entries_of pairs.entries))) }
 {
     let pairs = in_order(alloc, pairs)?;
     match Term::map(alloc, pairs) {
         Ok(map) => Ok(map),
-        Err(_) => Err(Stop::Memory),
+        Err(refused) => Err(memory_alone(refused.fault)),
     }
 }
 
-/// A tuple of these elements, within the limits.
+/// A tuple of these elements.
 fn tuple_of<A: Allocator>(alloc: A, elements: Vec<Term<A>, A>) -> Result<Term<A>, Stop>
+    requires { IsWithin (tuple (items_of elements.items)) }
     ensures { Gives (λ t. t) result (Ok (tuple (items_of elements.items))) }
 {
-    Term::tuple(alloc, elements).map_err(|_| Stop::Memory)
+    match Term::tuple(alloc, elements) {
+        Ok(term) => Ok(term),
+        Err(refused) => Err(memory_alone(refused.fault)),
+    }
 }
 
 /// A term that begins with this opening, the text behind it, where its parts have so many levels left.
@@ -300,6 +329,7 @@ fn form<A: Allocator + Copy>(
     opening: Opening,
     text: &[char],
 ) -> Result<(Term<A>, &[char]), Stop>
+    requires { levels < MAX_DEPTH }
     ensures { Gives (λ x. (x.0, x.1.now)) result (form_at (term_at levels) (tail_at levels) levels opening text.now) }
 {
     match opening {
@@ -336,6 +366,8 @@ fn tail<A: Allocator + Copy>(
     elements: Vec<Term<A>, A>,
     text: &[char],
 ) -> Result<(Term<A>, &[char]), Stop>
+    requires levels { levels < MAX_DEPTH }
+    requires elements { AreElements elements.items }
     ensures { Gives (λ x. (x.0, x.1.now)) result (tail_at levels elements.items text.now) }
 {
     let (opening, rest) = enter(levels, 1, text)?;
@@ -382,6 +414,7 @@ fn tuple<A: Allocator + Copy>(
     levels: u8,
     text: &[char],
 ) -> Result<(Term<A>, &[char]), Stop>
+    requires { levels < MAX_DEPTH }
     ensures { Gives (λ x. (x.0, x.1.now)) result (tuple_at (term_at levels) text.now) }
 {
     let text = after_gap(text);
@@ -402,6 +435,8 @@ fn list<A: Allocator + Copy>(
     front: Vec<Term<A>, A>,
     text: &[char],
 ) -> Result<(Term<A>, &[char]), Stop>
+    requires levels { levels < MAX_DEPTH }
+    requires elements { AreElements front.items }
     ensures { Gives (λ x. (x.0, x.1.now)) result (list_at (term_at levels) (tail_at levels) front.items text.now) }
 {
     let text = after_gap(text);
@@ -421,6 +456,8 @@ fn list_end<A: Allocator + Copy>(
     elements: Vec<Term<A>, A>,
     text: &[char],
 ) -> Result<(Term<A>, &[char]), Stop>
+    requires levels { levels < MAX_DEPTH }
+    requires elements { AreElements elements.items }
     ensures { Gives (λ x. (x.0, x.1.now)) result (list_end (tail_at levels) elements.items text.now) }
 {
     if let Some(rest) = behind('|', text) {
@@ -481,6 +518,7 @@ fn pairs<A: Allocator + Copy>(
 #[cycle(term)]
 #[tactic(auto, unfolding(crate::specs::Reading::map_at))]
 fn map<A: Allocator + Copy>(alloc: A, levels: u8, text: &[char]) -> Result<(Term<A>, &[char]), Stop>
+    requires { levels < MAX_DEPTH }
     ensures { Gives (λ x. (x.0, x.1.now)) result (map_at (term_at levels) text.now) }
 {
     let text = after_gap(text);

@@ -1,21 +1,27 @@
 use super::*;
-use std::alloc::Global;
+use failing_alloc::{Failing, sweep};
+use std::alloc::{AllocError, Allocator, Global};
 use std::test::*;
+use term_core::Term;
+
+/// The canonical texts of these terms, a dot behind each and a bar between.
+fn joined<A: Allocator>(alloc: Global, terms: &[Term<A>]) -> Result<Vec<u8>, AllocError> {
+    let mut out = Vec::new(alloc);
+    for term in terms {
+        write_term(term, &mut out)?;
+        out.extend_from_slice(b".|")?;
+    }
+    out.truncate(out.len().saturating_sub(1));
+    Ok(out)
+}
 
 /// The canonical lines of a text's terms, or the fault's number and place.
 fn lines(alloc: Global, text: &[u8]) -> Result<Vec<u8>, (u8, Option<usize>)> {
-    let mut out = Vec::new(alloc);
     let terms = match read_terms(alloc, text) {
         Ok(terms) => terms,
         Err(fault) => return Err((fault.number(), fault.at())),
     };
-    for term in &terms {
-        if write_term(term, &mut out).is_err() || out.extend_from_slice(b".|").is_err() {
-            return Err((1, None));
-        }
-    }
-    out.truncate(out.len().saturating_sub(1));
-    Ok(out)
+    joined(alloc, terms.as_slice()).map_err(|_| (1, None))
 }
 
 fn is_written(alloc: Global, text: &str, expected: &str) -> bool {
@@ -224,4 +230,184 @@ fn faults_stand_at_their_place(rt: HostRuntime) {
         }
         assert!(rt; right);
     }
+}
+
+/// So many of one text with commas between, an opening before them and an ending behind.
+fn row(alloc: Global, opening: &str, one: &str, count: u32, ending: &str) -> Option<Vec<u8>> {
+    let mut out = Vec::new(alloc);
+    out.extend_from_slice(opening.as_bytes()).ok()?;
+    for i in 0..count {
+        if i > 0 {
+            out.push(b',').ok()?;
+        }
+        out.extend_from_slice(one.as_bytes()).ok()?;
+    }
+    out.extend_from_slice(ending.as_bytes()).ok()?;
+    Some(out)
+}
+
+/// So many of one text between an opening and an ending.
+fn run(alloc: Global, opening: &str, one: &str, count: u32, ending: &str) -> Option<Vec<u8>> {
+    let mut out = Vec::new(alloc);
+    out.extend_from_slice(opening.as_bytes()).ok()?;
+    for _ in 0..count {
+        out.extend_from_slice(one.as_bytes()).ok()?;
+    }
+    out.extend_from_slice(ending.as_bytes()).ok()?;
+    Some(out)
+}
+
+/// A map of so many pairs, ten bytes each with the comma, whose keys are six digits and rise.
+fn map(alloc: Global, count: u32) -> Option<Vec<u8>> {
+    let mut out = Vec::new(alloc);
+    out.extend_from_slice(b"#{").ok()?;
+    for key in 100_000..100_000_u32.saturating_add(count) {
+        if key > 100_000 {
+            out.push(b',').ok()?;
+        }
+        out.extend_from_slice(key.to_string(alloc).ok()?.as_bytes())
+            .ok()?;
+        out.extend_from_slice(b"=>1").ok()?;
+    }
+    out.extend_from_slice(b"}.").ok()?;
+    Some(out)
+}
+
+#[test]
+fn tuples_and_maps_are_as_long_as_their_limits(rt: HostRuntime) {
+    let alloc = rt.alloc();
+    assert_eq!(rt; fault_of(alloc, row(alloc, "{", "a", 65_535, "}.")), None);
+    assert_eq!(rt;
+        fault_of(alloc, row(alloc, "{", "a", 65_536, "}.")),
+        Some((3, Some(1 + 2 * 65_535)))
+    );
+    assert_eq!(rt; fault_of(alloc, map(alloc, 65_535)), None);
+    assert_eq!(rt;
+        fault_of(alloc, map(alloc, 65_536)),
+        Some((3, Some(2 + 10 * 65_535)))
+    );
+}
+
+#[test]
+fn a_list_is_as_long_as_its_limit(rt: HostRuntime) {
+    let alloc = rt.alloc();
+    assert_eq!(rt;
+        fault_of(alloc, row(alloc, "[", "a", 1_048_576, "].")),
+        None
+    );
+    assert_eq!(rt;
+        fault_of(alloc, row(alloc, "[", "a", 1_048_577, "].")),
+        Some((3, Some(1 + 2 * 1_048_576)))
+    );
+}
+
+#[test]
+fn a_list_goes_on_in_its_tail(rt: HostRuntime) {
+    let alloc = rt.alloc();
+    assert_eq!(rt;
+        fault_of(alloc, row(alloc, "[", "a", 1_048_575, "|[b]].")),
+        None
+    );
+    assert_eq!(rt;
+        fault_of(alloc, row(alloc, "[", "a", 1_048_575, "|[b,c]].")),
+        Some((3, Some(1 + 2 * 1_048_575 + 3)))
+    );
+}
+
+#[test]
+fn a_list_goes_on_in_a_string(rt: HostRuntime) {
+    let alloc = rt.alloc();
+    assert_eq!(rt;
+        fault_of(alloc, row(alloc, "[", "a", 1_048_576, "|\"\"].")),
+        None
+    );
+    assert_eq!(rt;
+        fault_of(alloc, row(alloc, "[", "a", 1_048_576, "|\"b\"].")),
+        Some((3, Some(1 + 2 * 1_048_576 + 1)))
+    );
+}
+
+#[test]
+fn quotes_hold_as_much_as_their_limits(rt: HostRuntime) {
+    let alloc = rt.alloc();
+    assert_eq!(rt; fault_of(alloc, run(alloc, "'", "é", 255, "'.")), None);
+    assert_eq!(rt;
+        fault_of(alloc, run(alloc, "'", "é", 256, "'.")),
+        Some((3, Some(1 + 2 * 255)))
+    );
+    assert_eq!(rt;
+        fault_of(alloc, run(alloc, "\"", "a", 1_048_576, "\".")),
+        None
+    );
+    assert_eq!(rt;
+        fault_of(alloc, run(alloc, "\"", "a", 1_048_577, "\".")),
+        Some((3, Some(1 + 1_048_576)))
+    );
+    assert_eq!(rt;
+        fault_of(alloc, run(alloc, "<<\"", "a", 1_048_576, "\">>.")),
+        None
+    );
+    assert_eq!(rt;
+        fault_of(alloc, run(alloc, "<<\"", "a", 1_048_577, "\">>.")),
+        Some((3, Some(3 + 1_048_576)))
+    );
+    assert_eq!(rt;
+        fault_of(alloc, row(alloc, "<<", "1", 1_048_577, ">>.")),
+        Some((3, Some(2 + 2 * 1_048_576)))
+    );
+}
+
+const EVERY_KIND: &str = "[{a,'b c',-7},#{k=>\"hi\",j=>[]}|<<1,\"x\">>]. {}.";
+
+const EVERY_KIND_JOINED: &str = "[{a,'b c',-7},#{j=>[],k=>[104,105]}|<<1,120>>].|{}.";
+
+/// Whether reading answers all terms, or want of memory where a request was refused.
+fn reads_well(alloc: Global, heap: &Failing<Global>) -> bool {
+    match read_terms(heap, EVERY_KIND.as_bytes()) {
+        Ok(terms) => match joined(alloc, terms.as_slice()) {
+            Ok(out) => out.as_slice() == EVERY_KIND_JOINED.as_bytes(),
+            Err(AllocError) => false,
+        },
+        Err(fault) => fault == TextFault::Memory && heap.was_refused(),
+    }
+}
+
+/// Whether writing appends the whole text, or nothing where a request was refused.
+fn writes_well<A: Allocator>(heap: &Failing<Global>, term: &Term<A>, expected: &str) -> bool {
+    let mut out = Vec::new(heap);
+    if out.push(b'>').is_err() {
+        return heap.was_refused();
+    }
+    match write_term(term, &mut out) {
+        Ok(()) => out.as_slice() == expected.as_bytes(),
+        Err(AllocError) => heap.was_refused() && out.as_slice() == b">".as_slice(),
+    }
+}
+
+/// Whether a term is written well, whichever request is refused.
+fn is_written_well(alloc: Global, text: &str, expected: &str) -> bool {
+    match read_terms(alloc, text.as_bytes()) {
+        Ok(terms) => {
+            !terms.is_empty()
+                && sweep(alloc, 1_000, |heap| {
+                    terms.iter().all(|term| writes_well(heap, term, expected))
+                })
+                .is_complete()
+        }
+        Err(_) => false,
+    }
+}
+
+#[test]
+fn each_request_is_refused_in_turn(rt: HostRuntime) {
+    let alloc = rt.alloc();
+    let reading = sweep(alloc, 1_000, |heap| reads_well(alloc, heap));
+    assert!(rt; reading.is_complete(), "{reading:?}");
+    assert!(rt;
+        is_written_well(
+            alloc,
+            "[{a,'b c',-7},#{k=>\"hi\"}|<<1>>].",
+            ">[{a,'b c',-7},#{k=>[104,105]}|<<1>>]"
+        )
+    );
 }

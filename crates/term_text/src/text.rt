@@ -1,8 +1,9 @@
 //! Reading a text of terms.
-ghost use Rattle.std.specs.Prelude.{◌≡◌, ◌↔◌, ◌<◌, ◌≤◌, ◌^◌, List, IfOk, ℕ, IsErrOf, MatchResult, Ok, Err, length};
+ghost use Rattle.std.specs.Prelude.{◌≡◌, ◌↔◌, ◌<◌, ◌≤◌, ◌^◌, List, IfOk, IfErr, ℕ, IsErrOf, MatchResult, Ok, Err, length};
 ghost use Rattle.std.specs.Str.{encode_utf8_all, IsValidUpTo, chars};
 ghost use Rattle.term_core.specs.Datum.{Datum};
 ghost use Rattle.term_text.specs.Text.{Spells};
+ghost use Rattle.term_text.specs.Causes.{HasCause};
 ghost use Rattle.term_text.specs.Fault.{fault_of};
 ghost use Rattle.term_text.specs.Reading.{Gives, text_at};
 
@@ -59,6 +60,8 @@ pub fn read_terms<A: Allocator + Copy>(alloc: A, bytes: &[u8]) -> Result<Vec<Ter
     ensures ok { IfOk result (λ terms. Spells bytes.now terms.items) }
     // What is spelled so is read, unless memory runs out.
     ensures only { (ds : List Datum) → Spells bytes.now ds → MatchResult result (λ terms. terms.items ≡ ds) (λ fault. fault ≡ TextFault.Memory) }
+    // Elsewhere, what the refusal names stands where it says.
+    ensures cause { IfErr result (λ fault. HasCause bytes.now fault) }
     // The first byte that begins no UTF-8.
     ensures bad_utf8 { (at : ℕ) → IsErrOf result (TextFault.BadUtf8 at) ↔ IsValidUpTo bytes.now at }
 {

@@ -1,7 +1,8 @@
 //! Copies of terms.
 ghost use Rattle.std.specs.Prelude.{◌≡◌, IfOk};
+ghost use Rattle.std.specs.Option.{option_copied};
 ghost use Rattle.term_core.specs.Limits.{IsTerm};
-ghost use Rattle.term_core.specs.Term.{datum_of, IsKept, tail_of, IsTail};
+ghost use Rattle.term_core.specs.Term.{datum_of, IsKept};
 
 use super::{Cells, Shape, Term};
 use std::alloc::{AllocError, Allocator};
@@ -42,7 +43,7 @@ fn copy_shape<A: Allocator + Copy>(alloc: A, shape: &Shape<A>) -> Result<Shape<A
         }
         Shape::List(depth, cells) => {
             let elements = copy_all(alloc, cells.elements.as_slice())?;
-            let tail = copy_tail(alloc, &cells.tail)?;
+            let tail = copy_tail(alloc, cells.tail.as_ref())?;
             Ok(Shape::List(*depth, Box::new(alloc, Cells { elements, tail })?))
         }
         Shape::Map(depth, pairs) => {
@@ -52,9 +53,12 @@ fn copy_shape<A: Allocator + Copy>(alloc: A, shape: &Shape<A>) -> Result<Shape<A
     }
 }
 
-/// Copies of these terms.
+/// Copies of these terms, of which nothing is shared.
 #[cycle(copy)]
-fn copy_all<A: Allocator + Copy>(alloc: A, terms: &[Term<A>]) -> Result<Vec<Term<A>, A>, AllocError>
+pub fn copy_all<A: Allocator + Copy>(
+    alloc: A,
+    terms: &[Term<A>],
+) -> Result<Vec<Term<A>, A>, AllocError>
     ensures { IfOk result (λ v. v.items ≡ terms.now) }
 {
     let mut copies = Vec::with_capacity(alloc, terms.len())?;
@@ -82,14 +86,13 @@ fn copy_pairs<A: Allocator + Copy>(
     Ok(copies)
 }
 
-/// A copy of a list's tail.
+/// A copy of a list's tail, where there is one.
 #[cycle(copy)]
-fn copy_tail<A: Allocator + Copy>(
+pub fn copy_tail<A: Allocator + Copy>(
     alloc: A,
-    tail: &Option<Term<A>>,
+    tail: Option<&Term<A>>,
 ) -> Result<Option<Term<A>>, AllocError>
-    requires { IsTail tail.now }
-    ensures { IfOk result (λ t. t ≡ tail.now) }
+    ensures { IfOk result (λ t. t ≡ option_copied tail.entry) }
 {
     match tail {
         None => Ok(None),

@@ -3,10 +3,10 @@ use Rattle.term_core.specs.Limits.{depth as depth_of}
 use Rattle.term_core.specs.Term.{tail_of}
 use Rattle.std.specs.Option.{option_copied}
 use Rattle.std.proofs.lemmas.Result.{err_from_is_err_and}
-use Rattle.mspec_syntax.proofs.DepthLemmas.{items_depth-at, entries_depth-at, elements-fall, tail-falls}
-use Rattle.mspec_syntax.proofs.ExpressionLemmas.{PartsFront-more, PartsFront-all, PartsFront-refuses, AssignmentsFront-more, AssignmentsFront-all, AssignmentsFront-refuses, AreParts-some, proper-IsExpression, improper-IsExpression, elements-Refuses, tail-Refuses, tail-no_list, quotes-one, first-depth, call-read, call-refused, tuple-read, tuple-refused, list-led, other-led, alone-read, alone-refused, crowded-refused}
-use Rattle.mspec_syntax.specs.Expression.{expressions_of}
-use Rattle.term_core.specs.Datum.{items_of}
+use Rattle.term_core.proofs.DepthLemmas.{items_depth-at, entries_depth-at, elements-fall, tail-falls}
+use Rattle.mspec_syntax.proofs.ExpressionLemmas.{PartsFront-more, PartsFront-all, PartsFront-refuses, AssignmentsFront-more, AssignmentsFront-all, AssignmentsFront-refuses, AreParts-some, proper-IsExpression, improper-IsExpression, elements-Refuses, tail-Refuses, tail-no_list, quotes-one, first-depth, call-read, call-refused, tuple-read, tuple-refused, list-led, other-led, keys-rising, alone-read, alone-refused, crowded-refused}
+use Rattle.mspec_syntax.specs.Expression.{expressions_of, assignments_of}
+use Rattle.term_core.specs.Datum.{items_of, entries_of}
 use Rattle.mspec_syntax.proofs.body.+expression.Goals as goal
 
 pub read_assignments-read_expression-requires : goal.read_assignments-read_expression-requires
@@ -188,3 +188,7 @@ pub read_construction-returns-clause-ok : goal.read_construction-returns-clause-
 read_construction-returns-clause-ok g t c =
     rw c.new.ensures
     (alone-read c.args.variables.now (items_of c.args.parts.now) c.args.rest.now (expressions_of c.in_ok-parts.parts.items) c.is_empty.result c.is_empty.ensures c.if-not-is_empty.false c.in_ok-parts.ensures.ok)
+
+pub read_expression-new-requires-in-Map : goal.read_expression-new-requires-in-Map
+read_expression-new-requires-in-Map g t c =
+    keys-rising c.args.variables.now (entries_of c.in-Map.pairs.now) (assignments_of c.in_ok-assignments-in-Map.assignments.items) c.args.term.now c.in-Map.ensures.value c.in-Map.ensures.within c.in_ok-assignments-in-Map.ensures.ok

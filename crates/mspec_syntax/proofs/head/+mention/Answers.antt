@@ -1,7 +1,7 @@
 use Rattle.std.proofs.Common.{ap, arith}
 use Rattle.std.specs.Option.{option_copied}
 use Rattle.mspec_syntax.specs.Sought.{is_sought}
-use Rattle.mspec_syntax.proofs.DepthLemmas.{items_depth-at, entries_depth-at, elements-fall, tail-falls}
+use Rattle.term_core.proofs.DepthLemmas.{items_depth-at, entries_depth-at, elements-fall, tail-falls}
 use Rattle.mspec_syntax.proofs.GrammarLemmas.{mentions-proper, mentions-in_elements, mentions-in_tail}
 use Rattle.mspec_syntax.proofs.head.+mention.Goals as goal
 

@@ -2,6 +2,7 @@ use Rattle.std.proofs.Common.{◌<◌, length, arith, ap}
 use Rattle.term_core.specs.Limits.{depth}
 use Rattle.term_core.specs.Term.{datum_of, tail_of}
 use Rattle.term_core.specs.TermFalls.{depth-cells}
+use Rattle.term_core.proofs.DepthLemmas.{tail_depth-tail}
 use Rattle.term_core.proofs.RowLemmas.{depth-element, depth-entry}
 use Rattle.term_core.proofs.term.+copy.Goals as goal
 
@@ -34,4 +35,6 @@ copy::copy_shape-copy_tail-requires g t c κs within =
     let kept = rw c.in-List.is at c.requires.kept in
     let whole = ap (λ s. depth (datum_of s)) c.in-List.is in
     let deep = depth-cells c.in-List.cells.value.elements.items (tail_of c.in-List.cells.value.tail) kept.1 in
-    rw c.deref-in-List-2.ensures (omega arith, (within, kept.2))
+    let last = tail_depth-tail c.in-List.cells.value.tail kept.2 in
+    let same = ap (λ t. depth (tail_of t)) c.as_ref.ensures.value in
+    let held = ap (λ cells. depth (tail_of cells.tail)) c.deref-in-List-2.ensures in (omega arith, within)

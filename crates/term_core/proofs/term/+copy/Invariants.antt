@@ -1,7 +1,8 @@
 -- The copies so far and what is left make up the whole.
 use Rattle.std.proofs.Common.{◌≡◌, ◌+◌, ◌*◌, ◌++◌, drop}
+use Rattle.std.specs.Option.{option_copied}
 use Rattle.term_core.specs.Datum.{items_of, entries_of}
-use Rattle.term_core.specs.Limits.{depth, items_depth, entries_depth, tail_depth}
+use Rattle.term_core.specs.Limits.{depth, items_depth, entries_depth}
 use Rattle.term_core.specs.Term.{datum_of, tail_of}
 use Rattle.term_core.proofs.term.+copy.Given as goal
 
@@ -18,7 +19,7 @@ abbrev pub decreases-copy::copy_pairs : goal.decreases-copy::copy_pairs
 decreases-copy::copy_pairs g l = 3 * entries_depth (entries_of l.pairs.now) + 2
 
 abbrev pub decreases-copy::copy_tail : goal.decreases-copy::copy_tail
-decreases-copy::copy_tail g l = 3 * tail_depth (tail_of l.tail.now) + 2
+decreases-copy::copy_tail g l = 3 * depth (tail_of (option_copied l.tail)) + 2
 
 abbrev pub invariant-copy::copy_all-loop-i : goal.invariant-copy::copy_all-loop-i
 invariant-copy::copy_all-loop-i g l = l.copies.items ++ drop l.i l.terms ≡ l.terms

@@ -5,6 +5,8 @@ use Rattle.term_text.specs.Reading.{separated, element_at, pair_at, term_at, tai
 use Rattle.term_text.proofs.Steps.{ends, goes_on, is_done, Shrinks}
 use Rattle.term_text.proofs.Sound.{term_holds, element_shrinks, pair_shrinks}
 use Rattle.term_text.proofs.Readers.{bind_fails, term_fails, tail_fails, term_is, tail_is, tail_form_is, element_fails, element_is, item_fails, item_is, has_key-lookup, pair_twice, pair_no_arrow, pair_no_value, pair_is, with_rest}
+use Rattle.term_text.proofs.Within.{list_within}
+use Rattle.term_text.proofs.Constructed.{elements_are, tuple_within, map_within, tail_within}
 use Rattle.term_text.proofs.read.+term.Goals as goal
 
 pub elements-returns-in_err-element : goal.elements-returns-in_err-element
@@ -116,3 +118,23 @@ term-returns-in_err-opening g t c =
 pub term-returns : goal.term-returns
 term-returns g t c =
     rw (term_is c.args.levels c.args.room c.args.text.now c.in_ok-opening.rest.now c.in_ok-opening.opening c.in_ok-opening.ensures.value) c.form.ensures
+
+pub list-list_of-requires : goal.list-list_of-requires
+list-list_of-requires g t c = list_within c.args.front.items c.requires.elements
+
+pub list-list_end-requires : goal.list-list_end-requires
+list-list_end-requires g t c κs within =
+    (omega arith, (within, (c.requires.levels, elements_are c.args.levels c.requires.levels c.args.front.items c.after_gap-text.result.now c.in_ok-elements.elements.items c.in_ok-elements.rest.now c.requires.elements c.in_ok-elements.ensures)))
+
+pub list_end-list_of-requires : goal.list_end-list_of-requires
+list_end-list_of-requires g t c = list_within c.args.elements.items c.requires.elements
+
+pub map-map_of-requires-2 : goal.map-map_of-requires-2
+map-map_of-requires-2 g t c = map_within c.args.levels c.args.text.now c.in_ok-pairs.pairs.entries c.in_ok-pairs.rest.now c.in_ok-rest.rest.now c.requires (rw c.after_gap-text.ensures at c.in_ok-pairs.ensures) c.in_ok-rest.ensures
+
+pub tail-list_of-requires : goal.tail-list_of-requires
+tail-list_of-requires g t c =
+    tail_within c.args.levels c.args.elements.items c.args.text.now c.in_ok-opening.opening c.in_ok-opening.rest.now c.in_ok-tail-in_default.tail c.in_ok-tail-in_default.rest.now c.requires.levels c.requires.elements c.in_ok-opening.ensures.value c.in_default.not-String c.in_default.not-List c.in_ok-tail-in_default.ensures
+
+pub tuple-tuple_of-requires-2 : goal.tuple-tuple_of-requires-2
+tuple-tuple_of-requires-2 g t c = tuple_within c.args.levels c.args.text.now c.in_ok-elements.elements.items c.in_ok-elements.rest.now c.in_ok-rest.rest.now c.requires (rw (c.after_gap-text.ensures, c.new-2.ensures.items) at c.in_ok-elements.ensures) c.in_ok-rest.ensures

@@ -1,6 +1,7 @@
 use Rattle.std.proofs.Common.{◌≡◌, ◌<◌, ℕ, List, length, refl, sym, ap, subst, ◌∙◌, arith, rules}
 use Rattle.std.specs.Str.{encode_utf8_all, chars, IsValidUpTo}
 use Rattle.std.proofs.lemmas.Str.{chars_from_encodes, encodes-chars}
+use Rattle.term_text.proofs.BlamesTerms.{has_cause}
 use Rattle.term_text.proofs.Publics.{read_is_spelled, spelled_is_read, spelled_stops, not_both, one_end, no_bad_utf8}
 use Rattle.term_text.proofs.text.read_terms.Goals as goal
 
@@ -32,3 +33,8 @@ returns-clause-only g c =
 
 pub returns-clause-bad_utf8 : goal.returns-clause-bad_utf8
 returns-clause-bad_utf8 g c = λ at. (λ e. absurd (no_bad_utf8 c.in-Err-terms.stop _ at (sym c.fault.ensures ∙ cc)), λ v. absurd (not_both c.args.bytes.now at c.in-Ok.ensures.cases.1 v))
+
+pub returns-clause-cause : goal.returns-clause-cause
+returns-clause-cause g c =
+    let utf8 = c.in-Ok.ensures.cases in
+    rw (c.fault.ensures, c.as_slice-in-Err-terms.ensures.value, ← c.as_slice.ensures.value) (has_cause c.args.bytes.now c.as_slice.result.now c.in-Err-terms.stop (c.as_slice.ensures.value ∙ c.in-Ok-characters_of.ensures.value ∙ ap chars utf8.0) c.in-Err-terms.ensures)

@@ -1,7 +1,8 @@
 -- The parts of a term are less deep than the term.
-use Rattle.std.proofs.Common.{◌≡◌, ℕ, zero, suc, ◌<◌, ◌≤◌, Option, Some, None, List, [], ◌∷◌, length, get_or, ap, arith}
-use Rattle.term_core.specs.Datum.{Datum, items_of, entries_of, cells, IsNoList}
-use Rattle.term_core.specs.Limits.{depth, items_depth, entries_depth}
+use Rattle.std.proofs.Common.{◌≡◌, ℕ, zero, suc, ◌<◌, ◌≤◌, Option, Some, None, List, [], ◌∷◌, length, get_or, refl, ap, arith}
+use Rattle.term_core.specs.Datum.{Datum, items_of, entries_of, cells}
+use Rattle.term_core.specs.Datum.Datum.{tuple, map}
+use Rattle.term_core.specs.Limits.{depth, items_depth, entries_depth, tail_depth}
 use Rattle.term_core.specs.Term.{tail_of, IsTail}
 use Rattle.term_core.specs.TermFalls.{depth-cells, tail_depth-no_list}
 
@@ -14,6 +15,7 @@ items_depth-get (x ∷ xs) (suc i) d h = omega (arith, items_depth-get xs i d (o
 pub items_depth-at : (ds : List Datum) (i : ℕ) (d : Datum) → i < length ds → d ≡ get_or ds i d → depth d ≤ items_depth (items_of ds)
 items_depth-at ds i d h e = omega (arith, items_depth-get ds i d h, ap depth e)
 
+-- a key and a value are at most as deep as the pairs
 entries_depth-get : (es : List (Datum × Datum)) (i : ℕ) (e : Datum × Datum) → i < length es → (depth (get_or es i e).0 ≤ entries_depth (entries_of es)) × (depth (get_or es i e).1 ≤ entries_depth (entries_of es))
 entries_depth-get [] i e h = absurd (omega arith)
 entries_depth-get (x ∷ xs) zero e h = (omega arith, omega arith)
@@ -23,6 +25,11 @@ pub entries_depth-at : (es : List (Datum × Datum)) (i : ℕ) (e : Datum × Datu
 entries_depth-at es i e h is =
     let p = entries_depth-get es i e h in
     (omega (arith, p.0, ap (λ x. depth x.0) is), omega (arith, p.1, ap (λ x. depth x.1) is))
+
+-- what follows the elements of a list, which is no list
+pub tail_depth-tail : (t : Option Datum) → IsTail t → tail_depth (tail_of t) ≡ depth (tail_of t)
+tail_depth-tail None h = refl
+tail_depth-tail (Some d) h = tail_depth-no_list d h
 
 -- the elements of a list, and its tail
 pub elements-fall : (ds : List Datum) (t : Option Datum) (d : Datum) → cells ds (tail_of t) ≡ d → 0 < length ds → items_depth (items_of ds) < depth d
@@ -34,8 +41,9 @@ tail-falls ds (Some x) tail d e is some no_list =
     let same : x ≡ tail = cc in
     omega (arith, depth-cells ds x some, tail_depth-no_list x no_list, ap depth is, ap depth same)
 
-pub items-fall : (ds : List Datum) (d : Datum) → Rattle.term_core.specs.Datum.Datum.tuple (items_of ds) ≡ d → items_depth (items_of ds) < depth d
+-- the elements of a tuple, the keys and values of a map
+pub items-fall : (ds : List Datum) (d : Datum) → tuple (items_of ds) ≡ d → items_depth (items_of ds) < depth d
 items-fall ds d is = omega (arith, ap depth is)
 
-pub entries-fall : (es : List (Datum × Datum)) (d : Datum) → Rattle.term_core.specs.Datum.Datum.map (entries_of es) ≡ d → entries_depth (entries_of es) < depth d
+pub entries-fall : (es : List (Datum × Datum)) (d : Datum) → map (entries_of es) ≡ d → entries_depth (entries_of es) < depth d
 entries-fall es d is = omega (arith, ap depth is)

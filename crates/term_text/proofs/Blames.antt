@@ -1,0 +1,385 @@
+-- A reader that stops names what stands at the place where it stops: steps and tokens.
+use Rattle.std.proofs.Common.{◌≡◌, ◌≢◌, ◌&&◌, ℕ, zero, suc, ◌+◌, ◌-◌, ◌≤◌, ◌<◌, ◌⊎◌, inl, inr, Bool, true, false, cond, not, List, [], ◌∷◌, ◌++◌, length, drop, Option, Some, None, Result, Ok, Err, ℤ, pos, negsuc, refl, sym, ap, subst, ◌∙◌, arith, add-one, one-add}
+use Rattle.std.specs.Prelude.{IfOk, IfErr, IfSome, ◌==◌, nat_lt, nat_le}
+use Rattle.std.specs.List.{prefix_len}
+use Rattle.std.specs.Char.{is_ascii_digit, is_ascii_lowercase}
+use Rattle.std.proofs.lemmas.Bool.{eqb-true, eqb-false, eq-eqb, ne_eqb, leb-false, ltb-true, ltb-false, cases_Bool, or_cases, or_parts}
+use Rattle.std.proofs.lemmas.List.{length-append}
+use Rattle.term_core.specs.Datum.{Datum}
+use Rattle.term_core.specs.declared.TheConstants.{MAX_CHARACTERS, MAX_LIST, MAX_BINARY}
+use Rattle.term_text.specs.Character.{plus, minus, comma, backslash, double_quote, is_word, escaped}
+use Rattle.term_text.specs.declared.fault.Cause.TheVariants as causes
+use Rattle.term_text.specs.declared.token.Marks.{Marks}
+use Rattle.term_text.specs.declared.token.Opening.{Opening}
+use Rattle.term_text.specs.declared.token.Opening.TheVariants as opens
+use Rattle.term_text.specs.Text.{Gap, Integer}
+use Rattle.term_text.specs.Causes.{Place, Due as due, Due, Quotes, mark_of, most_characters, BeginsInteger, BeginsTerm, IsTooDeep, IsTooLong, IsKeyTwice, IsWide, IsNoByte, IsOutOfRange, IsNoEscape, BeginsWith, BeginsWithBoth, IsUnexpected}
+use Rattle.term_text.specs.Causes.IsUnexpected.{the_end}
+use Rattle.term_text.specs.Causes.Place.{a_term, a_segment, a_character, a_letter}
+use Rattle.term_text.specs.Causes.Quotes.{of_atom, of_string, of_bytes}
+use Rattle.term_text.specs.Causes.BeginsInteger.{digit, sign}
+use Rattle.term_text.specs.Causes.{BeginsTerm as begins_term}
+use Rattle.term_text.specs.Causes.IsTooDeep.{deep_character}
+use Rattle.term_text.specs.Causes.IsTooLong.{one_character, one_letter}
+use Rattle.term_text.specs.Causes.IsWide.{wide, wide_positive, wide_negative}
+use Rattle.term_text.specs.Causes.IsOutOfRange.{wide_segment, no_byte, no_byte_character}
+use Rattle.term_text.specs.Causes.IsNoEscape.{no_escape}
+use Rattle.term_text.specs.Reading.{Fault, Read, ◌>>=◌, Step, steps, all_steps, separated, after_gap, comma_in, behind_comma, behind_item, stop, enter, enter_as, expect, expect_both, opening, begins, is_sign, fits, number_run, number_at, integer_at, word_at, byte_of, byte_at, is_allowed, escape_as, escape_at, character_at, next_quoted, pushed, quoted_step, quoted_at, string_marks, byte_marks, atom_marks}
+use Rattle.term_text.proofs.Steps.{bind_holds, if_holds, Hands, steps_hold}
+use Rattle.term_text.proofs.Tokens.{Behind, IsCharacter, character_holds, if_is}
+use Rattle.term_text.proofs.Tokens.IsCharacter.{as_it_is, as_escape}
+use Rattle.term_text.proofs.Items.{AfterItem, after_item}
+use Rattle.term_text.proofs.Items.AfterItem.{more_come, no_more_come}
+use Rattle.term_text.proofs.Words.{Opens, BeginsWord, opening_holds, opening_integer, opening_word, integer_holds, number_holds}
+use Rattle.term_text.proofs.Words.{BeginsInteger as IsIntegerStart}
+
+-- so many characters from the end of a text begins what is such
+pub record Left (left : ℕ) (IsSuch : List ℕ → Type 0) : Type 0 where
+  pub rest : List ℕ
+  pub here : left ≡ length rest
+  pub such : IsSuch rest
+
+-- what a reader stops for, stands there
+abbrev pub Blames : List ℕ → Fault → Type 0
+Blames whole (causes.TooDeep, left) = Left left (IsTooDeep whole)
+Blames whole (causes.TooLong, left) = Left left (IsTooLong whole)
+Blames whole (causes.DuplicateKey, left) = Left left (IsKeyTwice whole)
+Blames whole (causes.Syntax, left) = Left left (IsUnexpected whole)
+Blames whole (causes.IntegerRange, left) = Left left (IsOutOfRange whole)
+Blames whole (causes.UnsupportedEscape, left) = Left left (IsNoEscape whole)
+
+pub at_once : {IsSuch : List ℕ → Type 0} (rest : List ℕ) → IsSuch rest → Left (length rest) IsSuch
+at_once rest h = record { rest = rest; here = refl; such = h }
+
+pub at_end : (whole : List ℕ) → Blames whole (causes.Syntax, 0)
+at_end whole = at_once [] the_end
+
+-- unexpected, where anything stands there at all
+abbrev pub UnexpectedSome : List ℕ → List ℕ → Type 0
+UnexpectedSome whole text = 0 < length text → IsUnexpected whole text
+
+pub at_some : (whole text : List ℕ) → UnexpectedSome whole text → Left (length text) (IsUnexpected whole)
+at_some whole [] h = at_end whole
+at_some whole (c ∷ cs) h = at_once (c ∷ cs) (h (omega arith))
+
+-- due, where anything stands there at all
+abbrev pub DueSome : List ℕ → Place → List ℕ → Type 0
+DueSome whole p text = 0 < length text → Due whole p text
+
+-- ---- steps
+
+pub bind_blames : {A B : Type 0} (P : A → Type 0) (E : Fault → Type 0) (r : Result A Fault) (f : A → Result B Fault) → IfOk r P → IfErr r E → ((x : A) → P x → IfErr (f x) E) → IfErr (r >>= f) E
+bind_blames P E (Ok x) f h e k = k x h
+bind_blames P E (Err y) f h e k = e
+
+pub bind_any : {A B : Type 0} (E : Fault → Type 0) (r : Result A Fault) (f : A → Result B Fault) → IfErr r E → ((x : A) → IfErr (f x) E) → IfErr (r >>= f) E
+bind_any E (Ok x) f e k = k x
+bind_any E (Err y) f e k = e
+
+pub if_blames : {A : Type 0} (E : Fault → Type 0) (b : Bool) (r t : Result A Fault) → (b ≡ true → IfErr r E) → (b ≡ false → IfErr t E) → IfErr (cond b r t) E
+if_blames E true r t h k = h refl
+if_blames E false r t h k = k refl
+
+module _ {S : Type 0} (step : Step S) (Good : S → List ℕ → Type 0) (E : Fault → Type 0) where
+  -- where a step goes on, all is well for the next
+  abbrev pub StaysGood : Bool × S × List ℕ → Type 0
+  StaysGood t = t.0 ≡ true → Good t.1 t.2
+
+  goes_on : (n : ℕ) (t : Bool × S × List ℕ) → StaysGood t → ((s : S) (text : List ℕ) → Good s text → IfErr (steps step n s text) E) → IfErr (cond t.0 (steps step n t.1 t.2) (Ok (t.1, t.2))) E
+  goes_on n t h again = if_blames E t.0 _ _ (λ goes. again t.1 t.2 (h goes)) (λ _. tt)
+
+  pub steps_blame : E (causes.Syntax, 0) → ((s : S) (text : List ℕ) → Good s text → IfOk (step s text) StaysGood) → ((s : S) (text : List ℕ) → Good s text → IfErr (step s text) E) → (n : ℕ) (s : S) (text : List ℕ) → Good s text → IfErr (steps step n s text) E
+  unfolding steps
+  steps_blame out good blames zero s text g = out
+  steps_blame out good blames (suc n) s text g = bind_blames StaysGood E (step s text) _ (good s text g) (blames s text g) (λ t h. goes_on n t h (λ s text g. steps_blame out good blames n s text g))
+
+-- what stands behind an item that is not the last
+record NextItem (text rest : List ℕ) : Type 0 where
+  behind : List ℕ
+  gap : Gap text (comma ∷ behind)
+  next : Behind behind rest
+
+next_item : (text : List ℕ) (b : Bool) (rest : List ℕ) → AfterItem text b rest → b ≡ true → NextItem text rest
+next_item text true rest (more_come {u} g k) e = record { behind = u; gap = g; next = k }
+next_item text false rest (no_more_come k) e = absurd cc
+
+module _ {S : Type 0} (item : S → List ℕ → Read S) (Item : S → List ℕ → S → List ℕ → Type 0) (Good : S → List ℕ → Type 0) (E : Fault → Type 0) where
+  pub separated_blames : E (causes.Syntax, 0) → ((s : S) (text : List ℕ) → IfOk (item s text) (λ x. Item s text x.0 x.1))
+      → ((s : S) (text : List ℕ) (u : S) (t w rest : List ℕ) → Good s text → Item s text u t → Gap t (comma ∷ w) → Behind w rest → Good u rest)
+      → ((s : S) (text : List ℕ) → Good s text → IfErr (item s text) E) → (s : S) (text : List ℕ) → Good s text → IfErr (all_steps (separated item) s text) E
+  separated_blames out holds next blames s text g =
+      steps_blame (separated item) Good E out
+      (λ s text g. bind_holds (λ (x : S × List ℕ). Item s text x.0 x.1) (StaysGood (separated item) Good E) (item s text) _ (holds s text)
+      (λ x i. λ goes. let n = next_item x.1 (behind_comma x.1).0 (behind_comma x.1).1 (after_item x.1) goes in next s text x.0 x.1 n.behind (behind_comma x.1).1 g i n.gap n.next))
+      (λ s text g. bind_any E (item s text) _ (blames s text g) (λ x. tt))
+      (suc (length text)) s text g
+
+-- no comma stands behind the last item
+any_ok : {A : Type 0} (r : Result A Fault) → IfOk r (λ _. Unit {0})
+any_ok (Ok x) = tt
+any_ok (Err e) = tt
+
+no_comma_in : (g : List ℕ) → (comma_in g).0 ≡ false → ¬ BeginsWith comma (comma_in g).1
+no_comma_in [] e = λ h. h
+no_comma_in (c ∷ cs) e = if_is (λ (p : Bool × List ℕ). p.0 ≡ false → ¬ BeginsWith comma p.1) (c == comma) _ _ (λ t. λ no. absurd cc) (λ f. λ _ h. eqb-false c comma f h) e
+
+module _ {S : Type 0} (item : S → List ℕ → Read S) where
+  abbrev NoComma : S → List ℕ → S → List ℕ → Type 0
+  NoComma s text u rest = 0 < length rest → ¬ BeginsWith comma rest
+
+  comma_or_none : (s : S) (text : List ℕ) (t : Bool × S × List ℕ) → (t.0 ≡ false → ¬ BeginsWith comma t.2) → Hands (separated item) NoComma s text t
+  comma_or_none s text (true, u, rest) h = λ v end r. r
+  comma_or_none s text (false, u, rest) h = λ some. h refl
+
+  pub no_comma : (s : S) (text : List ℕ) → IfOk (all_steps (separated item) s text) (λ x. 0 < length x.1 → ¬ BeginsWith comma x.1)
+  no_comma s text =
+      steps_hold (separated item) NoComma
+      (λ s text. bind_holds (λ (x : S × List ℕ). Unit {0}) (Hands (separated item) NoComma s text) (item s text) _ (any_ok (item s text))
+      (λ x _. comma_or_none s text (behind_item x.0 x.1) (no_comma_in (after_gap false x.1))))
+      (suc (length text)) s text
+
+pub both_ok : {A : Type 0} (P Q : A → Type 0) (r : Result A Fault) → IfOk r P → IfOk r Q → IfOk r (λ x. P x × Q x)
+both_ok P Q (Ok x) h k = (h, k)
+both_ok P Q (Err e) h k = tt
+
+-- ---- tokens
+
+pub expect_blames : (whole : List ℕ) (a : ℕ) (text : List ℕ) → (0 < length text → ¬ BeginsWith a text → IsUnexpected whole text) → IfErr (expect a text) (Blames whole)
+expect_blames whole a [] h = at_end whole
+expect_blames whole a (c ∷ cs) h = if_blames (Blames whole) (c == a) _ _ (λ _. tt) (λ n. at_once (c ∷ cs) (h (omega arith) (eqb-false c a n)))
+
+not_both : (x y a b : ℕ) (ys : List ℕ) → (x == a && y == b) ≡ false → ¬ BeginsWithBoth a b (x ∷ y ∷ ys)
+not_both x y a b ys n h = let both : (x == a && y == b) ≡ true = rw (eq-eqb x a h.0, eq-eqb y b h.1) refl in absurd cc
+
+pub expect_both_blames : (whole : List ℕ) (a b : ℕ) (text : List ℕ) → (0 < length text → ¬ BeginsWithBoth a b text → IsUnexpected whole text) → IfErr (expect_both a b text) (Blames whole)
+expect_both_blames whole a b [] h = at_end whole
+expect_both_blames whole a b (x ∷ []) h = at_once (x ∷ []) (h (omega arith) (λ both. both.1))
+expect_both_blames whole a b (x ∷ y ∷ ys) h = if_blames (Blames whole) (x == a && y == b) _ _ (λ _. tt) (λ n. at_once (x ∷ y ∷ ys) (h (omega arith) (not_both x y a b ys n)))
+
+sign_is : (c : ℕ) → is_sign c ≡ true → (c ≡ plus) ⊎ (c ≡ minus)
+sign_is c h = elim (or_cases (c == plus) (c == minus) h) [ inl p ↦ inl (eqb-true c plus p) | inr m ↦ inr (eqb-true c minus m) ]
+
+pub integer_starts : (text : List ℕ) → IsIntegerStart text → BeginsInteger text
+integer_starts [] h = absurd h
+integer_starts (c ∷ cs) (inl d) = digit d
+integer_starts (c ∷ []) (inr s) = absurd (let no : false ≡ true = s.1 in cc)
+integer_starts (c ∷ d ∷ cs) (inr s) = sign (sign_is c s.0) s.1
+
+word_starts : (text : List ℕ) → BeginsWord text → BeginsTerm text
+word_starts [] h = absurd h
+word_starts (c ∷ cs) h = begins_term.a_word h
+
+pub term_starts : (o : Opening) (text rest : List ℕ) → Opens o text rest → BeginsTerm text
+term_starts opens.Integer text rest h = begins_term.an_integer (integer_starts text h.1)
+term_starts opens.Word text rest h = word_starts text h.1
+term_starts opens.QuotedAtom text rest h = rw h begins_term.an_atom
+term_starts opens.String text rest h = rw h begins_term.a_string
+term_starts opens.Tuple text rest h = rw h begins_term.a_tuple
+term_starts opens.List text rest h = rw h begins_term.a_list
+term_starts opens.Map text rest h = rw h begins_term.a_map
+term_starts opens.Binary text rest h = rw h begins_term.a_binary
+
+pub integer_begun : {text : List ℕ} → BeginsInteger text → IsIntegerStart text
+integer_begun (digit d) = inl d
+integer_begun (sign (inl p) d) = inr (rw p refl, d)
+integer_begun (sign (inr m) d) = inr (rw m refl, d)
+
+integer_some : {text : List ℕ} → BeginsInteger text → 0 < length text
+integer_some (digit d) = omega arith
+integer_some (sign s d) = omega arith
+
+pub term_some : {text : List ℕ} → BeginsTerm text → 0 < length text
+term_some (begins_term.an_integer i) = integer_some i
+term_some (begins_term.a_word l) = omega arith
+term_some begins_term.an_atom = omega arith
+term_some begins_term.a_string = omega arith
+term_some begins_term.a_tuple = omega arith
+term_some begins_term.a_list = omega arith
+term_some begins_term.a_map = omega arith
+term_some begins_term.a_binary = omega arith
+
+-- what begins a term is found to do so
+pub opens_none : (text : List ℕ) → opening text ≡ None → ¬ BeginsTerm text
+opens_none text e (begins_term.an_integer i) = absurd (let some = opening_integer text (integer_begun i) in cc)
+opens_none text e (begins_term.a_word {c} {text = cs} l) = absurd (let some = opening_word c cs l in cc)
+opens_none text e begins_term.an_atom = absurd cc
+opens_none text e begins_term.a_string = absurd cc
+opens_none text e begins_term.a_tuple = absurd cc
+opens_none text e begins_term.a_list = absurd cc
+opens_none text e begins_term.a_map = absurd cc
+opens_none text e begins_term.a_binary = absurd cc
+
+enter_as_blames : (whole : List ℕ) (levels room : ℕ) (text : List ℕ) (o : Option (Opening × List ℕ)) → IfSome o (λ o. Opens o.0 text o.1) → opening text ≡ o → (0 < length text → ¬ BeginsTerm text → IsUnexpected whole text) → (BeginsTerm text → levels ≡ 0 → IsTooDeep whole text) → (BeginsTerm text → room ≡ 0 → IsTooLong whole text) → IfErr (enter_as levels room text o) (Blames whole)
+enter_as_blames whole levels room text None h e none deep long = at_some whole text (λ some. none some (opens_none text e))
+enter_as_blames whole levels room text (Some o) h e none deep long =
+    let starts = term_starts o.0 text o.1 h in
+    if_blames (Blames whole) (levels == 0) _ _ (λ e. at_once text (deep starts (eqb-true levels 0 e)))
+    (λ _. if_blames (Blames whole) (room == 0) _ _ (λ e. at_once text (long starts (eqb-true room 0 e))) (λ _. tt))
+
+pub enter_blames : (whole : List ℕ) (levels room : ℕ) (text : List ℕ) → (0 < length text → ¬ BeginsTerm text → IsUnexpected whole text) → (BeginsTerm text → levels ≡ 0 → IsTooDeep whole text) → (BeginsTerm text → room ≡ 0 → IsTooLong whole text) → IfErr (enter levels room text) (Blames whole)
+unfolding enter
+enter_blames whole levels room text none deep long = enter_as_blames whole levels room text (opening text) (opening_holds text) refl none deep long
+
+-- ---- integers
+
+signed_blames : (E : Fault → Type 0) (below : Bool) (start text : List ℕ) → (fits below (number_run 0 text).0 ≡ false → E (causes.IntegerRange, length start)) → IfErr (number_at below start text) E
+signed_blames E below start text h = if_blames E (fits below (number_run 0 text).0) _ _ (λ _. tt) h
+
+pub integer_blames : (E : Fault → Type 0) (text : List ℕ) → IsIntegerStart text → (IsWide text → E (causes.IntegerRange, length text)) → IfErr (integer_at text) E
+unfolding integer_at
+integer_blames E [] h k = absurd h
+integer_blames E (c ∷ cs) h k = elim (cases_Bool (c == minus)) [
+  | inl m ↦
+      let e : c ≡ minus = eqb-true c minus m in
+      rw m (signed_blames E true (c ∷ cs) cs (λ f. k (rw e (wide_negative (number_holds cs (elim h [ inl d ↦ absurd (grind arith) | inr s ↦ s.1 ])) (leb-false _ _ f)))))
+  | inr n ↦ elim (cases_Bool (c == plus)) [
+    | inl m ↦
+        let e : c ≡ plus = eqb-true c plus m in
+        rw (n, m) (signed_blames E false (c ∷ cs) cs (λ f. k (rw e (wide_positive (number_holds cs (elim h [ inl d ↦ absurd (grind arith) | inr s ↦ s.1 ])) (leb-false _ _ f)))))
+    | inr o ↦
+        rw (n, o) (signed_blames E false (c ∷ cs) (c ∷ cs) (λ f. k (wide (number_holds (c ∷ cs) (elim h [ inl d ↦ d | inr s ↦ absurd (grind arith) ])) (leb-false _ _ f))))
+  ]
+]
+
+byte_of_blames : (whole text : List ℕ) (k : ℕ) (z : ℤ) (rest : List ℕ) → Due whole (a_segment k) text → Integer text z rest → IfErr (byte_of z text) (Blames whole)
+byte_of_blames whole text k (pos b) rest d i = if_blames (Blames whole) (nat_lt b 256) _ _ (λ _. tt) (λ f. at_once text (no_byte d i (let le = ltb-false b 256 f in omega arith)))
+byte_of_blames whole text k (negsuc b) rest d i = at_once text (no_byte d i tt)
+
+pub byte_blames : (whole text : List ℕ) (k : ℕ) → IsIntegerStart text → Due whole (a_segment k) text → IfErr (byte_at text) (Blames whole)
+unfolding byte_at
+byte_blames whole text k h d =
+    bind_blames (λ (z : ℤ × List ℕ). Integer text z.0 z.1) (Blames whole) (integer_at text) _ (integer_holds text h) (integer_blames (Blames whole) text h (λ w. at_once text (wide_segment d w)))
+    (λ z i. bind_any (Blames whole) (byte_of z.0 text) _ (byte_of_blames whole text k z.0 z.1 d i) (λ b. tt))
+
+-- ---- bare words
+
+-- a word goes on behind so many of its characters
+record GoesOn (whole : List ℕ) (k : ℕ) (text : List ℕ) : Type 0 where
+  next : ℕ
+  rest : List ℕ
+  is : text ≡ next ∷ rest
+  letter : Due whole (a_letter k) (next ∷ rest)
+  in_word : is_word next ≡ true
+
+first_letter : (c : ℕ) (text : List ℕ) (n : ℕ) → n < prefix_len is_word (c ∷ text) → (is_word c ≡ true) × (n ≤ prefix_len is_word text)
+first_letter c text n l = elim (cases_Bool (is_word c)) [
+  | inl w ↦ (w, let m = rw (w, one-add) at l in omega arith)
+  | inr other ↦ absurd (let none = rw other at l in omega arith)
+]
+
+letters : (whole : List ℕ) (n k : ℕ) (text : List ℕ) → Due whole (a_letter k) text → n < prefix_len is_word text → GoesOn whole (k + n) (drop n text)
+letters whole n k [] d l = absurd (omega arith)
+letters whole zero k (c ∷ text) d l =
+    let same : k + 0 ≡ k = omega arith in
+    rw same (record { next = c; rest = text; is = refl; letter = d; in_word = (first_letter c text 0 l).0 })
+letters whole (suc n) k (c ∷ text) d l =
+    let same : k + suc n ≡ suc k + n = omega arith in
+    let first = first_letter c text (suc n) l in
+    rw same (letters whole n (suc k) text (due.next_letter d first.0) (let le = first.1 in omega arith))
+
+past_letters : (whole text : List ℕ) (n : ℕ) → n ≡ MAX_CHARACTERS → GoesOn whole (0 + n) text → IsTooLong whole text
+past_letters whole text n e g = rw g.is (one_letter g.letter (let f = e in omega arith) g.in_word)
+
+too_long_word : (whole text : List ℕ) (n : ℕ) → n ≡ MAX_CHARACTERS → BeginsWord text → ((c : ℕ) (cs : List ℕ) → text ≡ c ∷ cs → is_ascii_lowercase c ≡ true → Due whole (a_letter 0) text) → n < prefix_len is_word text → IsTooLong whole (drop n text)
+too_long_word whole [] n e h d l = absurd h
+too_long_word whole (c ∷ cs) n e h d l = past_letters whole (drop n (c ∷ cs)) n e (letters whole n 0 (c ∷ cs) (d c cs refl h) l)
+
+letter_due : (whole text : List ℕ) (n k : ℕ) → Due whole (a_term (suc n) k) text → (c : ℕ) (cs : List ℕ) → text ≡ c ∷ cs → is_ascii_lowercase c ≡ true → Due whole (a_letter 0) text
+letter_due whole text n k d c cs e l = rw e (due.in_word (rw e at d) l)
+
+pub word_blames : (whole text : List ℕ) (n k : ℕ) → BeginsWord text → Due whole (a_term (suc n) k) text → IfErr (word_at text) (Blames whole)
+unfolding word_at
+word_blames whole text n k h d =
+    if_blames (Blames whole) (nat_lt MAX_CHARACTERS (prefix_len is_word text)) _ _ (λ l. at_once (drop MAX_CHARACTERS text) (too_long_word whole text MAX_CHARACTERS refl h (letter_due whole text n k d) (ltb-true _ _ l))) (λ _. tt)
+
+-- ---- quotes
+
+-- marks that are those of quotes which continue so many characters
+pub record AreOf (whole : List ℕ) (m : Marks) (q : Quotes) (before : ℕ) : Type 0 where
+  pub mark : m.mark ≡ mark_of q
+  pub full : (k c : ℕ) (rest : List ℕ) → k ≡ m.room → Due whole (a_character q (before + k)) (c ∷ rest) → c ≢ mark_of q → Blames whole (m.past, suc (length rest))
+  pub bytes : m.only_bytes ≡ true → q ≡ of_bytes
+
+module _ (whole : List ℕ) (m : Marks) (q : Quotes) (before : ℕ) (are : AreOf whole m q before) where
+  abbrev IsDue : List ℕ → List ℕ → Type 0
+  IsDue cs text = Due whole (a_character q (before + length cs)) text
+
+  one_more : (cs : List ℕ) (x : ℕ) (text : List ℕ) → Due whole (a_character q (suc (before + length cs))) text → IsDue (cs ++ x ∷ []) text
+  one_more cs x text d = let len : before + length (cs ++ x ∷ []) ≡ suc (before + length cs) = omega (arith, length-append cs (x ∷ [])) in rw len d
+
+  next_due : (cs : List ℕ) (c : ℕ) (text : List ℕ) (x : ℕ) (rest : List ℕ) → IsDue cs (c ∷ text) → c ≢ m.mark → IsCharacter m.only_bytes c text x rest → IsDue (cs ++ x ∷ []) rest
+  next_due cs c text x rest d ne (as_it_is n l) = one_more cs x text (due.behind_plain d (λ e. ne (e ∙ sym are.mark)) n)
+  next_due cs c text x rest d ne (as_escape {e} b h) = one_more cs x rest (due.behind_escape (rw b at d) h)
+
+  step_good : (cs text : List ℕ) → IsDue cs text → IfOk (quoted_step m cs text) (StaysGood (quoted_step m) IsDue (Blames whole))
+  unfolding quoted_step next_quoted
+  step_good cs [] d = tt
+  step_good cs (c ∷ text) d =
+      bind_holds (λ (x : Option ℕ × List ℕ). StaysGood (quoted_step m) IsDue (Blames whole) (pushed cs x.0 x.1)) _ _ _
+      (if_holds _ (c == m.mark) _ _ (λ e. λ no. absurd cc)
+      (λ e. if_holds _ (length cs == m.room) _ _ (λ _. tt)
+      (λ r. bind_holds (λ (x : ℕ × List ℕ). IsCharacter m.only_bytes c text x.0 x.1) _ (character_at m.only_bytes (c ∷ text)) _ (character_holds m.only_bytes c text)
+      (λ x h. λ goes. next_due cs c text x.0 x.1 d (eqb-false c m.mark e) h))))
+      (λ x h. h)
+
+  escape_blames : (k e : ℕ) (rest : List ℕ) (o : Option ℕ) → Due whole (a_character q k) (backslash ∷ e ∷ rest) → escaped e ≡ o → IfErr (escape_as o (backslash ∷ e ∷ rest) rest) (Blames whole)
+  escape_blames k e rest None d h = at_once (backslash ∷ e ∷ rest) (no_escape d h)
+  escape_blames k e rest (Some x) d h = tt
+
+  escaped_blames : (k c : ℕ) (text : List ℕ) → c ≡ backslash → Due whole (a_character q k) (c ∷ text) → IfErr (escape_at (c ∷ text) text) (Blames whole)
+  escaped_blames k c [] b d = at_end whole
+  escaped_blames k c (e ∷ rest) b d = rw b (escape_blames k e rest (escaped e) (rw b at d) refl)
+
+  not_allowed : (g : Bool) (c : ℕ) → is_allowed g c ≡ false → (g ≡ true) × (255 < c)
+  not_allowed false c h = absurd cc
+  not_allowed true c h = (refl, leb-false c 255 h)
+
+  no_byte_blames : (k c : ℕ) (text : List ℕ) → is_allowed m.only_bytes c ≡ false → Due whole (a_character q k) (c ∷ text) → IsOutOfRange whole (c ∷ text)
+  no_byte_blames k c text h d = let p = not_allowed m.only_bytes c h in no_byte_character (rw (are.bytes p.0) at d) p.1
+
+  character_blames : (k c : ℕ) (text : List ℕ) → Due whole (a_character q k) (c ∷ text) → IfErr (character_at m.only_bytes (c ∷ text)) (Blames whole)
+  unfolding character_at
+  character_blames k c text d =
+      if_blames (Blames whole) (c == backslash) _ _ (λ b. escaped_blames k c text (eqb-true c backslash b) d)
+      (λ _. if_blames (Blames whole) (is_allowed m.only_bytes c) _ _ (λ _. tt) (λ l. at_once (c ∷ text) (no_byte_blames k c text l d)))
+
+  step_blames : (cs text : List ℕ) → IsDue cs text → IfErr (quoted_step m cs text) (Blames whole)
+  unfolding quoted_step next_quoted
+  step_blames cs [] d = at_end whole
+  step_blames cs (c ∷ text) d =
+      bind_any (Blames whole) _ _
+      (if_blames (Blames whole) (c == m.mark) _ _ (λ _. tt)
+      (λ e. if_blames (Blames whole) (length cs == m.room) _ _ (λ r. are.full (length cs) c text (eqb-true (length cs) m.room r) d (λ f. eqb-false c m.mark e (f ∙ sym are.mark)))
+      (λ _. bind_any (Blames whole) (character_at m.only_bytes (c ∷ text)) _ (character_blames (before + length cs) c text d) (λ x. tt))))
+      (λ x. tt)
+
+  pub quoted_blames : (text : List ℕ) → Due whole (a_character q before) text → IfErr (quoted_at m text) (Blames whole)
+  quoted_blames text d =
+      let same : before + 0 ≡ before = omega arith in
+      steps_blame (quoted_step m) IsDue (Blames whole) (at_end whole) (λ cs text d. step_good cs text d) (λ cs text d. step_blames cs text d) (suc (length text)) [] text (rw same d)
+
+pub atom_are : (whole : List ℕ) → AreOf whole atom_marks of_atom 0
+atom_are whole = record {
+  mark = refl;
+  full = λ k c rest e d ne. at_once (c ∷ rest) (one_character d (omega arith) ne);
+  bytes = λ no. absurd cc;
+}
+
+pub byte_are : (whole : List ℕ) (before : ℕ) → before ≤ MAX_BINARY → AreOf whole (byte_marks before) of_bytes before
+byte_are whole before l = record {
+  mark = refl;
+  full = λ k c rest e d ne. at_once (c ∷ rest) (one_character d (omega arith) ne);
+  bytes = λ _. refl;
+}
+
+pub string_are : (whole : List ℕ) (levels before : ℕ) → before ≤ MAX_LIST → AreOf whole (string_marks levels before) (of_string levels) before
+string_are whole zero before l = record {
+  mark = refl;
+  full = λ k c rest e d ne. at_once (c ∷ rest) (deep_character d ne);
+  bytes = λ no. absurd cc;
+}
+string_are whole (suc n) before l = record {
+  mark = refl;
+  full = λ k c rest e d ne. let some : (suc n == 0) ≡ false = ne_eqb (suc n) 0 (λ z. omega arith) in let room = rw some at e in rw some (at_once (c ∷ rest) (one_character d (omega arith) ne));
+  bytes = λ no. absurd cc;
+}

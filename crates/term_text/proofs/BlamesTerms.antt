@@ -1,0 +1,507 @@
+-- A reader that stops names what stands at the place where it stops: terms and whole texts.
+use Rattle.std.proofs.Common.{◌≡◌, ◌≢◌, ◌&&◌, ◌||◌, ℕ, zero, suc, ◌+◌, ◌-◌, ◌≤◌, ◌<◌, ◌⊎◌, inl, inr, Bool, true, false, cond, List, [], ◌∷◌, ◌++◌, length, take, Option, Some, None, Result, Ok, Err, ℤ, refl, sym, ap, ◌∙◌, arith}
+use Rattle.std.proofs.Common.{map as each}
+use Rattle.std.specs.Prelude.{IfOk, IfErr, IfSome, ◌==◌}
+use Rattle.std.specs.List.{Contains}
+use Rattle.std.specs.List.Sorted.{IsPermutation}
+use Rattle.std.specs.Ordering.{is_eq}
+use Rattle.std.specs.Str.{encode_utf8_all, chars}
+use Rattle.std.proofs.lemmas.Bool.{eqb-true, eqb-false, eq-eqb, cases_Bool, or_cases}
+use Rattle.std.proofs.lemmas.List.{append-nil, length-append, take_at}
+use Rattle.std.proofs.lemmas.List.Sorted.{Contains-permutation, IsPermutation-refl, IsPermutation-sym, IsPermutation-cons, IsPermutation-trans, length_permutation}
+use Rattle.std.proofs.lemmas.Result.{IfErr-at_err}
+use Rattle.term_core.specs.Datum.{Datum, cells}
+use Rattle.term_core.specs.Order.{datum_cmp}
+use Rattle.term_core.specs.OrderLaws.{datum_cmp-equal}
+use Rattle.term_core.specs.declared.TheConstants.{MAX_CHARACTERS, MAX_TUPLE, MAX_MAP, MAX_LIST, MAX_BINARY, MAX_DEPTH}
+use Rattle.term_text.specs.Character.{comma, dot, equals, greater, single_quote, double_quote, open_brace, close_brace, open_bracket, close_bracket, bar, number_sign, less}
+use Rattle.term_text.specs.declared.fault.Cause.{Cause}
+use Rattle.term_text.specs.declared.fault.Cause.TheVariants as causes
+use Rattle.term_text.specs.declared.fault.Stop.{Stop}
+use Rattle.term_text.specs.declared.fault.Stop.TheVariants as stops
+use Rattle.term_text.specs.declared.token.Opening.{Opening}
+use Rattle.term_text.specs.declared.token.Opening.TheVariants as opens
+use Rattle.term_text.specs.Text.{Gap, Integer, Segment, Segments, Spelled, Elements, Pair, Pairs}
+use Rattle.term_text.specs.Text.Segments.{last_segment, more_segments}
+use Rattle.term_text.specs.Text.Pairs.{last_pair, more_pairs}
+use Rattle.term_text.specs.Text.Elements.{last, more as more_elements}
+use Rattle.term_text.specs.Fault.{fault_of}
+use Rattle.term_text.specs.Causes.{Place, Due, Due as due, Row, most_elements, BeginsTerm, IsTooDeep, IsTooLong, IsKeyTwice, IsOutOfRange, IsNoEscape, StandsAt, HasCause, BeginsInteger, BeginsWith, BeginsWithBoth, BeginsDot, FollowsElement, IsUnexpected}
+use Rattle.term_text.specs.Causes.{BeginsTerm as begins_term}
+use Rattle.term_text.specs.Causes.IsUnexpected.{the_end, no_term, no_segment, behind_element, behind_tail, behind_key, behind_pair, behind_segment, no_dot}
+use Rattle.term_text.specs.Causes.Place.{a_sentence, a_term, an_element, a_pair, a_segment, a_character}
+use Rattle.term_text.specs.Causes.Row.{in_tuple, in_list}
+use Rattle.term_text.specs.Causes.Quotes.{of_atom, of_string, of_bytes}
+use Rattle.term_text.specs.Causes.IsTooDeep.{deep_term, deep_character}
+use Rattle.term_text.specs.Causes.IsTooLong.{one_element, one_pair, one_byte, one_character, one_letter}
+use Rattle.term_text.specs.Causes.IsKeyTwice.{key_twice}
+use Rattle.term_text.specs.Causes.IsOutOfRange.{wide_term, wide_segment, no_byte, no_byte_character}
+use Rattle.term_text.specs.Causes.IsNoEscape.{no_escape}
+use Rattle.term_text.specs.Reading.{Fault, Read, Fails, ◌>>=◌, TermReader, TailReader, after_gap, behind, behind_both, separated, steps, all_steps, enter, expect, expect_both, opening, quoted_at, atom_marks, byte_marks, string_marks, string_at, segment_as, segment_at, segments_at, one_byte_at, byte_at, bytes_at, binary_at, integer_at, integer_term_at, word_at, word_term_at, quoted_atom_at, element_at, elements_at, items_at, tuple_at, list_at, list_end, list_from, end_at, has_key, pair_at, pairs_at, map_at, form_at, tail_form, term_at, tail_at, dot_at, begins_gap, sentence_at, sentence_step, text_at}
+use Rattle.term_text.proofs.Tokens.{Behind, gap_holds}
+use Rattle.term_text.proofs.Items.{gap_some, gap_within}
+use Rattle.term_text.proofs.Shorter.{spelled_shorter, elements_shorter, segment_shorter, segments_shorter, pair_shorter, pairs_shorter}
+use Rattle.term_text.proofs.Words.{Opens, BeginsWord, opening_holds, opening_integer, behind_holds}
+use Rattle.term_text.proofs.Sound.{IsReader, IsTailReader, ElementRead, ElementsRead, SegmentRead, SegmentsRead, PairRead, PairsRead, TailRead, segments_hold, pairs_hold, enter_holds, element_holds, elements_hold, segment_holds, pair_holds, expect_holds, expect_both_holds, term_holds, tail_holds}
+use Rattle.term_text.proofs.Steps.{bind_holds}
+use Rattle.term_text.proofs.Texts.{SentenceRead, sentence_holds, begins_from}
+use Rattle.term_text.proofs.Keys.{put_permutes, is_eq-equal}
+use Rattle.term_text.proofs.Ends.{EndsIn, due_ends, gap_ends, spelled_ends, segment_ends, pair_ends, then}
+use Rattle.term_text.proofs.Blames.{Left, Blames, at_once, at_end, at_some, no_comma, both_ok, opens_none, integer_begun, DueSome, StaysGood, bind_blames, bind_any, if_blames, steps_blame, separated_blames, expect_blames, expect_both_blames, term_starts, term_some, enter_blames, integer_blames, byte_blames, word_blames, AreOf, quoted_blames, atom_are, byte_are, string_are}
+use Rattle.term_text.proofs.Words.{BeginsInteger as IsIntegerStart}
+use Rattle.term_text.proofs.Blames.{integer_starts}
+
+-- a reader of terms that names what stands where it stops
+abbrev pub BlamesTerm : List ℕ → ℕ → TermReader → Type 0
+BlamesTerm whole n read = (room : ℕ) (text : List ℕ) → DueSome whole (a_term n 0) text → (BeginsTerm text → room ≡ 0 → IsTooLong whole text) → IfErr (read room text) (Blames whole)
+
+abbrev pub BlamesTail : List ℕ → ℕ → TailReader → Type 0
+BlamesTail whole n read = (front : List Datum) (text : List ℕ) → length front ≤ MAX_LIST → DueSome whole (a_term n (length front)) text → IfErr (read front text) (Blames whole)
+
+-- ---- integers, atoms and strings
+
+integer_term_blames : (whole text rest : List ℕ) (n k : ℕ) → Opens opens.Integer text rest → Due whole (a_term n k) text → IfErr (integer_term_at rest) (Blames whole)
+unfolding integer_term_at
+integer_term_blames whole text rest n k o d =
+    let start : IsIntegerStart rest = rw o.0 at o.1 in
+    let here : Due whole (a_term n k) rest = rw o.0 at d in
+    bind_any (Blames whole) (integer_at rest) _ (integer_blames (Blames whole) rest start (λ w. at_once rest (wide_term here w))) (λ x. tt)
+
+word_term_blames : (whole text rest : List ℕ) (n k : ℕ) → Opens opens.Word text rest → Due whole (a_term (suc n) k) text → IfErr (word_term_at rest) (Blames whole)
+unfolding word_term_at
+word_term_blames whole text rest n k o d =
+    let start : BeginsWord rest = rw o.0 at o.1 in
+    let here : Due whole (a_term (suc n) k) rest = rw o.0 at d in
+    bind_any (Blames whole) (word_at rest) _ (word_blames whole rest n k start here) (λ x. tt)
+
+quoted_atom_blames : (whole text : List ℕ) (n k : ℕ) → Due whole (a_term (suc n) k) (single_quote ∷ text) → IfErr (quoted_atom_at text) (Blames whole)
+unfolding quoted_atom_at
+quoted_atom_blames whole text n k d = bind_any (Blames whole) (quoted_at atom_marks text) _ (quoted_blames whole atom_marks of_atom 0 (atom_are whole) text (due.in_atom d)) (λ x. tt)
+
+string_blames : (whole text : List ℕ) (n : ℕ) (front : List Datum) → length front ≤ MAX_LIST → Due whole (a_term (suc n) (length front)) (double_quote ∷ text) → IfErr (string_at n front text) (Blames whole)
+unfolding string_at
+string_blames whole text n front l d =
+    bind_any (Blames whole) (quoted_at (string_marks n (length front)) text) _ (quoted_blames whole (string_marks n (length front)) (of_string n) (length front) (string_are whole n (length front) l) text (due.in_string d)) (λ x. tt)
+
+-- ---- binaries
+
+record SegmentDue (whole bytes text : List ℕ) : Type 0 where
+  few : length bytes ≤ MAX_BINARY
+  place : DueSome whole (a_segment (length bytes)) text
+
+quote_starts : (text : List ℕ) → BeginsWith double_quote text → BeginsTerm text
+quote_starts [] h = absurd h
+quote_starts (c ∷ cs) h = rw h begins_term.a_string
+
+no_segment_starts : (text : List ℕ) → opening text ≡ None → (¬ BeginsInteger text) × (¬ BeginsWith double_quote text)
+no_segment_starts text e = (λ i. opens_none text e (begins_term.an_integer i), λ q. opens_none text e (quote_starts text q))
+
+opening_of : (o p : Opening) (rest text : List ℕ) (found : Option (Opening × List ℕ)) → found ≡ Some (o, rest) → found ≡ Some (p, text) → o ≡ p
+opening_of o p rest text found e f =
+    let both : Some (o, rest) ≡ Some (p, text) = sym e ∙ f in
+    let pair : (o, rest) ≡ (p, text) = cc in
+    ap (λ (x : Opening × List ℕ). x.0) pair
+
+opening_quote : (text rest : List ℕ) (o : Opening) → (o ≡ opens.String → ⊥) → opening text ≡ Some (o, rest) → ¬ BeginsWith double_quote text
+opening_quote [] rest o other e h = h
+opening_quote (c ∷ cs) rest o other e h = other (opening_of o opens.String rest cs (opening (c ∷ cs)) e (rw h refl))
+
+other_starts : (text rest : List ℕ) (o : Opening) → (o ≡ opens.Integer → ⊥) → (o ≡ opens.String → ⊥) → opening text ≡ Some (o, rest) → (¬ BeginsInteger text) × (¬ BeginsWith double_quote text)
+other_starts text rest o no_integer no_string e =
+    (λ i. no_integer (opening_of o opens.Integer rest text (opening text) e (opening_integer text (integer_begun i))), opening_quote text rest o no_string e)
+
+segment_as_blames : (whole bytes text : List ℕ) (o : Option (Opening × List ℕ)) → IfSome o (λ o. Opens o.0 text o.1) → opening text ≡ o → SegmentDue whole bytes text → IfErr (segment_as o bytes text) (Blames whole)
+segment_as_blames whole bytes text None h e g = let no = no_segment_starts text e in at_some whole text (λ some. no_segment (g.place some) no.0 no.1)
+segment_as_blames whole bytes text (Some (opens.Integer, rest)) h e g =
+    let some : 0 < length text = term_some (term_starts opens.Integer text rest h) in
+    if_blames (Blames whole) (length bytes == MAX_BINARY) _ _ (λ f. at_once text (one_byte (g.place some) (eqb-true (length bytes) MAX_BINARY f) (integer_starts text h.1)))
+    (λ _. bind_any (Blames whole) (byte_at text) _ (byte_blames whole text (length bytes) h.1 (g.place some)) (λ b. tt))
+segment_as_blames whole bytes text (Some (opens.String, rest)) h e g =
+    let some : 0 < length text = term_some (term_starts opens.String text rest h) in
+    let here = rw h at (g.place some) in
+    bind_any (Blames whole) (quoted_at (byte_marks (length bytes)) rest) _ (quoted_blames whole (byte_marks (length bytes)) of_bytes (length bytes) (byte_are whole (length bytes) g.few) rest (due.in_bytes here)) (λ x. tt)
+segment_as_blames whole bytes text (Some (o, rest)) h e g = let no = other_starts text rest o (λ p. absurd cc) (λ p. absurd cc) e in at_some whole text (λ some. no_segment (g.place some) no.0 no.1)
+
+segment_blames : (whole bytes text : List ℕ) → SegmentDue whole bytes text → IfErr (segment_at bytes text) (Blames whole)
+unfolding segment_at
+segment_blames whole bytes text g = segment_as_blames whole bytes text (opening text) (opening_holds text) refl g
+
+next_segment_due : (whole s text u t w rest : List ℕ) → SegmentDue whole s text → SegmentRead s text u t → Gap t (comma ∷ w) → Behind w rest → SegmentDue whole u rest
+next_segment_due whole s text u t w rest g r gap b = record {
+  few = r.within g.few;
+  place = λ some. let len : length u ≡ length s + length r.segment = ap length r.made ∙ length-append s r.segment in
+      rw len (due.next_segment (g.place (let lt = segment_shorter r.spelled in omega arith)) r.spelled gap (gap_within w rest b some));
+}
+
+segments_blame : (whole text : List ℕ) → DueSome whole (a_segment 0) text → IfErr (segments_at [] text) (Blames whole)
+segments_blame whole text d =
+    separated_blames segment_at SegmentRead (SegmentDue whole) (Blames whole) (at_end whole) segment_holds (λ s text u t w rest g r gap b. next_segment_due whole s text u t w rest g r gap b) (λ s text g. segment_blames whole s text g) [] text (record { few = omega arith; place = d })
+
+-- the last of some segments, and what stands behind it
+record LastSegment (whole rest : List ℕ) : Type 0 where
+  before : ℕ
+  text : List ℕ
+  behind : List ℕ
+  bytes : List ℕ
+  place : Due whole (a_segment before) text
+  spelled : Segment text bytes behind
+  gap : Gap behind rest
+
+last_segment_of : {whole text bytes rest : List ℕ} (k : ℕ) → Segments text bytes rest → Due whole (a_segment k) text → LastSegment whole rest
+last_segment_of k (last_segment {text} {t} {bs} s g) d = record { before = k; text = text; behind = t; bytes = bs; place = d; spelled = s; gap = g }
+last_segment_of k (more_segments {bs} s g h ss) d = last_segment_of (k + length bs) ss (due.next_segment d s g h)
+
+after_segments : (whole g bytes t : List ℕ) → DueSome whole (a_segment 0) g → SegmentsRead [] g bytes t → ¬ BeginsWith comma t → ¬ BeginsWithBoth greater greater t → IsUnexpected whole t
+after_segments whole g bytes t d r no_comma no_end =
+    let l = last_segment_of 0 r.segments (d (let lt = segments_shorter r.segments in omega arith)) in
+    behind_segment l.place l.spelled l.gap no_comma no_end
+
+bytes_blame : (whole g : List ℕ) (o : Option (List ℕ)) → DueSome whole (a_segment 0) g → IfErr (bytes_at o g) (Blames whole)
+bytes_blame whole g (Some rest) d = tt
+bytes_blame whole g None d =
+    bind_blames (λ (x : List ℕ × List ℕ). (0 < length x.1 → SegmentsRead [] g x.0 x.1) × (0 < length x.1 → ¬ BeginsWith comma x.1)) (Blames whole) (segments_at [] g) _
+    (both_ok (λ (x : List ℕ × List ℕ). 0 < length x.1 → SegmentsRead [] g x.0 x.1) (λ (x : List ℕ × List ℕ). 0 < length x.1 → ¬ BeginsWith comma x.1) (segments_at [] g) (segments_hold [] g) (no_comma segment_at [] g)) (segments_blame whole g d)
+    (λ x r. bind_any (Blames whole) (expect_both greater greater x.1) _ (expect_both_blames whole greater greater x.1 (λ some no. after_segments whole g x.0 x.1 d (r.0 some) (r.1 some) no)) (λ rest. tt))
+
+binary_blames : (whole text : List ℕ) (n k : ℕ) → Due whole (a_term (suc n) k) (less ∷ less ∷ text) → IfErr (binary_at text) (Blames whole)
+unfolding binary_at
+binary_blames whole text n k d =
+    bind_any (Blames whole) (bytes_at (behind_both greater greater (after_gap false text)) (after_gap false text)) _ (bytes_blame whole (after_gap false text) (behind_both greater greater (after_gap false text)) (λ some. due.in_binary d (gap_some text some))) (λ x. tt)
+
+-- ---- a key that stands twice
+
+has_one : (k : Datum) (es : List (Datum × Datum)) → has_key k es ≡ true → (v : Datum) × Contains es (k, v)
+has_one k [] h = absurd cc
+has_one k (e ∷ es) h = elim (or_cases (is_eq (datum_cmp k e.0)) (has_key k es) h) [
+  | inl same ↦ let key : k ≡ e.0 = datum_cmp-equal k e.0 (is_eq-equal (datum_cmp k e.0) same) in (e.1, (0, omega arith, ap (λ (x : Datum). (x, e.1)) (sym key)))
+  | inr later ↦ let there = has_one k es later in (there.0, (suc there.1.0, (let less = there.1.1 in omega arith), there.1.2))
+]
+
+module _ (whole : List ℕ) (n : ℕ) (read : TermReader) (reads : IsReader n read) (blames : BlamesTerm whole n read) where
+  -- ---- elements
+
+  module _ (r : Row) (limit : ℕ) (most : limit ≡ most_elements r) where
+    record ElementDue (ds : List Datum) (text : List ℕ) : Type 0 where
+      few : length ds ≤ limit
+      place : DueSome whole (an_element r n (length ds)) text
+
+    element_blames : (ds : List Datum) (text : List ℕ) → ElementDue ds text → IfErr (element_at read limit ds text) (Blames whole)
+    unfolding element_at
+    element_blames ds text g =
+        bind_any (Blames whole) (read (limit - length ds) text) _
+        (blames (limit - length ds) text (λ some. due.element (g.place some)) (λ b none. one_element (g.place (term_some b)) (let few = g.few in omega arith) b)) (λ x. tt)
+
+    next_element_due : (s : List Datum) (text : List ℕ) (u : List Datum) (t w rest : List ℕ) → ElementDue s text → ElementRead n limit s text u t → Gap t (comma ∷ w) → Behind w rest → ElementDue u rest
+    next_element_due s text u t w rest g i gap b =
+        let len : length u ≡ suc (length s) = let made = ap length i.made in omega (arith, length-append s (i.element ∷ [])) in
+        record {
+          few = let room = i.room in omega arith;
+          place = λ some. rw len (due.next_element (g.place (let lt = spelled_shorter i.spelled in omega arith)) i.spelled gap (gap_within w rest b some));
+        }
+
+    elements_blame : (front : List Datum) (text : List ℕ) → length front ≤ limit → DueSome whole (an_element r n (length front)) text → IfErr (elements_at read limit front text) (Blames whole)
+    elements_blame front text few d =
+        separated_blames (element_at read limit) (ElementRead n limit) ElementDue (Blames whole) (at_end whole) (element_holds n read reads limit) next_element_due element_blames front text (record { few = few; place = d })
+
+  -- the last of some elements, and what stands behind it
+  record LastElement (r : Row) (count : ℕ) (rest : List ℕ) : Type 0 where
+    before : ℕ
+    text : List ℕ
+    behind : List ℕ
+    element : Datum
+    place : Due whole (an_element r n before) text
+    spelled : Spelled n text element behind
+    gap : Gap behind rest
+    count_is : count ≡ suc before
+
+  last_element : {r : Row} {text rest : List ℕ} {ds : List Datum} (k : ℕ) → Elements n text ds rest → Due whole (an_element r n k) text → LastElement r (k + length ds) rest
+  last_element k (last {text} {t} {d} s g) due_here = record { before = k; text = text; behind = t; element = d; place = due_here; spelled = s; gap = g; count_is = omega arith }
+  last_element k (more_elements {ds} s g h es) due_here =
+      let same : k + suc (length ds) ≡ suc k + length ds = omega arith in
+      rw same (last_element (suc k) es (due.next_element due_here s g h))
+
+  after_elements : (r : Row) (k : ℕ) (g : List ℕ) (ds : List Datum) (t : List ℕ) → DueSome whole (an_element r n k) g → Elements n g ds t → ¬ FollowsElement r t → IsUnexpected whole t
+  after_elements r k g ds t d es other =
+      let l = last_element k es (d (let lt = elements_shorter es in omega arith)) in
+      behind_element l.place l.spelled l.gap other
+
+  -- elements that were read, and no comma behind them
+  abbrev ElementsEnd : ℕ → List Datum → List ℕ → List Datum × List ℕ → Type 0
+  ElementsEnd limit front g x = (0 < length x.1 → ElementsRead n limit front g x.0 x.1) × (0 < length x.1 → ¬ BeginsWith comma x.1)
+
+  elements_end : (limit : ℕ) (front : List Datum) (g : List ℕ) → IfOk (elements_at read limit front g) (ElementsEnd limit front g)
+  elements_end limit front g =
+      both_ok (λ (x : List Datum × List ℕ). 0 < length x.1 → ElementsRead n limit front g x.0 x.1) (λ (x : List Datum × List ℕ). 0 < length x.1 → ¬ BeginsWith comma x.1) (elements_at read limit front g) (elements_hold n read reads limit front g) (no_comma (element_at read limit) front g)
+
+  -- ---- tuples
+
+  items_blame : (g : List ℕ) (o : Option (List ℕ)) → DueSome whole (an_element in_tuple n 0) g → IfErr (items_at read o g) (Blames whole)
+  items_blame g (Some rest) d = tt
+  items_blame g None d =
+      bind_blames (ElementsEnd MAX_TUPLE [] g) (Blames whole) (elements_at read MAX_TUPLE [] g) _ (elements_end MAX_TUPLE [] g) (elements_blame in_tuple MAX_TUPLE refl [] g (omega arith) d)
+      (λ x r. bind_any (Blames whole) (expect close_brace x.1) _ (expect_blames whole close_brace x.1 (λ some no. let m = r.0 some in after_elements in_tuple 0 g m.more x.1 d m.elements (λ f. elim f [ inl c ↦ r.1 some c | inr e ↦ no e ]))) (λ rest. tt))
+
+  tuple_blames : (k : ℕ) (text : List ℕ) → Due whole (a_term (suc n) k) (open_brace ∷ text) → IfErr (tuple_at read text) (Blames whole)
+  unfolding tuple_at
+  tuple_blames k text d =
+      bind_any (Blames whole) (items_at read (behind close_brace (after_gap false text)) (after_gap false text)) _
+      (items_blame (after_gap false text) (behind close_brace (after_gap false text)) (λ some. due.in_braces d (gap_some text some))) (λ x. tt)
+
+  -- ---- lists
+
+  -- where no bar stands, none is found
+  no_bar : (a : ℕ) (text : List ℕ) → behind a text ≡ None → ¬ BeginsWith a text
+  no_bar a [] e h = h
+  no_bar a (c ∷ cs) e h = let found = rw (eq-eqb c a h) at e in absurd cc
+
+  module _ (read_tail : TailReader) (tails : BlamesTail whole n read_tail) (tail_reads : IsTailReader n read_tail) where
+    -- the tail behind so many elements
+    record TailDue (count : ℕ) (text : List ℕ) : Type 0 where
+      before : ℕ
+      some_before : count ≡ suc before
+      place : DueSome whole (a_term n (suc before)) text
+
+    tail_due : (front : List Datum) (g : List ℕ) (ds : List Datum) (t u : List ℕ) → DueSome whole (an_element in_list n (length front)) g → (0 < length t → ElementsRead n MAX_LIST front g ds t) → t ≡ bar ∷ u → TailDue (length ds) (after_gap false u)
+    tail_due front g ds t u d found h =
+        let m = found (rw h (omega arith)) in
+        let es : Elements n g m.more (bar ∷ u) = rw h at m.elements in
+        let l = last_element (length front) es (d (let lt = elements_shorter es in omega arith)) in
+        let len : length ds ≡ suc l.before = ap length m.joined ∙ length-append front m.more ∙ l.count_is in
+        record { before = l.before; some_before = len; place = λ some. due.tail l.place l.spelled l.gap (gap_some u some) }
+
+    -- what stands behind a tail
+    after_tail : (count : ℕ) (text : List ℕ) (d : Datum) (t : List ℕ) → TailDue count text → Spelled n text d t → 0 < length (after_gap false t) → ¬ BeginsWith close_bracket (after_gap false t) → IsUnexpected whole (after_gap false t)
+    after_tail count text d t due_here s some other = behind_tail (due_here.place (let lt = spelled_shorter s in omega arith)) s (gap_some t some) other
+
+    end_blames : (front : List Datum) (g : List ℕ) (ds : List Datum) (t : List ℕ) (o : Option (List ℕ)) → DueSome whole (an_element in_list n (length front)) g → ElementsEnd MAX_LIST front g (ds, t) → behind bar t ≡ o → IfSome o (λ rest. t ≡ bar ∷ rest) → IfErr (end_at read_tail ds o t) (Blames whole)
+    end_blames front g ds t (Some u) d r e h =
+        let place = tail_due front g ds t u d r.0 h in
+        bind_blames (λ (x : Datum × List ℕ). TailRead n ds (after_gap false u) x.0 x.1) (Blames whole) (read_tail ds (after_gap false u)) _ (tail_reads ds (after_gap false u))
+        (tails ds (after_gap false u) (let m = r.0 (rw h (omega arith)) in m.within) (rw place.some_before place.place))
+        (λ x tail. bind_any (Blames whole) (expect close_bracket (after_gap false x.1)) _ (expect_blames whole close_bracket (after_gap false x.1) (after_tail (length ds) (after_gap false u) tail.tail x.1 place tail.spelled)) (λ rest. tt))
+    end_blames front g ds t None d r e h =
+        bind_any (Blames whole) (expect close_bracket t) _
+        (expect_blames whole close_bracket t (λ some no. let m = r.0 some in after_elements in_list (length front) g m.more t d m.elements (λ f. elim f [ inl c ↦ r.1 some c | inr more ↦ elim more [ inl b ↦ no_bar bar t e b | inr c ↦ no c ] ])))
+        (λ rest. tt)
+
+    list_end_blames : (front : List Datum) (g : List ℕ) (ds : List Datum) (t : List ℕ) → DueSome whole (an_element in_list n (length front)) g → ElementsEnd MAX_LIST front g (ds, t) → IfErr (list_end read_tail ds t) (Blames whole)
+    unfolding list_end
+    list_end_blames front g ds t d found = end_blames front g ds t (behind bar t) d found refl (behind_holds bar t)
+
+    list_from_blames : (front : List Datum) (g : List ℕ) (o : Option (List ℕ)) → length front ≤ MAX_LIST → DueSome whole (an_element in_list n (length front)) g → IfErr (list_from read read_tail front o g) (Blames whole)
+    list_from_blames front g (Some rest) few d = tt
+    list_from_blames front g None few d =
+        bind_blames (ElementsEnd MAX_LIST front g) (Blames whole) (elements_at read MAX_LIST front g) _ (elements_end MAX_LIST front g) (elements_blame in_list MAX_LIST refl front g few d)
+        (λ x found. list_end_blames front g x.0 x.1 d found)
+
+    list_blames : (front : List Datum) (text : List ℕ) → length front ≤ MAX_LIST → Due whole (a_term (suc n) (length front)) (open_bracket ∷ text) → IfErr (list_at read read_tail front text) (Blames whole)
+    unfolding list_at
+    list_blames front text few d = list_from_blames front (after_gap false text) (behind close_bracket (after_gap false text)) few (λ some. due.in_brackets d (gap_some text some))
+
+  -- ---- maps
+
+  -- the pairs that were read, in any order
+  record PairDue (es : List (Datum × Datum)) (text : List ℕ) : Type 0 where
+    seen : List (Datum × Datum)
+    permuted : IsPermutation es seen
+    few : length es ≤ MAX_MAP
+    place : DueSome whole (a_pair n seen) text
+
+  twice : (es : List (Datum × Datum)) (text : List ℕ) (key : Datum) (t : List ℕ) → PairDue es text → Spelled n text key t → has_key key es ≡ true → IsKeyTwice whole text
+  twice es text key t g s h = let one = has_one key es h in key_twice (g.place (let lt = spelled_shorter s in omega arith)) s (Contains-permutation es g.seen (key, one.0) g.permuted one.1)
+
+  pair_blames : (es : List (Datum × Datum)) (text : List ℕ) → PairDue es text → IfErr (pair_at read es text) (Blames whole)
+  unfolding pair_at
+  pair_blames es text g =
+      bind_blames (λ (k : Datum × List ℕ). Spelled n text k.0 k.1 × (0 < MAX_MAP - length es)) (Blames whole) (read (MAX_MAP - length es) text) _ (reads (MAX_MAP - length es) text)
+      (blames (MAX_MAP - length es) text (λ some. due.key (g.place some)) (λ b none. one_pair (g.place (term_some b)) (let few = g.few in let len = length_permutation es g.seen g.permuted in omega arith) b))
+      (λ k key. if_blames (Blames whole) (has_key k.0 es) _ _ (λ h. at_once text (twice es text k.0 k.1 g key.0 h))
+      (λ _. bind_blames (λ (rest : List ℕ). after_gap false k.1 ≡ equals ∷ greater ∷ rest) (Blames whole) (expect_both equals greater (after_gap false k.1)) _ (expect_both_holds equals greater (after_gap false k.1))
+      (expect_both_blames whole equals greater (after_gap false k.1) (λ some no. behind_key (g.place (let lt = spelled_shorter key.0 in omega arith)) key.0 (gap_some k.1 some) no))
+      (λ rest e. bind_any (Blames whole) (read 1 (after_gap false rest)) _
+      (blames 1 (after_gap false rest) (λ some. let gap = gap_some k.1 (rw e (omega arith)) in due.value (g.place (let lt = spelled_shorter key.0 in omega arith)) key.0 (rw e at gap) (gap_some rest some)) (λ b none. absurd (omega arith)))
+      (λ v. tt))))
+
+  next_pair_due : (s : List (Datum × Datum)) (text : List ℕ) (u : List (Datum × Datum)) (t w rest : List ℕ) → PairDue s text → PairRead n s text u t → Gap t (comma ∷ w) → Behind w rest → PairDue u rest
+  next_pair_due s text u t w rest g p gap b =
+      let put : IsPermutation ((p.key, p.value) ∷ s) u = rw p.made (put_permutes p.key p.value s p.fresh) in
+      record {
+        seen = (p.key, p.value) ∷ g.seen;
+        permuted = IsPermutation-trans u ((p.key, p.value) ∷ s) ((p.key, p.value) ∷ g.seen) (IsPermutation-sym ((p.key, p.value) ∷ s) u put) (IsPermutation-cons (p.key, p.value) s g.seen g.permuted);
+        few = let len = length_permutation ((p.key, p.value) ∷ s) u put in let room = p.room in omega arith;
+        place = λ some. due.next_pair (g.place (let lt = pair_shorter p.spelled in omega arith)) p.spelled gap (gap_within w rest b some);
+      }
+
+  -- the last of some pairs, and what stands behind it
+  record LastPair (rest : List ℕ) : Type 0 where
+    before : List (Datum × Datum)
+    text : List ℕ
+    behind : List ℕ
+    key : Datum
+    value : Datum
+    place : Due whole (a_pair n before) text
+    spelled : Pair n text key value behind
+    gap : Gap behind rest
+
+  last_pair_of : {text rest : List ℕ} {es : List (Datum × Datum)} (before : List (Datum × Datum)) → Pairs n text es rest → Due whole (a_pair n before) text → LastPair rest
+  last_pair_of before (last_pair {text} {t} {key} {value} p g) d = record { before = before; text = text; behind = t; key = key; value = value; place = d; spelled = p; gap = g }
+  last_pair_of before (more_pairs {key} {value} p g h ps) d = last_pair_of ((key, value) ∷ before) ps (due.next_pair d p g h)
+
+  after_pairs : (g : List ℕ) (es : List (Datum × Datum)) (t : List ℕ) → DueSome whole (a_pair n []) g → PairsRead n [] g es t → ¬ BeginsWith comma t → ¬ BeginsWith close_brace t → IsUnexpected whole t
+  after_pairs g es t d r no_comma no_end =
+      let l = last_pair_of [] r.pairs (d (let lt = pairs_shorter r.pairs in omega arith)) in
+      behind_pair l.place l.spelled l.gap no_comma no_end
+
+  pairs_blame : (g : List ℕ) (o : Option (List ℕ)) → DueSome whole (a_pair n []) g → IfErr (pairs_at read o g) (Blames whole)
+  pairs_blame g (Some rest) d = tt
+  pairs_blame g None d =
+      bind_blames (λ (x : List (Datum × Datum) × List ℕ). (0 < length x.1 → PairsRead n [] g x.0 x.1) × (0 < length x.1 → ¬ BeginsWith comma x.1)) (Blames whole) (all_steps (separated (pair_at read)) [] g) _
+      (both_ok (λ (x : List (Datum × Datum) × List ℕ). 0 < length x.1 → PairsRead n [] g x.0 x.1) (λ (x : List (Datum × Datum) × List ℕ). 0 < length x.1 → ¬ BeginsWith comma x.1) (all_steps (separated (pair_at read)) [] g) (pairs_hold n read reads g) (no_comma (pair_at read) [] g))
+      (separated_blames (pair_at read) (PairRead n) PairDue (Blames whole) (at_end whole) (pair_holds n read reads) next_pair_due pair_blames [] g (record { seen = []; permuted = IsPermutation-refl []; few = omega arith; place = d }))
+      (λ x r. bind_any (Blames whole) (expect close_brace x.1) _ (expect_blames whole close_brace x.1 (λ some no. after_pairs g x.0 x.1 d (r.0 some) (r.1 some) no)) (λ rest. tt))
+
+  map_blames : (k : ℕ) (text : List ℕ) → Due whole (a_term (suc n) k) (number_sign ∷ open_brace ∷ text) → IfErr (map_at read text) (Blames whole)
+  unfolding map_at
+  map_blames k text d =
+      bind_any (Blames whole) (pairs_at read (behind close_brace (after_gap false text)) (after_gap false text)) _
+      (pairs_blame (after_gap false text) (behind close_brace (after_gap false text)) (λ some. due.in_map d (gap_some text some))) (λ x. tt)
+
+  -- ---- terms
+
+  module _ (read_tail : TailReader) (tails : BlamesTail whole n read_tail) (tail_reads : IsTailReader n read_tail) where
+    form_blames : (o : Opening) (text rest : List ℕ) → Opens o text rest → Due whole (a_term (suc n) 0) text → IfErr (form_at read read_tail n o rest) (Blames whole)
+    form_blames opens.Integer text rest h d = integer_term_blames whole text rest (suc n) 0 h d
+    form_blames opens.Word text rest h d = word_term_blames whole text rest n 0 h d
+    form_blames opens.QuotedAtom text rest h d = quoted_atom_blames whole rest n 0 (rw h at d)
+    form_blames opens.String text rest h d = string_blames whole rest n [] (omega arith) (rw h at d)
+    form_blames opens.Tuple text rest h d = tuple_blames 0 rest (rw h at d)
+    form_blames opens.List text rest h d = list_blames read_tail tails tail_reads [] rest (omega arith) (rw h at d)
+    form_blames opens.Map text rest h d = map_blames 0 rest (rw h at d)
+    form_blames opens.Binary text rest h d = binary_blames whole rest n 0 (rw h at d)
+
+    tail_form_blames : (front : List Datum) (o : Opening) (text rest : List ℕ) → length front ≤ MAX_LIST → Opens o text rest → Due whole (a_term (suc n) (length front)) text → IfErr (tail_form read read_tail n front o rest) (Blames whole)
+    tail_form_blames front opens.Integer text rest few h d = bind_any (Blames whole) (integer_term_at rest) _ (integer_term_blames whole text rest (suc n) (length front) h d) (λ x. tt)
+    tail_form_blames front opens.Word text rest few h d = bind_any (Blames whole) (word_term_at rest) _ (word_term_blames whole text rest n (length front) h d) (λ x. tt)
+    tail_form_blames front opens.QuotedAtom text rest few h d = bind_any (Blames whole) (quoted_atom_at rest) _ (quoted_atom_blames whole rest n (length front) (rw h at d)) (λ x. tt)
+    tail_form_blames front opens.String text rest few h d = string_blames whole rest n front few (rw h at d)
+    tail_form_blames front opens.Tuple text rest few h d = bind_any (Blames whole) (tuple_at read rest) _ (tuple_blames (length front) rest (rw h at d)) (λ x. tt)
+    tail_form_blames front opens.List text rest few h d = list_blames read_tail tails tail_reads front rest few (rw h at d)
+    tail_form_blames front opens.Map text rest few h d = bind_any (Blames whole) (map_at read rest) _ (map_blames (length front) rest (rw h at d)) (λ x. tt)
+    tail_form_blames front opens.Binary text rest few h d = bind_any (Blames whole) (binary_at rest) _ (binary_blames whole rest n (length front) (rw h at d)) (λ x. tt)
+
+opened : (whole : List ℕ) (p : Place) (o : Opening) (text rest : List ℕ) → Opens o text rest → DueSome whole p text → Due whole p text
+opened whole p o text rest h d = d (term_some (term_starts o text rest h))
+
+mutual
+  unfolding term_at tail_at
+
+  term_blames : (whole : List ℕ) (n : ℕ) → BlamesTerm whole n (term_at n)
+  term_blames whole zero room text d long =
+      bind_blames (λ (o : Opening × List ℕ). Opens o.0 text o.1 × (0 < 0) × (0 < room)) (Blames whole) (enter 0 room text) _ (enter_holds 0 room text)
+      (enter_blames whole 0 room text (λ some no. no_term (d some) no) (λ b _. deep_term (d (term_some b)) b) long) (λ o h. absurd (let none = h.1 in omega arith))
+  term_blames whole (suc n) room text d long =
+      bind_blames (λ (o : Opening × List ℕ). Opens o.0 text o.1 × (0 < suc n) × (0 < room)) (Blames whole) (enter (suc n) room text) _ (enter_holds (suc n) room text)
+      (enter_blames whole (suc n) room text (λ some no. no_term (d some) no) (λ b none. absurd (omega arith)) long)
+      (λ o h. form_blames whole n (term_at n) (term_holds n) (term_blames whole n) (tail_at n) (tail_blames whole n) (tail_holds n) o.0 text o.1 h.0 (opened whole (a_term (suc n) 0) o.0 text o.1 h.0 d))
+
+  tail_blames : (whole : List ℕ) (n : ℕ) → BlamesTail whole n (tail_at n)
+  tail_blames whole zero front text few d =
+      bind_blames (λ (o : Opening × List ℕ). Opens o.0 text o.1 × (0 < 0) × (0 < 1)) (Blames whole) (enter 0 1 text) _ (enter_holds 0 1 text)
+      (enter_blames whole 0 1 text (λ some no. no_term (d some) no) (λ b _. deep_term (d (term_some b)) b) (λ b none. absurd (omega arith))) (λ o h. absurd (let none = h.1 in omega arith))
+  tail_blames whole (suc n) front text few d =
+      bind_blames (λ (o : Opening × List ℕ). Opens o.0 text o.1 × (0 < suc n) × (0 < 1)) (Blames whole) (enter (suc n) 1 text) _ (enter_holds (suc n) 1 text)
+      (enter_blames whole (suc n) 1 text (λ some no. no_term (d some) no) (λ b none. absurd (omega arith)) (λ b none. absurd (omega arith)))
+      (λ o h. tail_form_blames whole n (term_at n) (term_holds n) (term_blames whole n) (tail_at n) (tail_blames whole n) (tail_holds n) front o.0 text o.1 few h.0 (opened whole (a_term (suc n) (length front)) o.0 text o.1 h.0 d))
+
+-- ---- whole texts
+
+no_dot_here : (c : ℕ) (cs : List ℕ) → (c == dot && begins_gap cs) ≡ false → ¬ BeginsDot (c ∷ cs)
+no_dot_here c cs n h = let both : (c == dot && begins_gap cs) ≡ true = rw (eq-eqb c dot h.0, begins_from cs h.1) refl in absurd cc
+
+dot_blames : (whole text : List ℕ) → (0 < length text → ¬ BeginsDot text → IsUnexpected whole text) → IfErr (dot_at text) (Blames whole)
+dot_blames whole [] h = at_end whole
+dot_blames whole (c ∷ cs) h = if_blames (Blames whole) (c == dot && begins_gap cs) _ _ (λ _. tt) (λ n. at_once (c ∷ cs) (h (omega arith) (no_dot_here c cs n)))
+
+sentence_blames : (whole text : List ℕ) → DueSome whole a_sentence text → IfErr (sentence_at text) (Blames whole)
+unfolding sentence_at
+sentence_blames whole text d =
+    bind_blames (λ (x : Datum × List ℕ). Spelled MAX_DEPTH text x.0 x.1 × (0 < 1)) (Blames whole) (term_at MAX_DEPTH 1 text) _ (term_holds MAX_DEPTH 1 text) (term_blames whole MAX_DEPTH 1 text (λ some. due.outermost (d some)) (λ b none. absurd (omega arith)))
+    (λ x s. bind_any (Blames whole) (dot_at (after_gap false x.1)) _ (dot_blames whole (after_gap false x.1) (λ some no. no_dot (d (let lt = spelled_shorter s.0 in omega arith)) s.0 (gap_some x.1 some) no)) (λ rest. tt))
+
+abbrev SentenceDue : List ℕ → List Datum → List ℕ → Type 0
+SentenceDue whole ds text = DueSome whole a_sentence text
+
+step_good : (whole : List ℕ) (ds : List Datum) (text : List ℕ) → SentenceDue whole ds text → IfOk (sentence_step ds text) (StaysGood sentence_step (SentenceDue whole) (Blames whole))
+unfolding sentence_step
+step_good whole ds [] d = λ no. absurd cc
+step_good whole ds (c ∷ cs) d =
+    bind_holds (λ (x : Datum × List ℕ). SentenceRead (c ∷ cs) x.0 x.1) (StaysGood sentence_step (SentenceDue whole) (Blames whole)) (sentence_at (c ∷ cs)) _ (sentence_holds (c ∷ cs))
+    (λ x s. λ goes some. due.behind_dot (d (omega arith)) s.spelled s.gap s.begins (gap_some x.1 some))
+
+step_blames : (whole : List ℕ) (ds : List Datum) (text : List ℕ) → SentenceDue whole ds text → IfErr (sentence_step ds text) (Blames whole)
+unfolding sentence_step
+step_blames whole ds [] d = tt
+step_blames whole ds (c ∷ cs) d = bind_any (Blames whole) (sentence_at (c ∷ cs)) _ (sentence_blames whole (c ∷ cs) d) (λ x. tt)
+
+pub text_blames : (text : List ℕ) → IfErr (text_at text) (Blames text)
+unfolding text_at
+text_blames text =
+    bind_any (Blames text) (all_steps sentence_step [] (after_gap false text)) _
+    (steps_blame sentence_step (SentenceDue text) (Blames text) (at_end text) (step_good text) (step_blames text) (suc (length (after_gap false text))) [] (after_gap false text) (λ some. due.first (gap_some text some)))
+    (λ x. tt)
+
+-- ---- from characters to bytes
+
+stands : (left : ℕ) (text : List ℕ) (IsSuch : List ℕ → Type 0) → Left left IsSuch → ((rest : List ℕ) → IsSuch rest → EndsIn text rest) → StandsAt (length (encode_utf8_all (take (length text - left) text))) text IsSuch
+stands left text IsSuch l ends =
+    let e = ends l.rest l.such in
+    let len : length text ≡ length e.front + length l.rest = ap length e.whole ∙ length-append e.front l.rest in
+    let count : length e.front ≡ length text - left = let h = l.here in omega arith in
+    let front : take (length text - left) text ≡ e.front = ap (take (length text - left)) e.whole ∙ take_at e.front l.rest (length text - left) count in
+    record { front = e.front; rest = l.rest; whole = e.whole; place = ap (λ (t : List ℕ). length (encode_utf8_all t)) front; such = l.such }
+
+deep_ends : (text rest : List ℕ) → IsTooDeep text rest → EndsIn text rest
+deep_ends text rest (deep_term d b) = due_ends d
+deep_ends text rest (deep_character d n) = due_ends d
+
+long_ends : (text rest : List ℕ) → IsTooLong text rest → EndsIn text rest
+long_ends text rest (one_element d e b) = due_ends d
+long_ends text rest (one_pair d e b) = due_ends d
+long_ends text rest (one_byte d e b) = due_ends d
+long_ends text rest (one_character d e n) = due_ends d
+long_ends text rest (one_letter d e w) = due_ends d
+
+twice_ends : (text rest : List ℕ) → IsKeyTwice text rest → EndsIn text rest
+twice_ends text rest (key_twice d s h) = due_ends d
+
+range_ends : (text rest : List ℕ) → IsOutOfRange text rest → EndsIn text rest
+range_ends text rest (wide_term d w) = due_ends d
+range_ends text rest (wide_segment d w) = due_ends d
+range_ends text rest (no_byte d i n) = due_ends d
+range_ends text rest (no_byte_character d l) = due_ends d
+
+escape_ends : (text rest : List ℕ) → IsNoEscape text rest → EndsIn text rest
+escape_ends text rest (no_escape d n) = due_ends d
+
+unexpected_ends : (text rest : List ℕ) → IsUnexpected text rest → EndsIn text rest
+unexpected_ends text rest the_end = record { front = text; whole = sym (append-nil text) }
+unexpected_ends text rest (no_term d b) = due_ends d
+unexpected_ends text rest (no_segment d b q) = due_ends d
+unexpected_ends text rest (behind_element d s g n) = then (due_ends d) (then (spelled_ends s) (gap_ends g))
+unexpected_ends text rest (behind_tail d s g n) = then (due_ends d) (then (spelled_ends s) (gap_ends g))
+unexpected_ends text rest (behind_key d s g n) = then (due_ends d) (then (spelled_ends s) (gap_ends g))
+unexpected_ends text rest (behind_pair d p g c n) = then (due_ends d) (then (pair_ends p) (gap_ends g))
+unexpected_ends text rest (behind_segment d s g c n) = then (due_ends d) (then (segment_ends s) (gap_ends g))
+unexpected_ends text rest (no_dot d s g n) = then (due_ends d) (then (spelled_ends s) (gap_ends g))
+
+has_cause_in : (bytes text : List ℕ) (cause : Cause) (left : ℕ) → text ≡ chars bytes → Blames text (cause, left) → HasCause bytes (fault_of (stops.At cause left) text)
+has_cause_in bytes text causes.TooDeep left e b = rw (← e) (stands left text (IsTooDeep text) b (deep_ends text))
+has_cause_in bytes text causes.TooLong left e b = rw (← e) (stands left text (IsTooLong text) b (long_ends text))
+has_cause_in bytes text causes.DuplicateKey left e b = rw (← e) (stands left text (IsKeyTwice text) b (twice_ends text))
+has_cause_in bytes text causes.Syntax left e b = rw (← e) (stands left text (IsUnexpected text) b (unexpected_ends text))
+has_cause_in bytes text causes.IntegerRange left e b = rw (← e) (stands left text (IsOutOfRange text) b (range_ends text))
+has_cause_in bytes text causes.UnsupportedEscape left e b = rw (← e) (stands left text (IsNoEscape text) b (escape_ends text))
+
+pub has_cause : (bytes text : List ℕ) (stop : Stop) → text ≡ chars bytes → Fails stop (text_at text) → HasCause bytes (fault_of stop text)
+has_cause bytes text stops.Memory e f = tt
+has_cause bytes text (stops.At cause left) e f = has_cause_in bytes text cause left e (IfErr-at_err (Blames text) f (text_blames text))

@@ -1,0 +1,185 @@
+-- Why a text is refused at a place: what is due there, given what stands before it, and what stands there instead.
+use Rattle.std.specs.Prelude.{ℕ, suc, ◌≡◌, ◌≢◌, ◌+◌, ◌<◌, ◌⊎◌, ℤ, pos, negsuc, List, [], ◌∷◌, ◌++◌, length, IsTrue, Some, None}
+use Rattle.std.specs.List.{Contains}
+use Rattle.std.specs.Char.{is_ascii_digit, is_ascii_lowercase}
+use Rattle.std.specs.Str.{encode_utf8_all, chars}
+use Rattle.term_core.specs.Datum.{Datum}
+use Rattle.term_core.specs.declared.TheConstants.{MAX_CHARACTERS, MAX_TUPLE, MAX_MAP, MAX_LIST, MAX_BINARY, MAX_DEPTH}
+use Rattle.term_text.specs.Character.{plus, minus, comma, dot, backslash, single_quote, double_quote, open_brace, close_brace, open_bracket, close_bracket, bar, number_sign, equals, less, greater, is_word, escaped}
+use Rattle.term_text.specs.Text.{Gap, Number, Integer, Segment, Spelled, Pair, BeginsGap}
+use Rattle.term_text.specs.declared.fault.TextFault.{TextFault}
+use Rattle.term_text.specs.declared.fault.TextFault.TheVariants as faults
+
+-- what has elements
+pub data Row : Type 0 where
+  in_tuple : Row
+  in_list : Row
+
+-- how many elements it may have
+abbrev pub most_elements : Row → ℕ
+most_elements in_tuple = MAX_TUPLE
+most_elements in_list = MAX_LIST
+
+-- what is in quotes, a string's characters having so many levels left
+pub data Quotes : Type 0 where
+  of_atom : Quotes
+  of_string : ℕ → Quotes
+  of_bytes : Quotes
+
+-- the mark that ends it
+abbrev pub mark_of : Quotes → ℕ
+mark_of of_atom = single_quote
+mark_of (of_string levels) = double_quote
+mark_of of_bytes = double_quote
+
+-- how many characters it may have, those of the list or binary that it continues among them
+abbrev pub most_characters : Quotes → ℕ
+most_characters of_atom = MAX_CHARACTERS
+most_characters (of_string levels) = MAX_LIST
+most_characters of_bytes = MAX_BINARY
+
+-- what may be due
+pub data Place : Type 0 where
+  -- a term and its dot
+  a_sentence : Place
+  -- a term with so many levels left; a list or string that begins there continues a list of so many elements
+  a_term : ℕ → ℕ → Place
+  -- an element with so many levels left, behind so many
+  an_element : Row → ℕ → ℕ → Place
+  -- a pair with so many levels left, behind these
+  a_pair : ℕ → List (Datum × Datum) → Place
+  -- a segment behind so many bytes
+  a_segment : ℕ → Place
+  -- a character in quotes behind so many, or the mark that ends them
+  a_character : Quotes → ℕ → Place
+  -- a character of a bare word behind so many
+  a_letter : ℕ → Place
+
+-- Reading a text from its beginning, this is due where that follows.
+pub data Due (text : List ℕ) : Place → List ℕ → Type 0 where
+  first : {t : List ℕ} → Gap text t → Due text a_sentence t
+  behind_dot : {t u v w : List ℕ} {d : Datum} → Due text a_sentence t → Spelled MAX_DEPTH t d u → Gap u (dot ∷ v) → BeginsGap v → Gap v w → Due text a_sentence w
+  outermost : {t : List ℕ} → Due text a_sentence t → Due text (a_term MAX_DEPTH 0) t
+  in_braces : {n k : ℕ} {t u : List ℕ} → Due text (a_term (suc n) k) (open_brace ∷ t) → Gap t u → Due text (an_element in_tuple n 0) u
+  in_brackets : {n k : ℕ} {t u : List ℕ} → Due text (a_term (suc n) k) (open_bracket ∷ t) → Gap t u → Due text (an_element in_list n k) u
+  next_element : {r : Row} {n k : ℕ} {t u v w : List ℕ} {d : Datum} → Due text (an_element r n k) t → Spelled n t d u → Gap u (comma ∷ v) → Gap v w → Due text (an_element r n (suc k)) w
+  element : {r : Row} {n k : ℕ} {t : List ℕ} → Due text (an_element r n k) t → Due text (a_term n 0) t
+  tail : {n k : ℕ} {t u v w : List ℕ} {d : Datum} → Due text (an_element in_list n k) t → Spelled n t d u → Gap u (bar ∷ v) → Gap v w → Due text (a_term n (suc k)) w
+  in_map : {n k : ℕ} {t u : List ℕ} → Due text (a_term (suc n) k) (number_sign ∷ open_brace ∷ t) → Gap t u → Due text (a_pair n []) u
+  next_pair : {n : ℕ} {es : List (Datum × Datum)} {t u v w : List ℕ} {key value : Datum} → Due text (a_pair n es) t → Pair n t key value u → Gap u (comma ∷ v) → Gap v w → Due text (a_pair n ((key, value) ∷ es)) w
+  key : {n : ℕ} {es : List (Datum × Datum)} {t : List ℕ} → Due text (a_pair n es) t → Due text (a_term n 0) t
+  value : {n : ℕ} {es : List (Datum × Datum)} {t u v w : List ℕ} {k : Datum} → Due text (a_pair n es) t → Spelled n t k u → Gap u (equals ∷ greater ∷ v) → Gap v w → Due text (a_term n 0) w
+  in_binary : {n k : ℕ} {t u : List ℕ} → Due text (a_term (suc n) k) (less ∷ less ∷ t) → Gap t u → Due text (a_segment 0) u
+  next_segment : {k : ℕ} {t u v w bytes : List ℕ} → Due text (a_segment k) t → Segment t bytes u → Gap u (comma ∷ v) → Gap v w → Due text (a_segment (k + length bytes)) w
+  in_atom : {n k : ℕ} {t : List ℕ} → Due text (a_term (suc n) k) (single_quote ∷ t) → Due text (a_character of_atom 0) t
+  in_string : {n k : ℕ} {t : List ℕ} → Due text (a_term (suc n) k) (double_quote ∷ t) → Due text (a_character (of_string n) k) t
+  in_bytes : {k : ℕ} {t : List ℕ} → Due text (a_segment k) (double_quote ∷ t) → Due text (a_character of_bytes k) t
+  behind_plain : {q : Quotes} {k c : ℕ} {t : List ℕ} → Due text (a_character q k) (c ∷ t) → c ≢ mark_of q → c ≢ backslash → Due text (a_character q (suc k)) t
+  behind_escape : {q : Quotes} {k e c : ℕ} {t : List ℕ} → Due text (a_character q k) (backslash ∷ e ∷ t) → escaped e ≡ Some c → Due text (a_character q (suc k)) t
+  in_word : {n k c : ℕ} {t : List ℕ} → Due text (a_term (suc n) k) (c ∷ t) → IsTrue (is_ascii_lowercase c) → Due text (a_letter 0) (c ∷ t)
+  next_letter : {k c : ℕ} {t : List ℕ} → Due text (a_letter k) (c ∷ t) → IsTrue (is_word c) → Due text (a_letter (suc k)) t
+
+-- an integer begins: a digit, or a sign directly in front of one
+pub data BeginsInteger : List ℕ → Type 0 where
+  digit : {c : ℕ} {text : List ℕ} → IsTrue (is_ascii_digit c) → BeginsInteger (c ∷ text)
+  sign : {s c : ℕ} {text : List ℕ} → (s ≡ plus) ⊎ (s ≡ minus) → IsTrue (is_ascii_digit c) → BeginsInteger (s ∷ c ∷ text)
+
+-- a term begins, whether it ends well or not
+pub data BeginsTerm : List ℕ → Type 0 where
+  an_integer : {text : List ℕ} → BeginsInteger text → BeginsTerm text
+  a_word : {c : ℕ} {text : List ℕ} → IsTrue (is_ascii_lowercase c) → BeginsTerm (c ∷ text)
+  an_atom : {text : List ℕ} → BeginsTerm (single_quote ∷ text)
+  a_string : {text : List ℕ} → BeginsTerm (double_quote ∷ text)
+  a_tuple : {text : List ℕ} → BeginsTerm (open_brace ∷ text)
+  a_list : {text : List ℕ} → BeginsTerm (open_bracket ∷ text)
+  a_map : {text : List ℕ} → BeginsTerm (number_sign ∷ open_brace ∷ text)
+  a_binary : {text : List ℕ} → BeginsTerm (less ∷ less ∷ text)
+
+-- a term or a string's character where no level is left
+pub data IsTooDeep (text : List ℕ) : List ℕ → Type 0 where
+  deep_term : {k : ℕ} {rest : List ℕ} → Due text (a_term 0 k) rest → BeginsTerm rest → IsTooDeep text rest
+  deep_character : {k c : ℕ} {rest : List ℕ} → Due text (a_character (of_string 0) k) (c ∷ rest) → c ≢ double_quote → IsTooDeep text (c ∷ rest)
+
+-- one more than may stand there
+pub data IsTooLong (text : List ℕ) : List ℕ → Type 0 where
+  one_element : {r : Row} {n k : ℕ} {rest : List ℕ} → Due text (an_element r n k) rest → k ≡ most_elements r → BeginsTerm rest → IsTooLong text rest
+  one_pair : {n : ℕ} {es : List (Datum × Datum)} {rest : List ℕ} → Due text (a_pair n es) rest → length es ≡ MAX_MAP → BeginsTerm rest → IsTooLong text rest
+  one_byte : {k : ℕ} {rest : List ℕ} → Due text (a_segment k) rest → k ≡ MAX_BINARY → BeginsInteger rest → IsTooLong text rest
+  one_character : {q : Quotes} {k c : ℕ} {rest : List ℕ} → Due text (a_character q k) (c ∷ rest) → k ≡ most_characters q → c ≢ mark_of q → IsTooLong text (c ∷ rest)
+  one_letter : {k c : ℕ} {rest : List ℕ} → Due text (a_letter k) (c ∷ rest) → k ≡ MAX_CHARACTERS → IsTrue (is_word c) → IsTooLong text (c ∷ rest)
+
+-- a key that one of the pairs before it has
+pub data IsKeyTwice (text : List ℕ) : List ℕ → Type 0 where
+  key_twice : {n : ℕ} {es : List (Datum × Datum)} {t rest : List ℕ} {k v : Datum} → Due text (a_pair n es) t → Spelled n t k rest → Contains es (k, v) → IsKeyTwice text t
+
+-- an integer that has more than 64 bits
+pub data IsWide : List ℕ → Type 0 where
+  wide : {text rest : List ℕ} {n : ℕ} → Number text n rest → 9223372036854775807 < n → IsWide text
+  wide_positive : {text rest : List ℕ} {n : ℕ} → Number text n rest → 9223372036854775807 < n → IsWide (plus ∷ text)
+  wide_negative : {text rest : List ℕ} {n : ℕ} → Number text n rest → 9223372036854775808 < n → IsWide (minus ∷ text)
+
+-- no byte: below 0, or past 255
+abbrev pub IsNoByte : ℤ → Type 0
+IsNoByte (pos n) = 255 < n
+IsNoByte (negsuc n) = Unit {0}
+
+-- an integer of more than 64 bits, or what is no byte where a byte is due
+pub data IsOutOfRange (text : List ℕ) : List ℕ → Type 0 where
+  wide_term : {n k : ℕ} {rest : List ℕ} → Due text (a_term n k) rest → IsWide rest → IsOutOfRange text rest
+  wide_segment : {k : ℕ} {rest : List ℕ} → Due text (a_segment k) rest → IsWide rest → IsOutOfRange text rest
+  no_byte : {k : ℕ} {z : ℤ} {rest t : List ℕ} → Due text (a_segment k) rest → Integer rest z t → IsNoByte z → IsOutOfRange text rest
+  no_byte_character : {k c : ℕ} {rest : List ℕ} → Due text (a_character of_bytes k) (c ∷ rest) → 255 < c → IsOutOfRange text (c ∷ rest)
+
+-- a backslash in quotes, in front of a character that makes no escape
+pub data IsNoEscape (text : List ℕ) : List ℕ → Type 0 where
+  no_escape : {q : Quotes} {k e : ℕ} {rest : List ℕ} → Due text (a_character q k) (backslash ∷ e ∷ rest) → escaped e ≡ None → IsNoEscape text (backslash ∷ e ∷ rest)
+
+-- a character stands first
+abbrev pub BeginsWith : ℕ → List ℕ → Type 0
+BeginsWith c [] = ⊥
+BeginsWith c (x ∷ text) = x ≡ c
+
+-- two characters that are one token stand first
+abbrev pub BeginsWithBoth : ℕ → ℕ → List ℕ → Type 0
+BeginsWithBoth a b [] = ⊥
+BeginsWithBoth a b (x ∷ text) = (x ≡ a) × BeginsWith b text
+
+-- a dot stands first, and what may follow it
+abbrev pub BeginsDot : List ℕ → Type 0
+BeginsDot [] = ⊥
+BeginsDot (x ∷ text) = (x ≡ dot) × BeginsGap text
+
+-- what may stand behind an element
+abbrev pub FollowsElement : Row → List ℕ → Type 0
+FollowsElement in_tuple text = BeginsWith comma text ⊎ BeginsWith close_brace text
+FollowsElement in_list text = BeginsWith comma text ⊎ (BeginsWith bar text ⊎ BeginsWith close_bracket text)
+
+-- the end of the text, or what can't stand where it does
+pub data IsUnexpected (text : List ℕ) : List ℕ → Type 0 where
+  the_end : IsUnexpected text []
+  no_term : {n k : ℕ} {rest : List ℕ} → Due text (a_term n k) rest → ¬ BeginsTerm rest → IsUnexpected text rest
+  no_segment : {k : ℕ} {rest : List ℕ} → Due text (a_segment k) rest → ¬ BeginsInteger rest → ¬ BeginsWith double_quote rest → IsUnexpected text rest
+  behind_element : {r : Row} {n k : ℕ} {t u rest : List ℕ} {d : Datum} → Due text (an_element r n k) t → Spelled n t d u → Gap u rest → ¬ FollowsElement r rest → IsUnexpected text rest
+  behind_tail : {n k : ℕ} {t u rest : List ℕ} {d : Datum} → Due text (a_term n (suc k)) t → Spelled n t d u → Gap u rest → ¬ BeginsWith close_bracket rest → IsUnexpected text rest
+  behind_key : {n : ℕ} {es : List (Datum × Datum)} {t u rest : List ℕ} {d : Datum} → Due text (a_pair n es) t → Spelled n t d u → Gap u rest → ¬ BeginsWithBoth equals greater rest → IsUnexpected text rest
+  behind_pair : {n : ℕ} {es : List (Datum × Datum)} {t u rest : List ℕ} {key value : Datum} → Due text (a_pair n es) t → Pair n t key value u → Gap u rest → ¬ BeginsWith comma rest → ¬ BeginsWith close_brace rest → IsUnexpected text rest
+  behind_segment : {k : ℕ} {t u rest bytes : List ℕ} → Due text (a_segment k) t → Segment t bytes u → Gap u rest → ¬ BeginsWith comma rest → ¬ BeginsWithBoth greater greater rest → IsUnexpected text rest
+  no_dot : {t u rest : List ℕ} {d : Datum} → Due text a_sentence t → Spelled MAX_DEPTH t d u → Gap u rest → ¬ BeginsDot rest → IsUnexpected text rest
+
+-- at this byte of the characters, in UTF-8, begins what is such
+pub record StandsAt (at : ℕ) (text : List ℕ) (IsSuch : List ℕ → Type 0) : Type 0 where
+  pub front : List ℕ
+  pub rest : List ℕ
+  pub whole : text ≡ front ++ rest
+  pub place : at ≡ length (encode_utf8_all front)
+  pub such : IsSuch rest
+
+-- what a refusal names stands at its place in the text
+abbrev pub HasCause : List ℕ → TextFault → Type 0
+HasCause bytes (faults.TooDeep at) = StandsAt at (chars bytes) (IsTooDeep (chars bytes))
+HasCause bytes (faults.TooLong at) = StandsAt at (chars bytes) (IsTooLong (chars bytes))
+HasCause bytes (faults.DuplicateKey at) = StandsAt at (chars bytes) (IsKeyTwice (chars bytes))
+HasCause bytes (faults.Syntax at) = StandsAt at (chars bytes) (IsUnexpected (chars bytes))
+HasCause bytes (faults.IntegerRange at) = StandsAt at (chars bytes) (IsOutOfRange (chars bytes))
+HasCause bytes (faults.UnsupportedEscape at) = StandsAt at (chars bytes) (IsNoEscape (chars bytes))
+HasCause bytes fault = Unit {0}
