@@ -12,7 +12,6 @@ use Rattle.term_core.specs.OrderLaws.{datum_cmp-same, datum_eq-same}
 use Rattle.term_core.specs.Limits.{IsTerm}
 use Rattle.term_core.specs.declared.TheConstants.{MAX_LIST}
 use Rattle.term_core.proofs.LimitLemmas.{cell_count-sound}
-use Rattle.mspec_meaning.specs.Meaning.{true_term}
 use Rattle.mspec_meaning.specs.Part.{rest_of, IsListSplit, IsNoTuple, IsNoMap}
 
 -- a test of equality
@@ -171,8 +170,3 @@ rest-count (suc n) (binary bs) h = absurd (omega arith)
 
 pub behind-fits : (n m : ℕ) (d : Datum) → IsTerm d → 0 < m → m ≤ cell_count (rest_of n d) → n + m ≤ MAX_LIST
 behind-fits n m d term some h = omega (arith, rest-count n d (omega arith), cell_count-sound d term.sound)
-
--- a list isn't the atom true
-pub list-not_true : (ds : List Datum) (t d : Datum) → cells ds t ≡ d → 0 < length ds → d ≡ true_term → ⊥
-list-not_true [] t d is some e = absurd (omega arith)
-list-not_true (x ∷ ds) t d is some e = absurd (let h = is ∙ e in cc)

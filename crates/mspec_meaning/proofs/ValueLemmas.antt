@@ -132,6 +132,10 @@ nothing_before : (found : Option Entries) → option_map (entries_before []) fou
 nothing_before None = refl
 nothing_before (Some es) = refl
 
+none_before : (found : Option (List Datum)) → option_map (λ r. [] ++ r) found ≡ found
+none_before None = refl
+none_before (Some ds) = refl
+
 before-push : (vs : List Datum) (v : Datum) (found : Option (List Datum)) → option_map (λ r. (vs ++ v ∷ []) ++ r) found ≡ option_map (λ r. vs ++ r) (before (Some v) found)
 before-push vs v None = refl
 before-push vs v (Some r) = ap Some (append_assoc vs (v ∷ []) r)
@@ -187,6 +191,9 @@ module _ (mode : Mode) (s : Substitution) (o : Datum) where
   abbrev pub EntriesFront : List (Datum × Expression) → ℕ → List (Datum × Datum) → Type 0
   EntriesFront ms i ps =
       option_map (entries_before ps) (entry_values mode (assignments_of (drop i ms)) s o) ≡ entry_values mode (assignments_of ms) s o
+
+  pub ValuesFront-start : (es : List Expression) → ValuesFront es 0 []
+  ValuesFront-start es = none_before (argument_values mode (expressions_of es) s o)
 
   pub ValuesFront-more : (es : List Expression) (i : ℕ) (e : Expression) (vs : List Datum) (v : Datum) → i < length es → e ≡ get_or es i e → Some v ≡ value_of mode e s o → ValuesFront es i vs → ValuesFront es (i + 1) (vs ++ v ∷ [])
   ValuesFront-more es i e vs v h is value front =

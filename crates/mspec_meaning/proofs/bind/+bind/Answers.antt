@@ -1,10 +1,10 @@
-use Rattle.std.proofs.Common.{◌≡◌, ◌+◌, ◌*◌, ◌<◌, ◌≤◌, length, MatchBool, ap, sym, ◌∙◌, subst, arith}
+use Rattle.std.proofs.Common.{◌≡◌, length, MatchBool, ap, sym, ◌∙◌, subst, arith}
 use Rattle.term_core.specs.Datum.{Datum}
 use Rattle.term_core.specs.Datum.Datum.{nil}
 use Rattle.mspec_syntax.specs.Pattern.{Pattern}
 use Rattle.mspec_meaning.specs.Match.{Fits}
 use Rattle.mspec_meaning.specs.Slots.{Answers}
-use Rattle.mspec_syntax.specs.Pattern.{pattern_size, patterns_size, fields_size, patterns_of, fields_of}
+use Rattle.mspec_syntax.specs.Pattern.{pattern_size, patterns_size, patterns_of}
 use Rattle.mspec_syntax.specs.PatternView.{tail_pattern}
 use Rattle.mspec_syntax.proofs.SizeLemmas.{patterns_size-at, fields_size-at, cells-fall}
 use Rattle.mspec_meaning.specs.Slots.{seen}

@@ -1,5 +1,5 @@
 -- by size, a row of patterns behind a pattern of its size; what is bound so far
-use Rattle.std.proofs.Common.{◌≡◌, ◌+◌, ◌*◌, length}
+use Rattle.std.proofs.Common.{◌+◌, ◌*◌}
 use Rattle.mspec_syntax.specs.Pattern.{pattern_size, patterns_size, fields_size, patterns_of, fields_of}
 use Rattle.mspec_meaning.specs.Slots.{seen}
 use Rattle.mspec_meaning.proofs.FitLemmas.{AllFront, FieldsFront}

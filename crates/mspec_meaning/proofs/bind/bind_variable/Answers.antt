@@ -1,4 +1,4 @@
-use Rattle.std.proofs.Common.{option_map, refl, ap, sym, ◌∙◌}
+use Rattle.std.proofs.Common.{option_map, refl, ap}
 use Rattle.mspec_meaning.specs.Part.{part_of}
 use Rattle.mspec_meaning.proofs.SlotLemmas.{free-Binds, bound-Answers}
 use Rattle.mspec_meaning.proofs.bind.bind_variable.Goals as goal

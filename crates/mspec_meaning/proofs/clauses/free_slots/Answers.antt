@@ -1,4 +1,4 @@
-use Rattle.std.proofs.Common.{◌≡◌, ◌≤◌, ◌+◌, length, List, Option, None, option_map, refl, ap, sym, subst, arith, length-append}
+use Rattle.std.proofs.Common.{List, Option, None, option_map, refl, sym, subst, arith}
 use Rattle.mspec_meaning.specs.Part.{part_of}
 use Rattle.mspec_meaning.specs.Slots.{seen, AreFree}
 use Rattle.mspec_meaning.specs.declared.part.Part.{Part}

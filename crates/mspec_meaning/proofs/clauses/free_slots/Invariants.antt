@@ -1,5 +1,5 @@
 -- not too many slots, all free
-use Rattle.std.proofs.Common.{◌-◌, ◌≤◌, length, vec_len}
+use Rattle.std.proofs.Common.{◌-◌, ◌≤◌, length}
 use Rattle.mspec_meaning.specs.Slots.{seen, AreFree}
 use Rattle.mspec_meaning.proofs.clauses.free_slots.Given as goal
 

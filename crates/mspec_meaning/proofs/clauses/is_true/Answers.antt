@@ -1,4 +1,4 @@
-use Rattle.std.proofs.Common.{Some, None, true, false}
+use Rattle.std.proofs.Common.{Some, None, false}
 use Rattle.mspec_meaning.proofs.ValueLemmas.{boolean-true, boolean-other}
 use Rattle.mspec_meaning.proofs.clauses.is_true.Goals as goal
 

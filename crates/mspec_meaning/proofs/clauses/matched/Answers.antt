@@ -1,4 +1,4 @@
-use Rattle.std.proofs.Common.{◌≡◌, option_map, length, List, Option, take, drop, ◌++◌, sym, ◌∙◌, ap, subst, arith}
+use Rattle.std.proofs.Common.{◌≡◌, option_map, length, List, Option, drop, sym, ◌∙◌, ap, subst}
 use Rattle.mspec_syntax.specs.Specification.{clause_variables}
 use Rattle.mspec_meaning.specs.Match.{Matches}
 use Rattle.mspec_meaning.specs.Part.{part_of}

@@ -11,7 +11,7 @@ use Rattle.mspec_meaning.specs.Part.{part_of}
 use Rattle.mspec_meaning.specs.Slots.{seen, substitution_of}
 use Rattle.mspec_meaning.specs.Value.{value_datum, joined_to}
 use Rattle.mspec_meaning.proofs.MatchLemmas.{known-values, length-seen}
-use Rattle.mspec_meaning.proofs.ValueLemmas.{expressions_size-at, assignments_size-at, cells-size, some-size, size-some, ValuesFront, ValuesFront-more, ValuesFront-none, ValuesFront-all, EntriesFront, EntriesFront-start, EntriesFront-more, EntriesFront-none, EntriesFront-all, AllFront-step, AllFront-at, AllFront-all, AnyFront-step, AnyFront-at, AnyFront-all, list-value, joined_to-none, joined_to-nothing, entries-rise}
+use Rattle.mspec_meaning.proofs.ValueLemmas.{expressions_size-at, assignments_size-at, cells-size, some-size, size-some, ValuesFront, ValuesFront-start, ValuesFront-more, ValuesFront-none, ValuesFront-all, EntriesFront, EntriesFront-start, EntriesFront-more, EntriesFront-none, EntriesFront-all, AllFront-step, AllFront-at, AllFront-all, AnyFront-step, AnyFront-at, AnyFront-all, list-value, joined_to-none, joined_to-nothing, entries-rise}
 use Rattle.mspec_meaning.proofs.value.+value.Goals as goal
 
 pub all_true-value_of-requires : goal.all_true-value_of-requires
@@ -402,3 +402,15 @@ entry_values-loop-key-init g t c =
     let s = substitution_of c.args.variables.now (seen c.args.slots.now) in
     let P : List (Datum × Datum) → Type 0 = λ l. EntriesFront c.args.mode s c.args.object.now c.args.assignments.now 0 l in
     subst P (sym c.in_ok-pairs.ensures.items) (EntriesFront-start c.args.mode s c.args.object.now c.args.assignments.now)
+
+pub argument_values-loop-argument-init : goal.argument_values-loop-argument-init
+argument_values-loop-argument-init g t c =
+    let s = substitution_of c.args.variables.now (seen c.args.slots.now) in
+    let P : List Datum → Type 0 = λ l. ValuesFront c.args.mode s c.args.object.now c.args.arguments.now 0 l in
+    subst P (sym (ap (map value_datum) c.in_ok-values.ensures.items)) (ValuesFront-start c.args.mode s c.args.object.now c.args.arguments.now)
+
+pub element_values-loop-element-init : goal.element_values-loop-element-init
+element_values-loop-element-init g t c =
+    let s = substitution_of c.args.variables.now (seen c.args.slots.now) in
+    let P : List Datum → Type 0 = λ l. ValuesFront c.args.mode s c.args.object.now c.args.elements.now 0 l in
+    subst P (sym (c.in_ok-terms.ensures.items)) (ValuesFront-start c.args.mode s c.args.object.now c.args.elements.now)

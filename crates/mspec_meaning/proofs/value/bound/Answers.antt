@@ -1,4 +1,4 @@
-use Rattle.std.proofs.Common.{◌≡◌, Some, None, option_map, sym, ◌∙◌, ap}
+use Rattle.std.proofs.Common.{Some, option_map, sym, ◌∙◌, ap}
 use Rattle.mspec_syntax.proofs.RisingLemmas.{Rises-itself}
 use Rattle.mspec_meaning.specs.Part.{part_of}
 use Rattle.mspec_meaning.specs.Slots.{seen}

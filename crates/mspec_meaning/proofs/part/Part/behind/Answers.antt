@@ -1,4 +1,4 @@
-use Rattle.std.proofs.Common.{◌∙◌, ap, sym, arith, ◌≤◌, ◌+◌}
+use Rattle.std.proofs.Common.{◌∙◌, ap, sym, arith}
 use Rattle.mspec_meaning.specs.Part.{part_of, rest_of}
 use Rattle.mspec_meaning.proofs.PartLemmas.{behind-twice, behind-fits}
 use Rattle.mspec_meaning.proofs.part.Part.behind.Goals as goal

@@ -1,4 +1,4 @@
-use Rattle.std.proofs.Common.{◌∙◌, subst}
+use Rattle.std.proofs.Common.{◌∙◌}
 use Rattle.std.specs.Option.{option_copied}
 use Rattle.term_core.specs.Term.{tail_of}
 use Rattle.mspec_meaning.proofs.PartLemmas.{list-no_map}
