@@ -162,7 +162,7 @@ fn put_answer<A: Allocator + Copy>(
     answer: Option<&Term<A>>,
     lines: &mut Vec<u8, A>,
 ) -> Result<(), AllocError>
-    ensures ok { OnOk result (lines.new.items ≡ lines.old.items ++ answer_line (option_copied answer)) }
+    ensures ok { OnOk result (lines.new.items ≡ lines.old.items ++ answer_line (option_copied answer.entry)) }
     ensures err { OnErr result (lines.new.items ≡ lines.old.items) }
 {
     match answer {
@@ -177,7 +177,7 @@ fn put_outcome<A: Allocator + Copy>(
     answer: Option<&Term<A>>,
     lines: &mut Vec<u8, A>,
 ) -> Result<(), AllocError>
-    ensures ok { OnOk result (lines.new.items ≡ lines.old.items ++ line (outcome_of (option_copied answer))) }
+    ensures ok { OnOk result (lines.new.items ≡ lines.old.items ++ line (outcome_of (option_copied answer.entry))) }
     ensures err { OnErr result (lines.new.items ≡ lines.old.items) }
 {
     match answer {
