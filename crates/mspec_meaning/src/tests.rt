@@ -1,15 +1,17 @@
 //! Worked answers: a specification and objects, and the lines of what is answered on them.
 use super::*;
+use failing_alloc::sweep;
 use mspec_syntax::read_spec;
-use std::alloc::Global;
+use std::alloc::{Allocator, Global};
 use std::test::*;
 use term_text::{read_terms, write_term};
 
-/// The text of the answers on a text's terms behind the first, by the specification that this one is.
-fn answers(heap: Global, text: &[u8]) -> Option<Vec<u8>> {
+/// The text of the answers on a text's terms behind the first, by the specification that this one is. What is read and
+/// answered stands in the heap.
+fn answers<A: Allocator + Copy>(alloc: Global, heap: A, text: &[u8]) -> Option<Vec<u8>> {
     let terms = read_terms(heap, text).ok()?;
     let specification = read_spec(heap, terms.first()?).ok()?;
-    let mut out = Vec::new(heap);
+    let mut out = Vec::new(alloc);
     for object in &terms[1..] {
         if let Some(answer) = evaluate(heap, &specification, object).ok()? {
             write_term(&answer, &mut out).ok()?;
@@ -20,7 +22,7 @@ fn answers(heap: Global, text: &[u8]) -> Option<Vec<u8>> {
 }
 
 fn is_answered(heap: Global, text: &[u8], expected: &str) -> bool {
-    match answers(heap, text) {
+    match answers(heap, heap, text) {
         Some(out) => out.as_slice() == expected.as_bytes(),
         None => false,
     }
@@ -314,4 +316,16 @@ fn what_is_too_deep_fails(rt: HostRuntime) {
             "{specification} {levels}"
         );
     }
+}
+
+#[test]
+fn each_request_is_refused_in_turn(rt: HostRuntime) {
+    let alloc = rt.alloc();
+    let text = b"[{{'$1','$2'},[{'=:=',{length,['$1'|'$2']},3},{is_map,#{k=>'$$'}}],[{{[a,'$1'|'$2'],#{k=>{tl,'$2'}},'$$',{hd,1},{hd,{tl,'$$'}}}}]}]. {1,[b,c]}. {2,b}.";
+    let expected = b"{[a,1,b,c],#{k=>[c]},[1,[b,c]],'EXIT',[b,c]}.";
+    let outcome = sweep(alloc, 2_000, |heap| match answers(alloc, heap, text.as_slice()) {
+        Some(out) => out.as_slice() == expected.as_slice(),
+        None => heap.was_refused(),
+    });
+    assert!(rt; outcome.is_complete(), "{outcome:?}");
 }
