@@ -1,30 +1,18 @@
 -- The parts of a term are less deep than the term.
-use Rattle.std.proofs.Common.{◌≡◌, ℕ, zero, suc, ◌<◌, ◌≤◌, Option, Some, None, List, [], ◌∷◌, length, get_or, refl, ap, arith}
+use Rattle.std.proofs.Common.{◌≡◌, ℕ, ◌<◌, ◌≤◌, Option, Some, None, List, length, get_or, refl, ap, arith}
 use Rattle.term_core.specs.Datum.{Datum, items_of, entries_of, cells}
 use Rattle.term_core.specs.Datum.Datum.{tuple, map}
 use Rattle.term_core.specs.Limits.{depth, items_depth, entries_depth, tail_depth}
 use Rattle.term_core.specs.Term.{tail_of, IsTail}
 use Rattle.term_core.specs.TermFalls.{depth-cells, tail_depth-no_list}
+use Rattle.term_core.proofs.RowLemmas.{depth-element, depth-entry}
 
--- an element is at most as deep as the elements
-items_depth-get : (ds : List Datum) (i : ℕ) (d : Datum) → i < length ds → depth (get_or ds i d) ≤ items_depth (items_of ds)
-items_depth-get [] i d h = absurd (omega arith)
-items_depth-get (x ∷ xs) zero d h = omega arith
-items_depth-get (x ∷ xs) (suc i) d h = omega (arith, items_depth-get xs i d (omega arith))
-
+-- an element is at most as deep as the elements, a key and a value as the pairs
 pub items_depth-at : (ds : List Datum) (i : ℕ) (d : Datum) → i < length ds → d ≡ get_or ds i d → depth d ≤ items_depth (items_of ds)
-items_depth-at ds i d h e = omega (arith, items_depth-get ds i d h, ap depth e)
-
--- a key and a value are at most as deep as the pairs
-entries_depth-get : (es : List (Datum × Datum)) (i : ℕ) (e : Datum × Datum) → i < length es → (depth (get_or es i e).0 ≤ entries_depth (entries_of es)) × (depth (get_or es i e).1 ≤ entries_depth (entries_of es))
-entries_depth-get [] i e h = absurd (omega arith)
-entries_depth-get (x ∷ xs) zero e h = (omega arith, omega arith)
-entries_depth-get (x ∷ xs) (suc i) e h = let p = entries_depth-get xs i e (omega arith) in (omega (arith, p.0), omega (arith, p.1))
+items_depth-at ds i d h e = depth-element ds i d h e
 
 pub entries_depth-at : (es : List (Datum × Datum)) (i : ℕ) (e : Datum × Datum) → i < length es → e ≡ get_or es i e → (depth e.0 ≤ entries_depth (entries_of es)) × (depth e.1 ≤ entries_depth (entries_of es))
-entries_depth-at es i e h is =
-    let p = entries_depth-get es i e h in
-    (omega (arith, p.0, ap (λ x. depth x.0) is), omega (arith, p.1, ap (λ x. depth x.1) is))
+entries_depth-at es i e h is = let deep = depth-entry es i e h is in (omega (arith, deep), omega (arith, deep))
 
 -- what follows the elements of a list, which is no list
 pub tail_depth-tail : (t : Option Datum) → IsTail t → tail_depth (tail_of t) ≡ depth (tail_of t)
