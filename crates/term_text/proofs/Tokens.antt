@@ -38,7 +38,7 @@ character_holds g c (e ∷ rest) =
 escaped_small : (e x : ℕ) → escaped e ≡ Some x → x ≤ 92
 escaped_small e x h = grind arith
 
-escaped_allowed : (g : Bool) (e x : ℕ) → escaped e ≡ Some x → is_allowed g x ≡ true
+pub escaped_allowed : (g : Bool) (e x : ℕ) → escaped e ≡ Some x → is_allowed g x ≡ true
 escaped_allowed false e x h = refl
 escaped_allowed true e x h = le-leb x 255 (omega (arith, escaped_small e x h))
 
