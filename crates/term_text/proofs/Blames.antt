@@ -1,19 +1,18 @@
 -- A reader that stops names what stands at the place where it stops: steps and tokens.
-use Rattle.std.proofs.Common.{◌≡◌, ◌≢◌, ◌&&◌, ℕ, zero, suc, ◌+◌, ◌-◌, ◌≤◌, ◌<◌, ◌⊎◌, inl, inr, Bool, true, false, cond, not, List, [], ◌∷◌, ◌++◌, length, drop, Option, Some, None, Result, Ok, Err, ℤ, pos, negsuc, refl, sym, ap, subst, ◌∙◌, arith, add-one, one-add}
-use Rattle.std.specs.Prelude.{IfOk, IfErr, IfSome, ◌==◌, nat_lt, nat_le}
+use Rattle.std.proofs.Common.{◌≡◌, ◌≢◌, ◌&&◌, ℕ, zero, suc, ◌+◌, ◌≤◌, ◌<◌, ◌⊎◌, inl, inr, Bool, true, false, cond, List, [], ◌∷◌, ◌++◌, length, drop, Option, Some, None, Result, Ok, Err, ℤ, pos, negsuc, refl, sym, ◌∙◌, arith, one-add}
+use Rattle.std.specs.Prelude.{IfOk, IfErr, IfSome, ◌==◌, nat_lt}
 use Rattle.std.specs.List.{prefix_len}
-use Rattle.std.specs.Char.{is_ascii_digit, is_ascii_lowercase}
-use Rattle.std.proofs.lemmas.Bool.{eqb-true, eqb-false, eq-eqb, ne_eqb, leb-true, leb-false, ltb-true, ltb-false, cases_Bool, or_cases, or_parts}
+use Rattle.std.specs.Char.{is_ascii_lowercase}
+use Rattle.std.proofs.lemmas.Bool.{eqb-true, eqb-false, eq-eqb, ne_eqb, leb-true, leb-false, ltb-true, ltb-false, cases_Bool, or_cases}
 use Rattle.std.proofs.lemmas.List.{length-append}
-use Rattle.term_core.specs.Datum.{Datum}
 use Rattle.term_core.specs.declared.TheConstants.{MAX_CHARACTERS, MAX_LIST, MAX_BINARY}
-use Rattle.term_text.specs.Character.{plus, minus, comma, backslash, double_quote, is_word, escaped}
+use Rattle.term_text.specs.Character.{plus, minus, comma, backslash, is_word, escaped}
 use Rattle.term_text.specs.declared.fault.Cause.TheVariants as causes
 use Rattle.term_text.specs.declared.token.Marks.{Marks}
 use Rattle.term_text.specs.declared.token.Opening.{Opening}
 use Rattle.term_text.specs.declared.token.Opening.TheVariants as opens
 use Rattle.term_text.specs.Text.{Gap, Integer}
-use Rattle.term_text.specs.Causes.{Place, Due as due, Due, Quotes, mark_of, most_characters, MayStand, BeginsInteger, BeginsTerm, IsTooDeep, IsTooLong, IsKeyTwice, IsWide, IsNoByte, IsOutOfRange, IsNoEscape, BeginsWith, BeginsWithBoth, IsUnexpected}
+use Rattle.term_text.specs.Causes.{Place, Due as due, Due, Quotes, mark_of, most_characters, MayStand, BeginsInteger, BeginsTerm, IsTooDeep, IsTooLong, IsKeyTwice, IsWide, IsOutOfRange, IsNoEscape, BeginsWith, BeginsWithBoth, IsUnexpected}
 use Rattle.term_text.specs.Causes.IsUnexpected.{the_end}
 use Rattle.term_text.specs.Causes.Place.{a_term, a_segment, a_character, a_letter}
 use Rattle.term_text.specs.Causes.Quotes.{of_atom, of_string, of_bytes}
@@ -24,7 +23,7 @@ use Rattle.term_text.specs.Causes.IsTooLong.{one_character, one_letter}
 use Rattle.term_text.specs.Causes.IsWide.{wide, wide_positive, wide_negative}
 use Rattle.term_text.specs.Causes.IsOutOfRange.{wide_segment, no_byte, no_byte_character}
 use Rattle.term_text.specs.Causes.IsNoEscape.{no_escape}
-use Rattle.term_text.specs.Reading.{Fault, Read, ◌>>=◌, Step, steps, all_steps, separated, after_gap, comma_in, behind_comma, behind_item, stop, enter, enter_as, expect, expect_both, opening, begins, is_sign, fits, number_run, number_at, integer_at, word_at, byte_of, byte_at, is_allowed, escape_as, escape_at, character_at, next_quoted, pushed, quoted_step, quoted_at, string_marks, byte_marks, atom_marks}
+use Rattle.term_text.specs.Reading.{Fault, Read, ◌>>=◌, Step, steps, all_steps, separated, after_gap, comma_in, behind_comma, behind_item, enter, enter_as, expect, expect_both, opening, is_sign, fits, number_run, number_at, integer_at, word_at, byte_of, byte_at, is_allowed, escape_as, escape_at, character_at, next_quoted, pushed, quoted_step, quoted_at, string_marks, byte_marks, atom_marks}
 use Rattle.term_text.proofs.Steps.{bind_holds, if_holds, Hands, steps_hold}
 use Rattle.term_text.proofs.Tokens.{Behind, IsCharacter, character_holds, escaped_allowed, if_is}
 use Rattle.term_text.proofs.Tokens.IsCharacter.{as_it_is, as_escape}

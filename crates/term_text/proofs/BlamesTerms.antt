@@ -1,21 +1,20 @@
 -- A reader that stops names what stands at the place where it stops: terms and whole texts.
-use Rattle.std.proofs.Common.{◌≡◌, ◌≢◌, ◌&&◌, ◌||◌, ℕ, zero, suc, ◌+◌, ◌-◌, ◌≤◌, ◌<◌, ◌⊎◌, inl, inr, Bool, true, false, cond, List, [], ◌∷◌, ◌++◌, length, take, Option, Some, None, Result, Ok, Err, ℤ, refl, sym, ap, ◌∙◌, arith}
-use Rattle.std.proofs.Common.{map as each}
+use Rattle.std.proofs.Common.{◌≡◌, ◌&&◌, ℕ, zero, suc, ◌+◌, ◌-◌, ◌≤◌, ◌<◌, inl, inr, true, false, List, [], ◌∷◌, ◌++◌, length, take, Option, Some, None, refl, sym, ap, ◌∙◌, arith}
 use Rattle.std.specs.Prelude.{IfOk, IfErr, IfSome, ◌==◌}
 use Rattle.std.specs.List.{Contains}
 use Rattle.std.specs.List.Sorted.{IsPermutation}
 use Rattle.std.specs.Ordering.{is_eq}
 use Rattle.std.specs.Str.{encode_utf8_all, chars}
-use Rattle.std.proofs.lemmas.Bool.{eqb-true, eqb-false, eq-eqb, cases_Bool, or_cases, or_parts}
+use Rattle.std.proofs.lemmas.Bool.{eqb-true, eq-eqb, or_cases, or_parts}
 use Rattle.std.proofs.lemmas.List.{append-nil, length-append, take_at}
 use Rattle.std.proofs.lemmas.List.Sorted.{Contains-permutation, IsPermutation-refl, IsPermutation-sym, IsPermutation-cons, IsPermutation-trans, length_permutation}
 use Rattle.std.proofs.lemmas.Result.{IfErr-at_err}
-use Rattle.term_core.specs.Datum.{Datum, cells, cell_count}
+use Rattle.term_core.specs.Datum.{Datum, cell_count}
 use Rattle.term_core.specs.Order.{datum_cmp}
 use Rattle.term_core.specs.OrderLaws.{datum_cmp-equal, datum_cmp-same}
 use Rattle.std.specs.declared.cmp.Ordering.TheVariants.{Equal}
 use Rattle.std.specs.BTreeMap.{insert_entry}
-use Rattle.term_core.specs.declared.TheConstants.{MAX_CHARACTERS, MAX_TUPLE, MAX_MAP, MAX_LIST, MAX_BINARY, MAX_DEPTH}
+use Rattle.term_core.specs.declared.TheConstants.{MAX_TUPLE, MAX_MAP, MAX_LIST, MAX_BINARY, MAX_DEPTH}
 use Rattle.term_text.specs.Character.{comma, dot, equals, greater, single_quote, double_quote, open_brace, close_brace, open_bracket, close_bracket, bar, number_sign, less}
 use Rattle.term_text.specs.declared.fault.Cause.{Cause}
 use Rattle.term_text.specs.declared.fault.Cause.TheVariants as causes
@@ -23,7 +22,7 @@ use Rattle.term_text.specs.declared.fault.Stop.{Stop}
 use Rattle.term_text.specs.declared.fault.Stop.TheVariants as stops
 use Rattle.term_text.specs.declared.token.Opening.{Opening}
 use Rattle.term_text.specs.declared.token.Opening.TheVariants as opens
-use Rattle.term_text.specs.Text.{Gap, Integer, Segment, Segments, Spelled, Elements, Pair, Pairs}
+use Rattle.term_text.specs.Text.{Gap, Segment, Segments, Spelled, Elements, Pair, Pairs}
 use Rattle.term_text.specs.Text.Segments.{last_segment, more_segments}
 use Rattle.term_text.specs.Text.Pairs.{last_pair, more_pairs}
 use Rattle.term_text.specs.Text.Elements.{last, more as more_elements}
@@ -31,7 +30,7 @@ use Rattle.term_text.specs.Fault.{fault_of}
 use Rattle.term_text.specs.Causes.{Place, Due, Due as due, Row, most_elements, BeginsTerm, IsTooDeep, IsTooLong, IsKeyTwice, IsOutOfRange, IsNoEscape, StandsAt, HasCause, BeginsInteger, BeginsWith, BeginsWithBoth, BeginsDot, FollowsElement, IsUnexpected, IsNew}
 use Rattle.term_text.specs.Causes.{BeginsTerm as begins_term}
 use Rattle.term_text.specs.Causes.IsUnexpected.{the_end, no_term, no_segment, behind_element, behind_tail, behind_key, behind_pair, behind_segment, no_dot}
-use Rattle.term_text.specs.Causes.Place.{a_sentence, a_term, an_element, a_pair, a_segment, a_character}
+use Rattle.term_text.specs.Causes.Place.{a_sentence, a_term, an_element, a_pair, a_segment}
 use Rattle.term_text.specs.Causes.Row.{in_tuple, in_list}
 use Rattle.term_text.specs.Causes.Quotes.{of_atom, of_string, of_bytes}
 use Rattle.term_text.specs.Causes.IsTooDeep.{deep_term, deep_character}
@@ -39,17 +38,17 @@ use Rattle.term_text.specs.Causes.IsTooLong.{one_element, one_pair, one_byte, on
 use Rattle.term_text.specs.Causes.IsKeyTwice.{key_twice}
 use Rattle.term_text.specs.Causes.IsOutOfRange.{wide_term, wide_segment, no_byte, no_byte_character}
 use Rattle.term_text.specs.Causes.IsNoEscape.{no_escape}
-use Rattle.term_text.specs.Reading.{Fault, Read, Fails, ◌>>=◌, TermReader, TailReader, after_gap, behind, behind_both, separated, steps, all_steps, enter, expect, expect_both, opening, quoted_at, atom_marks, byte_marks, string_marks, string_at, segment_as, segment_at, segments_at, one_byte_at, byte_at, bytes_at, binary_at, integer_at, integer_term_at, word_at, word_term_at, quoted_atom_at, element_at, elements_at, items_at, tuple_at, list_at, list_end, list_from, end_at, has_key, pair_at, pairs_at, map_at, form_at, tail_form, term_at, tail_at, dot_at, begins_gap, sentence_at, sentence_step, text_at}
-use Rattle.term_text.proofs.Tokens.{Behind, gap_holds}
+use Rattle.term_text.specs.Reading.{Fails, TermReader, TailReader, after_gap, behind, behind_both, separated, all_steps, enter, expect, expect_both, opening, quoted_at, atom_marks, byte_marks, string_marks, string_at, segment_as, segment_at, segments_at, byte_at, bytes_at, binary_at, integer_at, integer_term_at, word_at, word_term_at, quoted_atom_at, element_at, elements_at, items_at, tuple_at, list_at, list_end, list_from, end_at, has_key, pair_at, pairs_at, map_at, form_at, tail_form, term_at, tail_at, dot_at, begins_gap, sentence_at, sentence_step, text_at}
+use Rattle.term_text.proofs.Tokens.{Behind}
 use Rattle.term_text.proofs.Items.{gap_some, gap_within}
 use Rattle.term_text.proofs.Shorter.{spelled_shorter, elements_shorter, segment_shorter, segments_shorter, pair_shorter, pairs_shorter}
 use Rattle.term_text.proofs.Words.{Opens, BeginsWord, opening_holds, opening_integer, behind_holds}
-use Rattle.term_text.proofs.Sound.{IsReader, IsTailReader, ElementRead, ElementsRead, SegmentRead, SegmentsRead, PairRead, PairsRead, TailRead, cell_count-cells, segments_hold, pairs_hold, enter_holds, element_holds, elements_hold, segment_holds, pair_holds, expect_holds, expect_both_holds, term_holds, tail_holds}
+use Rattle.term_text.proofs.Sound.{IsReader, IsTailReader, ElementRead, ElementsRead, SegmentRead, SegmentsRead, PairRead, PairsRead, TailRead, cell_count-cells, segments_hold, pairs_hold, enter_holds, element_holds, elements_hold, segment_holds, pair_holds, expect_both_holds, term_holds, tail_holds}
 use Rattle.term_text.proofs.Steps.{bind_holds}
 use Rattle.term_text.proofs.Texts.{SentenceRead, sentence_holds, begins_from}
 use Rattle.term_text.proofs.Keys.{put_permutes, is_eq-equal, AreApart, apart_fresh, apart_next, apart_at_first}
 use Rattle.term_text.proofs.Ends.{EndsIn, due_ends, gap_ends, spelled_ends, segment_ends, pair_ends, then}
-use Rattle.term_text.proofs.Blames.{Left, Blames, at_once, at_end, at_some, no_comma, both_ok, opens_none, integer_begun, DueSome, StaysGood, bind_blames, bind_any, if_blames, steps_blame, separated_blames, expect_blames, expect_both_blames, term_starts, term_some, enter_blames, integer_blames, byte_blames, word_blames, AreOf, quoted_blames, atom_are, byte_are, string_are}
+use Rattle.term_text.proofs.Blames.{Left, Blames, at_once, at_end, at_some, no_comma, both_ok, opens_none, integer_begun, DueSome, StaysGood, bind_blames, bind_any, if_blames, steps_blame, separated_blames, expect_blames, expect_both_blames, term_starts, term_some, enter_blames, integer_blames, byte_blames, word_blames, quoted_blames, atom_are, byte_are, string_are}
 use Rattle.term_text.proofs.Words.{BeginsInteger as IsIntegerStart}
 use Rattle.term_text.proofs.Blames.{integer_starts}
 
