@@ -1,19 +1,18 @@
 -- A reader that stops names what stands at the place where it stops: steps and tokens.
-use Rattle.std.proofs.Common.{◌≡◌, ◌≢◌, ◌&&◌, ℕ, zero, suc, ◌+◌, ◌-◌, ◌≤◌, ◌<◌, ◌⊎◌, inl, inr, Bool, true, false, cond, not, List, [], ◌∷◌, ◌++◌, length, drop, Option, Some, None, Result, Ok, Err, ℤ, pos, negsuc, refl, sym, ap, subst, ◌∙◌, arith, add-one, one-add}
-use Rattle.std.specs.Prelude.{IfOk, IfErr, IfSome, ◌==◌, nat_lt, nat_le}
+use Rattle.std.proofs.Common.{◌≡◌, ◌≢◌, ◌&&◌, ℕ, zero, suc, ◌+◌, ◌≤◌, ◌<◌, ◌⊎◌, inl, inr, Bool, true, false, cond, List, [], ◌∷◌, ◌++◌, length, drop, Option, Some, None, Result, Ok, Err, ℤ, pos, negsuc, refl, sym, ◌∙◌, arith, one-add}
+use Rattle.std.specs.Prelude.{IfOk, IfErr, IfSome, ◌==◌, nat_lt}
 use Rattle.std.specs.List.{prefix_len}
-use Rattle.std.specs.Char.{is_ascii_digit, is_ascii_lowercase}
-use Rattle.std.proofs.lemmas.Bool.{eqb-true, eqb-false, eq-eqb, ne_eqb, leb-false, ltb-true, ltb-false, cases_Bool, or_cases, or_parts}
+use Rattle.std.specs.Char.{is_ascii_lowercase}
+use Rattle.std.proofs.lemmas.Bool.{eqb-true, eqb-false, eq-eqb, ne_eqb, leb-true, leb-false, ltb-true, ltb-false, cases_Bool, or_cases}
 use Rattle.std.proofs.lemmas.List.{length-append}
-use Rattle.term_core.specs.Datum.{Datum}
 use Rattle.term_core.specs.declared.TheConstants.{MAX_CHARACTERS, MAX_LIST, MAX_BINARY}
-use Rattle.term_text.specs.Character.{plus, minus, comma, backslash, double_quote, is_word, escaped}
+use Rattle.term_text.specs.Character.{plus, minus, comma, backslash, is_word, escaped}
 use Rattle.term_text.specs.declared.fault.Cause.TheVariants as causes
 use Rattle.term_text.specs.declared.token.Marks.{Marks}
 use Rattle.term_text.specs.declared.token.Opening.{Opening}
 use Rattle.term_text.specs.declared.token.Opening.TheVariants as opens
 use Rattle.term_text.specs.Text.{Gap, Integer}
-use Rattle.term_text.specs.Causes.{Place, Due as due, Due, Quotes, mark_of, most_characters, BeginsInteger, BeginsTerm, IsTooDeep, IsTooLong, IsKeyTwice, IsWide, IsNoByte, IsOutOfRange, IsNoEscape, BeginsWith, BeginsWithBoth, IsUnexpected}
+use Rattle.term_text.specs.Causes.{Place, Due as due, Due, Quotes, mark_of, most_characters, MayStand, BeginsInteger, BeginsTerm, IsTooDeep, IsTooLong, IsKeyTwice, IsWide, IsOutOfRange, IsNoEscape, BeginsWith, BeginsWithBoth, IsUnexpected}
 use Rattle.term_text.specs.Causes.IsUnexpected.{the_end}
 use Rattle.term_text.specs.Causes.Place.{a_term, a_segment, a_character, a_letter}
 use Rattle.term_text.specs.Causes.Quotes.{of_atom, of_string, of_bytes}
@@ -24,9 +23,9 @@ use Rattle.term_text.specs.Causes.IsTooLong.{one_character, one_letter}
 use Rattle.term_text.specs.Causes.IsWide.{wide, wide_positive, wide_negative}
 use Rattle.term_text.specs.Causes.IsOutOfRange.{wide_segment, no_byte, no_byte_character}
 use Rattle.term_text.specs.Causes.IsNoEscape.{no_escape}
-use Rattle.term_text.specs.Reading.{Fault, Read, ◌>>=◌, Step, steps, all_steps, separated, after_gap, comma_in, behind_comma, behind_item, stop, enter, enter_as, expect, expect_both, opening, begins, is_sign, fits, number_run, number_at, integer_at, word_at, byte_of, byte_at, is_allowed, escape_as, escape_at, character_at, next_quoted, pushed, quoted_step, quoted_at, string_marks, byte_marks, atom_marks}
+use Rattle.term_text.specs.Reading.{Fault, Read, ◌>>=◌, Step, steps, all_steps, separated, after_gap, comma_in, behind_comma, behind_item, enter, enter_as, expect, expect_both, opening, is_sign, fits, number_run, number_at, integer_at, word_at, byte_of, byte_at, is_allowed, escape_as, escape_at, character_at, next_quoted, pushed, quoted_step, quoted_at, string_marks, byte_marks, atom_marks}
 use Rattle.term_text.proofs.Steps.{bind_holds, if_holds, Hands, steps_hold}
-use Rattle.term_text.proofs.Tokens.{Behind, IsCharacter, character_holds, if_is}
+use Rattle.term_text.proofs.Tokens.{Behind, IsCharacter, character_holds, escaped_allowed, if_is}
 use Rattle.term_text.proofs.Tokens.IsCharacter.{as_it_is, as_escape}
 use Rattle.term_text.proofs.Items.{AfterItem, after_item}
 use Rattle.term_text.proofs.Items.AfterItem.{more_come, no_more_come}
@@ -267,22 +266,22 @@ first_letter c text n l = elim (cases_Bool (is_word c)) [
   | inr other ↦ absurd (let none = rw other at l in omega arith)
 ]
 
-letters : (whole : List ℕ) (n k : ℕ) (text : List ℕ) → Due whole (a_letter k) text → n < prefix_len is_word text → GoesOn whole (k + n) (drop n text)
-letters whole n k [] d l = absurd (omega arith)
-letters whole zero k (c ∷ text) d l =
+letters : (whole : List ℕ) (n k : ℕ) (text : List ℕ) → k + n ≤ MAX_CHARACTERS → Due whole (a_letter k) text → n < prefix_len is_word text → GoesOn whole (k + n) (drop n text)
+letters whole n k [] few d l = absurd (omega arith)
+letters whole zero k (c ∷ text) few d l =
     let same : k + 0 ≡ k = omega arith in
     rw same (record { next = c; rest = text; is = refl; letter = d; in_word = (first_letter c text 0 l).0 })
-letters whole (suc n) k (c ∷ text) d l =
+letters whole (suc n) k (c ∷ text) few d l =
     let same : k + suc n ≡ suc k + n = omega arith in
     let first = first_letter c text (suc n) l in
-    rw same (letters whole n (suc k) text (due.next_letter d first.0) (let le = first.1 in omega arith))
+    rw same (letters whole n (suc k) text (omega arith) (due.next_letter d (omega arith) first.0) (let le = first.1 in omega arith))
 
 past_letters : (whole text : List ℕ) (n : ℕ) → n ≡ MAX_CHARACTERS → GoesOn whole (0 + n) text → IsTooLong whole text
 past_letters whole text n e g = rw g.is (one_letter g.letter (let f = e in omega arith) g.in_word)
 
 too_long_word : (whole text : List ℕ) (n : ℕ) → n ≡ MAX_CHARACTERS → BeginsWord text → ((c : ℕ) (cs : List ℕ) → text ≡ c ∷ cs → is_ascii_lowercase c ≡ true → Due whole (a_letter 0) text) → n < prefix_len is_word text → IsTooLong whole (drop n text)
 too_long_word whole [] n e h d l = absurd h
-too_long_word whole (c ∷ cs) n e h d l = past_letters whole (drop n (c ∷ cs)) n e (letters whole n 0 (c ∷ cs) (d c cs refl h) l)
+too_long_word whole (c ∷ cs) n e h d l = past_letters whole (drop n (c ∷ cs)) n e (letters whole n 0 (c ∷ cs) (omega arith) (d c cs refl h) l)
 
 letter_due : (whole text : List ℕ) (n k : ℕ) → Due whole (a_term (suc n) k) text → (c : ℕ) (cs : List ℕ) → text ≡ c ∷ cs → is_ascii_lowercase c ≡ true → Due whole (a_letter 0) text
 letter_due whole text n k d c cs e l = rw e (due.in_word (rw e at d) l)
@@ -299,17 +298,27 @@ pub record AreOf (whole : List ℕ) (m : Marks) (q : Quotes) (before : ℕ) : Ty
   pub mark : m.mark ≡ mark_of q
   pub full : (k c : ℕ) (rest : List ℕ) → k ≡ m.room → Due whole (a_character q (before + k)) (c ∷ rest) → c ≢ mark_of q → Blames whole (m.past, suc (length rest))
   pub bytes : m.only_bytes ≡ true → q ≡ of_bytes
+  pub fits : (k c : ℕ) → k < m.room → is_allowed m.only_bytes c ≡ true → (before + k < most_characters q) × MayStand q c
 
 module _ (whole : List ℕ) (m : Marks) (q : Quotes) (before : ℕ) (are : AreOf whole m q before) where
-  abbrev IsDue : List ℕ → List ℕ → Type 0
-  IsDue cs text = Due whole (a_character q (before + length cs)) text
+  record IsDue (cs text : List ℕ) : Type 0 where
+    few : length cs ≤ m.room
+    place : Due whole (a_character q (before + length cs)) text
 
-  one_more : (cs : List ℕ) (x : ℕ) (text : List ℕ) → Due whole (a_character q (suc (before + length cs))) text → IsDue (cs ++ x ∷ []) text
-  one_more cs x text d = let len : before + length (cs ++ x ∷ []) ≡ suc (before + length cs) = omega (arith, length-append cs (x ∷ [])) in rw len d
+  one_more : (cs : List ℕ) (x : ℕ) (text : List ℕ) → length cs < m.room → Due whole (a_character q (suc (before + length cs))) text → IsDue (cs ++ x ∷ []) text
+  one_more cs x text room d =
+      let len : before + length (cs ++ x ∷ []) ≡ suc (before + length cs) = omega (arith, length-append cs (x ∷ [])) in
+      record { few = omega (arith, length-append cs (x ∷ [])); place = rw len d }
 
-  next_due : (cs : List ℕ) (c : ℕ) (text : List ℕ) (x : ℕ) (rest : List ℕ) → IsDue cs (c ∷ text) → c ≢ m.mark → IsCharacter m.only_bytes c text x rest → IsDue (cs ++ x ∷ []) rest
-  next_due cs c text x rest d ne (as_it_is n l) = one_more cs x text (due.behind_plain d (λ e. ne (e ∙ sym are.mark)) n)
-  next_due cs c text x rest d ne (as_escape {e} b h) = one_more cs x rest (due.behind_escape (rw b at d) h)
+  next_due : (cs : List ℕ) (c : ℕ) (text : List ℕ) (x : ℕ) (rest : List ℕ) → IsDue cs (c ∷ text) → c ≢ m.mark → length cs ≢ m.room → IsCharacter m.only_bytes c text x rest → IsDue (cs ++ x ∷ []) rest
+  next_due cs c text x rest d ne full (as_it_is n l) =
+      let room : length cs < m.room = let few = d.few in omega arith in
+      let fits = are.fits (length cs) c room l in
+      one_more cs x text room (due.behind_plain d.place (λ e. ne (e ∙ sym are.mark)) n fits.0 fits.1)
+  next_due cs c text x rest d ne full (as_escape {e} b h) =
+      let room : length cs < m.room = let few = d.few in omega arith in
+      let fits = are.fits (length cs) x room (escaped_allowed m.only_bytes e x h) in
+      one_more cs x rest room (due.behind_escape (rw b at d.place) h fits.0 fits.1)
 
   step_good : (cs text : List ℕ) → IsDue cs text → IfOk (quoted_step m cs text) (StaysGood (quoted_step m) IsDue (Blames whole))
   unfolding quoted_step next_quoted
@@ -319,7 +328,7 @@ module _ (whole : List ℕ) (m : Marks) (q : Quotes) (before : ℕ) (are : AreOf
       (if_holds _ (c == m.mark) _ _ (λ e. λ no. absurd cc)
       (λ e. if_holds _ (length cs == m.room) _ _ (λ _. tt)
       (λ r. bind_holds (λ (x : ℕ × List ℕ). IsCharacter m.only_bytes c text x.0 x.1) _ (character_at m.only_bytes (c ∷ text)) _ (character_holds m.only_bytes c text)
-      (λ x h. λ goes. next_due cs c text x.0 x.1 d (eqb-false c m.mark e) h))))
+      (λ x h. λ goes. next_due cs c text x.0 x.1 d (eqb-false c m.mark e) (eqb-false (length cs) m.room r) h))))
       (λ x h. h)
 
   escape_blames : (k e : ℕ) (rest : List ℕ) (o : Option ℕ) → Due whole (a_character q k) (backslash ∷ e ∷ rest) → escaped e ≡ o → IfErr (escape_as o (backslash ∷ e ∷ rest) rest) (Blames whole)
@@ -349,20 +358,21 @@ module _ (whole : List ℕ) (m : Marks) (q : Quotes) (before : ℕ) (are : AreOf
   step_blames cs (c ∷ text) d =
       bind_any (Blames whole) _ _
       (if_blames (Blames whole) (c == m.mark) _ _ (λ _. tt)
-      (λ e. if_blames (Blames whole) (length cs == m.room) _ _ (λ r. are.full (length cs) c text (eqb-true (length cs) m.room r) d (λ f. eqb-false c m.mark e (f ∙ sym are.mark)))
-      (λ _. bind_any (Blames whole) (character_at m.only_bytes (c ∷ text)) _ (character_blames (before + length cs) c text d) (λ x. tt))))
+      (λ e. if_blames (Blames whole) (length cs == m.room) _ _ (λ r. are.full (length cs) c text (eqb-true (length cs) m.room r) d.place (λ f. eqb-false c m.mark e (f ∙ sym are.mark)))
+      (λ _. bind_any (Blames whole) (character_at m.only_bytes (c ∷ text)) _ (character_blames (before + length cs) c text d.place) (λ x. tt))))
       (λ x. tt)
 
   pub quoted_blames : (text : List ℕ) → Due whole (a_character q before) text → IfErr (quoted_at m text) (Blames whole)
   quoted_blames text d =
       let same : before + 0 ≡ before = omega arith in
-      steps_blame (quoted_step m) IsDue (Blames whole) (at_end whole) (λ cs text d. step_good cs text d) (λ cs text d. step_blames cs text d) (suc (length text)) [] text (rw same d)
+      steps_blame (quoted_step m) IsDue (Blames whole) (at_end whole) (λ cs text d. step_good cs text d) (λ cs text d. step_blames cs text d) (suc (length text)) [] text (record { few = omega arith; place = rw same d })
 
 pub atom_are : (whole : List ℕ) → AreOf whole atom_marks of_atom 0
 atom_are whole = record {
   mark = refl;
   full = λ k c rest e d ne. at_once (c ∷ rest) (one_character d (omega arith) ne);
   bytes = λ no. absurd cc;
+  fits = λ k c room l. (omega arith, tt);
 }
 
 pub byte_are : (whole : List ℕ) (before : ℕ) → before ≤ MAX_BINARY → AreOf whole (byte_marks before) of_bytes before
@@ -370,6 +380,7 @@ byte_are whole before l = record {
   mark = refl;
   full = λ k c rest e d ne. at_once (c ∷ rest) (one_character d (omega arith) ne);
   bytes = λ _. refl;
+  fits = λ k c room l. (omega arith, let le = leb-true c 255 l in omega arith);
 }
 
 pub string_are : (whole : List ℕ) (levels before : ℕ) → before ≤ MAX_LIST → AreOf whole (string_marks levels before) (of_string levels) before
@@ -377,9 +388,11 @@ string_are whole zero before l = record {
   mark = refl;
   full = λ k c rest e d ne. at_once (c ∷ rest) (deep_character d ne);
   bytes = λ no. absurd cc;
+  fits = λ k c room l. absurd (omega arith);
 }
 string_are whole (suc n) before l = record {
   mark = refl;
   full = λ k c rest e d ne. let some : (suc n == 0) ≡ false = ne_eqb (suc n) 0 (λ z. omega arith) in let room = rw some at e in rw some (at_once (c ∷ rest) (one_character d (omega arith) ne));
   bytes = λ no. absurd cc;
+  fits = λ k c room l. let some : (suc n == 0) ≡ false = ne_eqb (suc n) 0 (λ z. omega arith) in let below = rw some at room in (omega arith, omega arith);
 }

@@ -1,19 +1,20 @@
 -- A reader that stops names what stands at the place where it stops: terms and whole texts.
-use Rattle.std.proofs.Common.{◌≡◌, ◌≢◌, ◌&&◌, ◌||◌, ℕ, zero, suc, ◌+◌, ◌-◌, ◌≤◌, ◌<◌, ◌⊎◌, inl, inr, Bool, true, false, cond, List, [], ◌∷◌, ◌++◌, length, take, Option, Some, None, Result, Ok, Err, ℤ, refl, sym, ap, ◌∙◌, arith}
-use Rattle.std.proofs.Common.{map as each}
+use Rattle.std.proofs.Common.{◌≡◌, ◌&&◌, ℕ, zero, suc, ◌+◌, ◌-◌, ◌≤◌, ◌<◌, inl, inr, true, false, List, [], ◌∷◌, ◌++◌, length, take, Option, Some, None, refl, sym, ap, ◌∙◌, arith}
 use Rattle.std.specs.Prelude.{IfOk, IfErr, IfSome, ◌==◌}
 use Rattle.std.specs.List.{Contains}
 use Rattle.std.specs.List.Sorted.{IsPermutation}
 use Rattle.std.specs.Ordering.{is_eq}
 use Rattle.std.specs.Str.{encode_utf8_all, chars}
-use Rattle.std.proofs.lemmas.Bool.{eqb-true, eqb-false, eq-eqb, cases_Bool, or_cases}
+use Rattle.std.proofs.lemmas.Bool.{eqb-true, eq-eqb, or_cases, or_parts}
 use Rattle.std.proofs.lemmas.List.{append-nil, length-append, take_at}
 use Rattle.std.proofs.lemmas.List.Sorted.{Contains-permutation, IsPermutation-refl, IsPermutation-sym, IsPermutation-cons, IsPermutation-trans, length_permutation}
 use Rattle.std.proofs.lemmas.Result.{IfErr-at_err}
-use Rattle.term_core.specs.Datum.{Datum, cells}
+use Rattle.term_core.specs.Datum.{Datum, cell_count}
 use Rattle.term_core.specs.Order.{datum_cmp}
-use Rattle.term_core.specs.OrderLaws.{datum_cmp-equal}
-use Rattle.term_core.specs.declared.TheConstants.{MAX_CHARACTERS, MAX_TUPLE, MAX_MAP, MAX_LIST, MAX_BINARY, MAX_DEPTH}
+use Rattle.term_core.specs.OrderLaws.{datum_cmp-equal, datum_cmp-same}
+use Rattle.std.specs.declared.cmp.Ordering.TheVariants.{Equal}
+use Rattle.std.specs.BTreeMap.{insert_entry}
+use Rattle.term_core.specs.declared.TheConstants.{MAX_TUPLE, MAX_MAP, MAX_LIST, MAX_BINARY, MAX_DEPTH}
 use Rattle.term_text.specs.Character.{comma, dot, equals, greater, single_quote, double_quote, open_brace, close_brace, open_bracket, close_bracket, bar, number_sign, less}
 use Rattle.term_text.specs.declared.fault.Cause.{Cause}
 use Rattle.term_text.specs.declared.fault.Cause.TheVariants as causes
@@ -21,15 +22,15 @@ use Rattle.term_text.specs.declared.fault.Stop.{Stop}
 use Rattle.term_text.specs.declared.fault.Stop.TheVariants as stops
 use Rattle.term_text.specs.declared.token.Opening.{Opening}
 use Rattle.term_text.specs.declared.token.Opening.TheVariants as opens
-use Rattle.term_text.specs.Text.{Gap, Integer, Segment, Segments, Spelled, Elements, Pair, Pairs}
+use Rattle.term_text.specs.Text.{Gap, Segment, Segments, Spelled, Elements, Pair, Pairs}
 use Rattle.term_text.specs.Text.Segments.{last_segment, more_segments}
 use Rattle.term_text.specs.Text.Pairs.{last_pair, more_pairs}
 use Rattle.term_text.specs.Text.Elements.{last, more as more_elements}
 use Rattle.term_text.specs.Fault.{fault_of}
-use Rattle.term_text.specs.Causes.{Place, Due, Due as due, Row, most_elements, BeginsTerm, IsTooDeep, IsTooLong, IsKeyTwice, IsOutOfRange, IsNoEscape, StandsAt, HasCause, BeginsInteger, BeginsWith, BeginsWithBoth, BeginsDot, FollowsElement, IsUnexpected}
+use Rattle.term_text.specs.Causes.{Place, Due, Due as due, Row, most_elements, BeginsTerm, IsTooDeep, IsTooLong, IsKeyTwice, IsOutOfRange, IsNoEscape, StandsAt, HasCause, BeginsInteger, BeginsWith, BeginsWithBoth, BeginsDot, FollowsElement, IsUnexpected, IsNew}
 use Rattle.term_text.specs.Causes.{BeginsTerm as begins_term}
 use Rattle.term_text.specs.Causes.IsUnexpected.{the_end, no_term, no_segment, behind_element, behind_tail, behind_key, behind_pair, behind_segment, no_dot}
-use Rattle.term_text.specs.Causes.Place.{a_sentence, a_term, an_element, a_pair, a_segment, a_character}
+use Rattle.term_text.specs.Causes.Place.{a_sentence, a_term, an_element, a_pair, a_segment}
 use Rattle.term_text.specs.Causes.Row.{in_tuple, in_list}
 use Rattle.term_text.specs.Causes.Quotes.{of_atom, of_string, of_bytes}
 use Rattle.term_text.specs.Causes.IsTooDeep.{deep_term, deep_character}
@@ -37,17 +38,17 @@ use Rattle.term_text.specs.Causes.IsTooLong.{one_element, one_pair, one_byte, on
 use Rattle.term_text.specs.Causes.IsKeyTwice.{key_twice}
 use Rattle.term_text.specs.Causes.IsOutOfRange.{wide_term, wide_segment, no_byte, no_byte_character}
 use Rattle.term_text.specs.Causes.IsNoEscape.{no_escape}
-use Rattle.term_text.specs.Reading.{Fault, Read, Fails, ◌>>=◌, TermReader, TailReader, after_gap, behind, behind_both, separated, steps, all_steps, enter, expect, expect_both, opening, quoted_at, atom_marks, byte_marks, string_marks, string_at, segment_as, segment_at, segments_at, one_byte_at, byte_at, bytes_at, binary_at, integer_at, integer_term_at, word_at, word_term_at, quoted_atom_at, element_at, elements_at, items_at, tuple_at, list_at, list_end, list_from, end_at, has_key, pair_at, pairs_at, map_at, form_at, tail_form, term_at, tail_at, dot_at, begins_gap, sentence_at, sentence_step, text_at}
-use Rattle.term_text.proofs.Tokens.{Behind, gap_holds}
+use Rattle.term_text.specs.Reading.{Fails, TermReader, TailReader, after_gap, behind, behind_both, separated, all_steps, enter, expect, expect_both, opening, quoted_at, atom_marks, byte_marks, string_marks, string_at, segment_as, segment_at, segments_at, byte_at, bytes_at, binary_at, integer_at, integer_term_at, word_at, word_term_at, quoted_atom_at, element_at, elements_at, items_at, tuple_at, list_at, list_end, list_from, end_at, has_key, pair_at, pairs_at, map_at, form_at, tail_form, term_at, tail_at, dot_at, begins_gap, sentence_at, sentence_step, text_at}
+use Rattle.term_text.proofs.Tokens.{Behind}
 use Rattle.term_text.proofs.Items.{gap_some, gap_within}
 use Rattle.term_text.proofs.Shorter.{spelled_shorter, elements_shorter, segment_shorter, segments_shorter, pair_shorter, pairs_shorter}
 use Rattle.term_text.proofs.Words.{Opens, BeginsWord, opening_holds, opening_integer, behind_holds}
-use Rattle.term_text.proofs.Sound.{IsReader, IsTailReader, ElementRead, ElementsRead, SegmentRead, SegmentsRead, PairRead, PairsRead, TailRead, segments_hold, pairs_hold, enter_holds, element_holds, elements_hold, segment_holds, pair_holds, expect_holds, expect_both_holds, term_holds, tail_holds}
+use Rattle.term_text.proofs.Sound.{IsReader, IsTailReader, ElementRead, ElementsRead, SegmentRead, SegmentsRead, PairRead, PairsRead, TailRead, cell_count-cells, segments_hold, pairs_hold, enter_holds, element_holds, elements_hold, segment_holds, pair_holds, expect_both_holds, term_holds, tail_holds}
 use Rattle.term_text.proofs.Steps.{bind_holds}
 use Rattle.term_text.proofs.Texts.{SentenceRead, sentence_holds, begins_from}
-use Rattle.term_text.proofs.Keys.{put_permutes, is_eq-equal}
+use Rattle.term_text.proofs.Keys.{put_permutes, is_eq-equal, AreApart, apart_fresh, apart_next, apart_at_first}
 use Rattle.term_text.proofs.Ends.{EndsIn, due_ends, gap_ends, spelled_ends, segment_ends, pair_ends, then}
-use Rattle.term_text.proofs.Blames.{Left, Blames, at_once, at_end, at_some, no_comma, both_ok, opens_none, integer_begun, DueSome, StaysGood, bind_blames, bind_any, if_blames, steps_blame, separated_blames, expect_blames, expect_both_blames, term_starts, term_some, enter_blames, integer_blames, byte_blames, word_blames, AreOf, quoted_blames, atom_are, byte_are, string_are}
+use Rattle.term_text.proofs.Blames.{Left, Blames, at_once, at_end, at_some, no_comma, both_ok, opens_none, integer_begun, DueSome, StaysGood, bind_blames, bind_any, if_blames, steps_blame, separated_blames, expect_blames, expect_both_blames, term_starts, term_some, enter_blames, integer_blames, byte_blames, word_blames, quoted_blames, atom_are, byte_are, string_are}
 use Rattle.term_text.proofs.Words.{BeginsInteger as IsIntegerStart}
 use Rattle.term_text.proofs.Blames.{integer_starts}
 
@@ -130,7 +131,7 @@ next_segment_due : (whole s text u t w rest : List ℕ) → SegmentDue whole s t
 next_segment_due whole s text u t w rest g r gap b = record {
   few = r.within g.few;
   place = λ some. let len : length u ≡ length s + length r.segment = ap length r.made ∙ length-append s r.segment in
-      rw len (due.next_segment (g.place (let lt = segment_shorter r.spelled in omega arith)) r.spelled gap (gap_within w rest b some));
+      rw len (due.next_segment (g.place (let lt = segment_shorter r.spelled in omega arith)) r.spelled (let few = r.within g.few in omega arith) gap (gap_within w rest b some));
 }
 
 segments_blame : (whole text : List ℕ) → DueSome whole (a_segment 0) text → IfErr (segments_at [] text) (Blames whole)
@@ -145,16 +146,23 @@ record LastSegment (whole rest : List ℕ) : Type 0 where
   bytes : List ℕ
   place : Due whole (a_segment before) text
   spelled : Segment text bytes behind
+  few : before + length bytes ≤ MAX_BINARY
   gap : Gap behind rest
 
-last_segment_of : {whole text bytes rest : List ℕ} (k : ℕ) → Segments text bytes rest → Due whole (a_segment k) text → LastSegment whole rest
-last_segment_of k (last_segment {text} {t} {bs} s g) d = record { before = k; text = text; behind = t; bytes = bs; place = d; spelled = s; gap = g }
-last_segment_of k (more_segments {bs} s g h ss) d = last_segment_of (k + length bs) ss (due.next_segment d s g h)
+both_few : (k a b c most : ℕ) → c ≡ a + b → k + c ≤ most → (k + a ≤ most) × (k + a + b ≤ most)
+both_few k a b c most e l = (omega arith, omega arith)
+
+last_segment_of : {whole text bytes rest : List ℕ} (k : ℕ) → k + length bytes ≤ MAX_BINARY → Segments text bytes rest → Due whole (a_segment k) text → LastSegment whole rest
+last_segment_of k few (last_segment {text} {t} {bs} s g) d = record { before = k; text = text; behind = t; bytes = bs; place = d; spelled = s; few = few; gap = g }
+last_segment_of k few (more_segments {bs} {cs} s g h ss) d =
+    let both = both_few k (length bs) (length cs) (length (bs ++ cs)) MAX_BINARY (length-append bs cs) few in
+    last_segment_of (k + length bs) both.1 ss (due.next_segment d s both.0 g h)
 
 after_segments : (whole g bytes t : List ℕ) → DueSome whole (a_segment 0) g → SegmentsRead [] g bytes t → ¬ BeginsWith comma t → ¬ BeginsWithBoth greater greater t → IsUnexpected whole t
 after_segments whole g bytes t d r no_comma no_end =
-    let l = last_segment_of 0 r.segments (d (let lt = segments_shorter r.segments in omega arith)) in
-    behind_segment l.place l.spelled l.gap no_comma no_end
+    let few : 0 + length r.more ≤ MAX_BINARY = let within = r.within (omega arith) in let len = ap length r.joined in omega arith in
+    let l = last_segment_of 0 few r.segments (d (let lt = segments_shorter r.segments in omega arith)) in
+    behind_segment l.place l.spelled l.few l.gap no_comma no_end
 
 bytes_blame : (whole g : List ℕ) (o : Option (List ℕ)) → DueSome whole (a_segment 0) g → IfErr (bytes_at o g) (Blames whole)
 bytes_blame whole g (Some rest) d = tt
@@ -177,6 +185,14 @@ has_one k (e ∷ es) h = elim (or_cases (is_eq (datum_cmp k e.0)) (has_key k es)
   | inr later ↦ let there = has_one k es later in (there.0, (suc there.1.0, (let less = there.1.1 in omega arith), there.1.2))
 ]
 
+no_one : (k : Datum) (es : List (Datum × Datum)) → has_key k es ≡ false → IsNew k es
+no_one k [] h v c = let none = c.1 in omega arith
+no_one k (e ∷ es) h v (zero, l, at) = let no = or_parts (is_eq (datum_cmp k e.0)) (has_key k es) h in let same : datum_cmp k e.0 ≡ Equal = datum_cmp-same (sym (ap (λ (x : Datum × Datum). x.0) at)) in absurd (let yes : is_eq (datum_cmp k e.0) ≡ true = rw same refl in let never = no.0 in cc)
+no_one k (e ∷ es) h v (suc i, l, at) = let no = or_parts (is_eq (datum_cmp k e.0)) (has_key k es) h in no_one k es no.1 v (i, omega arith, at)
+
+is_new : (k : Datum) (es seen : List (Datum × Datum)) → IsPermutation es seen → has_key k es ≡ false → IsNew k seen
+is_new k es seen p h v c = no_one k es h v (Contains-permutation seen es (k, v) (IsPermutation-sym es seen p) c)
+
 module _ (whole : List ℕ) (n : ℕ) (read : TermReader) (reads : IsReader n read) (blames : BlamesTerm whole n read) where
   -- ---- elements
 
@@ -196,7 +212,7 @@ module _ (whole : List ℕ) (n : ℕ) (read : TermReader) (reads : IsReader n re
         let len : length u ≡ suc (length s) = let made = ap length i.made in omega (arith, length-append s (i.element ∷ [])) in
         record {
           few = let room = i.room in omega arith;
-          place = λ some. rw len (due.next_element (g.place (let lt = spelled_shorter i.spelled in omega arith)) i.spelled gap (gap_within w rest b some));
+          place = λ some. rw len (due.next_element (g.place (let lt = spelled_shorter i.spelled in omega arith)) (let room = i.room in omega arith) i.spelled gap (gap_within w rest b some));
         }
 
     elements_blame : (front : List Datum) (text : List ℕ) → length front ≤ limit → DueSome whole (an_element r n (length front)) text → IfErr (elements_at read limit front text) (Blames whole)
@@ -210,20 +226,25 @@ module _ (whole : List ℕ) (n : ℕ) (read : TermReader) (reads : IsReader n re
     behind : List ℕ
     element : Datum
     place : Due whole (an_element r n before) text
+    room : before < most_elements r
     spelled : Spelled n text element behind
     gap : Gap behind rest
     count_is : count ≡ suc before
 
-  last_element : {r : Row} {text rest : List ℕ} {ds : List Datum} (k : ℕ) → Elements n text ds rest → Due whole (an_element r n k) text → LastElement r (k + length ds) rest
-  last_element k (last {text} {t} {d} s g) due_here = record { before = k; text = text; behind = t; element = d; place = due_here; spelled = s; gap = g; count_is = omega arith }
-  last_element k (more_elements {ds} s g h es) due_here =
+  last_element : {r : Row} {text rest : List ℕ} {ds : List Datum} (k : ℕ) → k + length ds ≤ most_elements r → Elements n text ds rest → Due whole (an_element r n k) text → LastElement r (k + length ds) rest
+  last_element k few (last {text} {t} {d} s g) due_here = record { before = k; text = text; behind = t; element = d; place = due_here; room = omega arith; spelled = s; gap = g; count_is = omega arith }
+  last_element k few (more_elements {ds} s g h es) due_here =
       let same : k + suc (length ds) ≡ suc k + length ds = omega arith in
-      rw same (last_element (suc k) es (due.next_element due_here s g h))
+      rw same (last_element (suc k) (omega arith) es (due.next_element due_here (omega arith) s g h))
 
-  after_elements : (r : Row) (k : ℕ) (g : List ℕ) (ds : List Datum) (t : List ℕ) → DueSome whole (an_element r n k) g → Elements n g ds t → ¬ FollowsElement r t → IsUnexpected whole t
-  after_elements r k g ds t d es other =
-      let l = last_element k es (d (let lt = elements_shorter es in omega arith)) in
-      behind_element l.place l.spelled l.gap other
+  after_elements : (r : Row) (k : ℕ) (g : List ℕ) (ds : List Datum) (t : List ℕ) → DueSome whole (an_element r n k) g → k + length ds ≤ most_elements r → Elements n g ds t → ¬ FollowsElement r t → IsUnexpected whole t
+  after_elements r k g ds t d few es other =
+      let l = last_element k few es (d (let lt = elements_shorter es in omega arith)) in
+      behind_element l.place l.room l.spelled l.gap other
+
+  -- how many there are with those in front
+  count_with : (limit : ℕ) (front : List Datum) (g : List ℕ) (ds : List Datum) (t : List ℕ) → (m : ElementsRead n limit front g ds t) → length front + length m.more ≤ limit
+  count_with limit front g ds t m = let len = ap length m.joined in let within = m.within in omega (arith, length-append front m.more)
 
   -- elements that were read, and no comma behind them
   abbrev ElementsEnd : ℕ → List Datum → List ℕ → List Datum × List ℕ → Type 0
@@ -239,7 +260,7 @@ module _ (whole : List ℕ) (n : ℕ) (read : TermReader) (reads : IsReader n re
   items_blame g (Some rest) d = tt
   items_blame g None d =
       bind_blames (ElementsEnd MAX_TUPLE [] g) (Blames whole) (elements_at read MAX_TUPLE [] g) _ (elements_end MAX_TUPLE [] g) (elements_blame in_tuple MAX_TUPLE refl [] g (omega arith) d)
-      (λ x r. bind_any (Blames whole) (expect close_brace x.1) _ (expect_blames whole close_brace x.1 (λ some no. let m = r.0 some in after_elements in_tuple 0 g m.more x.1 d m.elements (λ f. elim f [ inl c ↦ r.1 some c | inr e ↦ no e ]))) (λ rest. tt))
+      (λ x r. bind_any (Blames whole) (expect close_brace x.1) _ (expect_blames whole close_brace x.1 (λ some no. let m = r.0 some in after_elements in_tuple 0 g m.more x.1 d (count_with MAX_TUPLE [] g x.0 x.1 m) m.elements (λ f. elim f [ inl c ↦ r.1 some c | inr e ↦ no e ]))) (λ rest. tt))
 
   tuple_blames : (k : ℕ) (text : List ℕ) → Due whole (a_term (suc n) k) (open_brace ∷ text) → IfErr (tuple_at read text) (Blames whole)
   unfolding tuple_at
@@ -265,23 +286,26 @@ module _ (whole : List ℕ) (n : ℕ) (read : TermReader) (reads : IsReader n re
     tail_due front g ds t u d found h =
         let m = found (rw h (omega arith)) in
         let es : Elements n g m.more (bar ∷ u) = rw h at m.elements in
-        let l = last_element (length front) es (d (let lt = elements_shorter es in omega arith)) in
+        let l = last_element (length front) (count_with MAX_LIST front g ds t m) es (d (let lt = elements_shorter es in omega arith)) in
         let len : length ds ≡ suc l.before = ap length m.joined ∙ length-append front m.more ∙ l.count_is in
-        record { before = l.before; some_before = len; place = λ some. due.tail l.place l.spelled l.gap (gap_some u some) }
+        record { before = l.before; some_before = len; place = λ some. due.tail l.place l.room l.spelled l.gap (gap_some u some) }
 
     -- what stands behind a tail
-    after_tail : (count : ℕ) (text : List ℕ) (d : Datum) (t : List ℕ) → TailDue count text → Spelled n text d t → 0 < length (after_gap false t) → ¬ BeginsWith close_bracket (after_gap false t) → IsUnexpected whole (after_gap false t)
-    after_tail count text d t due_here s some other = behind_tail (due_here.place (let lt = spelled_shorter s in omega arith)) s (gap_some t some) other
+    after_tail : (count : ℕ) (text : List ℕ) (d : Datum) (t : List ℕ) → TailDue count text → Spelled n text d t → count + cell_count d ≤ MAX_LIST → 0 < length (after_gap false t) → ¬ BeginsWith close_bracket (after_gap false t) → IsUnexpected whole (after_gap false t)
+    after_tail count text d t due_here s few some other = behind_tail (due_here.place (let lt = spelled_shorter s in omega arith)) s (let e = due_here.some_before in omega arith) (gap_some t some) other
+
+    tail_count : (ds : List Datum) (text : List ℕ) (e : Datum) (t : List ℕ) → length ds ≤ MAX_LIST → (r : TailRead n ds text e t) → length ds + cell_count r.tail ≤ MAX_LIST
+    tail_count ds text e t few r = let all = r.within few in omega (arith, cell_count-cells ds r.tail)
 
     end_blames : (front : List Datum) (g : List ℕ) (ds : List Datum) (t : List ℕ) (o : Option (List ℕ)) → DueSome whole (an_element in_list n (length front)) g → ElementsEnd MAX_LIST front g (ds, t) → behind bar t ≡ o → IfSome o (λ rest. t ≡ bar ∷ rest) → IfErr (end_at read_tail ds o t) (Blames whole)
     end_blames front g ds t (Some u) d r e h =
         let place = tail_due front g ds t u d r.0 h in
         bind_blames (λ (x : Datum × List ℕ). TailRead n ds (after_gap false u) x.0 x.1) (Blames whole) (read_tail ds (after_gap false u)) _ (tail_reads ds (after_gap false u))
         (tails ds (after_gap false u) (let m = r.0 (rw h (omega arith)) in m.within) (rw place.some_before place.place))
-        (λ x tail. bind_any (Blames whole) (expect close_bracket (after_gap false x.1)) _ (expect_blames whole close_bracket (after_gap false x.1) (after_tail (length ds) (after_gap false u) tail.tail x.1 place tail.spelled)) (λ rest. tt))
+        (λ x tail. bind_any (Blames whole) (expect close_bracket (after_gap false x.1)) _ (expect_blames whole close_bracket (after_gap false x.1) (after_tail (length ds) (after_gap false u) tail.tail x.1 place tail.spelled (tail_count ds (after_gap false u) x.0 x.1 (let m = r.0 (rw h (omega arith)) in m.within) tail))) (λ rest. tt))
     end_blames front g ds t None d r e h =
         bind_any (Blames whole) (expect close_bracket t) _
-        (expect_blames whole close_bracket t (λ some no. let m = r.0 some in after_elements in_list (length front) g m.more t d m.elements (λ f. elim f [ inl c ↦ r.1 some c | inr more ↦ elim more [ inl b ↦ no_bar bar t e b | inr c ↦ no c ] ])))
+        (expect_blames whole close_bracket t (λ some no. let m = r.0 some in after_elements in_list (length front) g m.more t d (count_with MAX_LIST front g ds t m) m.elements (λ f. elim f [ inl c ↦ r.1 some c | inr more ↦ elim more [ inl b ↦ no_bar bar t e b | inr c ↦ no c ] ])))
         (λ rest. tt)
 
     list_end_blames : (front : List Datum) (g : List ℕ) (ds : List Datum) (t : List ℕ) → DueSome whole (an_element in_list n (length front)) g → ElementsEnd MAX_LIST front g (ds, t) → IfErr (list_end read_tail ds t) (Blames whole)
@@ -310,16 +334,19 @@ module _ (whole : List ℕ) (n : ℕ) (read : TermReader) (reads : IsReader n re
   twice : (es : List (Datum × Datum)) (text : List ℕ) (key : Datum) (t : List ℕ) → PairDue es text → Spelled n text key t → has_key key es ≡ true → IsKeyTwice whole text
   twice es text key t g s h = let one = has_one key es h in key_twice (g.place (let lt = spelled_shorter s in omega arith)) s (Contains-permutation es g.seen (key, one.0) g.permuted one.1)
 
+  pair_few : (es : List (Datum × Datum)) (text : List ℕ) (g : PairDue es text) (key : Datum) (t : List ℕ) → 0 < MAX_MAP - length es → length g.seen < MAX_MAP
+  pair_few es text g key t room = let len = length_permutation es g.seen g.permuted in omega arith
+
   pair_blames : (es : List (Datum × Datum)) (text : List ℕ) → PairDue es text → IfErr (pair_at read es text) (Blames whole)
   unfolding pair_at
   pair_blames es text g =
       bind_blames (λ (k : Datum × List ℕ). Spelled n text k.0 k.1 × (0 < MAX_MAP - length es)) (Blames whole) (read (MAX_MAP - length es) text) _ (reads (MAX_MAP - length es) text)
       (blames (MAX_MAP - length es) text (λ some. due.key (g.place some)) (λ b none. one_pair (g.place (term_some b)) (let few = g.few in let len = length_permutation es g.seen g.permuted in omega arith) b))
       (λ k key. if_blames (Blames whole) (has_key k.0 es) _ _ (λ h. at_once text (twice es text k.0 k.1 g key.0 h))
-      (λ _. bind_blames (λ (rest : List ℕ). after_gap false k.1 ≡ equals ∷ greater ∷ rest) (Blames whole) (expect_both equals greater (after_gap false k.1)) _ (expect_both_holds equals greater (after_gap false k.1))
-      (expect_both_blames whole equals greater (after_gap false k.1) (λ some no. behind_key (g.place (let lt = spelled_shorter key.0 in omega arith)) key.0 (gap_some k.1 some) no))
+      (λ fresh. let few = pair_few es text g k.0 k.1 key.1 in let new = is_new k.0 es g.seen g.permuted fresh in bind_blames (λ (rest : List ℕ). after_gap false k.1 ≡ equals ∷ greater ∷ rest) (Blames whole) (expect_both equals greater (after_gap false k.1)) _ (expect_both_holds equals greater (after_gap false k.1))
+      (expect_both_blames whole equals greater (after_gap false k.1) (λ some no. behind_key (g.place (let lt = spelled_shorter key.0 in omega arith)) few new key.0 (gap_some k.1 some) no))
       (λ rest e. bind_any (Blames whole) (read 1 (after_gap false rest)) _
-      (blames 1 (after_gap false rest) (λ some. let gap = gap_some k.1 (rw e (omega arith)) in due.value (g.place (let lt = spelled_shorter key.0 in omega arith)) key.0 (rw e at gap) (gap_some rest some)) (λ b none. absurd (omega arith)))
+      (blames 1 (after_gap false rest) (λ some. let gap = gap_some k.1 (rw e (omega arith)) in due.value (g.place (let lt = spelled_shorter key.0 in omega arith)) few new key.0 (rw e at gap) (gap_some rest some)) (λ b none. absurd (omega arith)))
       (λ v. tt))))
 
   next_pair_due : (s : List (Datum × Datum)) (text : List ℕ) (u : List (Datum × Datum)) (t w rest : List ℕ) → PairDue s text → PairRead n s text u t → Gap t (comma ∷ w) → Behind w rest → PairDue u rest
@@ -329,7 +356,7 @@ module _ (whole : List ℕ) (n : ℕ) (read : TermReader) (reads : IsReader n re
         seen = (p.key, p.value) ∷ g.seen;
         permuted = IsPermutation-trans u ((p.key, p.value) ∷ s) ((p.key, p.value) ∷ g.seen) (IsPermutation-sym ((p.key, p.value) ∷ s) u put) (IsPermutation-cons (p.key, p.value) s g.seen g.permuted);
         few = let len = length_permutation ((p.key, p.value) ∷ s) u put in let room = p.room in omega arith;
-        place = λ some. due.next_pair (g.place (let lt = pair_shorter p.spelled in omega arith)) p.spelled gap (gap_within w rest b some);
+        place = λ some. due.next_pair (g.place (let lt = pair_shorter p.spelled in omega arith)) (let len = length_permutation s g.seen g.permuted in let room = p.room in omega arith) (is_new p.key s g.seen g.permuted p.fresh) p.spelled gap (gap_within w rest b some);
       }
 
   -- the last of some pairs, and what stands behind it
@@ -340,17 +367,41 @@ module _ (whole : List ℕ) (n : ℕ) (read : TermReader) (reads : IsReader n re
     key : Datum
     value : Datum
     place : Due whole (a_pair n before) text
+    few : length before < MAX_MAP
+    new : IsNew key before
     spelled : Pair n text key value behind
     gap : Gap behind rest
 
-  last_pair_of : {text rest : List ℕ} {es : List (Datum × Datum)} (before : List (Datum × Datum)) → Pairs n text es rest → Due whole (a_pair n before) text → LastPair rest
-  last_pair_of before (last_pair {text} {t} {key} {value} p g) d = record { before = before; text = text; behind = t; key = key; value = value; place = d; spelled = p; gap = g }
-  last_pair_of before (more_pairs {key} {value} p g h ps) d = last_pair_of ((key, value) ∷ before) ps (due.next_pair d p g h)
+  one_fewer : (k m most : ℕ) → k + suc m ≤ most → (k < most) × (suc k + m ≤ most)
+  one_fewer k m most l = (omega arith, omega arith)
+
+  last_pair_of : {text rest : List ℕ} {es : List (Datum × Datum)} (before front : List (Datum × Datum)) → IsPermutation front before → AreApart front es → length before + length es ≤ MAX_MAP → Pairs n text es rest → Due whole (a_pair n before) text → LastPair rest
+  last_pair_of before front p apart few (last_pair {text} {t} {key} {value} pair g) d = record {
+    before = before;
+    text = text;
+    behind = t;
+    key = key;
+    value = value;
+    place = d;
+    few = (one_fewer (length before) 0 MAX_MAP few).0;
+    new = is_new key front before p (apart_fresh front key value [] apart);
+    spelled = pair;
+    gap = g;
+  }
+  last_pair_of before front p apart few (more_pairs {key} {value} {es} pair g h ps) d =
+      let fresh = apart_fresh front key value es apart in
+      let left = one_fewer (length before) (length es) MAX_MAP few in
+      let put = put_permutes key value front fresh in
+      let next = insert_entry datum_cmp front key value in
+      last_pair_of ((key, value) ∷ before) next (IsPermutation-trans next ((key, value) ∷ front) ((key, value) ∷ before) (IsPermutation-sym ((key, value) ∷ front) next put) (IsPermutation-cons (key, value) front before p)) (apart_next front key value es apart) left.1 ps
+      (due.next_pair d left.0 (is_new key front before p fresh) pair g h)
 
   after_pairs : (g : List ℕ) (es : List (Datum × Datum)) (t : List ℕ) → DueSome whole (a_pair n []) g → PairsRead n [] g es t → ¬ BeginsWith comma t → ¬ BeginsWith close_brace t → IsUnexpected whole t
   after_pairs g es t d r no_comma no_end =
-      let l = last_pair_of [] r.pairs (d (let lt = pairs_shorter r.pairs in omega arith)) in
-      behind_pair l.place l.spelled l.gap no_comma no_end
+      let permuted : IsPermutation r.more es = rw append-nil at r.permuted in
+      let few : 0 + length r.more ≤ MAX_MAP = let len = length_permutation r.more es permuted in let within = r.within in omega arith in
+      let l = last_pair_of [] [] (IsPermutation-refl []) (apart_at_first r.more es permuted (r.rises tt)) few r.pairs (d (let lt = pairs_shorter r.pairs in omega arith)) in
+      behind_pair l.place l.few l.new l.spelled l.gap no_comma no_end
 
   pairs_blame : (g : List ℕ) (o : Option (List ℕ)) → DueSome whole (a_pair n []) g → IfErr (pairs_at read o g) (Blames whole)
   pairs_blame g (Some rest) d = tt
@@ -487,11 +538,11 @@ unexpected_ends : (text rest : List ℕ) → IsUnexpected text rest → EndsIn t
 unexpected_ends text rest the_end = record { front = text; whole = sym (append-nil text) }
 unexpected_ends text rest (no_term d b) = due_ends d
 unexpected_ends text rest (no_segment d b q) = due_ends d
-unexpected_ends text rest (behind_element d s g n) = then (due_ends d) (then (spelled_ends s) (gap_ends g))
-unexpected_ends text rest (behind_tail d s g n) = then (due_ends d) (then (spelled_ends s) (gap_ends g))
-unexpected_ends text rest (behind_key d s g n) = then (due_ends d) (then (spelled_ends s) (gap_ends g))
-unexpected_ends text rest (behind_pair d p g c n) = then (due_ends d) (then (pair_ends p) (gap_ends g))
-unexpected_ends text rest (behind_segment d s g c n) = then (due_ends d) (then (segment_ends s) (gap_ends g))
+unexpected_ends text rest (behind_element d l s g n) = then (due_ends d) (then (spelled_ends s) (gap_ends g))
+unexpected_ends text rest (behind_tail d s l g n) = then (due_ends d) (then (spelled_ends s) (gap_ends g))
+unexpected_ends text rest (behind_key d l f s g n) = then (due_ends d) (then (spelled_ends s) (gap_ends g))
+unexpected_ends text rest (behind_pair d l f p g c n) = then (due_ends d) (then (pair_ends p) (gap_ends g))
+unexpected_ends text rest (behind_segment d s l g c n) = then (due_ends d) (then (segment_ends s) (gap_ends g))
 unexpected_ends text rest (no_dot d s g n) = then (due_ends d) (then (spelled_ends s) (gap_ends g))
 
 has_cause_in : (bytes text : List ℕ) (cause : Cause) (left : ℕ) → text ≡ chars bytes → Blames text (cause, left) → HasCause bytes (fault_of (stops.At cause left) text)

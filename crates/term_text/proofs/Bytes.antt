@@ -1,5 +1,5 @@
 -- The bytes of canonical texts.
-use Rattle.std.proofs.Common.{◌≡◌, ◌≢◌, ℕ, zero, suc, ◌+◌, ◌^◌, ◌≤◌, ◌<◌, Bool, true, false, cond, List, [], ◌∷◌, ◌++◌, length, get_or, drop, max, ℤ, pos, negsuc, Option, Some, None, refl, sym, ap, ◌∙◌, arith, append_assoc, decimal}
+use Rattle.std.proofs.Common.{◌≡◌, ℕ, suc, ◌+◌, ◌^◌, ◌≤◌, ◌<◌, List, [], ◌∷◌, ◌++◌, length, get_or, drop, max, ℤ, pos, negsuc, Option, Some, None, refl, sym, ap, ◌∙◌, arith, append_assoc, decimal}
 use Rattle.std.specs.Prelude.{FitsSigned}
 use Rattle.std.specs.Int.{w64}
 use Rattle.std.specs.Fmt.{signed_decimal}
@@ -8,9 +8,9 @@ use Rattle.std.proofs.Math.Utf8.{encode}
 use Rattle.std.proofs.lemmas.Int.{ints}
 use Rattle.std.proofs.lemmas.Fmt.{IsAscii-decimal}
 use Rattle.std.proofs.lemmas.Str.{encodes-append, encodes-IsAscii}
-use Rattle.term_core.specs.Datum.{Datum, Items, Entries, items_of, entries_of, cells, IsNoList}
+use Rattle.term_core.specs.Datum.{Datum, Items, Entries, items_of, entries_of, cells}
 use Rattle.term_core.specs.Datum.Datum.{integer, atom, tuple, map, nil, cons, binary}
-use Rattle.std.proofs.lemmas.List.{drop_more, drop_all, append-nil}
+use Rattle.std.proofs.lemmas.List.{drop_more, drop_all}
 use Rattle.term_core.specs.Limits.{depth, tail_depth, items_depth, entries_depth}
 use Rattle.term_core.specs.TermFalls.{depth-cells}
 use Rattle.term_core.proofs.RowLemmas.{depth-element, depth-entry}

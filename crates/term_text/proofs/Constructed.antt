@@ -1,20 +1,18 @@
 -- Where the reader makes a term, the term is within its limits.
-use Rattle.std.proofs.Common.{◌≡◌, ◌≢◌, ℕ, suc, ◌+◌, ◌-◌, ◌≤◌, ◌<◌, Bool, true, false, List, [], ◌∷◌, ◌++◌, length, Option, Some, None, Result, Ok, Err, refl, sym, ap, ◌∙◌, arith}
+use Rattle.std.proofs.Common.{◌≡◌, ℕ, suc, ◌+◌, ◌-◌, ◌≤◌, ◌<◌, Bool, true, false, List, [], ◌∷◌, ◌++◌, length, None, Ok, refl, ap, ◌∙◌, arith}
 use Rattle.std.proofs.Common.{map as each}
-use Rattle.std.specs.Prelude.{IfOk}
 use Rattle.std.proofs.lemmas.List.{length-append, length-map}
 use Rattle.term_core.specs.Datum.{Datum, items_of, entries_of, cells, cell_count}
 use Rattle.term_core.specs.Datum.Datum.{atom, tuple, map, nil, binary}
-use Rattle.term_core.specs.Limits.{depth, items_depth, tail_depth}
-use Rattle.term_core.specs.declared.TheConstants.{MAX_CHARACTERS, MAX_TUPLE, MAX_MAP, MAX_LIST, MAX_BINARY, MAX_DEPTH}
+use Rattle.term_core.specs.declared.TheConstants.{MAX_CHARACTERS, MAX_TUPLE, MAX_LIST, MAX_DEPTH}
 use Rattle.term_text.specs.Character.{is_word, greater, open_brace, close_brace, number_sign, less}
 use Rattle.term_text.specs.Text.{Run, Spelled, code_point}
 use Rattle.term_text.specs.declared.token.Opening.{Opening}
 use Rattle.term_text.specs.declared.token.Opening.TheVariants as opens
-use Rattle.term_text.specs.Reading.{IsWithin, AreElements, after_gap, enter, expect, expect_both, quoted_at, atom_marks, string_marks, word_at, segments_at, bytes_at, element_at, elements_at, items_at, separated, behind_comma, all_steps, steps, pair_at, pairs_at, form_at, tail_form, term_at, tail_at}
+use Rattle.term_text.specs.Reading.{IsWithin, AreElements, after_gap, enter, expect, expect_both, quoted_at, atom_marks, string_marks, word_at, segments_at, bytes_at, element_at, elements_at, items_at, separated, behind_comma, all_steps, pair_at, pairs_at, form_at, term_at, tail_at}
 use Rattle.term_text.proofs.Steps.{bind_holds, holds_at, Hands, steps_hold}
 use Rattle.term_text.proofs.Tokens.{Reads, quoted_holds}
-use Rattle.term_text.proofs.Items.{gap_some, AfterItem}
+use Rattle.term_text.proofs.Items.{gap_some}
 use Rattle.term_text.proofs.Words.{Opens, word_holds}
 use Rattle.term_text.proofs.Sound.{ElementRead, TailRead, enter_holds, element_holds, room_within, bytes_hold, items_hold, map_pairs_hold, form_holds, term_holds, tail_holds}
 use Rattle.term_text.proofs.Readers.{tail_is, tail_form_is}

@@ -1,16 +1,14 @@
 -- Items with commas between.
-use Rattle.std.proofs.Common.{◌≡◌, ◌≢◌, ℕ, suc, ◌≤◌, ◌<◌, Bool, true, false, cond, List, [], ◌∷◌, length, Result, Ok, Err, refl, sym, ap, ◌∙◌, arith}
+use Rattle.std.proofs.Common.{ℕ, suc, ◌≤◌, ◌<◌, Bool, true, false, List, [], ◌∷◌, length, arith}
 use Rattle.std.specs.Prelude.{IfOk, ◌==◌}
-use Rattle.std.proofs.lemmas.Bool.{eqb-true, eq-eqb, ne_eqb}
-use Rattle.term_text.specs.Character.{comma, percent, is_white_space}
-use Rattle.term_text.specs.declared.fault.Stop.{Stop}
-use Rattle.term_text.specs.declared.fault.Stop.TheVariants as stops
+use Rattle.std.proofs.lemmas.Bool.{eqb-true}
+use Rattle.term_text.specs.Character.{comma}
 use Rattle.term_text.specs.Text.{Gap, Comment}
 use Rattle.term_text.specs.Text.Gap.{no_gap, white, comment}
 use Rattle.term_text.specs.Text.Comment.{ended, passed}
-use Rattle.term_text.specs.Reading.{Read, ◌>>=◌, Fails, after_gap, comma_in, behind_comma, behind_item, separated, steps, all_steps}
+use Rattle.term_text.specs.Reading.{Read, after_gap, comma_in, behind_comma, separated, steps, all_steps}
 use Rattle.term_text.proofs.Steps.{bind_holds, holds_at, weaker, Hands, steps_hold, Shrinks}
-use Rattle.term_text.proofs.Tokens.{Behind, BehindComment, gap_holds, gap_again, if_is}
+use Rattle.term_text.proofs.Tokens.{Behind, gap_holds, if_is}
 use Rattle.term_text.proofs.Tokens.Behind.{something, nothing}
 
 pub gap_within : (text rest : List ℕ) → Behind text rest → 0 < length rest → Gap text rest

@@ -1,6 +1,5 @@
 -- From characters to bytes.
-use Rattle.std.proofs.Common.{◌≡◌, ◌++◌, ℕ, ◌+◌, ◌≤◌, ◌<◌, List, length, take, drop, Result, Ok, Err, refl, sym, ap, subst, ◌∙◌, arith}
-use Rattle.std.specs.Prelude.{IfOk, MatchResult}
+use Rattle.std.proofs.Common.{◌≡◌, ◌++◌, ℕ, ◌≤◌, List, length, take, drop, Result, Ok, refl, sym, ap, ◌∙◌, arith}
 use Rattle.std.specs.Str.{encode_utf8_all, IsUtf8, IsValidUpTo, chars}
 use Rattle.std.proofs.lemmas.Str.{encodes-append, utf8_valid_len-IsValidUpTo, utf8_valid_len-IsUtf8}
 use Rattle.std.proofs.lemmas.List.{take-append-drop, length-append}

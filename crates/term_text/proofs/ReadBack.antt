@@ -1,32 +1,31 @@
 -- A canonical text with its dot and line feed is read back, and what follows is read as if it stood alone.
-use Rattle.std.proofs.Common.{◌≡◌, ◌≢◌, ◌&&◌, ◌↔◌, ℕ, zero, suc, ◌+◌, ◌^◌, ◌≤◌, ◌<◌, ◌⊎◌, inl, inr, Bool, true, false, cond, not, List, [], ◌∷◌, ◌++◌, length, Result, Ok, Err, ℤ, pos, negsuc, refl, sym, ap, subst, ◌∙◌, arith, append_assoc, decimal}
+use Rattle.std.proofs.Common.{◌≡◌, ℕ, suc, ◌^◌, ◌<◌, inl, Bool, true, false, cond, List, [], ◌∷◌, ◌++◌, Ok, ℤ, pos, negsuc, refl, sym, ap, ◌∙◌, arith, append_assoc, decimal}
 use Rattle.std.specs.Prelude.{◌==◌, FitsSigned}
 use Rattle.std.specs.Int.{w64}
 use Rattle.std.specs.Fmt.{signed_decimal}
 use Rattle.std.specs.List.{AllByRecursion}
-use Rattle.std.specs.Char.{is_ascii_digit, IsScalar}
+use Rattle.std.specs.Char.{is_ascii_digit}
 use Rattle.std.proofs.Math.Utf8.{scalar, low_scalar, encode}
 use Rattle.std.specs.Str.{IsUtf8, chars, encode_utf8_all, all_scalars}
-use Rattle.std.proofs.lemmas.Bool.{and_parts, and_from, cases_Bool}
+use Rattle.std.proofs.lemmas.Bool.{and_parts, and_from}
 use Rattle.std.proofs.lemmas.Int.{ints}
 use Rattle.std.proofs.lemmas.Str.{encodes-append, chars-append, chars-encodes, IsUtf8-append, IsUtf8-past_char}
-use Rattle.std.proofs.lemmas.List.{append-nil}
 use Rattle.term_core.specs.Datum.{Datum, Items, Entries}
 use Rattle.term_core.specs.Datum.Datum.{integer, atom, tuple, map, nil, cons, binary}
 use Rattle.term_core.specs.Datum.Items.{no_items, item}
 use Rattle.term_core.specs.Datum.Entries.{no_entries, entry}
 use Rattle.term_core.specs.Limits.{IsTerm, AreScalars, AreBytes, IsSound, AreSound, ArePairsSound}
 use Rattle.term_core.specs.declared.TheConstants.{MAX_DEPTH}
-use Rattle.term_text.specs.Character.{dot, line_feed, backslash, single_quote, comma, bar, equals, greater, less, number_sign, open_brace, close_brace, open_bracket, close_bracket}
+use Rattle.term_text.specs.Character.{dot, line_feed, backslash, single_quote, equals, greater, close_brace, close_bracket}
 use Rattle.term_text.specs.Text.{Gap, Sentences, Spells}
 use Rattle.term_text.specs.Text.Gap.{no_gap, white}
 use Rattle.term_text.specs.Text.Sentences.{none, sentence}
 use Rattle.term_text.specs.Canonical.{canonical, items_text, more_items_text, entries_text, more_entries_text, tail_text, atom_text, is_bare, quoted_character, quoted_characters, bytes_text, more_bytes, IsReadBack}
-use Rattle.term_text.specs.Reading.{after_gap, sentence_step, steps, all_steps}
-use Rattle.term_text.proofs.Steps.{goes_on, holds_at}
+use Rattle.term_text.specs.Reading.{after_gap, sentence_step, all_steps}
+use Rattle.term_text.proofs.Steps.{goes_on}
 use Rattle.term_text.proofs.Tokens.{gap_holds}
 use Rattle.term_text.proofs.Whole.{spelled_first, gap_first}
-use Rattle.term_text.proofs.Texts.{TermsRead, sentence_shrinks, sentence_again, step_again, sentences_again, terms_read}
+use Rattle.term_text.proofs.Texts.{sentence_shrinks, sentence_again, step_again, sentences_again, terms_read}
 use Rattle.term_text.proofs.Written.{written, decimal_is}
 
 -- ---- over characters

@@ -1,6 +1,5 @@
 -- Steps of the functions that read terms.
-use Rattle.std.proofs.Common.{◌≡◌, ◌≢◌, ◌&&◌, ◌||◌, cond, ℕ, zero, suc, ◌+◌, ◌-◌, ◌≤◌, ◌<◌, inl, inr, Bool, true, false, List, [], ◌∷◌, ◌++◌, length, Option, Some, None, Result, Ok, Err, refl, sym, ap, subst, ◌∙◌, arith, append_assoc}
-use Rattle.std.specs.Prelude.{IfOk}
+use Rattle.std.proofs.Common.{◌≡◌, ℕ, zero, suc, ◌-◌, ◌<◌, inl, inr, Bool, true, false, List, [], ◌∷◌, ◌++◌, length, Result, Ok, Err, refl, arith}
 use Rattle.std.proofs.lemmas.Bool.{cases_Bool}
 use Rattle.std.specs.Ordering.{is_eq}
 use Rattle.std.specs.Option.{is_some}
@@ -15,7 +14,7 @@ use Rattle.term_text.specs.declared.fault.Stop.{Stop}
 use Rattle.term_text.specs.declared.fault.Stop.TheVariants as stops
 use Rattle.term_text.specs.declared.token.Opening.{Opening}
 use Rattle.term_text.specs.declared.token.Opening.TheVariants as opens
-use Rattle.term_text.specs.Reading.{Fault, Read, TermReader, ◌>>=◌, Fails, Gives, enter, term_at, tail_at, form_at, tail_form, behind_comma, separated, element_at, segment_at, pair_at, sentence_at, sentence_step, text_at, all_steps, has_key, after_gap, expect_both}
+use Rattle.term_text.specs.Reading.{Fault, Read, TermReader, ◌>>=◌, Fails, enter, term_at, tail_at, form_at, tail_form, behind_comma, separated, element_at, pair_at, sentence_at, sentence_step, text_at, all_steps, has_key, after_gap, expect_both}
 use Rattle.term_text.proofs.Steps.{holds_at}
 use Rattle.term_text.proofs.Words.{Opens}
 use Rattle.term_text.proofs.Sound.{enter_holds}

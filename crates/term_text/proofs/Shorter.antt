@@ -1,10 +1,10 @@
 -- What follows a token or a term is shorter than the text that it stands in.
-use Rattle.std.proofs.Common.{◌≡◌, ◌≢◌, ℕ, zero, suc, ◌+◌, ◌≤◌, ◌<◌, List, [], ◌∷◌, ◌++◌, length, ℤ, pos, refl, sym, ap, subst, true, false, arith}
+use Rattle.std.proofs.Common.{◌≡◌, ℕ, ◌<◌, List, [], ◌∷◌, length, ℤ, sym, ap, subst, true, false, arith}
 use Rattle.std.proofs.lemmas.List.{length-append}
 use Rattle.std.specs.Char.{is_ascii_lowercase}
 use Rattle.term_core.specs.Datum.{Datum}
 use Rattle.term_text.specs.Character.{is_word}
-use Rattle.term_text.specs.Text.{Gap, Quoted, Run, EndsRun, Number, Integer, Segment, Segments, Spelled, Elements, Pair, Pairs}
+use Rattle.term_text.specs.Text.{Quoted, Run, EndsRun, Number, Integer, Segment, Segments, Spelled, Elements, Pair, Pairs}
 use Rattle.term_text.specs.Text.Quoted.{closed, plain, escape}
 use Rattle.term_text.specs.Text.Integer.{unsigned, positive, negative}
 use Rattle.term_text.specs.Text.Segment.{a_byte, some_bytes}
@@ -14,7 +14,6 @@ use Rattle.term_text.specs.Text.Elements.{last, more}
 use Rattle.term_text.specs.Text.Pair.{arrow}
 use Rattle.term_text.specs.Text.Pairs.{last_pair, more_pairs}
 use Rattle.term_text.proofs.Items.{gap_shorter}
-use Rattle.term_text.proofs.Words.{BeginsWord}
 
 pub quoted_shorter : {mark : ℕ} {text cs rest : List ℕ} → Quoted mark text cs rest → length rest < length text
 quoted_shorter closed = omega arith

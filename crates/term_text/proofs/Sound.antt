@@ -1,5 +1,5 @@
 -- What is read is spelled so.
-use Rattle.std.proofs.Common.{◌≡◌, ◌≢◌, ◌&&◌, cond, ℕ, zero, suc, ◌+◌, ◌-◌, ◌≤◌, ◌<◌, Bool, true, false, List, [], ◌∷◌, ◌++◌, length, Option, Some, None, Result, Ok, Err, ℤ, pos, negsuc, refl, sym, ap, subst, ◌∙◌, arith, append_assoc, lit≤}
+use Rattle.std.proofs.Common.{◌≡◌, ◌&&◌, cond, ℕ, zero, suc, ◌+◌, ◌-◌, ◌≤◌, ◌<◌, Bool, true, false, List, [], ◌∷◌, ◌++◌, length, Option, Some, None, Ok, ℤ, pos, negsuc, refl, ap, ◌∙◌, arith, append_assoc}
 use Rattle.std.proofs.Common.{map as each}
 use Rattle.std.specs.Prelude.{IfOk, IfSome, ◌==◌, nat_lt}
 use Rattle.std.proofs.lemmas.Bool.{eqb-true, eqb-false, ne_eqb, ltb-true, leb-true, and_parts}
@@ -8,7 +8,7 @@ use Rattle.std.specs.List.{AllByRecursion}
 use Rattle.term_core.specs.Datum.{Datum, items_of, entries_of, cells, cell_count}
 use Rattle.term_core.specs.Datum.Datum.{integer, atom, tuple, map, nil, binary}
 use Rattle.term_core.specs.declared.TheConstants.{MAX_CHARACTERS, MAX_TUPLE, MAX_MAP, MAX_LIST, MAX_BINARY}
-use Rattle.term_text.specs.Character.{is_word, comma, equals, single_quote, double_quote, open_brace, close_brace, open_bracket, close_bracket, bar, number_sign, less, greater}
+use Rattle.term_text.specs.Character.{is_word, equals, single_quote, double_quote, open_brace, close_brace, open_bracket, close_bracket, bar, number_sign, less, greater}
 use Rattle.term_text.specs.declared.token.Opening.{Opening}
 use Rattle.term_text.specs.declared.token.Opening.TheVariants as opens
 use Rattle.term_text.specs.Text.{Gap, Quoted, Run, Integer, Segment, Segments, Spelled, Elements, Pair, Pairs, code_point}
@@ -30,7 +30,7 @@ use Rattle.term_text.proofs.Tokens.{Reads, quoted_holds}
 use Rattle.term_text.proofs.Items.{Items, gap_some, separated_holds, separated_shrinks}
 use Rattle.term_text.proofs.Items.Items.{one, more}
 use Rattle.term_text.proofs.Words.{Opens, opening_holds, behind_holds, integer_holds, word_holds, BeginsWord, BeginsInteger}
-use Rattle.term_text.proofs.Shorter.{spelled_shorter, elements_shorter, quoted_shorter, segment_shorter, segments_shorter, pair_shorter, pairs_shorter}
+use Rattle.term_text.proofs.Shorter.{spelled_shorter, elements_shorter, segment_shorter, segments_shorter, pair_shorter, pairs_shorter}
 
 enter_as_holds : (levels room : ℕ) (text : List ℕ) (o : Option (Opening × List ℕ)) → IfSome o (λ o. Opens o.0 text o.1) → IfOk (enter_as levels room text o) (λ o. Opens o.0 text o.1 × (0 < levels) × (0 < room))
 enter_as_holds levels room text None h = tt

@@ -1,19 +1,16 @@
 -- Whole texts: what is read is spelled so, and what is spelled is read so.
-use Rattle.std.proofs.Common.{◌≡◌, ◌≢◌, ◌&&◌, ◌||◌, cond, ℕ, zero, suc, ◌+◌, ◌≤◌, ◌<◌, ◌⊎◌, inl, inr, Bool, true, false, List, [], ◌∷◌, ◌++◌, length, Option, Some, None, Result, Ok, Err, refl, sym, ap, subst, ◌∙◌, arith, append_assoc, lit<}
+use Rattle.std.proofs.Common.{◌≡◌, ◌≢◌, ◌&&◌, ℕ, suc, ◌<◌, inl, inr, Bool, true, false, List, [], ◌∷◌, ◌++◌, length, Ok, refl, sym, ap, subst, ◌∙◌, arith, append_assoc, lit<}
 use Rattle.std.specs.Prelude.{IfOk, ◌==◌}
-use Rattle.std.proofs.lemmas.Bool.{eqb-true, eq-eqb, ne_eqb, and_parts, and_from, or_cases, or_left, or_right}
+use Rattle.std.proofs.lemmas.Bool.{eqb-true, eq-eqb, ne_eqb, and_parts, or_cases, or_left, or_right}
 use Rattle.std.proofs.lemmas.List.{append-nil}
 use Rattle.std.specs.List.{AllByRecursion}
 use Rattle.term_core.specs.Datum.{Datum}
 use Rattle.term_core.specs.declared.TheConstants.{MAX_DEPTH}
 use Rattle.term_text.specs.Character.{dot, percent, line_feed, is_white_space}
-use Rattle.term_text.specs.declared.fault.Stop.{Stop}
-use Rattle.term_text.specs.declared.fault.Stop.TheVariants as stops
 use Rattle.term_text.specs.Text.{Gap, Spelled, Sentences, BeginsGap, IsLastComment}
-use Rattle.term_text.specs.Text.Gap.{no_gap}
 use Rattle.term_text.specs.Text.Sentences.{none, sentence}
-use Rattle.term_text.specs.Reading.{Fault, Read, ◌>>=◌, Fails, after_gap, begins_gap, dot_at, sentence_at, sentence_step, text_at, term_at, steps, all_steps}
-use Rattle.term_text.proofs.Steps.{bind_holds, if_holds, holds_at, weaker, Hands, steps_hold, Shrinks, all_steps_is}
+use Rattle.term_text.specs.Reading.{after_gap, begins_gap, dot_at, sentence_at, sentence_step, text_at, term_at, all_steps}
+use Rattle.term_text.proofs.Steps.{bind_holds, if_holds, holds_at, Hands, steps_hold, Shrinks, all_steps_is}
 use Rattle.term_text.proofs.Tokens.{Behind, gap_holds, gap_again}
 use Rattle.term_text.proofs.Tokens.Behind.{something, nothing}
 use Rattle.term_text.proofs.Items.{gap_some, gap_shorter, after_gap_shorter}

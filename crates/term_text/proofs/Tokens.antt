@@ -1,24 +1,22 @@
 -- What the readers of tokens give is what the text spells, and the other way round.
-use Rattle.std.proofs.Common.{◌≡◌, ◌≢◌, ℕ, zero, suc, ◌+◌, ◌*◌, ◌≤◌, ◌<◌, ◌⊎◌, inl, inr, Bool, true, false, cond, List, [], ◌∷◌, ◌++◌, length, take, drop, Option, Some, None, Result, Ok, Err, refl, sym, ap, ◌∙◌, arith, append_assoc}
-use Rattle.std.specs.Prelude.{IfOk, ◌==◌, nat_le}
-use Rattle.std.proofs.lemmas.Bool.{eqb-true, eqb-false, eq-eqb, ne_eqb, leb-true, leb-false, le-leb, lt-leb, cases_Bool, cases_eq, or_cases, or_parts, or_from}
+use Rattle.std.proofs.Common.{◌≡◌, ◌≢◌, ℕ, suc, ◌+◌, ◌≤◌, ◌<◌, inl, inr, Bool, true, false, cond, List, [], ◌∷◌, ◌++◌, length, Option, Some, None, Ok, refl, sym, ◌∙◌, arith, append_assoc}
+use Rattle.std.specs.Prelude.{IfOk, ◌==◌}
+use Rattle.std.proofs.lemmas.Bool.{eqb-true, eqb-false, eq-eqb, ne_eqb, le-leb, cases_eq}
 use Rattle.std.proofs.lemmas.List.{append-nil, length-append}
 use Rattle.std.specs.List.{AllByRecursion}
 use Rattle.term_text.specs.Character.{backslash, escaped}
 use Rattle.term_text.specs.declared.token.Marks.{Marks}
-use Rattle.term_text.specs.Text.{Quoted, Gap, Comment, Integer, Number, Run}
+use Rattle.term_text.specs.Text.{Quoted, Gap, Comment}
 use Rattle.term_text.specs.Text.Quoted.{closed, plain, escape}
-use Rattle.std.specs.Char.{is_ascii_digit, is_ascii_lowercase, digit_value}
-use Rattle.std.specs.Str.Parse.{digits_value_after}
 use Rattle.term_text.specs.Character.{line_feed, percent, is_white_space}
-use Rattle.term_text.specs.Text.{EndsRun, IsLastComment}
+use Rattle.term_text.specs.Text.{IsLastComment}
 use Rattle.term_text.specs.Text.Gap.{no_gap, white, comment}
 use Rattle.term_text.specs.Text.Comment.{ended, passed}
 use Rattle.term_text.specs.declared.fault.Stop.{Stop}
 use Rattle.term_text.specs.declared.fault.Stop.TheVariants as stops
 use Rattle.term_text.specs.Reading.{number_run, Fails}
 use Rattle.term_text.specs.Reading.{◌>>=◌, after_gap, character_at, marked, is_allowed, next_quoted, pushed, quoted_step, quoted_at, steps, all_steps}
-use Rattle.term_text.proofs.Steps.{bind_holds, if_holds, holds_at, weaker, Hands, steps_hold, Shrinks, all_steps_is}
+use Rattle.term_text.proofs.Steps.{bind_holds, if_holds, holds_at, Hands, steps_hold, Shrinks, all_steps_is}
 
 pub data IsCharacter (g : Bool) (c : ℕ) : List ℕ → ℕ → List ℕ → Type 0 where
   as_it_is : {text : List ℕ} → c ≢ backslash → is_allowed g c ≡ true → IsCharacter g c text c text
@@ -38,7 +36,7 @@ character_holds g c (e ∷ rest) =
 escaped_small : (e x : ℕ) → escaped e ≡ Some x → x ≤ 92
 escaped_small e x h = grind arith
 
-escaped_allowed : (g : Bool) (e x : ℕ) → escaped e ≡ Some x → is_allowed g x ≡ true
+pub escaped_allowed : (g : Bool) (e x : ℕ) → escaped e ≡ Some x → is_allowed g x ≡ true
 escaped_allowed false e x h = refl
 escaped_allowed true e x h = le-leb x 255 (omega (arith, escaped_small e x h))
 

@@ -1,31 +1,30 @@
 -- What is spelled is read so.
-use Rattle.std.proofs.Common.{◌≡◌, ◌≢◌, ◌&&◌, ◌||◌, cond, ℕ, zero, suc, ◌+◌, ◌-◌, ◌≤◌, ◌<◌, ◌⊎◌, inl, inr, Bool, true, false, List, [], ◌∷◌, ◌++◌, length, Option, Some, None, Result, Ok, Err, ℤ, pos, negsuc, refl, sym, ap, subst, ◌∙◌, arith, append_assoc, lit<}
+use Rattle.std.proofs.Common.{◌≡◌, ℕ, suc, ◌+◌, ◌-◌, ◌≤◌, ◌<◌, ◌⊎◌, inl, inr, true, false, List, [], ◌∷◌, ◌++◌, length, Some, None, Ok, ℤ, pos, refl, sym, ap, ◌∙◌, arith, append_assoc, lit<}
 use Rattle.std.proofs.Common.{map as each}
-use Rattle.std.specs.Prelude.{IfOk, IfSome, ◌==◌, nat_lt}
-use Rattle.std.proofs.lemmas.Bool.{eqb-true, eqb-false, eq-eqb, ne_eqb, lt-ltb, ltb-true, le-leb, and_parts}
-use Rattle.std.proofs.lemmas.List.{length-append, length-map, append-nil, nil_from_length}
+use Rattle.std.specs.Prelude.{◌==◌}
+use Rattle.std.proofs.lemmas.Bool.{ne_eqb, lt-ltb, le-leb}
+use Rattle.std.proofs.lemmas.List.{length-append, length-map, append-nil}
 use Rattle.std.specs.List.{AllByRecursion}
 use Rattle.std.specs.Char.{is_ascii_digit, is_ascii_lowercase}
 use Rattle.term_core.specs.Datum.{Datum, items_of, entries_of, cells, cell_count}
 use Rattle.term_core.specs.Datum.Datum.{integer, atom, tuple, map, nil, binary}
 use Rattle.term_core.specs.declared.TheConstants.{MAX_CHARACTERS, MAX_TUPLE, MAX_MAP, MAX_LIST, MAX_BINARY}
-use Rattle.term_text.specs.Character.{equals, is_word, is_white_space, percent, comma, single_quote, double_quote, open_brace, close_brace, open_bracket, close_bracket, bar, number_sign, less, greater, backslash}
+use Rattle.term_text.specs.Character.{equals, is_word, is_white_space, percent, comma, single_quote, double_quote, open_brace, close_brace, open_bracket, close_bracket, bar, number_sign, less, greater}
 use Rattle.term_text.specs.declared.token.Opening.{Opening}
 use Rattle.term_text.specs.declared.token.Opening.TheVariants as opens
 use Rattle.term_text.specs.Text.{Gap, Quoted, Run, Integer, Segment, Segments, Spelled, Elements, Pair, Pairs, code_point}
-use Rattle.term_text.specs.Text.Quoted.{closed, plain, escape}
+use Rattle.term_text.specs.Text.Quoted.{closed}
 use Rattle.term_text.specs.Text.Segment.{a_byte, some_bytes}
 use Rattle.term_text.specs.Text.Segments.{last_segment, more_segments}
 use Rattle.term_text.specs.Text.Spelled.{an_integer, a_word, a_quoted_atom, an_empty_string, a_string, an_empty_tuple, a_tuple, an_empty_list, a_list, a_list_with_tail, an_empty_map, a_map, an_empty_binary, a_binary}
 use Rattle.term_text.specs.Text.Elements.{last, more}
 use Rattle.term_text.specs.Text.Pair.{arrow}
 use Rattle.term_text.specs.Text.Pairs.{last_pair, more_pairs}
-use Rattle.std.specs.List.Sorted.{IsPermutation}
 use Rattle.std.specs.BTreeMap.{insert_entry}
 use Rattle.std.proofs.lemmas.List.Sorted.{length_permutation}
 use Rattle.term_core.specs.Order.{datum_cmp}
 use Rattle.term_text.proofs.Keys.{put_permutes, put_all, put_all-none, put_all-more, put_all_ordered, AreApart, apart_fresh, apart_next, apart_at_first}
-use Rattle.term_text.specs.Reading.{has_key, pair_at, pairs_at, map_at, Fault, is_allowed, Read, ◌>>=◌, TermReader, TailReader, all_steps, after_gap, comma_in, behind_comma, behind_item, behind, behind_both, expect, opening, is_sign, enter, enter_as, quoted_at, atom_marks, string_marks, byte_marks, string_at, integer_at, word_at, integer_term_at, word_term_at, quoted_atom_at, element_at, elements_at, separated, items_at, tuple_at, list_at, list_end, list_from, end_at, byte_of, byte_at, segment_as, segment_at, segments_at, bytes_at, binary_at, form_at, tail_form, term_at, tail_at}
+use Rattle.term_text.specs.Reading.{has_key, pair_at, map_at, is_allowed, Read, ◌>>=◌, all_steps, after_gap, comma_in, behind_comma, behind, behind_both, opening, is_sign, enter, quoted_at, atom_marks, string_marks, byte_marks, string_at, integer_term_at, word_term_at, quoted_atom_at, element_at, elements_at, separated, tuple_at, list_at, list_end, byte_at, segment_at, segments_at, binary_at, form_at, tail_form, term_at, tail_at}
 use Rattle.term_text.proofs.Steps.{Shrinks, all_steps_is}
 use Rattle.term_text.proofs.Tokens.{quoted_again, gap_again}
 use Rattle.term_text.proofs.Words.{BeginsInteger, integer_again, integer_begins, word_again, opening_integer, opening_word}

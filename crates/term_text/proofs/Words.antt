@@ -1,8 +1,8 @@
 -- Integers, bare words, and what a term begins with.
-use Rattle.std.proofs.Common.{◌≡◌, ◌≢◌, ℕ, zero, suc, ◌+◌, ◌*◌, ◌≤◌, ◌<◌, ◌⊎◌, inl, inr, Bool, true, false, cond, ◌&&◌, ◌||◌, List, [], ◌∷◌, ◌++◌, length, take, drop, Option, Some, None, Result, Ok, Err, ℤ, pos, neg_ℤ, refl, sym, ap, ◌∙◌, arith, one-add}
-use Rattle.std.specs.Prelude.{IfOk, IfSome, ◌==◌, nat_le, nat_lt}
-use Rattle.std.proofs.lemmas.Bool.{eqb-true, eqb-false, eq-eqb, ne_eqb, leb-true, ltb-true, ltb-false, le-leb, le-ltb, cases_Bool, or_cases, or_parts}
-use Rattle.std.proofs.lemmas.List.{append-nil, length-append, take_at, drop_at}
+use Rattle.std.proofs.Common.{◌≡◌, ℕ, suc, ◌+◌, ◌*◌, ◌≤◌, ◌<◌, ◌⊎◌, inl, inr, Bool, true, false, cond, List, [], ◌∷◌, ◌++◌, length, take, drop, Option, Some, None, Ok, ℤ, refl, sym, ap, ◌∙◌, arith, one-add}
+use Rattle.std.specs.Prelude.{IfOk, IfSome, ◌==◌, nat_lt}
+use Rattle.std.proofs.lemmas.Bool.{eqb-true, leb-true, ltb-false, le-leb, le-ltb, cases_Bool}
+use Rattle.std.proofs.lemmas.List.{take_at, drop_at}
 use Rattle.std.proofs.lemmas.List.Folds.{length-prefix_len}
 use Rattle.std.specs.List.{AllByRecursion, prefix_len}
 use Rattle.std.specs.Option.{option_map}
@@ -14,7 +14,7 @@ use Rattle.term_text.specs.declared.token.Opening.{Opening}
 use Rattle.term_text.specs.declared.token.Opening.TheVariants as opens
 use Rattle.term_text.specs.Text.{EndsRun, Run, Number, Integer}
 use Rattle.term_text.specs.Text.Integer.{unsigned, positive, negative}
-use Rattle.term_text.specs.Reading.{Read, behind, begins, opening, is_sign, number_run, number_at, behind_sign, integer_at, word_at, signed, fits}
+use Rattle.term_text.specs.Reading.{behind, begins, opening, is_sign, number_run, number_at, behind_sign, integer_at, word_at, signed, fits}
 use Rattle.term_text.proofs.Steps.{if_holds}
 use Rattle.term_text.proofs.Tokens.{if_is}
 

@@ -1,26 +1,25 @@
 -- A canonical text spells its term.
-use Rattle.std.proofs.Common.{◌≡◌, ◌≢◌, ◌&&◌, ◌||◌, cond, ℕ, zero, suc, max, ◌+◌, ◌-◌, ◌*◌, ◌/◌, ◌%◌, ◌^◌, ◌≤◌, ◌<◌, ◌⊎◌, inl, inr, Bool, true, false, not, List, [], ◌∷◌, ◌++◌, length, ℤ, pos, negsuc, neg_ℤ, refl, sym, ap, subst, ◌∙◌, arith, append_assoc, decimal}
+use Rattle.std.proofs.Common.{◌≡◌, ℕ, zero, suc, ◌+◌, ◌%◌, ◌^◌, ◌≤◌, ◌<◌, inl, inr, true, false, not, List, [], ◌∷◌, ◌++◌, length, ℤ, pos, negsuc, refl, ap, subst, arith, append_assoc, decimal}
 use Rattle.std.specs.Prelude.{◌==◌, FitsSigned}
 use Rattle.std.specs.Int.{w64}
 use Rattle.std.specs.Fmt.{signed_decimal}
 use Rattle.std.specs.List.{AllByRecursion}
 use Rattle.std.specs.Char.{is_ascii_digit, is_ascii_lowercase, digit_value}
 use Rattle.std.specs.Str.Parse.{digits_value}
-use Rattle.std.proofs.lemmas.Bool.{eqb-true, eqb-false, and_parts, cases_Bool, cases_lt}
+use Rattle.std.proofs.lemmas.Bool.{eqb-true, eqb-false, and_parts, cases_Bool}
 use Rattle.std.proofs.lemmas.Fmt.{decimal_by_steps}
 use Rattle.std.proofs.lemmas.Int.{ints}
 use Rattle.std.proofs.lemmas.Int.Digits.{digits_value_push}
-use Rattle.std.proofs.lemmas.List.{length-append, append-nil}
+use Rattle.std.proofs.lemmas.List.{length-append}
 use Rattle.term_core.specs.Datum.{Datum, Items, Entries, items_of, entries_of, cells, cell_count, item_count, entry_count}
 use Rattle.term_core.specs.Datum.Datum.{integer, atom, tuple, map, nil, cons, binary}
 use Rattle.term_core.specs.Datum.Items.{no_items, item}
 use Rattle.term_core.specs.Datum.Entries.{no_entries, entry}
 use Rattle.term_core.specs.Limits.{depth, tail_depth, items_depth, entries_depth, AreBytes, IsSound, AreSound, ArePairsSound}
 use Rattle.term_core.specs.declared.TheConstants.{MAX_CHARACTERS, MAX_TUPLE, MAX_MAP, MAX_LIST, MAX_BINARY}
-use Rattle.std.specs.List.Sorted.{IsPermutation}
 use Rattle.std.proofs.lemmas.List.Sorted.{IsPermutation-refl}
 use Rattle.term_text.proofs.Sound.{cell_count-cells}
-use Rattle.term_text.specs.Character.{is_word, backslash, single_quote, escaped, comma, bar, equals, greater, less, number_sign, open_brace, close_brace, open_bracket, close_bracket}
+use Rattle.term_text.specs.Character.{is_word, backslash, single_quote, comma, bar, equals, greater, less, number_sign, open_brace, close_brace, open_bracket, close_bracket}
 use Rattle.term_text.specs.Text.{Segment, Segments, Spelled, Elements, Pair, Pairs}
 use Rattle.term_text.proofs.Keys.{AreRising}
 use Rattle.term_text.specs.Text.Gap.{no_gap}
@@ -31,7 +30,7 @@ use Rattle.term_text.specs.Text.Elements.{last, more as more_elements}
 use Rattle.term_text.specs.Text.Pair.{arrow}
 use Rattle.term_text.specs.Text.Pairs.{last_pair, more_pairs}
 use Rattle.term_text.specs.Text.{EndsRun, Run, Number, Integer, Quoted}
-use Rattle.term_text.specs.Text.Integer.{unsigned, positive, negative}
+use Rattle.term_text.specs.Text.Integer.{unsigned, negative}
 use Rattle.term_text.specs.Text.Quoted.{closed, plain, escape}
 use Rattle.term_text.specs.Canonical.{canonical, more_items_text, more_entries_text, tail_text, atom_text, is_bare, is_reserved, bytes_text, more_bytes, quoted_character, quoted_characters, are_word, has_bare_form}
 

@@ -1,9 +1,9 @@
 -- Why a text is refused at a place: what is due there, given what stands before it, and what stands there instead.
-use Rattle.std.specs.Prelude.{ℕ, suc, ◌≡◌, ◌≢◌, ◌+◌, ◌<◌, ◌⊎◌, ℤ, pos, negsuc, List, [], ◌∷◌, ◌++◌, length, IsTrue, Some, None}
+use Rattle.std.specs.Prelude.{ℕ, suc, ◌≡◌, ◌≢◌, ◌+◌, ◌<◌, ◌≤◌, ◌⊎◌, ℤ, pos, negsuc, List, [], ◌∷◌, ◌++◌, length, IsTrue, Some, None}
 use Rattle.std.specs.List.{Contains}
 use Rattle.std.specs.Char.{is_ascii_digit, is_ascii_lowercase}
 use Rattle.std.specs.Str.{encode_utf8_all, chars}
-use Rattle.term_core.specs.Datum.{Datum}
+use Rattle.term_core.specs.Datum.{Datum, cell_count}
 use Rattle.term_core.specs.declared.TheConstants.{MAX_CHARACTERS, MAX_TUPLE, MAX_MAP, MAX_LIST, MAX_BINARY, MAX_DEPTH}
 use Rattle.term_text.specs.Character.{plus, minus, comma, dot, backslash, single_quote, double_quote, open_brace, close_brace, open_bracket, close_bracket, bar, number_sign, equals, less, greater, is_word, escaped}
 use Rattle.term_text.specs.Text.{Gap, Number, Integer, Segment, Spelled, Pair, BeginsGap}
@@ -20,7 +20,7 @@ abbrev pub most_elements : Row → ℕ
 most_elements in_tuple = MAX_TUPLE
 most_elements in_list = MAX_LIST
 
--- what is in quotes, a string's characters having so many levels left
+-- what stands in quotes; a string's characters have so many levels left
 pub data Quotes : Type 0 where
   of_atom : Quotes
   of_string : ℕ → Quotes
@@ -37,6 +37,16 @@ abbrev pub most_characters : Quotes → ℕ
 most_characters of_atom = MAX_CHARACTERS
 most_characters (of_string levels) = MAX_LIST
 most_characters of_bytes = MAX_BINARY
+
+-- a character may stand in the quotes
+abbrev pub MayStand : Quotes → ℕ → Type 0
+MayStand of_atom c = Unit {0}
+MayStand (of_string levels) c = 0 < levels
+MayStand of_bytes c = c < 256
+
+-- no pair has the key
+abbrev pub IsNew : Datum → List (Datum × Datum) → Type 0
+IsNew key es = (v : Datum) → ¬ Contains es (key, v)
 
 -- what may be due
 pub data Place : Type 0 where
@@ -55,29 +65,30 @@ pub data Place : Type 0 where
   -- a character of a bare word behind so many
   a_letter : ℕ → Place
 
--- Reading a text from its beginning, this is due where that follows.
+-- Reading the text from its beginning, without fault so far, the place is due where the last argument is what is left of
+-- it.
 pub data Due (text : List ℕ) : Place → List ℕ → Type 0 where
   first : {t : List ℕ} → Gap text t → Due text a_sentence t
   behind_dot : {t u v w : List ℕ} {d : Datum} → Due text a_sentence t → Spelled MAX_DEPTH t d u → Gap u (dot ∷ v) → BeginsGap v → Gap v w → Due text a_sentence w
   outermost : {t : List ℕ} → Due text a_sentence t → Due text (a_term MAX_DEPTH 0) t
   in_braces : {n k : ℕ} {t u : List ℕ} → Due text (a_term (suc n) k) (open_brace ∷ t) → Gap t u → Due text (an_element in_tuple n 0) u
   in_brackets : {n k : ℕ} {t u : List ℕ} → Due text (a_term (suc n) k) (open_bracket ∷ t) → Gap t u → Due text (an_element in_list n k) u
-  next_element : {r : Row} {n k : ℕ} {t u v w : List ℕ} {d : Datum} → Due text (an_element r n k) t → Spelled n t d u → Gap u (comma ∷ v) → Gap v w → Due text (an_element r n (suc k)) w
+  next_element : {r : Row} {n k : ℕ} {t u v w : List ℕ} {d : Datum} → Due text (an_element r n k) t → k < most_elements r → Spelled n t d u → Gap u (comma ∷ v) → Gap v w → Due text (an_element r n (suc k)) w
   element : {r : Row} {n k : ℕ} {t : List ℕ} → Due text (an_element r n k) t → Due text (a_term n 0) t
-  tail : {n k : ℕ} {t u v w : List ℕ} {d : Datum} → Due text (an_element in_list n k) t → Spelled n t d u → Gap u (bar ∷ v) → Gap v w → Due text (a_term n (suc k)) w
+  tail : {n k : ℕ} {t u v w : List ℕ} {d : Datum} → Due text (an_element in_list n k) t → k < MAX_LIST → Spelled n t d u → Gap u (bar ∷ v) → Gap v w → Due text (a_term n (suc k)) w
   in_map : {n k : ℕ} {t u : List ℕ} → Due text (a_term (suc n) k) (number_sign ∷ open_brace ∷ t) → Gap t u → Due text (a_pair n []) u
-  next_pair : {n : ℕ} {es : List (Datum × Datum)} {t u v w : List ℕ} {key value : Datum} → Due text (a_pair n es) t → Pair n t key value u → Gap u (comma ∷ v) → Gap v w → Due text (a_pair n ((key, value) ∷ es)) w
+  next_pair : {n : ℕ} {es : List (Datum × Datum)} {t u v w : List ℕ} {key value : Datum} → Due text (a_pair n es) t → length es < MAX_MAP → IsNew key es → Pair n t key value u → Gap u (comma ∷ v) → Gap v w → Due text (a_pair n ((key, value) ∷ es)) w
   key : {n : ℕ} {es : List (Datum × Datum)} {t : List ℕ} → Due text (a_pair n es) t → Due text (a_term n 0) t
-  value : {n : ℕ} {es : List (Datum × Datum)} {t u v w : List ℕ} {k : Datum} → Due text (a_pair n es) t → Spelled n t k u → Gap u (equals ∷ greater ∷ v) → Gap v w → Due text (a_term n 0) w
+  value : {n : ℕ} {es : List (Datum × Datum)} {t u v w : List ℕ} {k : Datum} → Due text (a_pair n es) t → length es < MAX_MAP → IsNew k es → Spelled n t k u → Gap u (equals ∷ greater ∷ v) → Gap v w → Due text (a_term n 0) w
   in_binary : {n k : ℕ} {t u : List ℕ} → Due text (a_term (suc n) k) (less ∷ less ∷ t) → Gap t u → Due text (a_segment 0) u
-  next_segment : {k : ℕ} {t u v w bytes : List ℕ} → Due text (a_segment k) t → Segment t bytes u → Gap u (comma ∷ v) → Gap v w → Due text (a_segment (k + length bytes)) w
+  next_segment : {k : ℕ} {t u v w bytes : List ℕ} → Due text (a_segment k) t → Segment t bytes u → k + length bytes ≤ MAX_BINARY → Gap u (comma ∷ v) → Gap v w → Due text (a_segment (k + length bytes)) w
   in_atom : {n k : ℕ} {t : List ℕ} → Due text (a_term (suc n) k) (single_quote ∷ t) → Due text (a_character of_atom 0) t
   in_string : {n k : ℕ} {t : List ℕ} → Due text (a_term (suc n) k) (double_quote ∷ t) → Due text (a_character (of_string n) k) t
   in_bytes : {k : ℕ} {t : List ℕ} → Due text (a_segment k) (double_quote ∷ t) → Due text (a_character of_bytes k) t
-  behind_plain : {q : Quotes} {k c : ℕ} {t : List ℕ} → Due text (a_character q k) (c ∷ t) → c ≢ mark_of q → c ≢ backslash → Due text (a_character q (suc k)) t
-  behind_escape : {q : Quotes} {k e c : ℕ} {t : List ℕ} → Due text (a_character q k) (backslash ∷ e ∷ t) → escaped e ≡ Some c → Due text (a_character q (suc k)) t
+  behind_plain : {q : Quotes} {k c : ℕ} {t : List ℕ} → Due text (a_character q k) (c ∷ t) → c ≢ mark_of q → c ≢ backslash → k < most_characters q → MayStand q c → Due text (a_character q (suc k)) t
+  behind_escape : {q : Quotes} {k e c : ℕ} {t : List ℕ} → Due text (a_character q k) (backslash ∷ e ∷ t) → escaped e ≡ Some c → k < most_characters q → MayStand q c → Due text (a_character q (suc k)) t
   in_word : {n k c : ℕ} {t : List ℕ} → Due text (a_term (suc n) k) (c ∷ t) → IsTrue (is_ascii_lowercase c) → Due text (a_letter 0) (c ∷ t)
-  next_letter : {k c : ℕ} {t : List ℕ} → Due text (a_letter k) (c ∷ t) → IsTrue (is_word c) → Due text (a_letter (suc k)) t
+  next_letter : {k c : ℕ} {t : List ℕ} → Due text (a_letter k) (c ∷ t) → k < MAX_CHARACTERS → IsTrue (is_word c) → Due text (a_letter (suc k)) t
 
 -- an integer begins: a digit, or a sign directly in front of one
 pub data BeginsInteger : List ℕ → Type 0 where
@@ -159,11 +170,11 @@ pub data IsUnexpected (text : List ℕ) : List ℕ → Type 0 where
   the_end : IsUnexpected text []
   no_term : {n k : ℕ} {rest : List ℕ} → Due text (a_term n k) rest → ¬ BeginsTerm rest → IsUnexpected text rest
   no_segment : {k : ℕ} {rest : List ℕ} → Due text (a_segment k) rest → ¬ BeginsInteger rest → ¬ BeginsWith double_quote rest → IsUnexpected text rest
-  behind_element : {r : Row} {n k : ℕ} {t u rest : List ℕ} {d : Datum} → Due text (an_element r n k) t → Spelled n t d u → Gap u rest → ¬ FollowsElement r rest → IsUnexpected text rest
-  behind_tail : {n k : ℕ} {t u rest : List ℕ} {d : Datum} → Due text (a_term n (suc k)) t → Spelled n t d u → Gap u rest → ¬ BeginsWith close_bracket rest → IsUnexpected text rest
-  behind_key : {n : ℕ} {es : List (Datum × Datum)} {t u rest : List ℕ} {d : Datum} → Due text (a_pair n es) t → Spelled n t d u → Gap u rest → ¬ BeginsWithBoth equals greater rest → IsUnexpected text rest
-  behind_pair : {n : ℕ} {es : List (Datum × Datum)} {t u rest : List ℕ} {key value : Datum} → Due text (a_pair n es) t → Pair n t key value u → Gap u rest → ¬ BeginsWith comma rest → ¬ BeginsWith close_brace rest → IsUnexpected text rest
-  behind_segment : {k : ℕ} {t u rest bytes : List ℕ} → Due text (a_segment k) t → Segment t bytes u → Gap u rest → ¬ BeginsWith comma rest → ¬ BeginsWithBoth greater greater rest → IsUnexpected text rest
+  behind_element : {r : Row} {n k : ℕ} {t u rest : List ℕ} {d : Datum} → Due text (an_element r n k) t → k < most_elements r → Spelled n t d u → Gap u rest → ¬ FollowsElement r rest → IsUnexpected text rest
+  behind_tail : {n k : ℕ} {t u rest : List ℕ} {d : Datum} → Due text (a_term n (suc k)) t → Spelled n t d u → suc k + cell_count d ≤ MAX_LIST → Gap u rest → ¬ BeginsWith close_bracket rest → IsUnexpected text rest
+  behind_key : {n : ℕ} {es : List (Datum × Datum)} {t u rest : List ℕ} {d : Datum} → Due text (a_pair n es) t → length es < MAX_MAP → IsNew d es → Spelled n t d u → Gap u rest → ¬ BeginsWithBoth equals greater rest → IsUnexpected text rest
+  behind_pair : {n : ℕ} {es : List (Datum × Datum)} {t u rest : List ℕ} {key value : Datum} → Due text (a_pair n es) t → length es < MAX_MAP → IsNew key es → Pair n t key value u → Gap u rest → ¬ BeginsWith comma rest → ¬ BeginsWith close_brace rest → IsUnexpected text rest
+  behind_segment : {k : ℕ} {t u rest bytes : List ℕ} → Due text (a_segment k) t → Segment t bytes u → k + length bytes ≤ MAX_BINARY → Gap u rest → ¬ BeginsWith comma rest → ¬ BeginsWithBoth greater greater rest → IsUnexpected text rest
   no_dot : {t u rest : List ℕ} {d : Datum} → Due text a_sentence t → Spelled MAX_DEPTH t d u → Gap u rest → ¬ BeginsDot rest → IsUnexpected text rest
 
 -- at this byte of the characters, in UTF-8, begins what is such

@@ -60,7 +60,7 @@ pub fn read_terms<A: Allocator + Copy>(alloc: A, bytes: &[u8]) -> Result<Vec<Ter
     ensures ok { IfOk result (λ terms. Spells bytes.now terms.items) }
     // What is spelled so is read, unless memory runs out.
     ensures only { (ds : List Datum) → Spells bytes.now ds → MatchResult result (λ terms. terms.items ≡ ds) (λ fault. fault ≡ TextFault.Memory) }
-    // Elsewhere, what the refusal names stands where it says.
+    // What a refusal names stands at its byte, and what stands before has no fault.
     ensures cause { IfErr result (λ fault. HasCause bytes.now fault) }
     // The first byte that begins no UTF-8.
     ensures bad_utf8 { (at : ℕ) → IsErrOf result (TextFault.BadUtf8 at) ↔ IsValidUpTo bytes.now at }

@@ -1,8 +1,8 @@
-use Rattle.std.proofs.Common.{◌≡◌, ◌<◌, ◌-◌, [], ◌∷◌, ◌++◌, List, ℕ, true, false, length, Ok, refl, sym, ap, ◌∙◌, arith}
+use Rattle.std.proofs.Common.{◌≡◌, ◌-◌, true, false, length, sym, ◌∙◌, arith}
 use Rattle.std.proofs.lemmas.Result.{err_from_is_err_and}
 use Rattle.term_core.specs.declared.TheConstants.{MAX_MAP}
 use Rattle.term_text.specs.Reading.{separated, element_at, pair_at, term_at, tail_at, has_key}
-use Rattle.term_text.proofs.Steps.{ends, goes_on, is_done, Shrinks}
+use Rattle.term_text.proofs.Steps.{ends, goes_on, is_done}
 use Rattle.term_text.proofs.Sound.{term_holds, element_shrinks, pair_shrinks}
 use Rattle.term_text.proofs.Readers.{bind_fails, term_fails, tail_fails, term_is, tail_is, tail_form_is, element_fails, element_is, item_fails, item_is, has_key-lookup, pair_twice, pair_no_arrow, pair_no_value, pair_is, with_rest}
 use Rattle.term_text.proofs.Within.{list_within}

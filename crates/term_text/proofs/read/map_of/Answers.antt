@@ -1,5 +1,5 @@
-use Rattle.std.proofs.Common.{◌≡◌, List, Result, Ok, refl, sym, ap, ◌∙◌}
-use Rattle.term_core.specs.Datum.{Datum, entries_of}
+use Rattle.std.proofs.Common.{◌≡◌, refl}
+use Rattle.term_core.specs.Datum.{entries_of}
 use Rattle.term_core.specs.Datum.Datum.{map}
 use Rattle.term_text.proofs.Keys.{map_of_sorted}
 use Rattle.term_text.proofs.Within.{memory_alone_map}

@@ -1,7 +1,6 @@
-use Rattle.std.proofs.Common.{◌≡◌, [], length, Ok, refl}
 use Rattle.std.proofs.lemmas.Result.{err_from_is_err_and}
 use Rattle.term_text.specs.Reading.{separated, segment_at}
-use Rattle.term_text.proofs.Steps.{ends, goes_on, is_done, Shrinks}
+use Rattle.term_text.proofs.Steps.{ends, goes_on, is_done}
 use Rattle.term_text.proofs.Sound.{segment_shrinks}
 use Rattle.term_text.proofs.Readers.{item_fails, item_is}
 use Rattle.term_text.proofs.read.segments.Goals as goal

@@ -1,8 +1,8 @@
-use Rattle.std.proofs.Common.{◌≡◌, ◌≢◌, ◌<◌, ℕ, [], length, true, false, Ok, refl, sym, ap, ◌∙◌, arith}
+use Rattle.std.proofs.Common.{◌≡◌, ◌≢◌, [], length, refl, sym, ◌∙◌, arith}
 use Rattle.std.proofs.lemmas.Bool.{eqb-true, eqb-false}
 use Rattle.std.proofs.lemmas.Result.{err_from_is_err_and}
 use Rattle.term_text.specs.Reading.{sentence_step}
-use Rattle.term_text.proofs.Steps.{ends, goes_on, is_done, Shrinks}
+use Rattle.term_text.proofs.Steps.{ends, goes_on, is_done}
 use Rattle.term_text.proofs.Texts.{sentence_shrinks}
 use Rattle.term_text.proofs.Readers.{sentence_fails, sentence_is, no_sentence, text_fails, text_is}
 use Rattle.term_text.proofs.read.terms.Goals as goal

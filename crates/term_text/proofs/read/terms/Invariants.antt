@@ -1,4 +1,4 @@
-use Rattle.std.proofs.Common.{◌≡◌, ◌++◌, [], false, length}
+use Rattle.std.proofs.Common.{◌≡◌, [], false, length}
 use Rattle.term_text.specs.Reading.{all_steps, sentence_step, after_gap}
 use Rattle.term_text.proofs.read.terms.Given as goal
 

@@ -1,4 +1,4 @@
-use Rattle.std.proofs.Common.{◌≡◌, ◌<◌, arith, take, length}
+use Rattle.std.proofs.Common.{arith}
 use Rattle.term_text.proofs.Publics.{fewer_bytes}
 use Rattle.term_text.proofs.text.fault.Goals as goal
 

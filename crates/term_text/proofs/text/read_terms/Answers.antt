@@ -1,6 +1,5 @@
-use Rattle.std.proofs.Common.{◌≡◌, ◌<◌, ℕ, List, length, refl, sym, ap, subst, ◌∙◌, arith, rules}
-use Rattle.std.specs.Str.{encode_utf8_all, chars, IsValidUpTo}
-use Rattle.std.proofs.lemmas.Str.{chars_from_encodes, encodes-chars}
+use Rattle.std.proofs.Common.{◌≡◌, refl, sym, ap, ◌∙◌}
+use Rattle.std.specs.Str.{chars, IsValidUpTo}
 use Rattle.term_text.proofs.BlamesTerms.{has_cause}
 use Rattle.term_text.proofs.Publics.{read_is_spelled, spelled_is_read, spelled_stops, not_both, one_end, no_bad_utf8}
 use Rattle.term_text.proofs.text.read_terms.Goals as goal

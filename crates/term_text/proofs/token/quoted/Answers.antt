@@ -1,7 +1,7 @@
-use Rattle.std.proofs.Common.{◌≡◌, ◌++◌, ◌∷◌, ◌<◌, [], List, ℕ, true, false, length, Option, Some, None, Ok, refl, sym, ap, ◌∙◌, arith}
+use Rattle.std.proofs.Common.{◌≡◌, length, Ok, refl, arith}
 use Rattle.std.proofs.lemmas.Result.{err_from_is_err_and}
 use Rattle.term_text.specs.Reading.{quoted_step, quoted_at}
-use Rattle.term_text.proofs.Steps.{ends, goes_on, is_done, Shrinks}
+use Rattle.term_text.proofs.Steps.{ends, goes_on, is_done}
 use Rattle.term_text.proofs.Tokens.{quoted_shrinks, quoted_step_fails, quoted_step_is, quoted_allowed}
 use Rattle.term_text.proofs.token.quoted.Goals as goal
 
