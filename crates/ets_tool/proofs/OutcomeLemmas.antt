@@ -21,9 +21,9 @@ pub outcome_line : (d : Datum) → line (outcome_of (Some d)) ≡ codes "{ok," +
 outcome_line d =
     let text = encode_utf8_all (canonical d) in
     let more : encode_utf8_all (more_items_text (item d no_items)) ≡ comma ∷ text =
-        more_items_bytes d [] ∙ ap (λ (l : List ℕ). comma ∷ (text ++ l)) no_more_items ∙ ap (λ (l : List ℕ). comma ∷ l) (append-nil text) in
+    more_items_bytes d [] ∙ ap (λ (l : List ℕ). comma ∷ (text ++ l)) no_more_items ∙ ap (λ (l : List ℕ). comma ∷ l) (append-nil text) in
     let items : encode_utf8_all (items_text (item ok_term (item d no_items))) ≡ codes "ok" ++ (comma ∷ text) =
-        items_bytes ok_term (d ∷ []) ∙ ap (λ (l : List ℕ). l ++ encode_utf8_all (more_items_text (item d no_items))) ok_bytes ∙ ap (λ (l : List ℕ). codes "ok" ++ l) more in
+    items_bytes ok_term (d ∷ []) ∙ ap (λ (l : List ℕ). l ++ encode_utf8_all (more_items_text (item d no_items))) ok_bytes ∙ ap (λ (l : List ℕ). codes "ok" ++ l) more in
     ap (λ (l : List ℕ). l ++ 46 ∷ 10 ∷ []) (tuple_bytes (item ok_term (item d no_items)) ∙ ap (λ (l : List ℕ). open_brace ∷ (l ++ close_brace ∷ [])) items)
     ∙ ap (λ (l : List ℕ). codes "{ok," ++ l) (append_assoc text (close_brace ∷ []) (46 ∷ 10 ∷ []))
 

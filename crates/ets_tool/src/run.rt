@@ -74,7 +74,13 @@ fn run_on<A: Allocator + Copy, W: Write>(
     ensures refused { IfErr result (StopsRun report input.now (W.contents writer.old) (W.contents writer.new)) }
 {
     let query = query_of(alloc, input)?;
-    write_answers(alloc, report, &query.specification, &query.terms[1..], writer)
+    write_answers(
+        alloc,
+        report,
+        &query.specification,
+        &query.terms[1..],
+        writer,
+    )
 }
 
 /// The query that an input spells.

@@ -69,11 +69,20 @@ fn specifications_are_answered(rt: HostRuntime) {
 #[test]
 fn conditions_and_bodies_are_evaluated(rt: HostRuntime) {
     for (input, output) in [
-        ("[{{'$1','$2'},[{'>','$1',1}],['$2']}]. {1,a}. {2,b}.", "b.\n"),
+        (
+            "[{{'$1','$2'},[{'>','$1',1}],['$2']}]. {1,a}. {2,b}.",
+            "b.\n",
+        ),
         ("[{{'$1','$2'},[true],['$2']}]. {1,a}. {2,b}.", "a.\nb.\n"),
-        ("[{{'$1'},[{hd,'$1'}],['$1']},{'_',[],[other]}]. {5}.", "other.\n"),
+        (
+            "[{{'$1'},[{hd,'$1'}],['$1']},{'_',[],[other]}]. {5}.",
+            "other.\n",
+        ),
         ("[{{'$1'},[],[{{{hd,'$1'},ok}}]}]. {5}.", "{'EXIT',ok}.\n"),
-        ("[{{'$1'},[],[{'+','$1',1}]}]. {9223372036854775807}.", "'EXIT'.\n"),
+        (
+            "[{{'$1'},[],[{'+','$1',1}]}]. {9223372036854775807}.",
+            "'EXIT'.\n",
+        ),
         ("[{'_',[],[{'orelse',true,{hd,5}}]}]. {1}.", "true.\n"),
         ("[{'_',[],[{'or',true,{hd,5}}]}]. {1}.", "'EXIT'.\n"),
         ("[{{'$1'},[],[{'bsl','$1',-1}]}]. {-1}.", "-1.\n"),
@@ -81,7 +90,10 @@ fn conditions_and_bodies_are_evaluated(rt: HostRuntime) {
             "[{'$1',[],['$1']}]. #{b=>1,a=>2}. \"hi\". <<\"ok\">>. 'and'. [a|b].",
             "#{a=>2,b=>1}.\n[104,105].\n<<111,107>>.\n'and'.\n[a|b].\n",
         ),
-        ("[{{#{a=>'$1'}},[],['$1']}]. {#{a=>1,b=>2}}. {#{b=>2}}.", "1.\n"),
+        (
+            "[{{#{a=>'$1'}},[],['$1']}]. {#{a=>1,b=>2}}. {#{b=>2}}.",
+            "1.\n",
+        ),
         (
             "[{'_',[],[[{'div',-7,2},{'rem',-7,2},{'bsr',-7,1},{'bsl',1,63},{'bsl',0,1000},{'bsr',-1,1000},{abs,-9223372036854775808}]]}]. {1}.",
             "[-3,-1,-4,'EXIT',0,-1,'EXIT'].\n",
@@ -117,7 +129,10 @@ fn outcomes_are_shown(rt: HostRuntime) {
         ("[{'_',[],[false]}]. {1}.", "{ok,false}.\n"),
     ] {
         let written = tested(rt.alloc(), input);
-        assert!(rt; written.is_some_and(|lines| lines.as_slice() == output.as_bytes()), "{input}");
+        assert!(rt;
+            written.is_some_and(|lines| lines.as_slice() == output.as_bytes()),
+            "{input}"
+        );
     }
     assert!(rt; tested(rt.alloc(), "a.").is_none());
 }

@@ -43,7 +43,8 @@ Example:
 writes
   {1,1}.";
 
-const TEST_ABOUT: &str = "Reads a specification and then objects, and writes how each object comes out";
+const TEST_ABOUT: &str =
+    "Reads a specification and then objects, and writes how each object comes out";
 
 const TEST_EXAMPLE: &str = "\
 Reads from standard input, as term text: a match specification, then the

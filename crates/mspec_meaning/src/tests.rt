@@ -321,11 +321,16 @@ fn what_is_too_deep_fails(rt: HostRuntime) {
 #[test]
 fn each_request_is_refused_in_turn(rt: HostRuntime) {
     let alloc = rt.alloc();
-    let text = b"[{{'$1','$2'},[{'=:=',{length,['$1'|'$2']},3},{is_map,#{k=>'$$'}}],[{{[a,'$1'|'$2'],#{k=>{tl,'$2'}},'$$',{hd,1},{hd,{tl,'$$'}}}}]}]. {1,[b,c]}. {2,b}.";
+    let text =
+        b"[{{'$1','$2'},[{'=:=',{length,['$1'|'$2']},3},{is_map,#{k=>'$$'}}],[{{[a,'$1'|'$2'],#{k=>{tl,'$2'}},'$$',{hd,1},{hd,{tl,'$$'}}}}]}]. {1,[b,c]}. {2,b}.";
     let expected = b"{[a,1,b,c],#{k=>[c]},[1,[b,c]],'EXIT',[b,c]}.";
-    let outcome = sweep(alloc, 2_000, |heap| match answers(alloc, heap, text.as_slice()) {
-        Some(out) => out.as_slice() == expected.as_slice(),
-        None => heap.was_refused(),
-    });
+    let outcome = sweep(
+        alloc,
+        2_000,
+        |heap| match answers(alloc, heap, text.as_slice()) {
+            Some(out) => out.as_slice() == expected.as_slice(),
+            None => heap.was_refused(),
+        },
+    );
     assert!(rt; outcome.is_complete(), "{outcome:?}");
 }

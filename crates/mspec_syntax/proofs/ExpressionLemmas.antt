@@ -347,6 +347,7 @@ quotes-one cs n e = by (n == 1) refl (pointwise nat_eq cs (codes "const")) refl 
     no_function : (o : Option Rattle.prims.specs.declared.prim.Primitive.Primitive) → function_callee o ≡ callee.Quote → ⊥
     no_function None e = absurd (cc)
     no_function (Some f) e = absurd (cc)
+
     by : (a : Bool) → (n == 1) ≡ a → (b : Bool) → pointwise nat_eq cs (codes "const") ≡ b → (c d : Bool) → cond (a && b) callee.Quote (cond c callee.AndAlso (cond d callee.OrElse (function_callee (named cs n)))) ≡ callee.Quote → n ≡ 1
     by true same b is c d e = eqb-true n 1 same
     by false same b is true d e = absurd (cc)

@@ -57,10 +57,7 @@ fn read_atom<A: Allocator + Copy>(
 }
 
 /// A term that stands for itself.
-fn read_constant<A: Allocator + Copy>(
-    alloc: A,
-    term: &Term<A>,
-) -> Result<Expression<A>, SpecFault>
+fn read_constant<A: Allocator + Copy>(alloc: A, term: &Term<A>) -> Result<Expression<A>, SpecFault>
     ensures ok { IfOk result (λ e. e ≡ constant term.now) }
     ensures refused { IfErr result (λ f. f ≡ SpecFault.Memory) }
 {

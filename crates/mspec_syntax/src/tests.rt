@@ -121,7 +121,11 @@ fn calls_that_are_refused(rt: HostRuntime) {
         "[{'$1',[],[{'$1',1}]}].",
         "[{'_',[],[{'_'}]}].",
     ] {
-        assert_eq!(rt; outcome(rt.alloc(), text), Some(Err(SpecFault::UnknownCall(0))), "{text}");
+        assert_eq!(rt;
+            outcome(rt.alloc(), text),
+            Some(Err(SpecFault::UnknownCall(0))),
+            "{text}"
+        );
     }
 }
 
@@ -130,23 +134,35 @@ fn each_refusal_at_each_place(rt: HostRuntime) {
     for (text, want) in [
         // A condition, a body, inside a call, a construction, a list, its tail and a map, and a second clause.
         ("[{'_',['$1'],[1]}].", SpecFault::Unbound(0, 1)),
-        ("[{'_',[],[1,'$12345678']}].", SpecFault::Unbound(0, 12_345_678)),
+        (
+            "[{'_',[],[1,'$12345678']}].",
+            SpecFault::Unbound(0, 12_345_678),
+        ),
         ("[{'_',[{'+',1,'$1'}],[1]}].", SpecFault::Unbound(0, 1)),
         ("[{'_',[{'andalso','$1'}],[1]}].", SpecFault::Unbound(0, 1)),
         ("[{'_',[],[{{a,'$1'}}]}].", SpecFault::Unbound(0, 1)),
         ("[{'_',[],[[a,'$1']]}].", SpecFault::Unbound(0, 1)),
         ("[{'_',[],[[a|'$1']]}].", SpecFault::Unbound(0, 1)),
         ("[{'_',[],[#{a=>'$1'}]}].", SpecFault::Unbound(0, 1)),
-        ("[{'$1',[],['$1']},{'$2',[],['$1']}].", SpecFault::Unbound(1, 1)),
+        (
+            "[{'$1',[],['$1']},{'$2',[],['$1']}].",
+            SpecFault::Unbound(1, 1),
+        ),
         ("[{'_',['$01'],[1]}].", SpecFault::BadVariableName(0)),
         ("[{'_',[],[{hd,'$01'}]}].", SpecFault::BadVariableName(0)),
         ("[{'_',[],[[[a|'$00']]]}].", SpecFault::BadVariableName(0)),
         ("[{'_',[],[#{a=>'$01'}]}].", SpecFault::BadVariableName(0)),
-        ("[{'_',[],[a]},{{a,{'$01'}},[],[a]}].", SpecFault::BadVariableName(1)),
+        (
+            "[{'_',[],[a]},{{a,{'$01'}},[],[a]}].",
+            SpecFault::BadVariableName(1),
+        ),
         ("[{'_',[{hd,{foo}}],[1]}].", SpecFault::UnknownCall(0)),
         ("[{'_',[],[{{{foo}}}]}].", SpecFault::UnknownCall(0)),
         ("[{'_',[],[[{foo}]]}].", SpecFault::UnknownCall(0)),
-        ("[{'_',[],[a]},{'_',[],[#{a=>{foo}}]}].", SpecFault::UnknownCall(1)),
+        (
+            "[{'_',[],[a]},{'_',[],[#{a=>{foo}}]}].",
+            SpecFault::UnknownCall(1),
+        ),
         ("[{'_',[{}],[1]}].", SpecFault::BadExpression(0)),
         ("[{'_',[],[{1,2}]}].", SpecFault::BadExpression(0)),
         ("[{'_',[],[{{a},b}]}].", SpecFault::BadExpression(0)),
@@ -156,9 +172,18 @@ fn each_refusal_at_each_place(rt: HostRuntime) {
         ("[{'_',[],[{[]}]}].", SpecFault::BadExpression(0)),
         ("[{'_',[],[{hd,{}}]}].", SpecFault::BadExpression(0)),
         ("[{'_',[],[[a|{}]]}].", SpecFault::BadExpression(0)),
-        ("[{'_',[],[a]},{'_',[{{{}}}],[a]}].", SpecFault::BadExpression(1)),
-        ("[{{a,#{x=>#{'_'=>1}}},[],[1]}].", SpecFault::VariableInMapKey(0)),
-        ("[{'_',[],[a]},{{#{'$1'=>2}},[],[1]}].", SpecFault::VariableInMapKey(1)),
+        (
+            "[{'_',[],[a]},{'_',[{{{}}}],[a]}].",
+            SpecFault::BadExpression(1),
+        ),
+        (
+            "[{{a,#{x=>#{'_'=>1}}},[],[1]}].",
+            SpecFault::VariableInMapKey(0),
+        ),
+        (
+            "[{'_',[],[a]},{{#{'$1'=>2}},[],[1]}].",
+            SpecFault::VariableInMapKey(1),
+        ),
     ] {
         assert_eq!(rt; outcome(rt.alloc(), text), Some(Err(want)), "{text}");
     }
@@ -172,9 +197,18 @@ fn the_first_fault_is_answered(rt: HostRuntime) {
         ("[{'_',[],[{hd,'$1','$01'}]}].", SpecFault::UnknownCall(0)),
         ("[{'_',[],[{'+','$1','$01'}]}].", SpecFault::Unbound(0, 1)),
         ("[{'_',[],[{1,'$1'}]}].", SpecFault::BadExpression(0)),
-        ("[{'_',[],[#{b=>'$1',a=>'$01'}]}].", SpecFault::BadVariableName(0)),
-        ("[{{#{'$1'=>'$01','$01'=>2}},[],[1]}].", SpecFault::BadVariableName(0)),
-        ("[{{#{{'$1','$01'}=>2}},[],[1]}].", SpecFault::VariableInMapKey(0)),
+        (
+            "[{'_',[],[#{b=>'$1',a=>'$01'}]}].",
+            SpecFault::BadVariableName(0),
+        ),
+        (
+            "[{{#{'$1'=>'$01','$01'=>2}},[],[1]}].",
+            SpecFault::BadVariableName(0),
+        ),
+        (
+            "[{{#{{'$1','$01'}=>2}},[],[1]}].",
+            SpecFault::VariableInMapKey(0),
+        ),
         // The head, the conditions, the body; a list of conditions before what stands in it.
         ("[{{'$01'},['$1'],[]}].", SpecFault::BadVariableName(0)),
         ("[{'_',['$1'|a],[]}].", SpecFault::BadConditions(0)),
@@ -234,9 +268,13 @@ fn nodes_of_expressions(rt: HostRuntime) {
 
 #[test]
 fn each_request_is_refused_in_turn(rt: HostRuntime) {
-    let text = "[{{a,'$2',#{k=>'$1'},[b|'_']},[{'>','$1',1},{'andalso',true}],[{{a,{const,[b]}}},[a,'$$'|'$_'],#{k=>'$2'}]}].";
+    let text =
+        "[{{a,'$2',#{k=>'$1'},[b|'_']},[{'>','$1',1},{'andalso',true}],[{{a,{const,[b]}}},[a,'$$'|'$_'],#{k=>'$2'}]}].";
     let reading = sweep(rt.alloc(), 1_000, |heap| {
-        matches!(outcome(heap, text), None | Some(Err(SpecFault::Memory)) | Some(Ok(1)))
+        matches!(
+            outcome(heap, text),
+            None | Some(Err(SpecFault::Memory)) | Some(Ok(1))
+        )
     });
     assert!(rt; reading.is_complete(), "{reading:?}");
     assert_eq!(rt; outcome(rt.alloc(), text), Some(Ok(1)));

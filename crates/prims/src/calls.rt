@@ -56,8 +56,12 @@ fn of_two<'a, A: Allocator>(
         }
         Primitive::Extreme(extreme) => Some(order::extreme(extreme, left, right)),
         Primitive::Arithmetic(function) => Some(Operand::Int(at_integers(function, left, right)?)),
-        Primitive::Tuple(TupleFunction::Element) => Some(Operand::Term(tuples::element(left, right)?)),
-        Primitive::Map(MapFunction::IsMapKey) => Some(Operand::Bool(maps::is_map_key(left, right)?)),
+        Primitive::Tuple(TupleFunction::Element) => Some(Operand::Term(tuples::element(
+            left, right,
+        )?)),
+        Primitive::Map(MapFunction::IsMapKey) => Some(Operand::Bool(maps::is_map_key(
+            left, right,
+        )?)),
         Primitive::Map(MapFunction::MapGet) => Some(Operand::Term(maps::map_get(left, right)?)),
         Primitive::Tuple(TupleFunction::IsRecord) | Primitive::Map(MapFunction::MapSize) => None,
         Primitive::Test(_) | Primitive::Boolean(_) | Primitive::Integer(_) => None,
@@ -85,7 +89,10 @@ fn of_three<'a, A: Allocator>(
 /// What the function gives for these operands, none where the call fails: where an operand is of the wrong kind, their
 /// number is another, or the result is an integer outside 64 bits. (ERTS User's Guide, "Match Specifications in
 /// Erlang".) Takes no memory.
-pub fn call<'a, A: Allocator>(prim: Primitive, operands: &[Operand<'a, A>]) -> Option<Operand<'a, A>>
+pub fn call<'a, A: Allocator>(
+    prim: Primitive,
+    operands: &[Operand<'a, A>],
+) -> Option<Operand<'a, A>>
     ensures value { option_map operand_datum result ≡ function_of prim (map operand_datum operands.now) }
     ensures kind { IfSome result (λ v. IsGiven (gives_of prim) (operand_datum v)) }
 {

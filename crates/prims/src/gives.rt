@@ -26,11 +26,11 @@ impl Primitive {
                 Gives::Boolean
             }
             Primitive::Integer(_) | Primitive::Arithmetic(_) | Primitive::Size(_) => Gives::Integer,
-            Primitive::List(ListFunction::Length) | Primitive::Map(MapFunction::MapSize) => Gives::Integer,
+            Primitive::List(ListFunction::Length) | Primitive::Map(MapFunction::MapSize) =>
+                Gives::Integer,
             Primitive::Extreme(_) | Primitive::Tuple(TupleFunction::Element) => Gives::Any,
-            Primitive::List(ListFunction::Hd | ListFunction::Tl) | Primitive::Map(MapFunction::MapGet) => {
-                Gives::Any
-            }
+            Primitive::List(ListFunction::Hd | ListFunction::Tl)
+            | Primitive::Map(MapFunction::MapGet) => { Gives::Any }
         }
     }
 }

@@ -252,9 +252,11 @@ impl Primitive {
         ensures { result ≡ spec.arity_of self }
     {
         match self {
-            Primitive::Test(_) | Primitive::Integer(_) | Primitive::List(_) | Primitive::Size(_) => 1,
+            Primitive::Test(_) | Primitive::Integer(_) | Primitive::List(_) | Primitive::Size(_) =>
+                1,
             Primitive::Comparison(_) | Primitive::Extreme(_) | Primitive::Arithmetic(_) => 2,
-            Primitive::Boolean(BooleanFunction::Not | BooleanFunction::And | BooleanFunction::Or) => 1,
+            Primitive::Boolean(BooleanFunction::Not | BooleanFunction::And | BooleanFunction::Or) =>
+                1,
             Primitive::Boolean(BooleanFunction::Xor) => 2,
             Primitive::Tuple(TupleFunction::IsRecord) => 3,
             Primitive::Tuple(TupleFunction::Element) => 2,
