@@ -1,0 +1,6 @@
+pub mod Function
+pub mod Instr
+pub mod Kind
+pub mod Program
+pub mod Frame
+pub mod FaultNumbers

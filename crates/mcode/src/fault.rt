@@ -1,0 +1,41 @@
+//! Why code can't be built.
+use thiserror::Error;
+
+/// Why a part can't be added to code.
+#[derive(Clone, Copy, Debug, PartialEq, Eq, Error)]
+pub enum Fault {
+    /// No memory was given.
+    #[error("out of memory")]
+    Memory,
+    /// A count would pass `MAX_COUNT`, or the slots pass `MAX_SLOTS`.
+    #[error("the code has too many parts of a kind")]
+    Limit,
+    /// A frame, a place in it or a slot in it isn't above the one before, or a place is listed with `Kind::Any`.
+    #[error("the frame is out of order")]
+    FrameOrder,
+}
+
+impl Fault {
+    ghost use Rattle.std.specs.Prelude.{◌≡◌};
+    ghost use Rattle.mcode.specs.FaultNumbers.{number_of};
+
+    /// The number that the fault has in what programs print.
+    pub const fn number(self) -> u8
+        ensures { result ≡ number_of self }
+    {
+        match self {
+            Fault::Memory => 1,
+            Fault::Limit => 36,
+            Fault::FrameOrder => 37,
+        }
+    }
+}
+
+/// A value that was moved into a call that refused it, and why.
+#[derive(Debug, Drop)]
+pub struct Refused<T> {
+    /// What the call was given.
+    pub value: T,
+    /// Why it was refused.
+    pub fault: Fault,
+}
