@@ -1,6 +1,6 @@
 -- A term as a mathematical object: integers, atoms, tuples, maps, lists of cells, binaries.
 -- (STDLIB Reference Manual, module ets: "terms"; Erlang Reference Manual, "Data Types".)
-use Rattle.std.specs.Prelude.{ℕ, suc, ℤ, List, [], ◌∷◌}
+use Rattle.std.specs.Prelude.{ℕ, suc, ℤ, option_map, Option, Some, None, List, [], ◌∷◌}
 
 mutual
   -- An atom is its characters' code points, a binary its bytes. A list is [] or a cell of a head and a tail.
@@ -47,6 +47,12 @@ entries_of (e ∷ es) = entry e.0 e.1 (entries_of es)
 abbrev pub cells : List Datum → Datum → Datum
 cells [] tail = tail
 cells (d ∷ ds) tail = cons d (cells ds tail)
+
+-- the elements of a proper list, none of any other term
+abbrev pub proper_elements : Datum → Option (List Datum)
+proper_elements nil = Some []
+proper_elements (cons head tail) = option_map (λ ds. head ∷ ds) (proper_elements tail)
+proper_elements d = None
 
 -- how many elements a tuple has
 abbrev pub item_count : Items → ℕ

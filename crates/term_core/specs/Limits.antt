@@ -1,6 +1,6 @@
 -- How deep a term is, and what makes a datum a term: whole numbers of 64 bits, characters that are Unicode
 -- scalar values, bytes, rising map keys, and the limits of this engine.
-use Rattle.std.specs.Prelude.{ℕ, suc, max, ◌<◌, ◌≤◌, List, [], ◌∷◌, length, FitsSigned}
+use Rattle.std.specs.Prelude.{ℕ, suc, max, ◌<◌, ◌≤◌, nat_lt, Bool, false, ◌||◌, if◌then◌else◌, Option, Some, None, List, [], ◌∷◌, length, FitsSigned}
 use Rattle.std.specs.Int.{w64}
 use Rattle.std.specs.Char.{IsScalar}
 use Rattle.term_core.specs.Datum.{Datum, Items, Entries, item_count, entry_count, cell_count}
@@ -72,3 +72,21 @@ abbrev mutual
 pub record IsTerm (d : Datum) : Type 0 where
   pub sound : IsSound d
   pub shallow : depth d ≤ MAX_DEPTH
+
+-- past the limit of its kind
+abbrev pub is_too_long : Datum → Bool
+is_too_long (integer z) = false
+is_too_long (atom cs) = nat_lt MAX_CHARACTERS (length cs)
+is_too_long (tuple ds) = nat_lt MAX_TUPLE (item_count ds)
+is_too_long (map es) = nat_lt MAX_MAP (entry_count es)
+is_too_long nil = false
+is_too_long (cons head tail) = nat_lt MAX_LIST (cell_count (cons head tail))
+is_too_long (binary bs) = nat_lt MAX_BINARY (length bs)
+
+-- deeper or longer than a term may be, its parts being terms
+abbrev pub is_past_limits : Datum → Bool
+is_past_limits d = nat_lt MAX_DEPTH (depth d) || is_too_long d
+
+-- what is made of terms, none where it passes a limit
+abbrev pub within_limits : Datum → Option Datum
+within_limits d = if is_past_limits d then None else Some d

@@ -1,9 +1,11 @@
 -- The pairs that a map is made of, in any order.
-use Rattle.std.specs.Prelude.{ℕ, ◌≡◌, ◌<◌, ◌≤◌, List, length, map as map_list, slice_index_or, All, IsPermutation}
+use Rattle.std.specs.Prelude.{ℕ, ◌≡◌, ◌<◌, ◌≤◌, Bool, true, not, ◌&&◌, if◌then◌else◌, List, [], ◌∷◌, length, map as map_list, slice_index_or, All, IsPermutation}
 use Rattle.term_core.specs.Datum.{Datum, Entries, entries_of}
 use Rattle.term_core.specs.Datum.Datum.{map}
 use Rattle.term_core.specs.Datum.Entries.{no_entries, entry}
-use Rattle.term_core.specs.Order.{IsBelowFirst}
+use Rattle.std.specs.List.{list_any}
+use Rattle.std.specs.Ordering.{is_lt, eq_by_cmp}
+use Rattle.term_core.specs.Order.{IsBelowFirst, datum_cmp}
 use Rattle.term_core.specs.Limits.{depth, IsSound}
 use Rattle.term_core.specs.declared.TheConstants.{MAX_DEPTH, MAX_MAP}
 use Rattle.term_core.specs.declared.fault.Fault.{Fault}
@@ -18,6 +20,22 @@ AreRising (entry k v es) = IsBelowFirst k es × AreRising es
 -- the keys of pairs, as they stand
 abbrev pub keys_of : List (Datum × Datum) → List Datum
 keys_of pairs = map_list (λ pair. pair.0) pairs
+
+-- no two of these terms are the same
+abbrev pub are_apart : List Datum → Bool
+are_apart [] = true
+are_apart (d ∷ ds) = not (list_any (eq_by_cmp datum_cmp d) ds) && are_apart ds
+
+-- a pair put before the first of these whose key is above its own
+abbrev pub placed : Datum × Datum → List (Datum × Datum) → List (Datum × Datum)
+placed pair [] = pair ∷ []
+placed pair (other ∷ others) =
+    if is_lt (datum_cmp pair.0 other.0) then pair ∷ other ∷ others else other ∷ placed pair others
+
+-- the same pairs by rising key
+abbrev pub by_key : List (Datum × Datum) → List (Datum × Datum)
+by_key [] = []
+by_key (pair ∷ pairs) = placed pair (by_key pairs)
 
 -- a key stands at two places among these pairs
 pub record HasTwice (pairs : List (Datum × Datum)) : Type 0 where
