@@ -4,3 +4,5 @@ pub mod Kind
 pub mod Program
 pub mod Frame
 pub mod FaultNumbers
+pub mod Machine
+pub mod Building

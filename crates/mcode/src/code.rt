@@ -1,9 +1,25 @@
 //! Code, of which only the counts and the order of frames are known to be right.
+ghost use Rattle.std.specs.Prelude.{◌≡◌, map};
+ghost use Rattle.std.specs.Option.{option_map, option_copied};
+ghost use Rattle.mcode.specs.Frame.{frame_of};
+ghost use Rattle.mcode.specs.Program.{Rise, frame_number, frame_at};
+
 use crate::frame::Frame;
 use crate::instr::Instr;
 use std::alloc::{Allocator, Global};
 use std::marker::Model;
 use term_core::Term;
+
+/// The frame of a number among these, whose numbers rise.
+fn frame_with<A: Allocator>(frames: &[Frame<A>], pc: u16) -> Option<&Frame<A>>
+    requires { Rise frame_number (map frame_of frames.now) }
+    ensures { option_map frame_of (option_copied result) ≡ frame_at (map frame_of frames.now) pc }
+{
+    match frames.binary_search_by(|frame| frame.pc.cmp(&pc)) {
+        Ok(place) => Some(&frames[place]),
+        Err(_) => None,
+    }
+}
 
 /// Instructions for the machine, with the constants and frames that they name.
 #[derive(Drop)]
@@ -85,5 +101,12 @@ impl<A: Allocator> Code<A> {
         ensures within { IsProgram self.now }
     {
         self.frames.as_slice()
+    }
+
+    /// The frame at an instruction, where there is one.
+    pub fn frame_at(&self, pc: u16) -> Option<&Frame<A>>
+        ensures { option_map frame_of (option_copied result) ≡ frame_at self.now.frames pc }
+    {
+        frame_with(self.frames.as_slice(), pc)
     }
 }

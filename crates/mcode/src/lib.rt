@@ -1,6 +1,7 @@
 //! Code for the matching machine.
 #![tactic(auto)]
 
+mod builder;
 mod code;
 mod fault;
 mod frame;
@@ -8,6 +9,7 @@ mod function;
 mod instr;
 mod kind;
 
+pub use builder::Builder;
 pub use code::Code;
 pub use fault::{Fault, Refused};
 pub use frame::{Frame, Places, Slots};

@@ -1,0 +1,85 @@
+-- Lists whose numbers rise, and one more at their end.
+use Rattle.std.specs.Prelude.{ℕ, zero, suc, ◌≡◌, ◌+◌, ◌-◌, ◌<◌, List, [], ◌∷◌, ◌++◌, length, map, Option, Some, slice_get}
+use Rattle.std.proofs.Common.{arith, get_or, sym, ap, ◌∙◌}
+use Rattle.std.proofs.lemmas.List.{get_or-map, length-map}
+use Rattle.std.proofs.lemmas.Option.{slice_get_within, get_or_from_slice_get}
+use native.Mathlib.Numerals.{unary_clauses}
+use Rattle.mcode.specs.Frame.{frame_of}
+use Rattle.mcode.specs.declared.frame.Frame.{Frame}
+use Rattle.mcode.specs.Program.{Rise}
+
+-- the rest of what rises rises
+pub rise_rest : {X : Type 0} (number : X → ℕ) (x : X) (xs : List X) → Rise number (x ∷ xs) → Rise number xs
+rise_rest number x xs up j d within =
+    let later = up (suc j) d (omega arith) in
+    simp unary_clauses (simp unary_clauses at later)
+
+-- one more above the last
+pub rise_more : {X : Type 0} (number : X → ℕ) (xs : List X) (y : X) → Rise number xs → ((n : ℕ) (d : X) → length xs ≡ suc n → number (get_or xs n d) < number y) → Rise number (xs ++ y ∷ [])
+rise_more number [] y up last k d within = absurd (omega arith)
+rise_more number (x ∷ []) y up last zero d within = last zero d (omega arith)
+rise_more number (x ∷ []) y up last (suc k) d within = absurd (omega arith)
+rise_more number (x ∷ x' ∷ xs) y up last zero d within = up zero d (omega arith)
+rise_more number (x ∷ x' ∷ xs) y up last (suc k) d within =
+    let later = rise_more number (x' ∷ xs) y (rise_rest number x (x' ∷ xs) up) (λ n e is. last (suc n) e (ap suc is)) k d (omega arith) in
+    simp unary_clauses (simp unary_clauses at later)
+
+-- the last of those before stands below
+pub rise_last : {X : Type 0} (number : X → ℕ) (xs : List X) (y : X) (n : ℕ) (d : X) → Rise number (xs ++ y ∷ []) → length xs ≡ suc n → number (get_or xs n d) < number y
+rise_last number [] y n d up is = absurd (omega (arith, is))
+rise_last number (x ∷ []) y zero d up is = up zero d (omega arith)
+rise_last number (x ∷ []) y (suc n) d up is = absurd (omega (arith, is))
+rise_last number (x ∷ x' ∷ xs) y zero d up is = absurd (omega (arith, is))
+rise_last number (x ∷ x' ∷ xs) y (suc n) d up is =
+    rise_last number (x' ∷ xs) y n d (rise_rest number x (x' ∷ xs ++ y ∷ []) up) (omega (arith, is))
+
+-- the last of what is made of each
+pub last_of_map : {X Y : Type 0} (f : X → Y) (xs : List X) (x : X) (n : ℕ) (d : Y) → Some x ≡ slice_get xs (length xs - 1) → length (map f xs) ≡ suc n → get_or (map f xs) n d ≡ f x
+last_of_map f xs x n d is long =
+    let within = slice_get_within xs (length xs - 1) x (sym is) in
+    let same : n ≡ length xs - 1 = omega (arith, long, length-map xs f) in
+    rw same (get_or-map f xs (length xs - 1) x d within ∙ ap f (get_or_from_slice_get xs (length xs - 1) x x (sym is)))
+
+-- there is a last one
+pub some_of_last : {X Y : Type 0} (f : X → Y) (xs : List X) (x : X) → Some x ≡ slice_get xs (length xs - 1) → length (map f xs) ≡ suc (length xs - 1)
+some_of_last f xs x is =
+    let within = slice_get_within xs (length xs - 1) x (sym is) in
+    omega (arith, within, length-map xs f)
+
+-- as many frames as there are
+pub frame_count : {A : Type 0} (fs : List (Frame A)) → length (map frame_of fs) ≡ length fs
+frame_count fs = length-map fs frame_of
+
+-- the first of what rises stands below each later one
+pub rise_first : {X : Type 0} (number : X → ℕ) (x : X) (xs : List X) → Rise number (x ∷ xs) → (i : ℕ) (d : X) → i < length xs → number x < number (get_or xs i d)
+rise_first number x [] up i d within = absurd (omega arith)
+rise_first number x (y ∷ ys) up zero d within = up zero d (omega arith)
+rise_first number x (y ∷ ys) up (suc i) d within =
+    let first : number x < number y = up zero x (omega arith) in
+    let later = rise_first number y ys (rise_rest number x (y ∷ ys) up) i d (omega arith) in
+    omega (arith, first, later)
+
+-- an element is the only one of its number
+pub number_found : {X : Type 0} (number : X → ℕ) (xs : List X) (n i : ℕ) (d : X) → Rise number xs → i < length xs → number (get_or xs i d) ≡ n → Some (get_or xs i d) ≡ with_number number xs n
+number_found number [] n i d up within same = absurd (omega arith)
+number_found number (x ∷ xs) n zero d up within same =
+    sym (ap (λ b. cond b (Some x) (with_number number xs n)) (rw same (eqb_true n)))
+number_found number (x ∷ xs) n (suc i) d up within same =
+    let below : number x < number (get_or xs i d) = rise_first number x xs up i d (omega arith) in
+    number_found number xs n i d (rise_rest number x xs up) (omega arith) same
+    ∙ sym (ap (λ b. cond b (Some x) (with_number number xs n)) (ne_eqb (number x) n (λ e. absurd (omega (arith, below, same, e)))))
+
+-- none has the number
+pub number_missing : {X : Type 0} (number : X → ℕ) (xs : List X) (n : ℕ) → ((j : ℕ) (d : X) → j < length xs → number (get_or xs j d) ≢ n) → None ≡ with_number number xs n
+number_missing number [] n other = refl
+number_missing number (x ∷ xs) n other =
+    number_missing number xs n (λ j d within. other (suc j) d (omega arith))
+    ∙ sym (ap (λ b. cond b (Some x) (with_number number xs n)) (ne_eqb (number x) n (other zero x (omega arith))))
+
+-- how numbers that rise stand to one
+pub numbers_partition : {X : Type 0} (number : X → ℕ) (xs : List X) (n : ℕ) → Rise number xs → IsNonDecreasingBy (λ y. ordering_index (nat_cmp (number y) n)) xs
+numbers_partition number xs n up = ?
+
+-- a place before which all numbers are less and from which on all are greater
+pub number_between : {X : Type 0} (number : X → ℕ) (xs : List X) (n i : ℕ) → IsPartitionPoint (λ y. nat_cmp (number y) n ≡ Less) (λ y. nat_cmp (number y) n ≡ Greater) xs i → None ≡ with_number number xs n
+number_between number xs n i apart = ?
