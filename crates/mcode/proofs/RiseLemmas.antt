@@ -1,12 +1,22 @@
 -- Lists whose numbers rise, and one more at their end.
-use Rattle.std.specs.Prelude.{ℕ, zero, suc, ◌≡◌, ◌+◌, ◌-◌, ◌<◌, List, [], ◌∷◌, ◌++◌, length, map, Option, Some, slice_get}
-use Rattle.std.proofs.Common.{arith, get_or, sym, ap, ◌∙◌}
-use Rattle.std.proofs.lemmas.List.{get_or-map, length-map}
+use Rattle.std.specs.Prelude.{ℕ, zero, suc, ◌≡◌, ◌≢◌, ◌+◌, ◌-◌, ◌<◌, ◌≤◌, ◌⊎◌, cond, Bool, true, false, nat_eq, List, [], ◌∷◌, ◌++◌, length, map, Option, Some, None, slice_get}
+use Rattle.std.proofs.Common.{arith, get_or, refl, sym, ap, ◌∙◌, inl, inr}
+use Rattle.std.proofs.lemmas.Bool.{eq-eqb, ne_eqb, cases_lt}
+use Rattle.std.proofs.lemmas.Cmp.{nat_cmp_total}
+use Rattle.std.proofs.lemmas.List.Sorted.{searchable_from_sorted}
+use Rattle.std.specs.Cmp.{nat_cmp_is}
+use Rattle.std.specs.List.Sorted.{IsNonDecreasingBy, IsPartitionPoint}
+use Rattle.std.specs.Ordering.{is_lt, nat_cmp, ordering_index}
+use Rattle.std.specs.declared.cmp.Ordering.{Ordering}
+use Rattle.std.specs.declared.cmp.Ordering.TheVariants.{Less, Equal, Greater}
+use Rattle.std.specs.Option.{option_map}
+use Rattle.std.proofs.Math.ListN.{get_or-map}
+use Rattle.std.proofs.lemmas.List.{get_or-map as get_or-map-within, length-map}
 use Rattle.std.proofs.lemmas.Option.{slice_get_within, get_or_from_slice_get}
 use native.Mathlib.Numerals.{unary_clauses}
 use Rattle.mcode.specs.Frame.{frame_of}
 use Rattle.mcode.specs.declared.frame.Frame.{Frame}
-use Rattle.mcode.specs.Program.{Rise}
+use Rattle.mcode.specs.Program.{Rise, with_number, frame_number, frame_at}
 
 -- the rest of what rises rises
 pub rise_rest : {X : Type 0} (number : X → ℕ) (x : X) (xs : List X) → Rise number (x ∷ xs) → Rise number xs
@@ -38,7 +48,7 @@ pub last_of_map : {X Y : Type 0} (f : X → Y) (xs : List X) (x : X) (n : ℕ) (
 last_of_map f xs x n d is long =
     let within = slice_get_within xs (length xs - 1) x (sym is) in
     let same : n ≡ length xs - 1 = omega (arith, long, length-map xs f) in
-    rw same (get_or-map f xs (length xs - 1) x d within ∙ ap f (get_or_from_slice_get xs (length xs - 1) x x (sym is)))
+    rw same (get_or-map-within f xs (length xs - 1) x d within ∙ ap f (get_or_from_slice_get xs (length xs - 1) x x (sym is)))
 
 -- there is a last one
 pub some_of_last : {X Y : Type 0} (f : X → Y) (xs : List X) (x : X) → Some x ≡ slice_get xs (length xs - 1) → length (map f xs) ≡ suc (length xs - 1)
@@ -63,7 +73,7 @@ rise_first number x (y ∷ ys) up (suc i) d within =
 pub number_found : {X : Type 0} (number : X → ℕ) (xs : List X) (n i : ℕ) (d : X) → Rise number xs → i < length xs → number (get_or xs i d) ≡ n → Some (get_or xs i d) ≡ with_number number xs n
 number_found number [] n i d up within same = absurd (omega arith)
 number_found number (x ∷ xs) n zero d up within same =
-    sym (ap (λ b. cond b (Some x) (with_number number xs n)) (rw same (eqb_true n)))
+    sym (ap (λ b. cond b (Some x) (with_number number xs n)) (eq-eqb (number x) n same))
 number_found number (x ∷ xs) n (suc i) d up within same =
     let below : number x < number (get_or xs i d) = rise_first number x xs up i d (omega arith) in
     number_found number xs n i d (rise_rest number x xs up) (omega arith) same
@@ -78,8 +88,33 @@ number_missing number (x ∷ xs) n other =
 
 -- how numbers that rise stand to one
 pub numbers_partition : {X : Type 0} (number : X → ℕ) (xs : List X) (n : ℕ) → Rise number xs → IsNonDecreasingBy (λ y. ordering_index (nat_cmp (number y) n)) xs
-numbers_partition number xs n up = ?
+numbers_partition number xs n up =
+    searchable_from_sorted nat_cmp_total number xs n (λ k d from within. sym (ap is_lt (nat_cmp_is _ _ Greater (up k d within))))
+
+-- what is less or greater isn't the same
+not_equal : (r : Ordering) (m n : ℕ) → nat_cmp m n ≡ r → r ≢ Equal → m ≢ n
+not_equal r m n stands other same = other (sym stands ∙ sym (nat_cmp_is m n Equal same))
 
 -- a place before which all numbers are less and from which on all are greater
 pub number_between : {X : Type 0} (number : X → ℕ) (xs : List X) (n i : ℕ) → IsPartitionPoint (λ y. nat_cmp (number y) n ≡ Less) (λ y. nat_cmp (number y) n ≡ Greater) xs i → None ≡ with_number number xs n
-number_between number xs n i apart = ?
+number_between number xs n i apart =
+    number_missing number xs n (λ j d within same. elim (cases_lt j i) [
+      | inl h ↦ absurd (not_equal Less (number (get_or xs j d)) n (apart.0 j d (omega arith) h) (λ e. absurd (cc)) same)
+      | inr h ↦ absurd (not_equal Greater (number (get_or xs j d)) n (apart.1 j d h within) (λ e. absurd (cc)) same)
+    ])
+
+-- the frames' numbers, as they rise
+pub frames_rise : {A : Type 0} (fs : List (Frame A)) → Rise frame_number (map frame_of fs) → Rise (λ f. f.pc) fs
+frames_rise fs up k d within =
+    let below = up k (frame_of d) (omega (arith, within, length-map fs frame_of)) in
+    let below = rw (get_or-map frame_of fs k d) at below in
+    rw (get_or-map frame_of fs (k + 1) d) at below
+
+-- a frame that is found, as it is seen
+pub frame_seen : {A : Type 0} (fs : List (Frame A)) (pc : ℕ) → option_map frame_of (with_number (λ f. f.pc) fs pc) ≡ frame_at (map frame_of fs) pc
+frame_seen [] pc = refl
+frame_seen (f ∷ fs) pc = by (nat_eq f.pc pc) (frame_seen fs pc)
+  where
+    by : (b : Bool) → option_map frame_of (with_number (λ f. f.pc) fs pc) ≡ frame_at (map frame_of fs) pc → option_map frame_of (cond b (Some f) (with_number (λ f. f.pc) fs pc)) ≡ cond b (Some (frame_of f)) (frame_at (map frame_of fs) pc)
+    by true rest = refl
+    by false rest = rest

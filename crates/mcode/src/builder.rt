@@ -223,11 +223,6 @@ impl<A: Allocator> Builder<A> {
     pub fn finish(self) -> Code<A>
         ensures { result ≡ self }
     {
-        Code::new(
-            self.slots,
-            self.constants,
-            self.instructions,
-            self.frames,
-        )
+        Code::new(self.slots, self.constants, self.instructions, self.frames)
     }
 }

@@ -11,18 +11,16 @@ returns-then-as_slice-gt-MAX_COUNT-clause-refused g c =
     inr (omega (arith, ap length c.as_slice.ensures, c.if-as_slice-gt-MAX_COUNT.true))
 
 pub returns-then-not-is_above-clause-refused : goal.returns-then-not-is_above-clause-refused
-returns-then-not-is_above-clause-refused g c =
-    (
-      λ many. few _ _ _ _ _ (frame_count c.args.frames.now) (search rules) (omega (arith, ap length c.as_slice.ensures, c.if-as_slice-gt-MAX_COUNT.false)) many,
-      λ next. let yes = c.is_above.ensures.1 next.above in absurd (cc)
-    )
+returns-then-not-is_above-clause-refused g c = (
+  λ many. few _ _ _ _ _ (frame_count c.args.frames.now) (search rules) (omega (arith, ap length c.as_slice.ensures, c.if-as_slice-gt-MAX_COUNT.false)) many,
+  λ next. let yes = c.is_above.ensures.1 next.above in absurd (cc),
+)
 
 pub returns-then-not-is_ordered-clause-refused : goal.returns-then-not-is_ordered-clause-refused
-returns-then-not-is_ordered-clause-refused g c =
-    (
-      λ many. few _ _ _ _ _ (frame_count c.args.frames.now) (search rules) (omega (arith, ap length c.as_slice.ensures, c.if-as_slice-gt-MAX_COUNT.false)) many,
-      λ next. let yes = c.is_ordered.ensures.1 next.ordered in absurd (cc)
-    )
+returns-then-not-is_ordered-clause-refused g c = (
+  λ many. few _ _ _ _ _ (frame_count c.args.frames.now) (search rules) (omega (arith, ap length c.as_slice.ensures, c.if-as_slice-gt-MAX_COUNT.false)) many,
+  λ next. let yes = c.is_ordered.ensures.1 next.ordered in absurd (cc),
+)
 
 pub returns-clause-fits : goal.returns-clause-fits
 returns-clause-fits g c many =

@@ -1,0 +1,5 @@
+pub mod Shape
+pub mod Effect
+pub mod Typing
+pub mod Faults
+pub mod FaultNumbers
