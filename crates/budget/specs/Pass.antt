@@ -1,5 +1,5 @@
 -- What the pass from the last instruction to the first says of its numbers.
-use Rattle.std.specs.Prelude.{ℕ, ◌+◌, ◌≡◌, ◌<◌, ◌≤◌, if◌then◌else◌, List, [], length, slice_index}
+use Rattle.std.specs.Prelude.{ℕ, ◌+◌, ◌≡◌, ◌<◌, ◌≤◌, max, if◌then◌else◌, List, [], length, slice_index}
 use Rattle.std.specs.Option.{option_map_or}
 use Rattle.mcode.specs.Program.{Program}
 use Rattle.mcode.specs.Instr.{target_of, goes_on}
@@ -27,3 +27,7 @@ next_number i a numbers = if goes_on i then slice_index numbers (a + 1) else 0
 -- the number at the place to which instruction i may jump, else 0
 abbrev pub target_number : Instr → List ℕ → ℕ
 target_number i numbers = option_map_or (slice_index numbers) (target_of i) 0
+
+-- the greater of the two
+abbrev pub onward_number : Instr → ℕ → List ℕ → ℕ
+onward_number i a numbers = max (next_number i a numbers) (target_number i numbers)

@@ -2,7 +2,7 @@
 ghost use Rattle.std.specs.Prelude.{◌≡◌, ◌+◌, ◌≤◌, ◌<◌, IfOk, length, slice_index};
 ghost use Rattle.mcode.specs.declared.TheConstants.{MAX_COUNT};
 ghost use Rattle.budget.specs.Paths.{AllForward, IsBudget};
-ghost use Rattle.budget.specs.Pass.{IsLongestFrom, AreLongest, code_of, next_number, target_number};
+ghost use Rattle.budget.specs.Pass.{IsLongestFrom, AreLongest, code_of, next_number, target_number, onward_number};
 
 use mcode::{Code, Instr};
 use std::alloc::{AllocError, Allocator};
@@ -42,10 +42,15 @@ fn longest_from(instructions: &[Instr], pc: usize, numbers: &[u32]) -> u32
     requires later { AreLongest (code_of instructions.now) numbers.now (pc + 1) }
     ensures { IsLongestFrom (code_of instructions.now) pc result }
 {
-    let instr = instructions[pc];
-    let next = next_number(instr, pc, numbers);
-    let target = target_number(instr, numbers);
-    1 + next.max(target)
+    1 + onward_number(instructions[pc], pc, numbers)
+}
+
+/// The greater of the numbers at the two places where the instruction at `pc` leads, 0 where it leads nowhere.
+fn onward_number(instr: Instr, pc: usize, numbers: &[u32]) -> u32
+    requires { pc < length numbers.now }
+    ensures { result ≡ onward_number instr pc numbers.now }
+{
+    next_number(instr, pc, numbers).max(target_number(instr, numbers))
 }
 
 /// The number at the next place, where the instruction at `pc` goes on and there is one, else 0.

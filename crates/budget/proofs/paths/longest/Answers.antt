@@ -1,4 +1,4 @@
-use Rattle.budget.proofs.PathLemmas.{budgets_of_code}
+use Rattle.budget.proofs.PassLemmas.{budgets_of_code}
 use Rattle.budget.proofs.paths.longest.Goals as goal
 
 pub returns : goal.returns

@@ -1,5 +1,5 @@
 use Rattle.std.proofs.Common.{◌≡◌, ◌+◌, ◌-◌, ◌<◌, arith}
-use Rattle.budget.proofs.PathLemmas.{longest_none, longest_more, budget_first}
+use Rattle.budget.proofs.PassLemmas.{longest_none, longest_more, budget_first}
 use Rattle.budget.proofs.paths.longest_of.Goals as goal
 
 pub loop-pc-init : goal.loop-pc-init
