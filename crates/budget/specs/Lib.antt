@@ -1,0 +1,3 @@
+pub mod Paths
+pub mod Pass
+pub mod Laws

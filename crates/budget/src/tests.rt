@@ -1,0 +1,208 @@
+//! Worked code: its budget, whether its jumps go forward, and what becomes of it where memory is refused.
+use crate::forward::are_forward;
+use crate::paths::longest_of;
+use failing_alloc::sweep;
+use mcode::{Function, Instr, MAX_COUNT};
+use prims::{Arithmetic, Test};
+use std::alloc::{AllocError, Allocator};
+
+/// The budget of code of these instructions, none where a jump does not go forward or they are too many.
+fn budget_of<A: Allocator + Copy>(
+    heap: A,
+    instructions: &[Instr],
+) -> Option<Result<u32, AllocError>> {
+    if instructions.len() <= MAX_COUNT && are_forward(instructions) {
+        Some(longest_of(heap, instructions))
+    } else {
+        None
+    }
+}
+
+/// The budget, none also where memory is refused.
+fn budget<A: Allocator + Copy>(heap: A, instructions: &[Instr]) -> Option<u32> {
+    budget_of(heap, instructions)?.ok()
+}
+
+/// Two ways from a test to one end, of which that by the jump is the longer one.
+const DIAMOND: [Instr; 7] = [
+    Instr::Load,
+    Instr::Int { otherwise: 3 },
+    Instr::Jump { target: 6 },
+    Instr::Drop,
+    Instr::Load,
+    Instr::Dup,
+    Instr::Answer,
+];
+
+#[test]
+fn a_budget_is_the_longest_way(rt: HostRuntime) {
+    for (instructions, want) in [
+        ([].as_slice(), 0),
+        ([Instr::NoAnswer].as_slice(), 1),
+        (
+            [Instr::Const { constant: 0 }, Instr::Answer, Instr::NoAnswer].as_slice(),
+            2,
+        ),
+        // The way that goes on passes the jump and ends where the test jumps.
+        (
+            [
+                Instr::Load,
+                Instr::Tuple {
+                    size: 2,
+                    otherwise: 4,
+                },
+                Instr::Drop,
+                Instr::Jump { target: 4 },
+                Instr::NoAnswer,
+            ]
+            .as_slice(),
+            5,
+        ),
+        // The way that goes on ends before that.
+        (
+            [
+                Instr::Load,
+                Instr::Tuple {
+                    size: 2,
+                    otherwise: 4,
+                },
+                Instr::Field { index: 3 },
+                Instr::Answer,
+                Instr::NoAnswer,
+            ]
+            .as_slice(),
+            4,
+        ),
+        (DIAMOND.as_slice(), 6),
+        // Two tests, one behind the other.
+        (
+            [
+                Instr::Load,
+                Instr::Bool { otherwise: 5 },
+                Instr::Branch { otherwise: 4 },
+                Instr::Jump { target: 5 },
+                Instr::Dup,
+                Instr::Answer,
+            ]
+            .as_slice(),
+            5,
+        ),
+        // No way leads to what follows an end, or stands behind a jump.
+        (
+            [Instr::Answer, Instr::Load, Instr::Dup, Instr::Answer].as_slice(),
+            1,
+        ),
+        (
+            [
+                Instr::Jump { target: 3 },
+                Instr::Load,
+                Instr::Dup,
+                Instr::NoAnswer,
+            ]
+            .as_slice(),
+            2,
+        ),
+        // The last instruction goes on.
+        ([Instr::Load].as_slice(), 1),
+        ([Instr::Load, Instr::Dup, Instr::Drop].as_slice(), 3),
+        (
+            [Instr::Load, Instr::Cons { otherwise: 2 }, Instr::Head].as_slice(),
+            3,
+        ),
+    ] {
+        assert_eq!(rt;
+            budget(rt.alloc(), instructions),
+            Some(want),
+            "{instructions:?}"
+        );
+    }
+}
+
+#[test]
+fn jumps_go_forward_and_inside(rt: HostRuntime) {
+    for (instructions, want) in [
+        ([].as_slice(), true),
+        ([Instr::Answer].as_slice(), true),
+        ([Instr::Jump { target: 1 }, Instr::Answer].as_slice(), true),
+        (DIAMOND.as_slice(), true),
+        // To itself.
+        ([Instr::Jump { target: 0 }].as_slice(), false),
+        (
+            [
+                Instr::Load,
+                Instr::Map { otherwise: 1 },
+                Instr::Answer,
+                Instr::NoAnswer,
+            ]
+            .as_slice(),
+            false,
+        ),
+        // Back.
+        ([Instr::Load, Instr::Jump { target: 0 }].as_slice(), false),
+        (
+            [
+                Instr::Load,
+                Instr::Dup,
+                Instr::Equal { otherwise: 1 },
+                Instr::Answer,
+            ]
+            .as_slice(),
+            false,
+        ),
+        // Past the last.
+        ([Instr::Jump { target: 1 }].as_slice(), false),
+        (
+            [
+                Instr::Load,
+                Instr::Call {
+                    function: Function::Test(Test::IsAtom),
+                    arguments: 1,
+                    otherwise: 3,
+                },
+                Instr::Answer,
+            ]
+            .as_slice(),
+            false,
+        ),
+        (
+            [
+                Instr::Arith {
+                    function: Arithmetic::Add,
+                    otherwise: 65_535,
+                },
+                Instr::Answer,
+            ]
+            .as_slice(),
+            false,
+        ),
+    ] {
+        assert_eq!(rt; are_forward(instructions), want, "{instructions:?}");
+    }
+}
+
+/// The budget of so many instructions that go on.
+fn budget_of_many<A: Allocator + Copy>(heap: A, count: usize) -> Option<u32> {
+    let mut instructions = Vec::with_capacity(heap, count).ok()?;
+    for _ in 0..count {
+        instructions.push(Instr::Dup).ok()?;
+    }
+    budget(heap, instructions.as_slice())
+}
+
+#[test]
+fn the_most_instructions(rt: HostRuntime) {
+    assert_eq!(rt; budget_of_many(rt.alloc(), MAX_COUNT), Some(65_535));
+    assert_eq!(rt; budget_of_many(rt.alloc(), MAX_COUNT + 1), None);
+}
+
+#[test]
+fn each_request_refused_in_turn(rt: HostRuntime) {
+    let outcome = sweep(rt.alloc(), 10, |heap| {
+        match budget_of(heap, &DIAMOND) {
+            Some(Ok(budget)) => budget == 6,
+            Some(Err(_)) => heap.was_refused(),
+            None => false,
+        }
+    });
+    assert!(rt; outcome.is_complete(), "{outcome:?}");
+}
