@@ -10,16 +10,7 @@ use Rattle.prims.specs.PrimitiveCode.{found_at}
 use Rattle.prims.specs.declared.names.TheConstants.{ALL}
 use Rattle.prims.specs.declared.prim.Primitive.{Primitive}
 use Rattle.prims.specs.declared.prim.Primitive.TheVariants as prim
-use Rattle.prims.specs.declared.prim.Test.TheVariants as test
 use Rattle.prims.specs.declared.prim.BooleanFunction.TheVariants as boolean
-use Rattle.prims.specs.declared.prim.Comparison.TheVariants as comparison
-use Rattle.prims.specs.declared.prim.Extreme.TheVariants as extreme
-use Rattle.prims.specs.declared.prim.IntegerFunction.TheVariants as integer
-use Rattle.prims.specs.declared.prim.Arithmetic.TheVariants as arithmetic
-use Rattle.prims.specs.declared.prim.TupleFunction.TheVariants as tuple
-use Rattle.prims.specs.declared.prim.ListFunction.TheVariants as list
-use Rattle.prims.specs.declared.prim.MapFunction.TheVariants as map
-use Rattle.prims.specs.declared.prim.SizeFunction.TheVariants as size
 
 found_itself : (function : Primitive) (n : ℕ) → takes function n ≡ true → found (name_of function) n ALL ≡ Some function
 found_itself (prim.Boolean boolean.And) n takes_n = ap (λ b. cond b (Some (prim.Boolean boolean.And)) None) takes_n

@@ -15,3 +15,4 @@ pub mod Names
 pub mod PrimitiveCode
 pub mod Gives
 pub mod Bits
+pub mod Value

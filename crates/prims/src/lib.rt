@@ -10,6 +10,7 @@
 //! - `operand`: what a function is given and gives; `view`: an operand taken apart.
 //! - `kinds`, `booleans`, `order`, `integers`, `shifts`, `tuples`, `lists`, `maps`, `sizes`: a family
 //!   each. `calls`: which family a function is of.
+//! - `value`: what a function is given and gives where some of it was made, and calls over such values.
 #![tactic(auto)]
 
 mod bits;
@@ -29,6 +30,7 @@ mod sizes;
 #[cfg(test)]
 mod tests;
 mod tuples;
+mod value;
 mod view;
 
 pub use calls::call;
@@ -38,3 +40,4 @@ pub use prim::{
     Arithmetic, BooleanFunction, Comparison, Extreme, IntegerFunction, ListFunction, MapFunction,
     Primitive, SizeFunction, Test, TupleFunction,
 };
+pub use value::{Value, call_values};

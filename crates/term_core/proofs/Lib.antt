@@ -4,3 +4,5 @@ pub mod RowLemmas
 pub mod ViewLemmas
 pub mod MapLemmas
 pub mod DepthLemmas
+pub mod ByKeyLemmas
+pub mod MadeLemmas

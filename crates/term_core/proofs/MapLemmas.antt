@@ -33,7 +33,7 @@ abbrev pub AreApart : List Datum → Type 0
 AreApart = IsDistinct (eq_by_cmp datum_cmp)
 
 -- what the comparison says
-below : (a b : Datum) → datum_cmp a b ≡ Less → IsBelow a b
+pub below : (a b : Datum) → datum_cmp a b ≡ Less → IsBelow a b
 below a b e = subst (λ o. MatchOrdering o (IsBelow a b) (a ≡ b) (IsBelow b a)) e (datum_cmp-says a b)
 
 pub same_terms : (a b : Datum) → is_eq (datum_cmp a b) ≡ true → a ≡ b
@@ -225,7 +225,7 @@ tied-not_apart ks i a b some l x y tie h =
     let differ = rw (seen_at ks (i - 1) a nil before, seen_at ks i b nil l, ← x, ← y) at (apart_from_distinct (eq_by_cmp datum_cmp) (seen ks) (i - 1) i nil h (omega arith) (omega arith)) in
     true≢false (sym tie ∙ differ)
 
-apart-seen : (xs ys : List Key) → IsPermutation xs ys → AreApart (seen xs) → AreApart (seen ys)
+pub apart-seen : (xs ys : List Key) → IsPermutation xs ys → AreApart (seen xs) → AreApart (seen ys)
 apart-seen xs ys moved h =
     IsDistinct-IsPermutation (eq_by_cmp datum_cmp) flips (seen xs) (seen ys) (IsPermutation-map (λ k. k.now) xs ys moved) h
 

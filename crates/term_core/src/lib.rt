@@ -10,7 +10,7 @@ mod tests;
 mod view;
 
 pub use fault::{Fault, Refused};
-pub use term::{ListParts, Term, copy_all, copy_tail};
+pub use term::{ListParts, Term, are_apart, copy_all, copy_tail, make_list, make_map, make_tuple};
 pub use view::View;
 
 /// The greatest depth of a term.

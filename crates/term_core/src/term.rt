@@ -12,10 +12,14 @@ use crate::fault::{Fault, Refused};
 use crate::view::View;
 use crate::{MAX_BINARY, MAX_CHARACTERS, MAX_DEPTH, MAX_LIST, MAX_TUPLE};
 
+mod apart;
 mod copy;
+mod made;
 mod map;
 
+pub use apart::are_apart;
 pub use copy::{copy_all, copy_tail};
+pub use made::{make_list, make_map, make_tuple};
 use std::alloc::{AllocError, Allocator, Global};
 use std::marker::Model;
 

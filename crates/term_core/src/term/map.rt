@@ -1,13 +1,12 @@
 //! Maps, made of pairs in any order.
-ghost use Rattle.std.specs.Prelude.{◌≡◌, ◌<◌, ◌≤◌, ◌↔◌, length, map as map_list, IsTrue, IfOk, IfErr, IsSorted};
-ghost use Rattle.std.specs.List.{AllByRecursion, IsDistinct};
-ghost use Rattle.std.specs.Ordering.{eq_by_cmp};
+ghost use Rattle.std.specs.Prelude.{◌≡◌, ◌<◌, ◌≤◌, ◌↔◌, length, map as map_list, IsTrue, IfOk, IfErr};
+ghost use Rattle.std.specs.List.{AllByRecursion};
 ghost use Rattle.term_core.specs.Datum.{Datum, entries_of};
 ghost use Rattle.term_core.specs.Datum.Datum.{map};
 ghost use Rattle.term_core.specs.Limits.{entries_depth};
-ghost use Rattle.term_core.specs.Order.{datum_cmp};
 ghost use Rattle.term_core.specs.MapPairs.{AreRising, HasTwice, IsMapOf, IsMapFault, IsMapDepth, IsPairSound, keys_of};
 
+use super::apart::neighbours_differ;
 use super::{Shape, Term, boxed};
 use crate::fault::{Fault, Refused};
 use crate::{MAX_DEPTH, MAX_MAP};
@@ -67,19 +66,6 @@ fn keys<'a, A: Allocator>(
         keys.push(&pair.0)?;
     }
     Ok(keys)
-}
-
-/// Whether all of these keys, which do not fall, differ.
-fn neighbours_differ<A: Allocator>(keys: &[&Term<A>]) -> bool
-    requires { IsSorted (λ a b. datum_cmp a.now b.now) keys.now }
-    ensures { IsTrue result ↔ IsDistinct (eq_by_cmp datum_cmp) (map_list (λ key. key.now) keys.now) }
-{
-    for later in 1..keys.len() {
-        if keys[later - 1] == keys[later] {
-            return false;
-        }
-    }
-    true
 }
 
 /// Whether a key stands twice among these pairs.

@@ -1,0 +1,10 @@
+-- The term that a value is.
+use Rattle.term_core.specs.Datum.{Datum}
+use Rattle.prims.specs.Operand.{operand_datum}
+use Rattle.prims.specs.declared.value.Value.{Value}
+use Rattle.prims.specs.declared.value.Value.TheVariants.{Borrowed, Made}
+
+-- the term that a value is
+abbrev pub value_datum : {A : Type 0} → Value A → Datum
+value_datum (Borrowed operand) = operand_datum operand
+value_datum (Made term) = term

@@ -1,0 +1,163 @@
+//! Values, of which those that stand in what was given are borrowed, and calls of functions over them.
+ghost use Rattle.std.specs.Prelude.{◌≡◌, map, IfOk, IfSome};
+ghost use Rattle.std.specs.Option.{option_map};
+ghost use Rattle.prims.specs.Calls.{function_of};
+ghost use Rattle.prims.specs.Operand.{operand_datum};
+ghost use Rattle.prims.specs.Value.{value_datum};
+
+use crate::calls::call;
+use crate::operand::Operand;
+use crate::prim::Primitive;
+use std::alloc::{AllocError, Allocator, Global};
+use term_core::Term;
+
+/// A term that a function is given or gives.
+#[derive(Drop)]
+pub enum Value<'a, A: Allocator = Global> {
+    /// One that stands in what was given, or takes no memory.
+    Borrowed(Operand<'a, A>),
+    /// One that was made.
+    Made(Term<A>),
+}
+
+/// A copy of the term that an operand stands for. Where the operand stands in a term, that is refused for want of
+/// memory alone.
+fn copied<A: Allocator + Copy>(alloc: A, operand: Operand<'_, A>) -> Result<Term<A>, AllocError>
+    ensures { IfOk result (λ term. term ≡ operand_datum operand.entry) }
+{
+    match operand.to_term(alloc) {
+        Ok(term) => Ok(term),
+        Err(_) => Err(AllocError),
+    }
+}
+
+impl<'a, A: Allocator + Copy> Value<'a, A> {
+    ghost use Rattle.std.specs.Prelude.{◌≡◌, IfOk};
+    ghost use Rattle.prims.specs.Booleans.{boolean_of};
+    ghost use Rattle.prims.specs.Integers.{integer_of};
+    ghost use Rattle.prims.specs.Operand.{operand_datum};
+    ghost use Rattle.prims.specs.Value.{value_datum};
+
+    /// The value as an operand.
+    pub fn operand(&self) -> Operand<'_, A>
+        ensures { operand_datum result ≡ value_datum self.now }
+    {
+        match self {
+            Value::Borrowed(operand) => *operand,
+            Value::Made(term) => Operand::Term(term),
+        }
+    }
+
+    /// The truth value that the value is, where it is the atom `true` or `false`.
+    pub fn into_boolean(self) -> Option<bool>
+        ensures { result ≡ boolean_of (value_datum self.entry) }
+    {
+        self.operand().boolean()
+    }
+
+    /// The number that the value is, where it is an integer.
+    pub fn into_integer(self) -> Option<i64>
+        ensures { result ≡ integer_of (value_datum self.entry) }
+    {
+        self.operand().integer()
+    }
+
+    /// The value as a term in memory of its own, copied where it is borrowed. A borrowed list that is past the limits of
+    /// terms, as the rest of a list may be, is refused too.
+    pub fn into_term(self, alloc: A) -> Result<Term<A>, AllocError>
+        ensures { IfOk result (λ term. term ≡ value_datum self.entry) }
+    {
+        match self {
+            Value::Borrowed(operand) => copied(alloc, operand),
+            Value::Made(term) => Ok(term),
+        }
+    }
+
+    /// The same value once more. A borrowed one takes no memory.
+    pub fn copy(&self, alloc: A) -> Result<Value<'a, A>, AllocError>
+        ensures { IfOk result (λ value. value_datum value ≡ value_datum self.now) }
+    {
+        match self {
+            Value::Borrowed(operand) => Ok(Value::Borrowed(*operand)),
+            Value::Made(term) => Ok(Value::Made(term.copy(alloc)?)),
+        }
+    }
+}
+
+/// These values as operands.
+fn operands_of<'a, A: Allocator + Copy>(
+    alloc: A,
+    values: &'a [Value<'_, A>],
+) -> Result<Vec<Operand<'a, A>, A>, AllocError>
+    ensures { IfOk result (λ operands. map operand_datum operands.items ≡ map value_datum values.now) }
+{
+    let mut operands = Vec::with_capacity(alloc, values.len())?;
+    for value in values {
+        operands.push(value.operand())?;
+    }
+    Ok(operands)
+}
+
+/// These values as operands, where all are borrowed.
+fn borrowed<'a, A: Allocator + Copy>(
+    alloc: A,
+    values: &[Value<'a, A>],
+) -> Result<Option<Vec<Operand<'a, A>, A>>, AllocError>
+    ensures { IfOk result (λ found. IfSome found (λ operands. map operand_datum operands.items ≡ map value_datum values.now)) }
+{
+    let mut operands = Vec::with_capacity(alloc, values.len())?;
+    for value in values {
+        match value {
+            Value::Borrowed(operand) => operands.push(*operand)?,
+            Value::Made(_) => return Ok(None),
+        }
+    }
+    Ok(Some(operands))
+}
+
+/// An operand as a value that borrows nothing.
+fn unborrowed<'a, A: Allocator + Copy>(
+    alloc: A,
+    operand: Operand<'_, A>,
+) -> Result<Value<'a, A>, AllocError>
+    ensures { IfOk result (λ value. value_datum value ≡ operand_datum operand.entry) }
+{
+    match operand {
+        Operand::Int(value) => Ok(Value::Borrowed(Operand::Int(value))),
+        Operand::Bool(value) => Ok(Value::Borrowed(Operand::Bool(value))),
+        Operand::Term(_) | Operand::Rest(_, _) => Ok(Value::Made(copied(alloc, operand)?)),
+    }
+}
+
+/// What a function gives of these values, of which one was made.
+fn call_made<'a, A: Allocator + Copy>(
+    alloc: A,
+    function: Primitive,
+    values: &[Value<'_, A>],
+) -> Result<Option<Value<'a, A>>, AllocError>
+    ensures { IfOk result (λ value. option_map value_datum value ≡ function_of function (map value_datum values.now)) }
+{
+    let operands = operands_of(alloc, values)?;
+    match call(function, operands.as_slice()) {
+        Some(operand) => Ok(Some(unborrowed(alloc, operand)?)),
+        None => Ok(None),
+    }
+}
+
+/// What a function gives of these values, none where the call fails. What it gives of borrowed values alone is borrowed,
+/// else it is copied.
+pub fn call_values<'a, A: Allocator + Copy>(
+    alloc: A,
+    function: Primitive,
+    values: &[Value<'a, A>],
+) -> Result<Option<Value<'a, A>>, AllocError>
+    ensures { IfOk result (λ value. option_map value_datum value ≡ function_of function (map value_datum values.now)) }
+{
+    let Some(operands) = borrowed(alloc, values)? else {
+        return call_made(alloc, function, values);
+    };
+    match call(function, operands.as_slice()) {
+        Some(operand) => Ok(Some(Value::Borrowed(operand))),
+        None => Ok(None),
+    }
+}
