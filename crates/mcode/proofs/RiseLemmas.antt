@@ -1,7 +1,7 @@
 -- Lists whose numbers rise, and one more at their end.
-use Rattle.std.specs.Prelude.{ℕ, zero, suc, ◌≡◌, ◌≢◌, ◌+◌, ◌-◌, ◌<◌, ◌≤◌, ◌⊎◌, cond, Bool, true, false, nat_eq, List, [], ◌∷◌, ◌++◌, length, map, Option, Some, None, slice_get}
-use Rattle.std.proofs.Common.{arith, get_or, refl, sym, ap, ◌∙◌, inl, inr}
-use Rattle.std.proofs.lemmas.Bool.{eq-eqb, ne_eqb, cases_lt}
+use Rattle.std.specs.Prelude.{ℕ, zero, suc, ◌≡◌, ◌≢◌, ◌+◌, ◌-◌, ◌<◌, ◌≤◌, ◌⊎◌, cond, Bool, true, false, nat_eq, List, [], ◌∷◌, ◌++◌, length, map, Option, Some, None, slice_get, All}
+use Rattle.std.proofs.Common.{arith, get_or, refl, sym, ap, subst, ◌∙◌, inl, inr}
+use Rattle.std.proofs.lemmas.Bool.{eq-eqb, eqb-true, ne_eqb, cases_lt}
 use Rattle.std.proofs.lemmas.Cmp.{nat_cmp_total}
 use Rattle.std.proofs.lemmas.List.Sorted.{searchable_from_sorted}
 use Rattle.std.specs.Cmp.{nat_cmp_is}
@@ -11,7 +11,7 @@ use Rattle.std.specs.declared.cmp.Ordering.{Ordering}
 use Rattle.std.specs.declared.cmp.Ordering.TheVariants.{Less, Equal, Greater}
 use Rattle.std.specs.Option.{option_map}
 use Rattle.std.proofs.Math.ListN.{get_or-map}
-use Rattle.std.proofs.lemmas.List.{get_or-map as get_or-map-within, length-map}
+use Rattle.std.proofs.lemmas.List.{get_or-map as get_or-map-within, length-map, length-append, get_or_append_left}
 use Rattle.std.proofs.lemmas.Option.{slice_get_within, get_or_from_slice_get}
 use native.Mathlib.Numerals.{unary_clauses}
 use Rattle.mcode.specs.Frame.{frame_of}
@@ -118,3 +118,42 @@ frame_seen (f ∷ fs) pc = by (nat_eq f.pc pc) (frame_seen fs pc)
     by : (b : Bool) → option_map frame_of (with_number (λ f. f.pc) fs pc) ≡ frame_at (map frame_of fs) pc → option_map frame_of (cond b (Some f) (with_number (λ f. f.pc) fs pc)) ≡ cond b (Some (frame_of f)) (frame_at (map frame_of fs) pc)
     by true rest = refl
     by false rest = rest
+
+-- what has the number that was looked for
+pub number_stands : {X : Type 0} (number : X → ℕ) (xs : List X) (n : ℕ) (x : X) → with_number number xs n ≡ Some x → (number x ≡ n) × ((i : ℕ) × (i < length xs) × (get_or xs i x ≡ x))
+number_stands number [] n x is = absurd (cc)
+number_stands number (y ∷ ys) n x is = by (nat_eq (number y) n) refl is (λ rest. number_stands number ys n x rest)
+  where
+    by : (b : Bool) → nat_eq (number y) n ≡ b → cond b (Some y) (with_number number ys n) ≡ Some x → (with_number number ys n ≡ Some x → (number x ≡ n) × ((i : ℕ) × (i < length ys) × (get_or ys i x ≡ x))) → (number x ≡ n) × ((i : ℕ) × (i < suc (length ys)) × (get_or (y ∷ ys) i x ≡ x))
+    by true test same rest =
+        let one : y ≡ x = cc in
+        (subst (λ z. number z ≡ n) one (eqb-true (number y) n test), (zero, omega arith, one))
+    by false test same rest = let later = rest same in (later.0, (suc later.1.0, omega (arith, later.1.1), later.1.2))
+
+-- of two places the earlier has the lower number
+pub rise_apart : {X : Type 0} (number : X → ℕ) (xs : List X) → Rise number xs → (i j : ℕ) (d : X) → i < j → j < length xs → number (get_or xs i d) < number (get_or xs j d)
+rise_apart number [] up i j d before inside = absurd (omega (arith, inside))
+rise_apart number (x ∷ xs) up zero zero d before inside = absurd (omega (arith, before))
+rise_apart number (x ∷ xs) up zero (suc j) d before inside = rise_first number x xs up j d (omega (arith, inside))
+rise_apart number (x ∷ xs) up (suc i) zero d before inside = absurd (omega (arith, before))
+rise_apart number (x ∷ xs) up (suc i) (suc j) d before inside =
+    rise_apart number xs (rise_rest number x xs up) i j d (omega (arith, before)) (omega (arith, inside))
+
+-- all are below what the last is below
+pub rise_within : {X : Type 0} (number : X → ℕ) (xs : List X) (x : X) (n : ℕ) → Rise number xs → Some x ≡ slice_get xs (length xs - 1) → number x < n → All (λ y. number y < n) xs
+rise_within number xs x n up is below i d inside = elim (cases_lt i (length xs - 1)) [
+  | inl h ↦ let last = get_or_from_slice_get xs (length xs - 1) x d (sym is) in
+      let lower = rise_apart number xs up i (length xs - 1) d h (omega (arith, inside)) in
+      let lower = rw last at lower in
+      omega (arith, lower, below)
+  | inr h ↦ let same : i ≡ length xs - 1 = omega (arith, inside, h) in
+      rw same (rw (get_or_from_slice_get xs (length xs - 1) x d (sym is)) below)
+]
+
+-- without the last
+pub rise_front : {X : Type 0} (number : X → ℕ) (xs : List X) (y : X) → Rise number (xs ++ y ∷ []) → Rise number xs
+rise_front number xs y up i d inside =
+    let below = up i d (omega (arith, inside, length-append xs (y ∷ []))) in
+    let below = rw (get_or_append_left xs (y ∷ []) d i (omega (arith, inside))) at below in
+    let below = rw (get_or_append_left xs (y ∷ []) d (i + 1) inside) at below in
+    below

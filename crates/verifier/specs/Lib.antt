@@ -3,3 +3,5 @@ pub mod Effect
 pub mod Typing
 pub mod Faults
 pub mod FaultNumbers
+pub mod Kept
+pub mod Verified

@@ -2,8 +2,11 @@
 #![tactic(auto)]
 
 mod fault;
+mod shape;
+mod verified;
 
 pub use fault::{Fault, Refused};
+pub use verified::Verified;
 
 /// The greatest depth of the operand stack.
 pub const MAX_DEPTH: u16 = 16_384;
