@@ -1,5 +1,5 @@
 -- Paths in code whose jumps go forward, and what is left of a limit along them.
-use Rattle.std.proofs.Common.{◌≡◌, ℕ, ◌+◌, ◌-◌, ◌<◌, ◌≤◌, List, [], ◌∷◌, length, arith, ◌⊎◌, inl, inr}
+use Rattle.std.proofs.Common.{ℕ, ◌+◌, ◌-◌, ◌<◌, ◌≤◌, List, [], ◌∷◌, length, arith, inl, inr}
 use Rattle.mcode.specs.Program.{Program}
 use Rattle.budget.specs.Paths.{HasEdge, IsPathFrom, IsLimitFrom, IsBudget, AllForward}
 use Rattle.budget.specs.Paths.IsPathFrom.{alone, onward}

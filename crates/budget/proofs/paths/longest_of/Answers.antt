@@ -1,4 +1,4 @@
-use Rattle.std.proofs.Common.{◌≡◌, ◌+◌, ◌-◌, ◌<◌, arith}
+use Rattle.std.proofs.Common.{◌≡◌, ◌+◌, ◌-◌, arith}
 use Rattle.budget.proofs.PassLemmas.{longest_none, longest_more, budget_first}
 use Rattle.budget.proofs.paths.longest_of.Goals as goal
 
