@@ -1,5 +1,5 @@
 -- The status and the line of a refusal.
-use Rattle.std.specs.Prelude.{ℕ, List, [], ◌∷◌, ◌++◌, codes, ◌==◌, nat_le, if◌then◌else◌}
+use Rattle.std.specs.Prelude.{ℕ, ◌≡◌, ◌⊎◌, Result, Ok, Err, List, [], ◌∷◌, ◌++◌, codes, ◌==◌, nat_le, if◌then◌else◌}
 use Rattle.std.specs.List.{flat_map}
 use Rattle.std.specs.Option.{option_to_list}
 use Rattle.std.specs.Fmt.{decimal}
@@ -28,6 +28,11 @@ status_by number = if number == 1 then 3 else if nat_le 70 number then 4 else 2
 
 abbrev pub status_of : ToolFault → ℕ
 status_of f = status_by (number_of f)
+
+-- the status that a command's outcome ends the program with: that of its refusal, or 3 where there is no memory for the line
+abbrev pub EndsWith : {X : Type 0} → Result X ToolFault → ℕ → Type 0
+EndsWith (Ok x) status = status ≡ 0
+EndsWith (Err f) status = (status ≡ status_of f) ⊎ (status ≡ 3)
 
 -- a blank and a number
 abbrev pub argument_text : ℕ → List ℕ

@@ -9,6 +9,10 @@
 //! - `fault`: why a command ends early, and the line that says so.
 #![tactic(auto)]
 
+ghost use Rattle.std.specs.Prelude.{IfOk};
+ghost use Rattle.std.specs.Process.{exit_status};
+ghost use Rattle.ets_tool.specs.Fault.{EndsWith};
+
 mod fault;
 mod input;
 mod run;
@@ -52,7 +56,9 @@ fn main(rt: HostRuntime) -> anyhow::Result<ExitCode> {
 }
 
 /// Ends the program: where the command was refused, with its line on standard error and its status.
-fn end(rt: &HostRuntime, outcome: Result<(), ToolFault>) -> anyhow::Result<ExitCode> {
+fn end(rt: &HostRuntime, outcome: Result<(), ToolFault>) -> anyhow::Result<ExitCode>
+    ensures { IfOk result (λ code. EndsWith outcome (exit_status code)) }
+{
     let Err(fault) = outcome else {
         return Ok(ExitCode::SUCCESS);
     };

@@ -6,14 +6,15 @@ use Rattle.std.specs.Char.{is_ascii_lowercase}
 use Rattle.std.proofs.lemmas.Bool.{eqb-true, eqb-false, eq-eqb, ne_eqb, leb-true, leb-false, ltb-true, ltb-false, cases_Bool, or_cases}
 use Rattle.std.proofs.lemmas.List.{length-append}
 use Rattle.term_core.specs.declared.TheConstants.{MAX_CHARACTERS, MAX_LIST, MAX_BINARY}
-use Rattle.term_text.specs.Character.{plus, minus, comma, backslash, is_word, escaped}
+use Rattle.term_text.specs.Character.{line_feed, percent, plus, minus, comma, backslash, is_white_space, is_word, escaped}
 use Rattle.term_text.specs.declared.fault.Cause.TheVariants as causes
 use Rattle.term_text.specs.declared.token.Marks.{Marks}
 use Rattle.term_text.specs.declared.token.Opening.{Opening}
 use Rattle.term_text.specs.declared.token.Opening.TheVariants as opens
 use Rattle.term_text.specs.Text.{Gap, Integer}
-use Rattle.term_text.specs.Causes.{Place, Due as due, Due, Quotes, mark_of, most_characters, MayStand, BeginsInteger, BeginsTerm, IsTooDeep, IsTooLong, IsKeyTwice, IsWide, IsOutOfRange, IsNoEscape, BeginsWith, BeginsWithBoth, IsUnexpected}
-use Rattle.term_text.specs.Causes.IsUnexpected.{the_end}
+use Rattle.term_text.specs.Causes.{Due as due, Due, Quotes, mark_of, most_characters, MayStand, EndsGap, WholeGap, BeginsInteger, BeginsTerm, IsTooDeep, IsTooLong, IsKeyTwice, IsWide, IsOutOfRange, IsNoEscape, BeginsWith, BeginsWithBoth, IsUnexpected}
+use Rattle.term_text.specs.Causes.WholeGap.{up_to, to_the_end}
+use Rattle.term_text.specs.Causes.IsUnexpected.{no_character, no_escaped}
 use Rattle.term_text.specs.Causes.Place.{a_term, a_segment, a_character, a_letter}
 use Rattle.term_text.specs.Causes.Quotes.{of_atom, of_string, of_bytes}
 use Rattle.term_text.specs.Causes.BeginsInteger.{digit, sign}
@@ -23,12 +24,11 @@ use Rattle.term_text.specs.Causes.IsTooLong.{one_character, one_letter}
 use Rattle.term_text.specs.Causes.IsWide.{wide, wide_positive, wide_negative}
 use Rattle.term_text.specs.Causes.IsOutOfRange.{wide_segment, no_byte, no_byte_character}
 use Rattle.term_text.specs.Causes.IsNoEscape.{no_escape}
-use Rattle.term_text.specs.Reading.{Fault, Read, ◌>>=◌, Step, steps, all_steps, separated, after_gap, comma_in, behind_comma, behind_item, enter, enter_as, expect, expect_both, opening, is_sign, fits, number_run, number_at, integer_at, word_at, byte_of, byte_at, is_allowed, escape_as, escape_at, character_at, next_quoted, pushed, quoted_step, quoted_at, string_marks, byte_marks, atom_marks}
-use Rattle.term_text.proofs.Steps.{bind_holds, if_holds, Hands, steps_hold}
-use Rattle.term_text.proofs.Tokens.{Behind, IsCharacter, character_holds, escaped_allowed, if_is}
+use Rattle.term_text.specs.Reading.{Fault, Read, ◌>>=◌, Step, steps, all_steps, separated, after_gap, comma_in, behind_comma, enter, enter_as, expect, expect_both, opening, is_sign, fits, number_run, number_at, integer_at, word_at, byte_of, byte_at, is_allowed, escape_as, escape_at, character_at, next_quoted, pushed, quoted_step, quoted_at, string_marks, byte_marks, atom_marks}
+use Rattle.term_text.proofs.Steps.{bind_holds, if_holds, holds_from, weaker, Hands, steps_hold, Shrinks}
+use Rattle.term_text.proofs.Tokens.{Behind, IsCharacter, gap_holds, character_holds, escaped_allowed, quoted_shrinks, if_is}
+use Rattle.term_text.proofs.Tokens.Behind.{something, nothing}
 use Rattle.term_text.proofs.Tokens.IsCharacter.{as_it_is, as_escape}
-use Rattle.term_text.proofs.Items.{AfterItem, after_item}
-use Rattle.term_text.proofs.Items.AfterItem.{more_come, no_more_come}
 use Rattle.term_text.proofs.Words.{Opens, BeginsWord, opening_holds, opening_integer, opening_word, integer_holds, number_holds}
 use Rattle.term_text.proofs.Words.{BeginsInteger as IsIntegerStart}
 
@@ -50,20 +50,30 @@ Blames whole (causes.UnsupportedEscape, left) = Left left (IsNoEscape whole)
 pub at_once : {IsSuch : List ℕ → Type 0} (rest : List ℕ) → IsSuch rest → Left (length rest) IsSuch
 at_once rest h = record { rest = rest; here = refl; such = h }
 
-pub at_end : (whole : List ℕ) → Blames whole (causes.Syntax, 0)
-at_end whole = at_once [] the_end
+-- ---- gaps
 
--- unexpected, where anything stands there at all
-abbrev pub UnexpectedSome : List ℕ → List ℕ → Type 0
-UnexpectedSome whole text = 0 < length text → IsUnexpected whole text
+mutual
+  gap_ends_in : (text : List ℕ) → EndsGap (after_gap true text)
+  gap_ends_in [] = tt
+  gap_ends_in (c ∷ cs) = elim (cases_Bool (c == line_feed)) [ inl e ↦ rw e (gap_ended cs) | inr n ↦ rw n (gap_ends_in cs) ]
 
-pub at_some : (whole text : List ℕ) → UnexpectedSome whole text → Left (length text) (IsUnexpected whole)
-at_some whole [] h = at_end whole
-at_some whole (c ∷ cs) h = at_once (c ∷ cs) (h (omega arith))
+  gap_ended : (text : List ℕ) → EndsGap (after_gap false text)
+  gap_ended [] = tt
+  gap_ended (c ∷ cs) =
+      if_is EndsGap (c == percent) _ _ (λ _. gap_ends_in cs)
+      (λ n. if_is EndsGap (is_white_space c) _ _ (λ _. gap_ended cs) (λ w. (w, eqb-false c percent n)))
 
--- due, where anything stands there at all
-abbrev pub DueSome : List ℕ → Place → List ℕ → Type 0
-DueSome whole p text = 0 < length text → Due whole p text
+whole_gap_of : (text rest : List ℕ) → Behind text rest → EndsGap rest → WholeGap text rest
+whole_gap_of text rest (something g) e = up_to g e
+whole_gap_of text rest (nothing g l) e = to_the_end g l
+
+pub whole_gap : (text : List ℕ) → WholeGap text (after_gap false text)
+whole_gap text = whole_gap_of text (after_gap false text) (gap_holds text) (gap_ended text)
+
+-- what something follows is a gap
+pub gap_before : {text t : List ℕ} (c : ℕ) (rest : List ℕ) → WholeGap text t → t ≡ c ∷ rest → Gap text (c ∷ rest)
+gap_before c rest (up_to g e) h = rw h at g
+gap_before c rest (to_the_end g l) h = absurd cc
 
 -- ---- steps
 
@@ -79,81 +89,95 @@ pub if_blames : {A : Type 0} (E : Fault → Type 0) (b : Bool) (r t : Result A F
 if_blames E true r t h k = h refl
 if_blames E false r t h k = k refl
 
+pub both_ok : {A : Type 0} (P Q : A → Type 0) (r : Result A Fault) → IfOk r P → IfOk r Q → IfOk r (λ x. P x × Q x)
+both_ok P Q (Ok x) h k = (h, k)
+both_ok P Q (Err e) h k = tt
+
 module _ {S : Type 0} (step : Step S) (Good : S → List ℕ → Type 0) (E : Fault → Type 0) where
   -- where a step goes on, all is well for the next
   abbrev pub StaysGood : Bool × S × List ℕ → Type 0
   StaysGood t = t.0 ≡ true → Good t.1 t.2
 
-  goes_on : (n : ℕ) (t : Bool × S × List ℕ) → StaysGood t → ((s : S) (text : List ℕ) → Good s text → IfErr (steps step n s text) E) → IfErr (cond t.0 (steps step n t.1 t.2) (Ok (t.1, t.2))) E
-  goes_on n t h again = if_blames E t.0 _ _ (λ goes. again t.1 t.2 (h goes)) (λ _. tt)
+  goes_on : (n : ℕ) (t : Bool × S × List ℕ) → (t.0 ≡ true → IfErr (steps step n t.1 t.2) E) → IfErr (cond t.0 (steps step n t.1 t.2) (Ok (t.1, t.2))) E
+  goes_on n t again = if_blames E t.0 _ _ again (λ _. tt)
 
-  pub steps_blame : E (causes.Syntax, 0) → ((s : S) (text : List ℕ) → Good s text → IfOk (step s text) StaysGood) → ((s : S) (text : List ℕ) → Good s text → IfErr (step s text) E) → (n : ℕ) (s : S) (text : List ℕ) → Good s text → IfErr (steps step n s text) E
+  abbrev StaysShort : List ℕ → Bool × S × List ℕ → Type 0
+  StaysShort text t = t.0 ≡ true → length t.2 < length text
+
+  pub steps_blame : Shrinks step → ((s : S) (text : List ℕ) → Good s text → IfOk (step s text) StaysGood) → ((s : S) (text : List ℕ) → Good s text → IfErr (step s text) E) → (n : ℕ) (s : S) (text : List ℕ) → length text < n → Good s text → IfErr (steps step n s text) E
   unfolding steps
-  steps_blame out good blames zero s text g = out
-  steps_blame out good blames (suc n) s text g = bind_blames StaysGood E (step s text) _ (good s text g) (blames s text g) (λ t h. goes_on n t h (λ s text g. steps_blame out good blames n s text g))
+  steps_blame shrinks good blames zero s text l g = absurd (omega arith)
+  steps_blame shrinks good blames (suc n) s text l g =
+      bind_blames (λ (t : Bool × S × List ℕ). StaysGood t × StaysShort text t) E (step s text) _
+      (both_ok StaysGood (StaysShort text) (step s text) (good s text g) (holds_from (StaysShort text) (step s text) (λ t e. shrinks.shorter s text t e))) (blames s text g)
+      (λ t h. goes_on n t (λ goes. let less = h.1 goes in steps_blame shrinks good blames n t.1 t.2 (omega arith) (h.0 goes)))
 
--- what stands behind an item that is not the last
-record NextItem (text rest : List ℕ) : Type 0 where
-  behind : List ℕ
-  gap : Gap text (comma ∷ behind)
-  next : Behind behind rest
+-- what stands behind an item: a comma and the next item, or no comma
+data Next (text : List ℕ) : Bool → List ℕ → Type 0 where
+  comes : {u rest : List ℕ} → Gap text (comma ∷ u) → WholeGap u rest → Next text true rest
+  ends : {rest : List ℕ} → WholeGap text rest → ¬ BeginsWith comma rest → Next text false rest
 
-next_item : (text : List ℕ) (b : Bool) (rest : List ℕ) → AfterItem text b rest → b ≡ true → NextItem text rest
-next_item text true rest (more_come {u} g k) e = record { behind = u; gap = g; next = k }
-next_item text false rest (no_more_come k) e = absurd cc
+next_in : (text g : List ℕ) → WholeGap text g → Next text (comma_in g).0 (comma_in g).1
+next_in text [] w = ends w (λ h. h)
+next_in text (c ∷ cs) w =
+    if_is (λ (p : Bool × List ℕ). Next text p.0 p.1) (c == comma) _ _
+    (λ e. comes (rw (eqb-true c comma e) at (gap_before c cs w refl)) (whole_gap cs))
+    (λ n. ends w (λ h. eqb-false c comma n h))
 
-module _ {S : Type 0} (item : S → List ℕ → Read S) (Item : S → List ℕ → S → List ℕ → Type 0) (Good : S → List ℕ → Type 0) (E : Fault → Type 0) where
-  pub separated_blames : E (causes.Syntax, 0) → ((s : S) (text : List ℕ) → IfOk (item s text) (λ x. Item s text x.0 x.1))
-      → ((s : S) (text : List ℕ) (u : S) (t w rest : List ℕ) → Good s text → Item s text u t → Gap t (comma ∷ w) → Behind w rest → Good u rest)
-      → ((s : S) (text : List ℕ) → Good s text → IfErr (item s text) E) → (s : S) (text : List ℕ) → Good s text → IfErr (all_steps (separated item) s text) E
-  separated_blames out holds next blames s text g =
-      steps_blame (separated item) Good E out
+next_item : (text : List ℕ) → Next text (behind_comma text).0 (behind_comma text).1
+next_item text = next_in text (after_gap false text) (whole_gap text)
+
+-- the last of some items, and what stands behind it
+pub record LastItem {S : Type 0} (Item : S → List ℕ → S → List ℕ → Type 0) (Good : S → List ℕ → Type 0) (made : S) (rest : List ℕ) : Type 0 where
+  pub before : S
+  pub text : List ℕ
+  pub behind : List ℕ
+  pub good : Good before text
+  pub item : Item before text made behind
+  pub gap : WholeGap behind rest
+  pub no_comma : ¬ BeginsWith comma rest
+
+module _ {S : Type 0} (item : S → List ℕ → Read S) (Item : S → List ℕ → S → List ℕ → Type 0) (Good : S → List ℕ → Type 0) (holds : (s : S) (text : List ℕ) → IfOk (item s text) (λ x. Item s text x.0 x.1)) (next : (s : S) (text : List ℕ) (u : S) (t w rest : List ℕ) → Good s text → Item s text u t → Gap t (comma ∷ w) → WholeGap w rest → Good u rest) where
+  good_next : (s : S) (text : List ℕ) (u : S) (t : List ℕ) (b : Bool) (rest : List ℕ) → Good s text → Item s text u t → Next t b rest → b ≡ true → Good u rest
+  good_next s text u t true rest g i (comes {u = w} gap k) e = next s text u t w rest g i gap k
+  good_next s text u t false rest g i (ends k n) e = absurd cc
+
+  pub separated_blames : (E : Fault → Type 0) → Shrinks (separated item) → ((s : S) (text : List ℕ) → Good s text → IfErr (item s text) E) → (s : S) (text : List ℕ) → Good s text → IfErr (all_steps (separated item) s text) E
+  separated_blames E shrinks blames s text g =
+      steps_blame (separated item) Good E shrinks
       (λ s text g. bind_holds (λ (x : S × List ℕ). Item s text x.0 x.1) (StaysGood (separated item) Good E) (item s text) _ (holds s text)
-      (λ x i. λ goes. let n = next_item x.1 (behind_comma x.1).0 (behind_comma x.1).1 (after_item x.1) goes in next s text x.0 x.1 n.behind (behind_comma x.1).1 g i n.gap n.next))
+      (λ x i. λ goes. good_next s text x.0 x.1 (behind_comma x.1).0 (behind_comma x.1).1 g i (next_item x.1) goes))
       (λ s text g. bind_any E (item s text) _ (blames s text g) (λ x. tt))
-      (suc (length text)) s text g
+      (suc (length text)) s text (omega arith) g
 
--- no comma stands behind the last item
-any_ok : {A : Type 0} (r : Result A Fault) → IfOk r (λ _. Unit {0})
-any_ok (Ok x) = tt
-any_ok (Err e) = tt
+  abbrev LastFrom : S → List ℕ → S → List ℕ → Type 0
+  LastFrom s text u rest = Good s text → LastItem Item Good u rest
 
-no_comma_in : (g : List ℕ) → (comma_in g).0 ≡ false → ¬ BeginsWith comma (comma_in g).1
-no_comma_in [] e = λ h. h
-no_comma_in (c ∷ cs) e = if_is (λ (p : Bool × List ℕ). p.0 ≡ false → ¬ BeginsWith comma p.1) (c == comma) _ _ (λ t. λ no. absurd cc) (λ f. λ _ h. eqb-false c comma f h) e
+  last_hands : (s u : S) (text t : List ℕ) → Item s text u t → (b : Bool) (rest : List ℕ) → Next t b rest → Hands (separated item) LastFrom s text (b, u, rest)
+  last_hands s u text t i true rest (comes {u = w} gap k) = λ v end again. λ g. again (next s text u t w rest g i gap k)
+  last_hands s u text t i false rest (ends k n) = λ g. record { before = s; text = text; behind = t; good = g; item = i; gap = k; no_comma = n }
 
-module _ {S : Type 0} (item : S → List ℕ → Read S) where
-  abbrev NoComma : S → List ℕ → S → List ℕ → Type 0
-  NoComma s text u rest = 0 < length rest → ¬ BeginsWith comma rest
-
-  comma_or_none : (s : S) (text : List ℕ) (t : Bool × S × List ℕ) → (t.0 ≡ false → ¬ BeginsWith comma t.2) → Hands (separated item) NoComma s text t
-  comma_or_none s text (true, u, rest) h = λ v end r. r
-  comma_or_none s text (false, u, rest) h = λ some. h refl
-
-  pub no_comma : (s : S) (text : List ℕ) → IfOk (all_steps (separated item) s text) (λ x. 0 < length x.1 → ¬ BeginsWith comma x.1)
-  no_comma s text =
-      steps_hold (separated item) NoComma
-      (λ s text. bind_holds (λ (x : S × List ℕ). Unit {0}) (Hands (separated item) NoComma s text) (item s text) _ (any_ok (item s text))
-      (λ x _. comma_or_none s text (behind_item x.0 x.1) (no_comma_in (after_gap false x.1))))
-      (suc (length text)) s text
-
-pub both_ok : {A : Type 0} (P Q : A → Type 0) (r : Result A Fault) → IfOk r P → IfOk r Q → IfOk r (λ x. P x × Q x)
-both_ok P Q (Ok x) h k = (h, k)
-both_ok P Q (Err e) h k = tt
+  pub separated_last : (s : S) (text : List ℕ) → Good s text → IfOk (all_steps (separated item) s text) (λ x. LastItem Item Good x.0 x.1)
+  separated_last s text g =
+      weaker (λ (x : S × List ℕ). LastFrom s text x.0 x.1) _ (all_steps (separated item) s text) (λ x last. last g)
+      (steps_hold (separated item) LastFrom
+      (λ s text. bind_holds (λ (x : S × List ℕ). Item s text x.0 x.1) (Hands (separated item) LastFrom s text) (item s text) _ (holds s text)
+      (λ x i. last_hands s x.0 text x.1 i (behind_comma x.1).0 (behind_comma x.1).1 (next_item x.1)))
+      (suc (length text)) s text)
 
 -- ---- tokens
 
-pub expect_blames : (whole : List ℕ) (a : ℕ) (text : List ℕ) → (0 < length text → ¬ BeginsWith a text → IsUnexpected whole text) → IfErr (expect a text) (Blames whole)
-expect_blames whole a [] h = at_end whole
-expect_blames whole a (c ∷ cs) h = if_blames (Blames whole) (c == a) _ _ (λ _. tt) (λ n. at_once (c ∷ cs) (h (omega arith) (eqb-false c a n)))
+pub expect_blames : (whole : List ℕ) (a : ℕ) (text : List ℕ) → (¬ BeginsWith a text → IsUnexpected whole text) → IfErr (expect a text) (Blames whole)
+expect_blames whole a [] h = at_once [] (h (λ b. b))
+expect_blames whole a (c ∷ cs) h = if_blames (Blames whole) (c == a) _ _ (λ _. tt) (λ n. at_once (c ∷ cs) (h (eqb-false c a n)))
 
 not_both : (x y a b : ℕ) (ys : List ℕ) → (x == a && y == b) ≡ false → ¬ BeginsWithBoth a b (x ∷ y ∷ ys)
 not_both x y a b ys n h = let both : (x == a && y == b) ≡ true = rw (eq-eqb x a h.0, eq-eqb y b h.1) refl in absurd cc
 
-pub expect_both_blames : (whole : List ℕ) (a b : ℕ) (text : List ℕ) → (0 < length text → ¬ BeginsWithBoth a b text → IsUnexpected whole text) → IfErr (expect_both a b text) (Blames whole)
-expect_both_blames whole a b [] h = at_end whole
-expect_both_blames whole a b (x ∷ []) h = at_once (x ∷ []) (h (omega arith) (λ both. both.1))
-expect_both_blames whole a b (x ∷ y ∷ ys) h = if_blames (Blames whole) (x == a && y == b) _ _ (λ _. tt) (λ n. at_once (x ∷ y ∷ ys) (h (omega arith) (not_both x y a b ys n)))
+pub expect_both_blames : (whole : List ℕ) (a b : ℕ) (text : List ℕ) → (¬ BeginsWithBoth a b text → IsUnexpected whole text) → IfErr (expect_both a b text) (Blames whole)
+expect_both_blames whole a b [] h = at_once [] (h (λ both. both))
+expect_both_blames whole a b (x ∷ []) h = at_once (x ∷ []) (h (λ both. both.1))
+expect_both_blames whole a b (x ∷ y ∷ ys) h = if_blames (Blames whole) (x == a && y == b) _ _ (λ _. tt) (λ n. at_once (x ∷ y ∷ ys) (h (not_both x y a b ys n)))
 
 sign_is : (c : ℕ) → is_sign c ≡ true → (c ≡ plus) ⊎ (c ≡ minus)
 sign_is c h = elim (or_cases (c == plus) (c == minus) h) [ inl p ↦ inl (eqb-true c plus p) | inr m ↦ inr (eqb-true c minus m) ]
@@ -208,14 +232,14 @@ opens_none text e begins_term.a_list = absurd cc
 opens_none text e begins_term.a_map = absurd cc
 opens_none text e begins_term.a_binary = absurd cc
 
-enter_as_blames : (whole : List ℕ) (levels room : ℕ) (text : List ℕ) (o : Option (Opening × List ℕ)) → IfSome o (λ o. Opens o.0 text o.1) → opening text ≡ o → (0 < length text → ¬ BeginsTerm text → IsUnexpected whole text) → (BeginsTerm text → levels ≡ 0 → IsTooDeep whole text) → (BeginsTerm text → room ≡ 0 → IsTooLong whole text) → IfErr (enter_as levels room text o) (Blames whole)
-enter_as_blames whole levels room text None h e none deep long = at_some whole text (λ some. none some (opens_none text e))
+enter_as_blames : (whole : List ℕ) (levels room : ℕ) (text : List ℕ) (o : Option (Opening × List ℕ)) → IfSome o (λ o. Opens o.0 text o.1) → opening text ≡ o → (¬ BeginsTerm text → IsUnexpected whole text) → (BeginsTerm text → levels ≡ 0 → IsTooDeep whole text) → (BeginsTerm text → room ≡ 0 → IsTooLong whole text) → IfErr (enter_as levels room text o) (Blames whole)
+enter_as_blames whole levels room text None h e none deep long = at_once text (none (opens_none text e))
 enter_as_blames whole levels room text (Some o) h e none deep long =
     let starts = term_starts o.0 text o.1 h in
     if_blames (Blames whole) (levels == 0) _ _ (λ e. at_once text (deep starts (eqb-true levels 0 e)))
     (λ _. if_blames (Blames whole) (room == 0) _ _ (λ e. at_once text (long starts (eqb-true room 0 e))) (λ _. tt))
 
-pub enter_blames : (whole : List ℕ) (levels room : ℕ) (text : List ℕ) → (0 < length text → ¬ BeginsTerm text → IsUnexpected whole text) → (BeginsTerm text → levels ≡ 0 → IsTooDeep whole text) → (BeginsTerm text → room ≡ 0 → IsTooLong whole text) → IfErr (enter levels room text) (Blames whole)
+pub enter_blames : (whole : List ℕ) (levels room : ℕ) (text : List ℕ) → (¬ BeginsTerm text → IsUnexpected whole text) → (BeginsTerm text → levels ≡ 0 → IsTooDeep whole text) → (BeginsTerm text → room ≡ 0 → IsTooLong whole text) → IfErr (enter levels room text) (Blames whole)
 unfolding enter
 enter_blames whole levels room text none deep long = enter_as_blames whole levels room text (opening text) (opening_holds text) refl none deep long
 
@@ -300,6 +324,10 @@ pub record AreOf (whole : List ℕ) (m : Marks) (q : Quotes) (before : ℕ) : Ty
   pub bytes : m.only_bytes ≡ true → q ≡ of_bytes
   pub fits : (k c : ℕ) → k < m.room → is_allowed m.only_bytes c ≡ true → (before + k < most_characters q) × MayStand q c
 
+backslash_allowed : (g : Bool) → is_allowed g backslash ≡ true
+backslash_allowed false = refl
+backslash_allowed true = refl
+
 module _ (whole : List ℕ) (m : Marks) (q : Quotes) (before : ℕ) (are : AreOf whole m q before) where
   record IsDue (cs text : List ℕ) : Type 0 where
     few : length cs ≤ m.room
@@ -335,9 +363,9 @@ module _ (whole : List ℕ) (m : Marks) (q : Quotes) (before : ℕ) (are : AreOf
   escape_blames k e rest None d h = at_once (backslash ∷ e ∷ rest) (no_escape d h)
   escape_blames k e rest (Some x) d h = tt
 
-  escaped_blames : (k c : ℕ) (text : List ℕ) → c ≡ backslash → Due whole (a_character q k) (c ∷ text) → IfErr (escape_at (c ∷ text) text) (Blames whole)
-  escaped_blames k c [] b d = at_end whole
-  escaped_blames k c (e ∷ rest) b d = rw b (escape_blames k e rest (escaped e) (rw b at d) refl)
+  escaped_blames : (k c : ℕ) (text : List ℕ) → c ≡ backslash → k < m.room → Due whole (a_character q (before + k)) (c ∷ text) → IfErr (escape_at (c ∷ text) text) (Blames whole)
+  escaped_blames k c [] b room d = let fits = are.fits k backslash room (backslash_allowed m.only_bytes) in at_once [] (no_escaped (rw b at d) fits.0 fits.1)
+  escaped_blames k c (e ∷ rest) b room d = rw b (escape_blames (before + k) e rest (escaped e) (rw b at d) refl)
 
   not_allowed : (g : Bool) (c : ℕ) → is_allowed g c ≡ false → (g ≡ true) × (255 < c)
   not_allowed false c h = absurd cc
@@ -346,26 +374,26 @@ module _ (whole : List ℕ) (m : Marks) (q : Quotes) (before : ℕ) (are : AreOf
   no_byte_blames : (k c : ℕ) (text : List ℕ) → is_allowed m.only_bytes c ≡ false → Due whole (a_character q k) (c ∷ text) → IsOutOfRange whole (c ∷ text)
   no_byte_blames k c text h d = let p = not_allowed m.only_bytes c h in no_byte_character (rw (are.bytes p.0) at d) p.1
 
-  character_blames : (k c : ℕ) (text : List ℕ) → Due whole (a_character q k) (c ∷ text) → IfErr (character_at m.only_bytes (c ∷ text)) (Blames whole)
+  character_blames : (k c : ℕ) (text : List ℕ) → k < m.room → Due whole (a_character q (before + k)) (c ∷ text) → IfErr (character_at m.only_bytes (c ∷ text)) (Blames whole)
   unfolding character_at
-  character_blames k c text d =
-      if_blames (Blames whole) (c == backslash) _ _ (λ b. escaped_blames k c text (eqb-true c backslash b) d)
-      (λ _. if_blames (Blames whole) (is_allowed m.only_bytes c) _ _ (λ _. tt) (λ l. at_once (c ∷ text) (no_byte_blames k c text l d)))
+  character_blames k c text room d =
+      if_blames (Blames whole) (c == backslash) _ _ (λ b. escaped_blames k c text (eqb-true c backslash b) room d)
+      (λ _. if_blames (Blames whole) (is_allowed m.only_bytes c) _ _ (λ _. tt) (λ l. at_once (c ∷ text) (no_byte_blames (before + k) c text l d)))
 
   step_blames : (cs text : List ℕ) → IsDue cs text → IfErr (quoted_step m cs text) (Blames whole)
   unfolding quoted_step next_quoted
-  step_blames cs [] d = at_end whole
+  step_blames cs [] d = at_once [] (no_character d.place)
   step_blames cs (c ∷ text) d =
       bind_any (Blames whole) _ _
       (if_blames (Blames whole) (c == m.mark) _ _ (λ _. tt)
       (λ e. if_blames (Blames whole) (length cs == m.room) _ _ (λ r. are.full (length cs) c text (eqb-true (length cs) m.room r) d.place (λ f. eqb-false c m.mark e (f ∙ sym are.mark)))
-      (λ _. bind_any (Blames whole) (character_at m.only_bytes (c ∷ text)) _ (character_blames (before + length cs) c text d.place) (λ x. tt))))
+      (λ r. bind_any (Blames whole) (character_at m.only_bytes (c ∷ text)) _ (character_blames (length cs) c text (let few = d.few in let ne = eqb-false (length cs) m.room r in omega arith) d.place) (λ x. tt))))
       (λ x. tt)
 
   pub quoted_blames : (text : List ℕ) → Due whole (a_character q before) text → IfErr (quoted_at m text) (Blames whole)
   quoted_blames text d =
       let same : before + 0 ≡ before = omega arith in
-      steps_blame (quoted_step m) IsDue (Blames whole) (at_end whole) (λ cs text d. step_good cs text d) (λ cs text d. step_blames cs text d) (suc (length text)) [] text (record { few = omega arith; place = rw same d })
+      steps_blame (quoted_step m) IsDue (Blames whole) (quoted_shrinks m) (λ cs text d. step_good cs text d) (λ cs text d. step_blames cs text d) (suc (length text)) [] text (omega arith) (record { few = omega arith; place = rw same d })
 
 pub atom_are : (whole : List ℕ) → AreOf whole atom_marks of_atom 0
 atom_are whole = record {

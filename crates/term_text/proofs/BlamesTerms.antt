@@ -1,35 +1,31 @@
 -- A reader that stops names what stands at the place where it stops: terms and whole texts.
-use Rattle.std.proofs.Common.{◌≡◌, ◌&&◌, ℕ, zero, suc, ◌+◌, ◌-◌, ◌≤◌, ◌<◌, inl, inr, true, false, List, [], ◌∷◌, ◌++◌, length, take, Option, Some, None, refl, sym, ap, ◌∙◌, arith}
+use Rattle.std.proofs.Common.{◌≡◌, ◌&&◌, ℕ, zero, suc, ◌+◌, ◌-◌, ◌≤◌, ◌<◌, inl, inr, true, false, List, [], ◌∷◌, length, take, Option, Some, None, refl, sym, ap, ◌∙◌, arith}
 use Rattle.std.specs.Prelude.{IfOk, IfErr, IfSome, ◌==◌}
 use Rattle.std.specs.List.{Contains}
 use Rattle.std.specs.List.Sorted.{IsPermutation}
 use Rattle.std.specs.Ordering.{is_eq}
 use Rattle.std.specs.Str.{encode_utf8_all, chars}
 use Rattle.std.proofs.lemmas.Bool.{eqb-true, eq-eqb, or_cases, or_parts}
-use Rattle.std.proofs.lemmas.List.{append-nil, length-append, take_at}
+use Rattle.std.proofs.lemmas.List.{length-append, take_at}
 use Rattle.std.proofs.lemmas.List.Sorted.{Contains-permutation, IsPermutation-refl, IsPermutation-sym, IsPermutation-cons, IsPermutation-trans, length_permutation}
 use Rattle.std.proofs.lemmas.Result.{IfErr-at_err}
 use Rattle.term_core.specs.Datum.{Datum, cell_count}
 use Rattle.term_core.specs.Order.{datum_cmp}
 use Rattle.term_core.specs.OrderLaws.{datum_cmp-equal, datum_cmp-same}
 use Rattle.std.specs.declared.cmp.Ordering.TheVariants.{Equal}
-use Rattle.std.specs.BTreeMap.{insert_entry}
 use Rattle.term_core.specs.declared.TheConstants.{MAX_TUPLE, MAX_MAP, MAX_LIST, MAX_BINARY, MAX_DEPTH}
-use Rattle.term_text.specs.Character.{comma, dot, equals, greater, single_quote, double_quote, open_brace, close_brace, open_bracket, close_bracket, bar, number_sign, less}
+use Rattle.term_text.specs.Character.{backslash, comma, dot, equals, greater, single_quote, double_quote, open_brace, close_brace, open_bracket, close_bracket, bar, number_sign, less}
 use Rattle.term_text.specs.declared.fault.Cause.{Cause}
 use Rattle.term_text.specs.declared.fault.Cause.TheVariants as causes
 use Rattle.term_text.specs.declared.fault.Stop.{Stop}
 use Rattle.term_text.specs.declared.fault.Stop.TheVariants as stops
 use Rattle.term_text.specs.declared.token.Opening.{Opening}
 use Rattle.term_text.specs.declared.token.Opening.TheVariants as opens
-use Rattle.term_text.specs.Text.{Gap, Segment, Segments, Spelled, Elements, Pair, Pairs}
-use Rattle.term_text.specs.Text.Segments.{last_segment, more_segments}
-use Rattle.term_text.specs.Text.Pairs.{last_pair, more_pairs}
-use Rattle.term_text.specs.Text.Elements.{last, more as more_elements}
+use Rattle.term_text.specs.Text.{Gap, Spelled}
 use Rattle.term_text.specs.Fault.{fault_of}
-use Rattle.term_text.specs.Causes.{Place, Due, Due as due, Row, most_elements, BeginsTerm, IsTooDeep, IsTooLong, IsKeyTwice, IsOutOfRange, IsNoEscape, StandsAt, HasCause, BeginsInteger, BeginsWith, BeginsWithBoth, BeginsDot, FollowsElement, IsUnexpected, IsNew}
+use Rattle.term_text.specs.Causes.{Due, Due as due, WholeGap, Row, most_elements, BeginsTerm, IsTooDeep, IsTooLong, IsKeyTwice, IsOutOfRange, IsNoEscape, StandsAt, HasCause, BeginsInteger, BeginsWith, BeginsWithBoth, BeginsDot, FollowsElement, IsUnexpected, IsNew}
 use Rattle.term_text.specs.Causes.{BeginsTerm as begins_term}
-use Rattle.term_text.specs.Causes.IsUnexpected.{the_end, no_term, no_segment, behind_element, behind_tail, behind_key, behind_pair, behind_segment, no_dot}
+use Rattle.term_text.specs.Causes.IsUnexpected.{no_character, no_escaped, no_term, no_segment, behind_element, behind_tail, behind_key, behind_pair, behind_segment, no_dot}
 use Rattle.term_text.specs.Causes.Place.{a_sentence, a_term, an_element, a_pair, a_segment}
 use Rattle.term_text.specs.Causes.Row.{in_tuple, in_list}
 use Rattle.term_text.specs.Causes.Quotes.{of_atom, of_string, of_bytes}
@@ -39,25 +35,23 @@ use Rattle.term_text.specs.Causes.IsKeyTwice.{key_twice}
 use Rattle.term_text.specs.Causes.IsOutOfRange.{wide_term, wide_segment, no_byte, no_byte_character}
 use Rattle.term_text.specs.Causes.IsNoEscape.{no_escape}
 use Rattle.term_text.specs.Reading.{Fails, TermReader, TailReader, after_gap, behind, behind_both, separated, all_steps, enter, expect, expect_both, opening, quoted_at, atom_marks, byte_marks, string_marks, string_at, segment_as, segment_at, segments_at, byte_at, bytes_at, binary_at, integer_at, integer_term_at, word_at, word_term_at, quoted_atom_at, element_at, elements_at, items_at, tuple_at, list_at, list_end, list_from, end_at, has_key, pair_at, pairs_at, map_at, form_at, tail_form, term_at, tail_at, dot_at, begins_gap, sentence_at, sentence_step, text_at}
-use Rattle.term_text.proofs.Tokens.{Behind}
-use Rattle.term_text.proofs.Items.{gap_some, gap_within}
-use Rattle.term_text.proofs.Shorter.{spelled_shorter, elements_shorter, segment_shorter, segments_shorter, pair_shorter, pairs_shorter}
 use Rattle.term_text.proofs.Words.{Opens, BeginsWord, opening_holds, opening_integer, behind_holds}
-use Rattle.term_text.proofs.Sound.{IsReader, IsTailReader, ElementRead, ElementsRead, SegmentRead, SegmentsRead, PairRead, PairsRead, TailRead, cell_count-cells, segments_hold, pairs_hold, enter_holds, element_holds, elements_hold, segment_holds, pair_holds, expect_both_holds, term_holds, tail_holds}
+use Rattle.term_text.proofs.Sound.{IsReader, IsTailReader, ElementRead, SegmentRead, PairRead, TailRead, cell_count-cells, enter_holds, element_holds, element_shrinks, segment_holds, segment_shrinks, pair_holds, pair_shrinks, expect_both_holds, term_holds, tail_holds}
 use Rattle.term_text.proofs.Steps.{bind_holds}
-use Rattle.term_text.proofs.Texts.{SentenceRead, sentence_holds, begins_from}
-use Rattle.term_text.proofs.Keys.{put_permutes, is_eq-equal, AreApart, apart_fresh, apart_next, apart_at_first}
-use Rattle.term_text.proofs.Ends.{EndsIn, due_ends, gap_ends, spelled_ends, segment_ends, pair_ends, then}
-use Rattle.term_text.proofs.Blames.{Left, Blames, at_once, at_end, at_some, no_comma, both_ok, opens_none, integer_begun, DueSome, StaysGood, bind_blames, bind_any, if_blames, steps_blame, separated_blames, expect_blames, expect_both_blames, term_starts, term_some, enter_blames, integer_blames, byte_blames, word_blames, quoted_blames, atom_are, byte_are, string_are}
+use Rattle.term_text.proofs.Texts.{SentenceRead, sentence_holds, sentence_shrinks, begins_from}
+use Rattle.term_text.proofs.Keys.{put_permutes, is_eq-equal}
+use Rattle.term_text.proofs.Ends.{EndsIn, due_ends, whole_gap_ends, spelled_ends, segment_ends, pair_ends, then}
+use Rattle.term_text.proofs.Ends.{behind as ends_behind}
+use Rattle.term_text.proofs.Blames.{Left, Blames, at_once, whole_gap, gap_before, opens_none, integer_begun, LastItem, StaysGood, bind_blames, bind_any, if_blames, steps_blame, separated_blames, separated_last, expect_blames, expect_both_blames, enter_blames, integer_blames, byte_blames, word_blames, quoted_blames, atom_are, byte_are, string_are}
 use Rattle.term_text.proofs.Words.{BeginsInteger as IsIntegerStart}
 use Rattle.term_text.proofs.Blames.{integer_starts}
 
 -- a reader of terms that names what stands where it stops
 abbrev pub BlamesTerm : List ℕ → ℕ → TermReader → Type 0
-BlamesTerm whole n read = (room : ℕ) (text : List ℕ) → DueSome whole (a_term n 0) text → (BeginsTerm text → room ≡ 0 → IsTooLong whole text) → IfErr (read room text) (Blames whole)
+BlamesTerm whole n read = (room : ℕ) (text : List ℕ) → Due whole (a_term n 0) text → (BeginsTerm text → room ≡ 0 → IsTooLong whole text) → IfErr (read room text) (Blames whole)
 
 abbrev pub BlamesTail : List ℕ → ℕ → TailReader → Type 0
-BlamesTail whole n read = (front : List Datum) (text : List ℕ) → length front ≤ MAX_LIST → DueSome whole (a_term n (length front)) text → IfErr (read front text) (Blames whole)
+BlamesTail whole n read = (front : List Datum) (text : List ℕ) → length front ≤ MAX_LIST → Due whole (a_term n (length front)) text → IfErr (read front text) (Blames whole)
 
 -- ---- integers, atoms and strings
 
@@ -84,11 +78,21 @@ unfolding string_at
 string_blames whole text n front l d =
     bind_any (Blames whole) (quoted_at (string_marks n (length front)) text) _ (quoted_blames whole (string_marks n (length front)) (of_string n) (length front) (string_are whole n (length front) l) text (due.in_string d)) (λ x. tt)
 
+-- where it does not stand, it is not found
+none_behind : (a : ℕ) (text : List ℕ) → behind a text ≡ None → ¬ BeginsWith a text
+none_behind a [] e h = h
+none_behind a (c ∷ cs) e h = let found = rw (eq-eqb c a h) at e in absurd cc
+
+neither : (a b : ℕ) (text : List ℕ) → behind_both a b text ≡ None → ¬ BeginsWithBoth a b text
+neither a b [] e h = h
+neither a b (x ∷ []) e h = h.1
+neither a b (x ∷ y ∷ ys) e h = let found = rw (eq-eqb x a h.0, eq-eqb y b h.1) at e in absurd cc
+
 -- ---- binaries
 
 record SegmentDue (whole bytes text : List ℕ) : Type 0 where
   few : length bytes ≤ MAX_BINARY
-  place : DueSome whole (a_segment (length bytes)) text
+  place : Due whole (a_segment (length bytes)) text
 
 quote_starts : (text : List ℕ) → BeginsWith double_quote text → BeginsTerm text
 quote_starts [] h = absurd h
@@ -112,69 +116,57 @@ other_starts text rest o no_integer no_string e =
     (λ i. no_integer (opening_of o opens.Integer rest text (opening text) e (opening_integer text (integer_begun i))), opening_quote text rest o no_string e)
 
 segment_as_blames : (whole bytes text : List ℕ) (o : Option (Opening × List ℕ)) → IfSome o (λ o. Opens o.0 text o.1) → opening text ≡ o → SegmentDue whole bytes text → IfErr (segment_as o bytes text) (Blames whole)
-segment_as_blames whole bytes text None h e g = let no = no_segment_starts text e in at_some whole text (λ some. no_segment (g.place some) no.0 no.1)
+segment_as_blames whole bytes text None h e g = let no = no_segment_starts text e in at_once text (no_segment g.place no.0 no.1)
 segment_as_blames whole bytes text (Some (opens.Integer, rest)) h e g =
-    let some : 0 < length text = term_some (term_starts opens.Integer text rest h) in
-    if_blames (Blames whole) (length bytes == MAX_BINARY) _ _ (λ f. at_once text (one_byte (g.place some) (eqb-true (length bytes) MAX_BINARY f) (integer_starts text h.1)))
-    (λ _. bind_any (Blames whole) (byte_at text) _ (byte_blames whole text (length bytes) h.1 (g.place some)) (λ b. tt))
+    if_blames (Blames whole) (length bytes == MAX_BINARY) _ _ (λ f. at_once text (one_byte g.place (eqb-true (length bytes) MAX_BINARY f) (integer_starts text h.1)))
+    (λ _. bind_any (Blames whole) (byte_at text) _ (byte_blames whole text (length bytes) h.1 g.place) (λ b. tt))
 segment_as_blames whole bytes text (Some (opens.String, rest)) h e g =
-    let some : 0 < length text = term_some (term_starts opens.String text rest h) in
-    let here = rw h at (g.place some) in
+    let here = rw h at g.place in
     bind_any (Blames whole) (quoted_at (byte_marks (length bytes)) rest) _ (quoted_blames whole (byte_marks (length bytes)) of_bytes (length bytes) (byte_are whole (length bytes) g.few) rest (due.in_bytes here)) (λ x. tt)
-segment_as_blames whole bytes text (Some (o, rest)) h e g = let no = other_starts text rest o (λ p. absurd cc) (λ p. absurd cc) e in at_some whole text (λ some. no_segment (g.place some) no.0 no.1)
+segment_as_blames whole bytes text (Some (o, rest)) h e g = let no = other_starts text rest o (λ p. absurd cc) (λ p. absurd cc) e in at_once text (no_segment g.place no.0 no.1)
 
 segment_blames : (whole bytes text : List ℕ) → SegmentDue whole bytes text → IfErr (segment_at bytes text) (Blames whole)
 unfolding segment_at
 segment_blames whole bytes text g = segment_as_blames whole bytes text (opening text) (opening_holds text) refl g
 
-next_segment_due : (whole s text u t w rest : List ℕ) → SegmentDue whole s text → SegmentRead s text u t → Gap t (comma ∷ w) → Behind w rest → SegmentDue whole u rest
-next_segment_due whole s text u t w rest g r gap b = record {
-  few = r.within g.few;
-  place = λ some. let len : length u ≡ length s + length r.segment = ap length r.made ∙ length-append s r.segment in
-      rw len (due.next_segment (g.place (let lt = segment_shorter r.spelled in omega arith)) r.spelled (let few = r.within g.few in omega arith) gap (gap_within w rest b some));
-}
+segment_count : (s text u t : List ℕ) → (r : SegmentRead s text u t) → length u ≡ length s + length r.segment
+segment_count s text u t r = ap length r.made ∙ length-append s r.segment
 
-segments_blame : (whole text : List ℕ) → DueSome whole (a_segment 0) text → IfErr (segments_at [] text) (Blames whole)
+next_segment_due : (whole s text u t w rest : List ℕ) → SegmentDue whole s text → SegmentRead s text u t → Gap t (comma ∷ w) → WholeGap w rest → SegmentDue whole u rest
+next_segment_due whole s text u t w rest g r gap b =
+    let len = segment_count s text u t r in
+    record {
+      few = r.within g.few;
+      place = rw len (due.next_segment g.place r.spelled (let few = r.within g.few in omega arith) gap b);
+    }
+
+segments_blame : (whole text : List ℕ) → Due whole (a_segment 0) text → IfErr (segments_at [] text) (Blames whole)
 segments_blame whole text d =
-    separated_blames segment_at SegmentRead (SegmentDue whole) (Blames whole) (at_end whole) segment_holds (λ s text u t w rest g r gap b. next_segment_due whole s text u t w rest g r gap b) (λ s text g. segment_blames whole s text g) [] text (record { few = omega arith; place = d })
+    separated_blames segment_at SegmentRead (SegmentDue whole) segment_holds (next_segment_due whole) (Blames whole) segment_shrinks (segment_blames whole) [] text (record { few = omega arith; place = d })
 
 -- the last of some segments, and what stands behind it
-record LastSegment (whole rest : List ℕ) : Type 0 where
-  before : ℕ
-  text : List ℕ
-  behind : List ℕ
-  bytes : List ℕ
-  place : Due whole (a_segment before) text
-  spelled : Segment text bytes behind
-  few : before + length bytes ≤ MAX_BINARY
-  gap : Gap behind rest
+abbrev LastSegment : List ℕ → List ℕ × List ℕ → Type 0
+LastSegment whole x = LastItem SegmentRead (SegmentDue whole) x.0 x.1
 
-both_few : (k a b c most : ℕ) → c ≡ a + b → k + c ≤ most → (k + a ≤ most) × (k + a + b ≤ most)
-both_few k a b c most e l = (omega arith, omega arith)
+last_segment : (whole text : List ℕ) → Due whole (a_segment 0) text → IfOk (segments_at [] text) (LastSegment whole)
+last_segment whole text d = separated_last segment_at SegmentRead (SegmentDue whole) segment_holds (next_segment_due whole) [] text (record { few = omega arith; place = d })
 
-last_segment_of : {whole text bytes rest : List ℕ} (k : ℕ) → k + length bytes ≤ MAX_BINARY → Segments text bytes rest → Due whole (a_segment k) text → LastSegment whole rest
-last_segment_of k few (last_segment {text} {t} {bs} s g) d = record { before = k; text = text; behind = t; bytes = bs; place = d; spelled = s; few = few; gap = g }
-last_segment_of k few (more_segments {bs} {cs} s g h ss) d =
-    let both = both_few k (length bs) (length cs) (length (bs ++ cs)) MAX_BINARY (length-append bs cs) few in
-    last_segment_of (k + length bs) both.1 ss (due.next_segment d s both.0 g h)
+after_segments : (whole : List ℕ) (x : List ℕ × List ℕ) → LastSegment whole x → ¬ BeginsWithBoth greater greater x.1 → IsUnexpected whole x.1
+after_segments whole x l no_end =
+    let len = segment_count l.before l.text x.0 l.behind l.item in
+    behind_segment l.good.place l.item.spelled (let few = l.item.within l.good.few in omega arith) l.gap l.no_comma no_end
 
-after_segments : (whole g bytes t : List ℕ) → DueSome whole (a_segment 0) g → SegmentsRead [] g bytes t → ¬ BeginsWith comma t → ¬ BeginsWithBoth greater greater t → IsUnexpected whole t
-after_segments whole g bytes t d r no_comma no_end =
-    let few : 0 + length r.more ≤ MAX_BINARY = let within = r.within (omega arith) in let len = ap length r.joined in omega arith in
-    let l = last_segment_of 0 few r.segments (d (let lt = segments_shorter r.segments in omega arith)) in
-    behind_segment l.place l.spelled l.few l.gap no_comma no_end
-
-bytes_blame : (whole g : List ℕ) (o : Option (List ℕ)) → DueSome whole (a_segment 0) g → IfErr (bytes_at o g) (Blames whole)
-bytes_blame whole g (Some rest) d = tt
-bytes_blame whole g None d =
-    bind_blames (λ (x : List ℕ × List ℕ). (0 < length x.1 → SegmentsRead [] g x.0 x.1) × (0 < length x.1 → ¬ BeginsWith comma x.1)) (Blames whole) (segments_at [] g) _
-    (both_ok (λ (x : List ℕ × List ℕ). 0 < length x.1 → SegmentsRead [] g x.0 x.1) (λ (x : List ℕ × List ℕ). 0 < length x.1 → ¬ BeginsWith comma x.1) (segments_at [] g) (segments_hold [] g) (no_comma segment_at [] g)) (segments_blame whole g d)
-    (λ x r. bind_any (Blames whole) (expect_both greater greater x.1) _ (expect_both_blames whole greater greater x.1 (λ some no. after_segments whole g x.0 x.1 d (r.0 some) (r.1 some) no)) (λ rest. tt))
+bytes_blame : (whole g : List ℕ) (o : Option (List ℕ)) → behind_both greater greater g ≡ o → (¬ BeginsWithBoth greater greater g → Due whole (a_segment 0) g) → IfErr (bytes_at o g) (Blames whole)
+bytes_blame whole g (Some rest) e d = tt
+bytes_blame whole g None e d =
+    let here = d (neither greater greater g e) in
+    bind_blames (LastSegment whole) (Blames whole) (segments_at [] g) _ (last_segment whole g here) (segments_blame whole g here)
+    (λ x l. bind_any (Blames whole) (expect_both greater greater x.1) _ (expect_both_blames whole greater greater x.1 (after_segments whole x l)) (λ rest. tt))
 
 binary_blames : (whole text : List ℕ) (n k : ℕ) → Due whole (a_term (suc n) k) (less ∷ less ∷ text) → IfErr (binary_at text) (Blames whole)
 unfolding binary_at
 binary_blames whole text n k d =
-    bind_any (Blames whole) (bytes_at (behind_both greater greater (after_gap false text)) (after_gap false text)) _ (bytes_blame whole (after_gap false text) (behind_both greater greater (after_gap false text)) (λ some. due.in_binary d (gap_some text some))) (λ x. tt)
+    bind_any (Blames whole) (bytes_at (behind_both greater greater (after_gap false text)) (after_gap false text)) _ (bytes_blame whole (after_gap false text) (behind_both greater greater (after_gap false text)) refl (λ unclosed. due.in_binary d (whole_gap text) unclosed)) (λ x. tt)
 
 -- ---- a key that stands twice
 
@@ -199,128 +191,101 @@ module _ (whole : List ℕ) (n : ℕ) (read : TermReader) (reads : IsReader n re
   module _ (r : Row) (limit : ℕ) (most : limit ≡ most_elements r) where
     record ElementDue (ds : List Datum) (text : List ℕ) : Type 0 where
       few : length ds ≤ limit
-      place : DueSome whole (an_element r n (length ds)) text
+      place : Due whole (an_element r n (length ds)) text
 
     element_blames : (ds : List Datum) (text : List ℕ) → ElementDue ds text → IfErr (element_at read limit ds text) (Blames whole)
     unfolding element_at
     element_blames ds text g =
         bind_any (Blames whole) (read (limit - length ds) text) _
-        (blames (limit - length ds) text (λ some. due.element (g.place some)) (λ b none. one_element (g.place (term_some b)) (let few = g.few in omega arith) b)) (λ x. tt)
+        (blames (limit - length ds) text (due.element g.place) (λ b none. one_element g.place (let few = g.few in omega arith) b)) (λ x. tt)
 
-    next_element_due : (s : List Datum) (text : List ℕ) (u : List Datum) (t w rest : List ℕ) → ElementDue s text → ElementRead n limit s text u t → Gap t (comma ∷ w) → Behind w rest → ElementDue u rest
+    element_count : (s : List Datum) (text : List ℕ) (u : List Datum) (t : List ℕ) → ElementRead n limit s text u t → length u ≡ suc (length s)
+    element_count s text u t i = let made = ap length i.made in omega (arith, length-append s (i.element ∷ []))
+
+    next_element_due : (s : List Datum) (text : List ℕ) (u : List Datum) (t w rest : List ℕ) → ElementDue s text → ElementRead n limit s text u t → Gap t (comma ∷ w) → WholeGap w rest → ElementDue u rest
     next_element_due s text u t w rest g i gap b =
-        let len : length u ≡ suc (length s) = let made = ap length i.made in omega (arith, length-append s (i.element ∷ [])) in
+        let len = element_count s text u t i in
         record {
           few = let room = i.room in omega arith;
-          place = λ some. rw len (due.next_element (g.place (let lt = spelled_shorter i.spelled in omega arith)) (let room = i.room in omega arith) i.spelled gap (gap_within w rest b some));
+          place = rw len (due.next_element g.place (let room = i.room in omega arith) i.spelled gap b);
         }
 
-    elements_blame : (front : List Datum) (text : List ℕ) → length front ≤ limit → DueSome whole (an_element r n (length front)) text → IfErr (elements_at read limit front text) (Blames whole)
+    elements_blame : (front : List Datum) (text : List ℕ) → length front ≤ limit → Due whole (an_element r n (length front)) text → IfErr (elements_at read limit front text) (Blames whole)
     elements_blame front text few d =
-        separated_blames (element_at read limit) (ElementRead n limit) ElementDue (Blames whole) (at_end whole) (element_holds n read reads limit) next_element_due element_blames front text (record { few = few; place = d })
+        separated_blames (element_at read limit) (ElementRead n limit) ElementDue (element_holds n read reads limit) next_element_due (Blames whole) (element_shrinks n read reads limit) element_blames front text (record { few = few; place = d })
 
-  -- the last of some elements, and what stands behind it
-  record LastElement (r : Row) (count : ℕ) (rest : List ℕ) : Type 0 where
-    before : ℕ
-    text : List ℕ
-    behind : List ℕ
-    element : Datum
-    place : Due whole (an_element r n before) text
-    room : before < most_elements r
-    spelled : Spelled n text element behind
-    gap : Gap behind rest
-    count_is : count ≡ suc before
+    -- the last of some elements, and what stands behind it
+    abbrev LastElement : List Datum × List ℕ → Type 0
+    LastElement x = LastItem (ElementRead n limit) ElementDue x.0 x.1
 
-  last_element : {r : Row} {text rest : List ℕ} {ds : List Datum} (k : ℕ) → k + length ds ≤ most_elements r → Elements n text ds rest → Due whole (an_element r n k) text → LastElement r (k + length ds) rest
-  last_element k few (last {text} {t} {d} s g) due_here = record { before = k; text = text; behind = t; element = d; place = due_here; room = omega arith; spelled = s; gap = g; count_is = omega arith }
-  last_element k few (more_elements {ds} s g h es) due_here =
-      let same : k + suc (length ds) ≡ suc k + length ds = omega arith in
-      rw same (last_element (suc k) (omega arith) es (due.next_element due_here (omega arith) s g h))
+    last_element : (front : List Datum) (text : List ℕ) → length front ≤ limit → Due whole (an_element r n (length front)) text → IfOk (elements_at read limit front text) LastElement
+    last_element front text few d = separated_last (element_at read limit) (ElementRead n limit) ElementDue (element_holds n read reads limit) next_element_due front text (record { few = few; place = d })
 
-  after_elements : (r : Row) (k : ℕ) (g : List ℕ) (ds : List Datum) (t : List ℕ) → DueSome whole (an_element r n k) g → k + length ds ≤ most_elements r → Elements n g ds t → ¬ FollowsElement r t → IsUnexpected whole t
-  after_elements r k g ds t d few es other =
-      let l = last_element k few es (d (let lt = elements_shorter es in omega arith)) in
-      behind_element l.place l.room l.spelled l.gap other
-
-  -- how many there are with those in front
-  count_with : (limit : ℕ) (front : List Datum) (g : List ℕ) (ds : List Datum) (t : List ℕ) → (m : ElementsRead n limit front g ds t) → length front + length m.more ≤ limit
-  count_with limit front g ds t m = let len = ap length m.joined in let within = m.within in omega (arith, length-append front m.more)
-
-  -- elements that were read, and no comma behind them
-  abbrev ElementsEnd : ℕ → List Datum → List ℕ → List Datum × List ℕ → Type 0
-  ElementsEnd limit front g x = (0 < length x.1 → ElementsRead n limit front g x.0 x.1) × (0 < length x.1 → ¬ BeginsWith comma x.1)
-
-  elements_end : (limit : ℕ) (front : List Datum) (g : List ℕ) → IfOk (elements_at read limit front g) (ElementsEnd limit front g)
-  elements_end limit front g =
-      both_ok (λ (x : List Datum × List ℕ). 0 < length x.1 → ElementsRead n limit front g x.0 x.1) (λ (x : List Datum × List ℕ). 0 < length x.1 → ¬ BeginsWith comma x.1) (elements_at read limit front g) (elements_hold n read reads limit front g) (no_comma (element_at read limit) front g)
+    after_elements : (x : List Datum × List ℕ) → LastElement x → ¬ FollowsElement r x.1 → IsUnexpected whole x.1
+    after_elements x l other = behind_element l.good.place (let room = l.item.room in omega arith) l.item.spelled l.gap other
 
   -- ---- tuples
 
-  items_blame : (g : List ℕ) (o : Option (List ℕ)) → DueSome whole (an_element in_tuple n 0) g → IfErr (items_at read o g) (Blames whole)
-  items_blame g (Some rest) d = tt
-  items_blame g None d =
-      bind_blames (ElementsEnd MAX_TUPLE [] g) (Blames whole) (elements_at read MAX_TUPLE [] g) _ (elements_end MAX_TUPLE [] g) (elements_blame in_tuple MAX_TUPLE refl [] g (omega arith) d)
-      (λ x r. bind_any (Blames whole) (expect close_brace x.1) _ (expect_blames whole close_brace x.1 (λ some no. let m = r.0 some in after_elements in_tuple 0 g m.more x.1 d (count_with MAX_TUPLE [] g x.0 x.1 m) m.elements (λ f. elim f [ inl c ↦ r.1 some c | inr e ↦ no e ]))) (λ rest. tt))
+  items_blame : (g : List ℕ) (o : Option (List ℕ)) → behind close_brace g ≡ o → (¬ BeginsWith close_brace g → Due whole (an_element in_tuple n 0) g) → IfErr (items_at read o g) (Blames whole)
+  items_blame g (Some rest) e d = tt
+  items_blame g None e d =
+      let here = d (none_behind close_brace g e) in
+      bind_blames (LastElement in_tuple MAX_TUPLE refl) (Blames whole) (elements_at read MAX_TUPLE [] g) _ (last_element in_tuple MAX_TUPLE refl [] g (omega arith) here) (elements_blame in_tuple MAX_TUPLE refl [] g (omega arith) here)
+      (λ x l. bind_any (Blames whole) (expect close_brace x.1) _ (expect_blames whole close_brace x.1 (λ no. after_elements in_tuple MAX_TUPLE refl x l (λ f. elim f [ inl c ↦ l.no_comma c | inr e ↦ no e ]))) (λ rest. tt))
 
   tuple_blames : (k : ℕ) (text : List ℕ) → Due whole (a_term (suc n) k) (open_brace ∷ text) → IfErr (tuple_at read text) (Blames whole)
   unfolding tuple_at
   tuple_blames k text d =
       bind_any (Blames whole) (items_at read (behind close_brace (after_gap false text)) (after_gap false text)) _
-      (items_blame (after_gap false text) (behind close_brace (after_gap false text)) (λ some. due.in_braces d (gap_some text some))) (λ x. tt)
+      (items_blame (after_gap false text) (behind close_brace (after_gap false text)) refl (λ unclosed. due.in_braces d (whole_gap text) unclosed)) (λ x. tt)
 
   -- ---- lists
 
-  -- where no bar stands, none is found
-  no_bar : (a : ℕ) (text : List ℕ) → behind a text ≡ None → ¬ BeginsWith a text
-  no_bar a [] e h = h
-  no_bar a (c ∷ cs) e h = let found = rw (eq-eqb c a h) at e in absurd cc
-
   module _ (read_tail : TailReader) (tails : BlamesTail whole n read_tail) (tail_reads : IsTailReader n read_tail) where
-    -- the tail behind so many elements
-    record TailDue (count : ℕ) (text : List ℕ) : Type 0 where
-      before : ℕ
-      some_before : count ≡ suc before
-      place : DueSome whole (a_term n (suc before)) text
+    abbrev LastOfList : List Datum → List ℕ → Type 0
+    LastOfList ds t = LastElement in_list MAX_LIST refl (ds, t)
 
-    tail_due : (front : List Datum) (g : List ℕ) (ds : List Datum) (t u : List ℕ) → DueSome whole (an_element in_list n (length front)) g → (0 < length t → ElementsRead n MAX_LIST front g ds t) → t ≡ bar ∷ u → TailDue (length ds) (after_gap false u)
-    tail_due front g ds t u d found h =
-        let m = found (rw h (omega arith)) in
-        let es : Elements n g m.more (bar ∷ u) = rw h at m.elements in
-        let l = last_element (length front) (count_with MAX_LIST front g ds t m) es (d (let lt = elements_shorter es in omega arith)) in
-        let len : length ds ≡ suc l.before = ap length m.joined ∙ length-append front m.more ∙ l.count_is in
-        record { before = l.before; some_before = len; place = λ some. due.tail l.place l.room l.spelled l.gap (gap_some u some) }
+    few_elements : (ds : List Datum) (t : List ℕ) → LastOfList ds t → length ds ≤ MAX_LIST
+    few_elements ds t l = let len = element_count in_list MAX_LIST refl l.before l.text ds l.behind l.item in let room = l.item.room in omega arith
+
+    -- the tail behind the elements
+    tail_due : (ds : List Datum) (t u : List ℕ) → LastOfList ds t → t ≡ bar ∷ u → Due whole (a_term n (length ds)) (after_gap false u)
+    tail_due ds t u l h =
+        let len = element_count in_list MAX_LIST refl l.before l.text ds l.behind l.item in
+        rw len (due.tail l.good.place (let room = l.item.room in omega arith) l.item.spelled (gap_before bar u l.gap h) (whole_gap u))
 
     -- what stands behind a tail
-    after_tail : (count : ℕ) (text : List ℕ) (d : Datum) (t : List ℕ) → TailDue count text → Spelled n text d t → count + cell_count d ≤ MAX_LIST → 0 < length (after_gap false t) → ¬ BeginsWith close_bracket (after_gap false t) → IsUnexpected whole (after_gap false t)
-    after_tail count text d t due_here s few some other = behind_tail (due_here.place (let lt = spelled_shorter s in omega arith)) s (let e = due_here.some_before in omega arith) (gap_some t some) other
+    after_tail : (count before : ℕ) (text : List ℕ) (d : Datum) (t : List ℕ) → count ≡ suc before → Due whole (a_term n count) text → Spelled n text d t → count + cell_count d ≤ MAX_LIST → ¬ BeginsWith close_bracket (after_gap false t) → IsUnexpected whole (after_gap false t)
+    after_tail count before text d t e due_here s few other = behind_tail (rw e at due_here) s (let same = e in omega arith) (whole_gap t) other
 
     tail_count : (ds : List Datum) (text : List ℕ) (e : Datum) (t : List ℕ) → length ds ≤ MAX_LIST → (r : TailRead n ds text e t) → length ds + cell_count r.tail ≤ MAX_LIST
     tail_count ds text e t few r = let all = r.within few in omega (arith, cell_count-cells ds r.tail)
 
-    end_blames : (front : List Datum) (g : List ℕ) (ds : List Datum) (t : List ℕ) (o : Option (List ℕ)) → DueSome whole (an_element in_list n (length front)) g → ElementsEnd MAX_LIST front g (ds, t) → behind bar t ≡ o → IfSome o (λ rest. t ≡ bar ∷ rest) → IfErr (end_at read_tail ds o t) (Blames whole)
-    end_blames front g ds t (Some u) d r e h =
-        let place = tail_due front g ds t u d r.0 h in
-        bind_blames (λ (x : Datum × List ℕ). TailRead n ds (after_gap false u) x.0 x.1) (Blames whole) (read_tail ds (after_gap false u)) _ (tail_reads ds (after_gap false u))
-        (tails ds (after_gap false u) (let m = r.0 (rw h (omega arith)) in m.within) (rw place.some_before place.place))
-        (λ x tail. bind_any (Blames whole) (expect close_bracket (after_gap false x.1)) _ (expect_blames whole close_bracket (after_gap false x.1) (after_tail (length ds) (after_gap false u) tail.tail x.1 place tail.spelled (tail_count ds (after_gap false u) x.0 x.1 (let m = r.0 (rw h (omega arith)) in m.within) tail))) (λ rest. tt))
-    end_blames front g ds t None d r e h =
+    end_blames : (ds : List Datum) (t : List ℕ) (o : Option (List ℕ)) → LastOfList ds t → behind bar t ≡ o → IfSome o (λ rest. t ≡ bar ∷ rest) → IfErr (end_at read_tail ds o t) (Blames whole)
+    end_blames ds t (Some u) l e h =
+        let place = tail_due ds t u l h in
+        let few = few_elements ds t l in
+        bind_blames (λ (x : Datum × List ℕ). TailRead n ds (after_gap false u) x.0 x.1) (Blames whole) (read_tail ds (after_gap false u)) _ (tail_reads ds (after_gap false u)) (tails ds (after_gap false u) few place)
+        (λ x tail. bind_any (Blames whole) (expect close_bracket (after_gap false x.1)) _ (expect_blames whole close_bracket (after_gap false x.1) (after_tail (length ds) (length l.before) (after_gap false u) tail.tail x.1 (element_count in_list MAX_LIST refl l.before l.text ds l.behind l.item) place tail.spelled (tail_count ds (after_gap false u) x.0 x.1 few tail))) (λ rest. tt))
+    end_blames ds t None l e h =
         bind_any (Blames whole) (expect close_bracket t) _
-        (expect_blames whole close_bracket t (λ some no. let m = r.0 some in after_elements in_list (length front) g m.more t d (count_with MAX_LIST front g ds t m) m.elements (λ f. elim f [ inl c ↦ r.1 some c | inr more ↦ elim more [ inl b ↦ no_bar bar t e b | inr c ↦ no c ] ])))
+        (expect_blames whole close_bracket t (λ no. after_elements in_list MAX_LIST refl (ds, t) l (λ f. elim f [ inl c ↦ l.no_comma c | inr more ↦ elim more [ inl b ↦ none_behind bar t e b | inr c ↦ no c ] ])))
         (λ rest. tt)
 
-    list_end_blames : (front : List Datum) (g : List ℕ) (ds : List Datum) (t : List ℕ) → DueSome whole (an_element in_list n (length front)) g → ElementsEnd MAX_LIST front g (ds, t) → IfErr (list_end read_tail ds t) (Blames whole)
+    list_end_blames : (ds : List Datum) (t : List ℕ) → LastOfList ds t → IfErr (list_end read_tail ds t) (Blames whole)
     unfolding list_end
-    list_end_blames front g ds t d found = end_blames front g ds t (behind bar t) d found refl (behind_holds bar t)
+    list_end_blames ds t l = end_blames ds t (behind bar t) l refl (behind_holds bar t)
 
-    list_from_blames : (front : List Datum) (g : List ℕ) (o : Option (List ℕ)) → length front ≤ MAX_LIST → DueSome whole (an_element in_list n (length front)) g → IfErr (list_from read read_tail front o g) (Blames whole)
-    list_from_blames front g (Some rest) few d = tt
-    list_from_blames front g None few d =
-        bind_blames (ElementsEnd MAX_LIST front g) (Blames whole) (elements_at read MAX_LIST front g) _ (elements_end MAX_LIST front g) (elements_blame in_list MAX_LIST refl front g few d)
-        (λ x found. list_end_blames front g x.0 x.1 d found)
+    list_from_blames : (front : List Datum) (g : List ℕ) (o : Option (List ℕ)) → length front ≤ MAX_LIST → behind close_bracket g ≡ o → (¬ BeginsWith close_bracket g → Due whole (an_element in_list n (length front)) g) → IfErr (list_from read read_tail front o g) (Blames whole)
+    list_from_blames front g (Some rest) few e d = tt
+    list_from_blames front g None few e d =
+        let here = d (none_behind close_bracket g e) in
+        bind_blames (LastElement in_list MAX_LIST refl) (Blames whole) (elements_at read MAX_LIST front g) _ (last_element in_list MAX_LIST refl front g few here) (elements_blame in_list MAX_LIST refl front g few here)
+        (λ x l. list_end_blames x.0 x.1 l)
 
     list_blames : (front : List Datum) (text : List ℕ) → length front ≤ MAX_LIST → Due whole (a_term (suc n) (length front)) (open_bracket ∷ text) → IfErr (list_at read read_tail front text) (Blames whole)
     unfolding list_at
-    list_blames front text few d = list_from_blames front (after_gap false text) (behind close_bracket (after_gap false text)) few (λ some. due.in_brackets d (gap_some text some))
+    list_blames front text few d = list_from_blames front (after_gap false text) (behind close_bracket (after_gap false text)) few refl (λ unclosed. due.in_brackets d (whole_gap text) unclosed)
 
   -- ---- maps
 
@@ -329,10 +294,10 @@ module _ (whole : List ℕ) (n : ℕ) (read : TermReader) (reads : IsReader n re
     seen : List (Datum × Datum)
     permuted : IsPermutation es seen
     few : length es ≤ MAX_MAP
-    place : DueSome whole (a_pair n seen) text
+    place : Due whole (a_pair n seen) text
 
   twice : (es : List (Datum × Datum)) (text : List ℕ) (key : Datum) (t : List ℕ) → PairDue es text → Spelled n text key t → has_key key es ≡ true → IsKeyTwice whole text
-  twice es text key t g s h = let one = has_one key es h in key_twice (g.place (let lt = spelled_shorter s in omega arith)) s (Contains-permutation es g.seen (key, one.0) g.permuted one.1)
+  twice es text key t g s h = let one = has_one key es h in key_twice g.place s (Contains-permutation es g.seen (key, one.0) g.permuted one.1)
 
   pair_few : (es : List (Datum × Datum)) (text : List ℕ) (g : PairDue es text) (key : Datum) (t : List ℕ) → 0 < MAX_MAP - length es → length g.seen < MAX_MAP
   pair_few es text g key t room = let len = length_permutation es g.seen g.permuted in omega arith
@@ -341,81 +306,50 @@ module _ (whole : List ℕ) (n : ℕ) (read : TermReader) (reads : IsReader n re
   unfolding pair_at
   pair_blames es text g =
       bind_blames (λ (k : Datum × List ℕ). Spelled n text k.0 k.1 × (0 < MAX_MAP - length es)) (Blames whole) (read (MAX_MAP - length es) text) _ (reads (MAX_MAP - length es) text)
-      (blames (MAX_MAP - length es) text (λ some. due.key (g.place some)) (λ b none. one_pair (g.place (term_some b)) (let few = g.few in let len = length_permutation es g.seen g.permuted in omega arith) b))
+      (blames (MAX_MAP - length es) text (due.key g.place) (λ b none. one_pair g.place (let few = g.few in let len = length_permutation es g.seen g.permuted in omega arith) b))
       (λ k key. if_blames (Blames whole) (has_key k.0 es) _ _ (λ h. at_once text (twice es text k.0 k.1 g key.0 h))
       (λ fresh. let few = pair_few es text g k.0 k.1 key.1 in let new = is_new k.0 es g.seen g.permuted fresh in bind_blames (λ (rest : List ℕ). after_gap false k.1 ≡ equals ∷ greater ∷ rest) (Blames whole) (expect_both equals greater (after_gap false k.1)) _ (expect_both_holds equals greater (after_gap false k.1))
-      (expect_both_blames whole equals greater (after_gap false k.1) (λ some no. behind_key (g.place (let lt = spelled_shorter key.0 in omega arith)) few new key.0 (gap_some k.1 some) no))
+      (expect_both_blames whole equals greater (after_gap false k.1) (λ no. behind_key g.place few new key.0 (whole_gap k.1) no))
       (λ rest e. bind_any (Blames whole) (read 1 (after_gap false rest)) _
-      (blames 1 (after_gap false rest) (λ some. let gap = gap_some k.1 (rw e (omega arith)) in due.value (g.place (let lt = spelled_shorter key.0 in omega arith)) few new key.0 (rw e at gap) (gap_some rest some)) (λ b none. absurd (omega arith)))
+      (blames 1 (after_gap false rest) (due.value g.place few new key.0 (gap_before equals (greater ∷ rest) (whole_gap k.1) e) (whole_gap rest)) (λ b none. absurd (omega arith)))
       (λ v. tt))))
 
-  next_pair_due : (s : List (Datum × Datum)) (text : List ℕ) (u : List (Datum × Datum)) (t w rest : List ℕ) → PairDue s text → PairRead n s text u t → Gap t (comma ∷ w) → Behind w rest → PairDue u rest
+  next_pair_due : (s : List (Datum × Datum)) (text : List ℕ) (u : List (Datum × Datum)) (t w rest : List ℕ) → PairDue s text → PairRead n s text u t → Gap t (comma ∷ w) → WholeGap w rest → PairDue u rest
   next_pair_due s text u t w rest g p gap b =
       let put : IsPermutation ((p.key, p.value) ∷ s) u = rw p.made (put_permutes p.key p.value s p.fresh) in
       record {
         seen = (p.key, p.value) ∷ g.seen;
         permuted = IsPermutation-trans u ((p.key, p.value) ∷ s) ((p.key, p.value) ∷ g.seen) (IsPermutation-sym ((p.key, p.value) ∷ s) u put) (IsPermutation-cons (p.key, p.value) s g.seen g.permuted);
         few = let len = length_permutation ((p.key, p.value) ∷ s) u put in let room = p.room in omega arith;
-        place = λ some. due.next_pair (g.place (let lt = pair_shorter p.spelled in omega arith)) (let len = length_permutation s g.seen g.permuted in let room = p.room in omega arith) (is_new p.key s g.seen g.permuted p.fresh) p.spelled gap (gap_within w rest b some);
+        place = due.next_pair g.place (let len = length_permutation s g.seen g.permuted in let room = p.room in omega arith) (is_new p.key s g.seen g.permuted p.fresh) p.spelled gap b;
       }
 
   -- the last of some pairs, and what stands behind it
-  record LastPair (rest : List ℕ) : Type 0 where
-    before : List (Datum × Datum)
-    text : List ℕ
-    behind : List ℕ
-    key : Datum
-    value : Datum
-    place : Due whole (a_pair n before) text
-    few : length before < MAX_MAP
-    new : IsNew key before
-    spelled : Pair n text key value behind
-    gap : Gap behind rest
+  abbrev LastPair : List (Datum × Datum) × List ℕ → Type 0
+  LastPair x = LastItem (PairRead n) PairDue x.0 x.1
 
-  one_fewer : (k m most : ℕ) → k + suc m ≤ most → (k < most) × (suc k + m ≤ most)
-  one_fewer k m most l = (omega arith, omega arith)
+  no_pairs : (text : List ℕ) → Due whole (a_pair n []) text → PairDue [] text
+  no_pairs text d = record { seen = []; permuted = IsPermutation-refl []; few = omega arith; place = d }
 
-  last_pair_of : {text rest : List ℕ} {es : List (Datum × Datum)} (before front : List (Datum × Datum)) → IsPermutation front before → AreApart front es → length before + length es ≤ MAX_MAP → Pairs n text es rest → Due whole (a_pair n before) text → LastPair rest
-  last_pair_of before front p apart few (last_pair {text} {t} {key} {value} pair g) d = record {
-    before = before;
-    text = text;
-    behind = t;
-    key = key;
-    value = value;
-    place = d;
-    few = (one_fewer (length before) 0 MAX_MAP few).0;
-    new = is_new key front before p (apart_fresh front key value [] apart);
-    spelled = pair;
-    gap = g;
-  }
-  last_pair_of before front p apart few (more_pairs {key} {value} {es} pair g h ps) d =
-      let fresh = apart_fresh front key value es apart in
-      let left = one_fewer (length before) (length es) MAX_MAP few in
-      let put = put_permutes key value front fresh in
-      let next = insert_entry datum_cmp front key value in
-      last_pair_of ((key, value) ∷ before) next (IsPermutation-trans next ((key, value) ∷ front) ((key, value) ∷ before) (IsPermutation-sym ((key, value) ∷ front) next put) (IsPermutation-cons (key, value) front before p)) (apart_next front key value es apart) left.1 ps
-      (due.next_pair d left.0 (is_new key front before p fresh) pair g h)
+  after_pairs : (x : List (Datum × Datum) × List ℕ) → LastPair x → ¬ BeginsWith close_brace x.1 → IsUnexpected whole x.1
+  after_pairs x l no_end =
+      let len = length_permutation l.before l.good.seen l.good.permuted in
+      behind_pair l.good.place (let room = l.item.room in omega arith) (is_new l.item.key l.before l.good.seen l.good.permuted l.item.fresh) l.item.spelled l.gap l.no_comma no_end
 
-  after_pairs : (g : List ℕ) (es : List (Datum × Datum)) (t : List ℕ) → DueSome whole (a_pair n []) g → PairsRead n [] g es t → ¬ BeginsWith comma t → ¬ BeginsWith close_brace t → IsUnexpected whole t
-  after_pairs g es t d r no_comma no_end =
-      let permuted : IsPermutation r.more es = rw append-nil at r.permuted in
-      let few : 0 + length r.more ≤ MAX_MAP = let len = length_permutation r.more es permuted in let within = r.within in omega arith in
-      let l = last_pair_of [] [] (IsPermutation-refl []) (apart_at_first r.more es permuted (r.rises tt)) few r.pairs (d (let lt = pairs_shorter r.pairs in omega arith)) in
-      behind_pair l.place l.few l.new l.spelled l.gap no_comma no_end
-
-  pairs_blame : (g : List ℕ) (o : Option (List ℕ)) → DueSome whole (a_pair n []) g → IfErr (pairs_at read o g) (Blames whole)
-  pairs_blame g (Some rest) d = tt
-  pairs_blame g None d =
-      bind_blames (λ (x : List (Datum × Datum) × List ℕ). (0 < length x.1 → PairsRead n [] g x.0 x.1) × (0 < length x.1 → ¬ BeginsWith comma x.1)) (Blames whole) (all_steps (separated (pair_at read)) [] g) _
-      (both_ok (λ (x : List (Datum × Datum) × List ℕ). 0 < length x.1 → PairsRead n [] g x.0 x.1) (λ (x : List (Datum × Datum) × List ℕ). 0 < length x.1 → ¬ BeginsWith comma x.1) (all_steps (separated (pair_at read)) [] g) (pairs_hold n read reads g) (no_comma (pair_at read) [] g))
-      (separated_blames (pair_at read) (PairRead n) PairDue (Blames whole) (at_end whole) (pair_holds n read reads) next_pair_due pair_blames [] g (record { seen = []; permuted = IsPermutation-refl []; few = omega arith; place = d }))
-      (λ x r. bind_any (Blames whole) (expect close_brace x.1) _ (expect_blames whole close_brace x.1 (λ some no. after_pairs g x.0 x.1 d (r.0 some) (r.1 some) no)) (λ rest. tt))
+  pairs_blame : (g : List ℕ) (o : Option (List ℕ)) → behind close_brace g ≡ o → (¬ BeginsWith close_brace g → Due whole (a_pair n []) g) → IfErr (pairs_at read o g) (Blames whole)
+  pairs_blame g (Some rest) e d = tt
+  pairs_blame g None e d =
+      let here = no_pairs g (d (none_behind close_brace g e)) in
+      bind_blames LastPair (Blames whole) (all_steps (separated (pair_at read)) [] g) _
+      (separated_last (pair_at read) (PairRead n) PairDue (pair_holds n read reads) next_pair_due [] g here)
+      (separated_blames (pair_at read) (PairRead n) PairDue (pair_holds n read reads) next_pair_due (Blames whole) (pair_shrinks n read reads) pair_blames [] g here)
+      (λ x l. bind_any (Blames whole) (expect close_brace x.1) _ (expect_blames whole close_brace x.1 (after_pairs x l)) (λ rest. tt))
 
   map_blames : (k : ℕ) (text : List ℕ) → Due whole (a_term (suc n) k) (number_sign ∷ open_brace ∷ text) → IfErr (map_at read text) (Blames whole)
   unfolding map_at
   map_blames k text d =
       bind_any (Blames whole) (pairs_at read (behind close_brace (after_gap false text)) (after_gap false text)) _
-      (pairs_blame (after_gap false text) (behind close_brace (after_gap false text)) (λ some. due.in_map d (gap_some text some))) (λ x. tt)
+      (pairs_blame (after_gap false text) (behind close_brace (after_gap false text)) refl (λ unclosed. due.in_map d (whole_gap text) unclosed)) (λ x. tt)
 
   -- ---- terms
 
@@ -440,65 +374,62 @@ module _ (whole : List ℕ) (n : ℕ) (read : TermReader) (reads : IsReader n re
     tail_form_blames front opens.Map text rest few h d = bind_any (Blames whole) (map_at read rest) _ (map_blames (length front) rest (rw h at d)) (λ x. tt)
     tail_form_blames front opens.Binary text rest few h d = bind_any (Blames whole) (binary_at rest) _ (binary_blames whole rest n (length front) (rw h at d)) (λ x. tt)
 
-opened : (whole : List ℕ) (p : Place) (o : Opening) (text rest : List ℕ) → Opens o text rest → DueSome whole p text → Due whole p text
-opened whole p o text rest h d = d (term_some (term_starts o text rest h))
-
 mutual
   unfolding term_at tail_at
 
   term_blames : (whole : List ℕ) (n : ℕ) → BlamesTerm whole n (term_at n)
   term_blames whole zero room text d long =
       bind_blames (λ (o : Opening × List ℕ). Opens o.0 text o.1 × (0 < 0) × (0 < room)) (Blames whole) (enter 0 room text) _ (enter_holds 0 room text)
-      (enter_blames whole 0 room text (λ some no. no_term (d some) no) (λ b _. deep_term (d (term_some b)) b) long) (λ o h. absurd (let none = h.1 in omega arith))
+      (enter_blames whole 0 room text (λ no. no_term d no) (λ b _. deep_term d b) long) (λ o h. absurd (let none = h.1 in omega arith))
   term_blames whole (suc n) room text d long =
       bind_blames (λ (o : Opening × List ℕ). Opens o.0 text o.1 × (0 < suc n) × (0 < room)) (Blames whole) (enter (suc n) room text) _ (enter_holds (suc n) room text)
-      (enter_blames whole (suc n) room text (λ some no. no_term (d some) no) (λ b none. absurd (omega arith)) long)
-      (λ o h. form_blames whole n (term_at n) (term_holds n) (term_blames whole n) (tail_at n) (tail_blames whole n) (tail_holds n) o.0 text o.1 h.0 (opened whole (a_term (suc n) 0) o.0 text o.1 h.0 d))
+      (enter_blames whole (suc n) room text (λ no. no_term d no) (λ b none. absurd (omega arith)) long)
+      (λ o h. form_blames whole n (term_at n) (term_holds n) (term_blames whole n) (tail_at n) (tail_blames whole n) (tail_holds n) o.0 text o.1 h.0 d)
 
   tail_blames : (whole : List ℕ) (n : ℕ) → BlamesTail whole n (tail_at n)
   tail_blames whole zero front text few d =
       bind_blames (λ (o : Opening × List ℕ). Opens o.0 text o.1 × (0 < 0) × (0 < 1)) (Blames whole) (enter 0 1 text) _ (enter_holds 0 1 text)
-      (enter_blames whole 0 1 text (λ some no. no_term (d some) no) (λ b _. deep_term (d (term_some b)) b) (λ b none. absurd (omega arith))) (λ o h. absurd (let none = h.1 in omega arith))
+      (enter_blames whole 0 1 text (λ no. no_term d no) (λ b _. deep_term d b) (λ b none. absurd (omega arith))) (λ o h. absurd (let none = h.1 in omega arith))
   tail_blames whole (suc n) front text few d =
       bind_blames (λ (o : Opening × List ℕ). Opens o.0 text o.1 × (0 < suc n) × (0 < 1)) (Blames whole) (enter (suc n) 1 text) _ (enter_holds (suc n) 1 text)
-      (enter_blames whole (suc n) 1 text (λ some no. no_term (d some) no) (λ b none. absurd (omega arith)) (λ b none. absurd (omega arith)))
-      (λ o h. tail_form_blames whole n (term_at n) (term_holds n) (term_blames whole n) (tail_at n) (tail_blames whole n) (tail_holds n) front o.0 text o.1 few h.0 (opened whole (a_term (suc n) (length front)) o.0 text o.1 h.0 d))
+      (enter_blames whole (suc n) 1 text (λ no. no_term d no) (λ b none. absurd (omega arith)) (λ b none. absurd (omega arith)))
+      (λ o h. tail_form_blames whole n (term_at n) (term_holds n) (term_blames whole n) (tail_at n) (tail_blames whole n) (tail_holds n) front o.0 text o.1 few h.0 d)
 
 -- ---- whole texts
 
 no_dot_here : (c : ℕ) (cs : List ℕ) → (c == dot && begins_gap cs) ≡ false → ¬ BeginsDot (c ∷ cs)
 no_dot_here c cs n h = let both : (c == dot && begins_gap cs) ≡ true = rw (eq-eqb c dot h.0, begins_from cs h.1) refl in absurd cc
 
-dot_blames : (whole text : List ℕ) → (0 < length text → ¬ BeginsDot text → IsUnexpected whole text) → IfErr (dot_at text) (Blames whole)
-dot_blames whole [] h = at_end whole
-dot_blames whole (c ∷ cs) h = if_blames (Blames whole) (c == dot && begins_gap cs) _ _ (λ _. tt) (λ n. at_once (c ∷ cs) (h (omega arith) (no_dot_here c cs n)))
+dot_blames : (whole text : List ℕ) → (¬ BeginsDot text → IsUnexpected whole text) → IfErr (dot_at text) (Blames whole)
+dot_blames whole [] h = at_once [] (h (λ d. d))
+dot_blames whole (c ∷ cs) h = if_blames (Blames whole) (c == dot && begins_gap cs) _ _ (λ _. tt) (λ n. at_once (c ∷ cs) (h (no_dot_here c cs n)))
 
-sentence_blames : (whole text : List ℕ) → DueSome whole a_sentence text → IfErr (sentence_at text) (Blames whole)
+sentence_blames : (whole : List ℕ) (c : ℕ) (cs : List ℕ) → Due whole a_sentence (c ∷ cs) → IfErr (sentence_at (c ∷ cs)) (Blames whole)
 unfolding sentence_at
-sentence_blames whole text d =
-    bind_blames (λ (x : Datum × List ℕ). Spelled MAX_DEPTH text x.0 x.1 × (0 < 1)) (Blames whole) (term_at MAX_DEPTH 1 text) _ (term_holds MAX_DEPTH 1 text) (term_blames whole MAX_DEPTH 1 text (λ some. due.outermost (d some)) (λ b none. absurd (omega arith)))
-    (λ x s. bind_any (Blames whole) (dot_at (after_gap false x.1)) _ (dot_blames whole (after_gap false x.1) (λ some no. no_dot (d (let lt = spelled_shorter s.0 in omega arith)) s.0 (gap_some x.1 some) no)) (λ rest. tt))
+sentence_blames whole c cs d =
+    bind_blames (λ (x : Datum × List ℕ). Spelled MAX_DEPTH (c ∷ cs) x.0 x.1 × (0 < 1)) (Blames whole) (term_at MAX_DEPTH 1 (c ∷ cs)) _ (term_holds MAX_DEPTH 1 (c ∷ cs)) (term_blames whole MAX_DEPTH 1 (c ∷ cs) (due.outermost d) (λ b none. absurd (omega arith)))
+    (λ x s. bind_any (Blames whole) (dot_at (after_gap false x.1)) _ (dot_blames whole (after_gap false x.1) (λ no. no_dot d s.0 (whole_gap x.1) no)) (λ rest. tt))
 
 abbrev SentenceDue : List ℕ → List Datum → List ℕ → Type 0
-SentenceDue whole ds text = DueSome whole a_sentence text
+SentenceDue whole ds text = Due whole a_sentence text
 
 step_good : (whole : List ℕ) (ds : List Datum) (text : List ℕ) → SentenceDue whole ds text → IfOk (sentence_step ds text) (StaysGood sentence_step (SentenceDue whole) (Blames whole))
 unfolding sentence_step
 step_good whole ds [] d = λ no. absurd cc
 step_good whole ds (c ∷ cs) d =
     bind_holds (λ (x : Datum × List ℕ). SentenceRead (c ∷ cs) x.0 x.1) (StaysGood sentence_step (SentenceDue whole) (Blames whole)) (sentence_at (c ∷ cs)) _ (sentence_holds (c ∷ cs))
-    (λ x s. λ goes some. due.behind_dot (d (omega arith)) s.spelled s.gap s.begins (gap_some x.1 some))
+    (λ x s. λ goes. due.behind_dot d s.spelled s.gap s.begins (whole_gap x.1))
 
 step_blames : (whole : List ℕ) (ds : List Datum) (text : List ℕ) → SentenceDue whole ds text → IfErr (sentence_step ds text) (Blames whole)
 unfolding sentence_step
 step_blames whole ds [] d = tt
-step_blames whole ds (c ∷ cs) d = bind_any (Blames whole) (sentence_at (c ∷ cs)) _ (sentence_blames whole (c ∷ cs) d) (λ x. tt)
+step_blames whole ds (c ∷ cs) d = bind_any (Blames whole) (sentence_at (c ∷ cs)) _ (sentence_blames whole c cs d) (λ x. tt)
 
 pub text_blames : (text : List ℕ) → IfErr (text_at text) (Blames text)
 unfolding text_at
 text_blames text =
     bind_any (Blames text) (all_steps sentence_step [] (after_gap false text)) _
-    (steps_blame sentence_step (SentenceDue text) (Blames text) (at_end text) (step_good text) (step_blames text) (suc (length (after_gap false text))) [] (after_gap false text) (λ some. due.first (gap_some text some)))
+    (steps_blame sentence_step (SentenceDue text) (Blames text) sentence_shrinks (step_good text) (step_blames text) (suc (length (after_gap false text))) [] (after_gap false text) (omega arith) (due.first (whole_gap text)))
     (λ x. tt)
 
 -- ---- from characters to bytes
@@ -535,15 +466,16 @@ escape_ends : (text rest : List ℕ) → IsNoEscape text rest → EndsIn text re
 escape_ends text rest (no_escape d n) = due_ends d
 
 unexpected_ends : (text rest : List ℕ) → IsUnexpected text rest → EndsIn text rest
-unexpected_ends text rest the_end = record { front = text; whole = sym (append-nil text) }
+unexpected_ends text rest (no_character d) = due_ends d
+unexpected_ends text rest (no_escaped d l f) = ends_behind backslash (due_ends d)
 unexpected_ends text rest (no_term d b) = due_ends d
 unexpected_ends text rest (no_segment d b q) = due_ends d
-unexpected_ends text rest (behind_element d l s g n) = then (due_ends d) (then (spelled_ends s) (gap_ends g))
-unexpected_ends text rest (behind_tail d s l g n) = then (due_ends d) (then (spelled_ends s) (gap_ends g))
-unexpected_ends text rest (behind_key d l f s g n) = then (due_ends d) (then (spelled_ends s) (gap_ends g))
-unexpected_ends text rest (behind_pair d l f p g c n) = then (due_ends d) (then (pair_ends p) (gap_ends g))
-unexpected_ends text rest (behind_segment d s l g c n) = then (due_ends d) (then (segment_ends s) (gap_ends g))
-unexpected_ends text rest (no_dot d s g n) = then (due_ends d) (then (spelled_ends s) (gap_ends g))
+unexpected_ends text rest (behind_element d l s g n) = then (due_ends d) (then (spelled_ends s) (whole_gap_ends g))
+unexpected_ends text rest (behind_tail d s l g n) = then (due_ends d) (then (spelled_ends s) (whole_gap_ends g))
+unexpected_ends text rest (behind_key d l f s g n) = then (due_ends d) (then (spelled_ends s) (whole_gap_ends g))
+unexpected_ends text rest (behind_pair d l f p g c n) = then (due_ends d) (then (pair_ends p) (whole_gap_ends g))
+unexpected_ends text rest (behind_segment d s l g c n) = then (due_ends d) (then (segment_ends s) (whole_gap_ends g))
+unexpected_ends text rest (no_dot d s g n) = then (due_ends d) (then (spelled_ends s) (whole_gap_ends g))
 
 has_cause_in : (bytes text : List ℕ) (cause : Cause) (left : ℕ) → text ≡ chars bytes → Blames text (cause, left) → HasCause bytes (fault_of (stops.At cause left) text)
 has_cause_in bytes text causes.TooDeep left e b = rw (← e) (stands left text (IsTooDeep text) b (deep_ends text))

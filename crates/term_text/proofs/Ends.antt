@@ -1,5 +1,6 @@
 -- What is left of a text is its end.
 use Rattle.std.proofs.Common.{◌≡◌, ℕ, ℤ, Bool, List, [], ◌∷◌, ◌++◌, refl, sym, ap, ◌∙◌, append_assoc}
+use Rattle.std.proofs.lemmas.List.{append-nil}
 use Rattle.term_core.specs.Datum.{Datum}
 use Rattle.term_text.specs.Text.{Gap, Comment, Quoted, Run, Number, Integer, Segment, Segments, Spelled, Elements, Pair, Pairs}
 use Rattle.term_text.specs.Text.Gap.{no_gap, white, comment}
@@ -12,7 +13,8 @@ use Rattle.term_text.specs.Text.Spelled.{an_integer, a_word, a_quoted_atom, an_e
 use Rattle.term_text.specs.Text.Elements.{last, more}
 use Rattle.term_text.specs.Text.Pair.{arrow}
 use Rattle.term_text.specs.Text.Pairs.{last_pair, more_pairs}
-use Rattle.term_text.specs.Causes.{Place, Due}
+use Rattle.term_text.specs.Causes.{Place, Due, WholeGap}
+use Rattle.term_text.specs.Causes.WholeGap.{up_to, to_the_end}
 use Rattle.term_text.specs.Causes.{Due as due}
 
 -- the text ends in the rest
@@ -42,6 +44,10 @@ mutual
   comment_ends : {text rest : List ℕ} → Comment text rest → EndsIn text rest
   comment_ends (ended g) = past _ (gap_ends g)
   comment_ends (passed {c} n k) = past c (comment_ends k)
+
+pub whole_gap_ends : {text rest : List ℕ} → WholeGap text rest → EndsIn text rest
+whole_gap_ends (up_to g e) = gap_ends g
+whole_gap_ends (to_the_end {text} g l) = record { front = text; whole = sym (append-nil text) }
 
 quoted_ends : {mark : ℕ} {text cs rest : List ℕ} → Quoted mark text cs rest → EndsIn text rest
 quoted_ends (closed {rest}) = past _ (here rest)
@@ -97,20 +103,20 @@ mutual
 
 -- what is due, is due at an end of the text
 pub due_ends : {text rest : List ℕ} {p : Place} → Due text p rest → EndsIn text rest
-due_ends (due.first g) = gap_ends g
-due_ends (due.behind_dot d s g b h) = then (due_ends d) (then (spelled_ends s) (then (behind _ (gap_ends g)) (gap_ends h)))
+due_ends (due.first g) = whole_gap_ends g
+due_ends (due.behind_dot d s g b h) = then (due_ends d) (then (spelled_ends s) (then (behind _ (gap_ends g)) (whole_gap_ends h)))
 due_ends (due.outermost d) = due_ends d
-due_ends (due.in_braces d g) = then (behind _ (due_ends d)) (gap_ends g)
-due_ends (due.in_brackets d g) = then (behind _ (due_ends d)) (gap_ends g)
-due_ends (due.next_element d l s g h) = then (due_ends d) (then (spelled_ends s) (then (behind _ (gap_ends g)) (gap_ends h)))
+due_ends (due.in_braces d g o) = then (behind _ (due_ends d)) (whole_gap_ends g)
+due_ends (due.in_brackets d g o) = then (behind _ (due_ends d)) (whole_gap_ends g)
+due_ends (due.next_element d l s g h) = then (due_ends d) (then (spelled_ends s) (then (behind _ (gap_ends g)) (whole_gap_ends h)))
 due_ends (due.element d) = due_ends d
-due_ends (due.tail d l s g h) = then (due_ends d) (then (spelled_ends s) (then (behind _ (gap_ends g)) (gap_ends h)))
-due_ends (due.in_map d g) = then (behind _ (behind _ (due_ends d))) (gap_ends g)
-due_ends (due.next_pair d l f p g h) = then (due_ends d) (then (pair_ends p) (then (behind _ (gap_ends g)) (gap_ends h)))
+due_ends (due.tail d l s g h) = then (due_ends d) (then (spelled_ends s) (then (behind _ (gap_ends g)) (whole_gap_ends h)))
+due_ends (due.in_map d g o) = then (behind _ (behind _ (due_ends d))) (whole_gap_ends g)
+due_ends (due.next_pair d l f p g h) = then (due_ends d) (then (pair_ends p) (then (behind _ (gap_ends g)) (whole_gap_ends h)))
 due_ends (due.key d) = due_ends d
-due_ends (due.value d l f s g h) = then (due_ends d) (then (spelled_ends s) (then (behind _ (behind _ (gap_ends g))) (gap_ends h)))
-due_ends (due.in_binary d g) = then (behind _ (behind _ (due_ends d))) (gap_ends g)
-due_ends (due.next_segment d s l g h) = then (due_ends d) (then (segment_ends s) (then (behind _ (gap_ends g)) (gap_ends h)))
+due_ends (due.value d l f s g h) = then (due_ends d) (then (spelled_ends s) (then (behind _ (behind _ (gap_ends g))) (whole_gap_ends h)))
+due_ends (due.in_binary d g o) = then (behind _ (behind _ (due_ends d))) (whole_gap_ends g)
+due_ends (due.next_segment d s l g h) = then (due_ends d) (then (segment_ends s) (then (behind _ (gap_ends g)) (whole_gap_ends h)))
 due_ends (due.in_atom d) = behind _ (due_ends d)
 due_ends (due.in_string d) = behind _ (due_ends d)
 due_ends (due.in_bytes d) = behind _ (due_ends d)

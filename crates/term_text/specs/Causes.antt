@@ -1,12 +1,12 @@
 -- Why a text is refused at a place: what is due there, given what stands before it, and what stands there instead.
-use Rattle.std.specs.Prelude.{ℕ, suc, ◌≡◌, ◌≢◌, ◌+◌, ◌<◌, ◌≤◌, ◌⊎◌, ℤ, pos, negsuc, List, [], ◌∷◌, ◌++◌, length, IsTrue, Some, None}
+use Rattle.std.specs.Prelude.{ℕ, suc, ◌≡◌, ◌≢◌, ◌+◌, ◌<◌, ◌≤◌, ◌⊎◌, ℤ, pos, negsuc, List, [], ◌∷◌, ◌++◌, length, IsTrue, false, Some, None}
 use Rattle.std.specs.List.{Contains}
 use Rattle.std.specs.Char.{is_ascii_digit, is_ascii_lowercase}
 use Rattle.std.specs.Str.{encode_utf8_all, chars}
 use Rattle.term_core.specs.Datum.{Datum, cell_count}
 use Rattle.term_core.specs.declared.TheConstants.{MAX_CHARACTERS, MAX_TUPLE, MAX_MAP, MAX_LIST, MAX_BINARY, MAX_DEPTH}
-use Rattle.term_text.specs.Character.{plus, minus, comma, dot, backslash, single_quote, double_quote, open_brace, close_brace, open_bracket, close_bracket, bar, number_sign, equals, less, greater, is_word, escaped}
-use Rattle.term_text.specs.Text.{Gap, Number, Integer, Segment, Spelled, Pair, BeginsGap}
+use Rattle.term_text.specs.Character.{percent, is_white_space, plus, minus, comma, dot, backslash, single_quote, double_quote, open_brace, close_brace, open_bracket, close_bracket, bar, number_sign, equals, less, greater, is_word, escaped}
+use Rattle.term_text.specs.Text.{Gap, Number, Integer, Segment, Spelled, Pair, BeginsGap, IsLastComment}
 use Rattle.term_text.specs.declared.fault.TextFault.{TextFault}
 use Rattle.term_text.specs.declared.fault.TextFault.TheVariants as faults
 
@@ -65,23 +65,43 @@ pub data Place : Type 0 where
   -- a character of a bare word behind so many
   a_letter : ℕ → Place
 
+-- a character stands first
+abbrev pub BeginsWith : ℕ → List ℕ → Type 0
+BeginsWith c [] = ⊥
+BeginsWith c (x ∷ text) = x ≡ c
+
+-- two characters that are one token stand first
+abbrev pub BeginsWithBoth : ℕ → ℕ → List ℕ → Type 0
+BeginsWithBoth a b [] = ⊥
+BeginsWithBoth a b (x ∷ text) = (x ≡ a) × BeginsWith b text
+
+-- neither white space nor a comment begins
+abbrev pub EndsGap : List ℕ → Type 0
+EndsGap [] = Unit {0}
+EndsGap (c ∷ text) = (is_white_space c ≡ false) × (c ≢ percent)
+
+-- all the white space and comments that stand there, the last comment perhaps ended by the end of the text
+pub data WholeGap : List ℕ → List ℕ → Type 0 where
+  up_to : {text rest : List ℕ} → Gap text rest → EndsGap rest → WholeGap text rest
+  to_the_end : {text rest : List ℕ} → Gap text rest → IsLastComment rest → WholeGap text []
+
 -- Reading the text from its beginning, without fault so far, the place is due where the last argument is what is left of
--- it.
+-- it. Behind an opening something is due where it is not closed at once.
 pub data Due (text : List ℕ) : Place → List ℕ → Type 0 where
-  first : {t : List ℕ} → Gap text t → Due text a_sentence t
-  behind_dot : {t u v w : List ℕ} {d : Datum} → Due text a_sentence t → Spelled MAX_DEPTH t d u → Gap u (dot ∷ v) → BeginsGap v → Gap v w → Due text a_sentence w
-  outermost : {t : List ℕ} → Due text a_sentence t → Due text (a_term MAX_DEPTH 0) t
-  in_braces : {n k : ℕ} {t u : List ℕ} → Due text (a_term (suc n) k) (open_brace ∷ t) → Gap t u → Due text (an_element in_tuple n 0) u
-  in_brackets : {n k : ℕ} {t u : List ℕ} → Due text (a_term (suc n) k) (open_bracket ∷ t) → Gap t u → Due text (an_element in_list n k) u
-  next_element : {r : Row} {n k : ℕ} {t u v w : List ℕ} {d : Datum} → Due text (an_element r n k) t → k < most_elements r → Spelled n t d u → Gap u (comma ∷ v) → Gap v w → Due text (an_element r n (suc k)) w
+  first : {t : List ℕ} → WholeGap text t → Due text a_sentence t
+  behind_dot : {t u v w : List ℕ} {d : Datum} → Due text a_sentence t → Spelled MAX_DEPTH t d u → Gap u (dot ∷ v) → BeginsGap v → WholeGap v w → Due text a_sentence w
+  outermost : {c : ℕ} {t : List ℕ} → Due text a_sentence (c ∷ t) → Due text (a_term MAX_DEPTH 0) (c ∷ t)
+  in_braces : {n k : ℕ} {t u : List ℕ} → Due text (a_term (suc n) k) (open_brace ∷ t) → WholeGap t u → ¬ BeginsWith close_brace u → Due text (an_element in_tuple n 0) u
+  in_brackets : {n k : ℕ} {t u : List ℕ} → Due text (a_term (suc n) k) (open_bracket ∷ t) → WholeGap t u → ¬ BeginsWith close_bracket u → Due text (an_element in_list n k) u
+  next_element : {r : Row} {n k : ℕ} {t u v w : List ℕ} {d : Datum} → Due text (an_element r n k) t → k < most_elements r → Spelled n t d u → Gap u (comma ∷ v) → WholeGap v w → Due text (an_element r n (suc k)) w
   element : {r : Row} {n k : ℕ} {t : List ℕ} → Due text (an_element r n k) t → Due text (a_term n 0) t
-  tail : {n k : ℕ} {t u v w : List ℕ} {d : Datum} → Due text (an_element in_list n k) t → k < MAX_LIST → Spelled n t d u → Gap u (bar ∷ v) → Gap v w → Due text (a_term n (suc k)) w
-  in_map : {n k : ℕ} {t u : List ℕ} → Due text (a_term (suc n) k) (number_sign ∷ open_brace ∷ t) → Gap t u → Due text (a_pair n []) u
-  next_pair : {n : ℕ} {es : List (Datum × Datum)} {t u v w : List ℕ} {key value : Datum} → Due text (a_pair n es) t → length es < MAX_MAP → IsNew key es → Pair n t key value u → Gap u (comma ∷ v) → Gap v w → Due text (a_pair n ((key, value) ∷ es)) w
+  tail : {n k : ℕ} {t u v w : List ℕ} {d : Datum} → Due text (an_element in_list n k) t → k < MAX_LIST → Spelled n t d u → Gap u (bar ∷ v) → WholeGap v w → Due text (a_term n (suc k)) w
+  in_map : {n k : ℕ} {t u : List ℕ} → Due text (a_term (suc n) k) (number_sign ∷ open_brace ∷ t) → WholeGap t u → ¬ BeginsWith close_brace u → Due text (a_pair n []) u
+  next_pair : {n : ℕ} {es : List (Datum × Datum)} {t u v w : List ℕ} {key value : Datum} → Due text (a_pair n es) t → length es < MAX_MAP → IsNew key es → Pair n t key value u → Gap u (comma ∷ v) → WholeGap v w → Due text (a_pair n ((key, value) ∷ es)) w
   key : {n : ℕ} {es : List (Datum × Datum)} {t : List ℕ} → Due text (a_pair n es) t → Due text (a_term n 0) t
-  value : {n : ℕ} {es : List (Datum × Datum)} {t u v w : List ℕ} {k : Datum} → Due text (a_pair n es) t → length es < MAX_MAP → IsNew k es → Spelled n t k u → Gap u (equals ∷ greater ∷ v) → Gap v w → Due text (a_term n 0) w
-  in_binary : {n k : ℕ} {t u : List ℕ} → Due text (a_term (suc n) k) (less ∷ less ∷ t) → Gap t u → Due text (a_segment 0) u
-  next_segment : {k : ℕ} {t u v w bytes : List ℕ} → Due text (a_segment k) t → Segment t bytes u → k + length bytes ≤ MAX_BINARY → Gap u (comma ∷ v) → Gap v w → Due text (a_segment (k + length bytes)) w
+  value : {n : ℕ} {es : List (Datum × Datum)} {t u v w : List ℕ} {k : Datum} → Due text (a_pair n es) t → length es < MAX_MAP → IsNew k es → Spelled n t k u → Gap u (equals ∷ greater ∷ v) → WholeGap v w → Due text (a_term n 0) w
+  in_binary : {n k : ℕ} {t u : List ℕ} → Due text (a_term (suc n) k) (less ∷ less ∷ t) → WholeGap t u → ¬ BeginsWithBoth greater greater u → Due text (a_segment 0) u
+  next_segment : {k : ℕ} {t u v w bytes : List ℕ} → Due text (a_segment k) t → Segment t bytes u → k + length bytes ≤ MAX_BINARY → Gap u (comma ∷ v) → WholeGap v w → Due text (a_segment (k + length bytes)) w
   in_atom : {n k : ℕ} {t : List ℕ} → Due text (a_term (suc n) k) (single_quote ∷ t) → Due text (a_character of_atom 0) t
   in_string : {n k : ℕ} {t : List ℕ} → Due text (a_term (suc n) k) (double_quote ∷ t) → Due text (a_character (of_string n) k) t
   in_bytes : {k : ℕ} {t : List ℕ} → Due text (a_segment k) (double_quote ∷ t) → Due text (a_character of_bytes k) t
@@ -145,16 +165,6 @@ pub data IsOutOfRange (text : List ℕ) : List ℕ → Type 0 where
 pub data IsNoEscape (text : List ℕ) : List ℕ → Type 0 where
   no_escape : {q : Quotes} {k e : ℕ} {rest : List ℕ} → Due text (a_character q k) (backslash ∷ e ∷ rest) → escaped e ≡ None → IsNoEscape text (backslash ∷ e ∷ rest)
 
--- a character stands first
-abbrev pub BeginsWith : ℕ → List ℕ → Type 0
-BeginsWith c [] = ⊥
-BeginsWith c (x ∷ text) = x ≡ c
-
--- two characters that are one token stand first
-abbrev pub BeginsWithBoth : ℕ → ℕ → List ℕ → Type 0
-BeginsWithBoth a b [] = ⊥
-BeginsWithBoth a b (x ∷ text) = (x ≡ a) × BeginsWith b text
-
 -- a dot stands first, and what may follow it
 abbrev pub BeginsDot : List ℕ → Type 0
 BeginsDot [] = ⊥
@@ -165,17 +175,18 @@ abbrev pub FollowsElement : Row → List ℕ → Type 0
 FollowsElement in_tuple text = BeginsWith comma text ⊎ BeginsWith close_brace text
 FollowsElement in_list text = BeginsWith comma text ⊎ (BeginsWith bar text ⊎ BeginsWith close_bracket text)
 
--- the end of the text, or what can't stand where it does
+-- what can't stand where it does, be it the end of the text
 pub data IsUnexpected (text : List ℕ) : List ℕ → Type 0 where
-  the_end : IsUnexpected text []
+  no_character : {q : Quotes} {k : ℕ} → Due text (a_character q k) [] → IsUnexpected text []
+  no_escaped : {q : Quotes} {k : ℕ} → Due text (a_character q k) (backslash ∷ []) → k < most_characters q → MayStand q backslash → IsUnexpected text []
   no_term : {n k : ℕ} {rest : List ℕ} → Due text (a_term n k) rest → ¬ BeginsTerm rest → IsUnexpected text rest
   no_segment : {k : ℕ} {rest : List ℕ} → Due text (a_segment k) rest → ¬ BeginsInteger rest → ¬ BeginsWith double_quote rest → IsUnexpected text rest
-  behind_element : {r : Row} {n k : ℕ} {t u rest : List ℕ} {d : Datum} → Due text (an_element r n k) t → k < most_elements r → Spelled n t d u → Gap u rest → ¬ FollowsElement r rest → IsUnexpected text rest
-  behind_tail : {n k : ℕ} {t u rest : List ℕ} {d : Datum} → Due text (a_term n (suc k)) t → Spelled n t d u → suc k + cell_count d ≤ MAX_LIST → Gap u rest → ¬ BeginsWith close_bracket rest → IsUnexpected text rest
-  behind_key : {n : ℕ} {es : List (Datum × Datum)} {t u rest : List ℕ} {d : Datum} → Due text (a_pair n es) t → length es < MAX_MAP → IsNew d es → Spelled n t d u → Gap u rest → ¬ BeginsWithBoth equals greater rest → IsUnexpected text rest
-  behind_pair : {n : ℕ} {es : List (Datum × Datum)} {t u rest : List ℕ} {key value : Datum} → Due text (a_pair n es) t → length es < MAX_MAP → IsNew key es → Pair n t key value u → Gap u rest → ¬ BeginsWith comma rest → ¬ BeginsWith close_brace rest → IsUnexpected text rest
-  behind_segment : {k : ℕ} {t u rest bytes : List ℕ} → Due text (a_segment k) t → Segment t bytes u → k + length bytes ≤ MAX_BINARY → Gap u rest → ¬ BeginsWith comma rest → ¬ BeginsWithBoth greater greater rest → IsUnexpected text rest
-  no_dot : {t u rest : List ℕ} {d : Datum} → Due text a_sentence t → Spelled MAX_DEPTH t d u → Gap u rest → ¬ BeginsDot rest → IsUnexpected text rest
+  behind_element : {r : Row} {n k : ℕ} {t u rest : List ℕ} {d : Datum} → Due text (an_element r n k) t → k < most_elements r → Spelled n t d u → WholeGap u rest → ¬ FollowsElement r rest → IsUnexpected text rest
+  behind_tail : {n k : ℕ} {t u rest : List ℕ} {d : Datum} → Due text (a_term n (suc k)) t → Spelled n t d u → suc k + cell_count d ≤ MAX_LIST → WholeGap u rest → ¬ BeginsWith close_bracket rest → IsUnexpected text rest
+  behind_key : {n : ℕ} {es : List (Datum × Datum)} {t u rest : List ℕ} {d : Datum} → Due text (a_pair n es) t → length es < MAX_MAP → IsNew d es → Spelled n t d u → WholeGap u rest → ¬ BeginsWithBoth equals greater rest → IsUnexpected text rest
+  behind_pair : {n : ℕ} {es : List (Datum × Datum)} {t u rest : List ℕ} {key value : Datum} → Due text (a_pair n es) t → length es < MAX_MAP → IsNew key es → Pair n t key value u → WholeGap u rest → ¬ BeginsWith comma rest → ¬ BeginsWith close_brace rest → IsUnexpected text rest
+  behind_segment : {k : ℕ} {t u rest bytes : List ℕ} → Due text (a_segment k) t → Segment t bytes u → k + length bytes ≤ MAX_BINARY → WholeGap u rest → ¬ BeginsWith comma rest → ¬ BeginsWithBoth greater greater rest → IsUnexpected text rest
+  no_dot : {t u rest : List ℕ} {d : Datum} → Due text a_sentence t → Spelled MAX_DEPTH t d u → WholeGap u rest → ¬ BeginsDot rest → IsUnexpected text rest
 
 -- at this byte of the characters, in UTF-8, begins what is such
 pub record StandsAt (at : ℕ) (text : List ℕ) (IsSuch : List ℕ → Type 0) : Type 0 where
