@@ -105,7 +105,8 @@ impl<A: Allocator> Code<A> {
 
     /// The frame at an instruction, where there is one.
     pub fn frame_at(&self, pc: u16) -> Option<&Frame<A>>
-        ensures { option_map frame_of (option_copied result) ≡ frame_at self.now.frames pc }
+        ensures value { option_map frame_of (option_copied result) ≡ frame_at self.now.frames pc }
+        ensures within { IsProgram self.now }
     {
         frame_with(self.frames.as_slice(), pc)
     }

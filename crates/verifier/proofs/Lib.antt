@@ -1,1 +1,4 @@
 pub mod ShapeLemmas
+pub mod KeyLemmas
+pub mod FrameLemmas
+pub mod LeavingLemmas

@@ -5,3 +5,5 @@ pub mod Faults
 pub mod FaultNumbers
 pub mod Kept
 pub mod Verified
+pub mod Pass
+pub mod Leaving

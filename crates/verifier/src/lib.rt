@@ -1,7 +1,12 @@
 //! The verifier of code: what it accepts never gets stuck.
 #![tactic(auto)]
 
+mod checks;
+mod effect;
 mod fault;
+mod keys;
+mod leaving;
+mod pass;
 mod shape;
 mod verified;
 

@@ -202,11 +202,11 @@ impl<A: Allocator> Shape<A> {
     }
 
     /// Takes so many places from the top.
-    pub(crate) fn pop(&mut self, count: u16)
+    pub(crate) fn pop(&mut self, count: usize)
         requires { count ≤ length self.old.kinds }
         ensures { self.new ≡ popped_shape self.old count }
     {
-        let depth = self.depth - count;
+        let depth = self.depth - count as u16;
         cut_places(&mut self.places, depth);
         self.depth = depth;
     }
@@ -263,12 +263,12 @@ impl<A: Allocator> Shape<A> {
 
     /// Whether the state without so many places from the top, once it is cut to a frame's depth, is at or below the
     /// frame.
-    pub(crate) fn is_cut_below(&self, count: u16, frame: &Frame<A>) -> bool
+    pub(crate) fn is_cut_below(&self, count: usize, frame: &Frame<A>) -> bool
         requires count { count ≤ length self.now.kinds }
         requires frame { AreKept frame.now.depth frame.now.places }
         ensures { IsTrue result ↔ IsCutBelow (popped_shape self.now count) (frame_of frame.now) }
     {
-        if frame.depth > self.depth() - count {
+        if usize::from(frame.depth) > usize::from(self.depth()) - count {
             return false;
         }
         self.is_below_at_cut(frame)

@@ -13,3 +13,6 @@ returns g c =
     let whole = drop-frame_kinds places c.args.count (depth - c.args.count) depth (omega (arith, c.requires, depth_is _ _ _ _ c.self.view_is)) in
     ap (λ ks. record { kinds = ks; bound = c.self.inside.bound.items }) (c.cut_places.ensures.kinds ∙ sym whole)
     ∙ ap (λ s. popped_shape s c.args.count) c.self.view_is
+
+pub overflow_cast-depth : goal.overflow_cast-depth
+overflow_cast-depth g c = record { fits = omega (arith, c.requires, depth_is _ _ _ _ c.self.view_is, c.self.ranges.0.1) }
