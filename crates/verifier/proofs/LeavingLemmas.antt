@@ -1,7 +1,9 @@
 -- What an instruction leaves.
-use Rattle.std.specs.Prelude.{ℕ, ◌≡◌, ◌<◌, ◌≤◌, ◌++◌, IsTrue, Bool, Option, Some, None, List, [], ◌∷◌, length, drop, slice_get, nat_lt}
+use Rattle.std.specs.Prelude.{ℕ, ◌≡◌, ◌+◌, ◌<◌, ◌≤◌, ◌++◌, IsTrue, Bool, Option, Some, None, List, [], ◌∷◌, length, drop, slice_get, nat_lt}
 use Rattle.std.proofs.Common.{arith, rules, refl, sym, ap, ap₂, ◌∙◌, subst}
 use Rattle.std.proofs.lemmas.Bool.{ltb-true}
+use Rattle.std.proofs.lemmas.List.{length-append}
+use Rattle.verifier.specs.declared.TheConstants.{MAX_DEPTH}
 use Rattle.term_core.specs.Datum.{Datum, cells}
 use Rattle.mcode.specs.Kind.{kind_of}
 use Rattle.mcode.specs.Program.{Program}
@@ -39,3 +41,10 @@ left_is p i s t u v n top ks count first pushed popped more bound =
 
 pub bound_kept : (s t u : Shape) (n m : ℕ) (ks : List Kind) → t ≡ record { kinds = drop n s.kinds; bound = s.bound } → u ≡ record { kinds = ks ++ t.kinds; bound = t.bound } → length s.bound ≡ m → length u.bound ≡ m
 bound_kept s t u n m ks popped more long = ap (λ w. length w.bound) more ∙ ap (λ w. length w.bound) popped ∙ long
+
+-- there is room for what is pushed
+pub room_left : (p : Program) (i : Instr) (s t : Shape) (n : ℕ) → n ≡ needs p i → t ≡ record { kinds = drop n s.kinds; bound = s.bound } → length (left_shape p i s).kinds ≤ MAX_DEPTH → length t.kinds + 2 < 65536
+room_left p i s t n count popped low =
+    let left = length-append (pushed_kinds p i s.kinds) (drop (needs p i) s.kinds) in
+    let same : length t.kinds ≡ length (drop (needs p i) s.kinds) = ap (λ u. length u.kinds) popped ∙ ap (λ m. length (drop m s.kinds)) count in
+    omega (arith, left, same, low)

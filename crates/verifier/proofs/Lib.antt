@@ -2,3 +2,5 @@ pub mod ShapeLemmas
 pub mod KeyLemmas
 pub mod FrameLemmas
 pub mod LeavingLemmas
+pub mod PassLemmas
+pub mod VerifiedLemmas

@@ -67,9 +67,9 @@ shape_at p (suc pc) =
 abbrev pub fallen : Bool → Shape → Option Shape
 fallen falls s = if falls then Some s else None
 
--- the greatest depth before or after the instructions before this one, and 0 where there is none
+-- the greatest depth before or after the instructions before this one
 pub record IsDeepestBelow (p : Program) (pc n : ℕ) : Type 0 where
-  pub reached : 0 < pc → (q : ℕ) × (i : Instr) × (slice_get p.instructions q ≡ Some i) × IsDepthAt p (shape_at p) q i n
+  pub reached : 0 < n → (q : ℕ) × (i : Instr) × (slice_get p.instructions q ≡ Some i) × IsDepthAt p (shape_at p) q i n
   pub greatest : (q : ℕ) (i : Instr) (m : ℕ) → q < pc → slice_get p.instructions q ≡ Some i → IsDepthAt p (shape_at p) q i m → m ≤ n
 
 -- the depths of the frames before this instruction

@@ -9,9 +9,7 @@ ghost use Rattle.verifier.specs.Typing.{IsFrameFit, IsTargetFit, IsJumpFit, IsTy
 ghost use Rattle.verifier.specs.Faults.{IsFaultIn, IsLeavingFit, IsDepthFit, IsNamingFit, AreKindsFit};
 
 use crate::MAX_DEPTH;
-use crate::effect::{
-    are_kinds_fit, is_constant_fit, is_slot_fit, left_depth, needed, top_stays,
-};
+use crate::effect::{are_kinds_fit, is_constant_fit, is_slot_fit, left_depth, needed, top_stays};
 use crate::fault::Fault;
 use crate::shape::Shape;
 use mcode::{Code, Instr};

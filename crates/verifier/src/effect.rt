@@ -14,11 +14,7 @@ use mcode::{Code, Instr, Kind};
 use std::alloc::{AllocError, Allocator};
 
 /// How many operands an instruction needs.
-pub(crate) fn needed<A: Allocator>(
-    code: &Code<A>,
-    counts: &[Option<usize>],
-    instr: Instr,
-) -> usize
+pub(crate) fn needed<A: Allocator>(code: &Code<A>, counts: &[Option<usize>], instr: Instr) -> usize
     requires { AreCounts code.now counts.now }
     ensures { result ≡ needs code.now instr }
 {

@@ -5,7 +5,6 @@ ghost use Rattle.mcode.specs.Kind.{kind_of as exact_kind};
 ghost use Rattle.mcode.specs.declared.kind.Kind.TheVariants as kind;
 ghost use Rattle.verifier.specs.Effect.{given_kind as kind_given, left_bound, left_shape};
 ghost use Rattle.verifier.specs.Leaving.{boolean_kind, pushed_for, pushed_list, IsBindable};
-ghost use Rattle.verifier.specs.declared.TheConstants.{MAX_DEPTH};
 ghost use Rattle.term_core.specs.declared.TheConstants.{MAX_TUPLE};
 ghost use Rattle.verifier.specs.Pass.{AreCounts};
 ghost use Rattle.verifier.specs.Typing.{IsTypedAt};
@@ -139,7 +138,6 @@ pub(crate) fn leave<A: Allocator>(
 ) -> Result<(), AllocError>
     requires counts { AreCounts code.now counts.now }
     requires slots { length shape.old.bound ≡ code.now.slots }
-    requires depth { length shape.old.kinds ≤ MAX_DEPTH }
     requires typed { IsTypedAt code.now pc instr shape.old }
     ensures { OnOk result (shape.new ≡ left_shape code.now instr shape.old) }
 {

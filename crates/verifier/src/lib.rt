@@ -8,9 +8,11 @@ mod keys;
 mod leaving;
 mod pass;
 mod shape;
+mod verification;
 mod verified;
 
 pub use fault::{Fault, Refused};
+pub use verification::verify;
 pub use verified::Verified;
 
 /// The greatest depth of the operand stack.

@@ -1,5 +1,5 @@
 //! The pass from the first instruction to the last, which knows the one state in which each can begin.
-ghost use Rattle.std.specs.Prelude.{◌≡◌, ◌<◌, ◌+◌, ◌⊎◌, ◌↔◌, IsTrue, IfSome, IfOk, IfErr, OnOk, All, length};
+ghost use Rattle.std.specs.Prelude.{◌≡◌, ◌<◌, ◌+◌, ◌⊎◌, ◌↔◌, ◌++◌, ◌∷◌, [], IsTrue, IfSome, IfOk, IfErr, OnOk, All, Some, length, max, slice_get};
 ghost use Rattle.mcode.specs.Frame.{frame_of};
 ghost use Rattle.mcode.specs.Program.{frame_at};
 ghost use Rattle.verifier.specs.Faults.{HasNoBeginning, IsFirstUntyped};
@@ -13,7 +13,7 @@ use crate::checks::check;
 use crate::fault::Fault;
 use crate::leaving::leave;
 use crate::shape::Shape;
-use mcode::{Code, Frame};
+use mcode::{Code, Frame, Instr};
 use std::alloc::{AllocError, Allocator};
 
 /// What the pass knows before an instruction.
@@ -53,11 +53,7 @@ fn begin<A: Allocator>(
     ensures fault { IfErr result (λ fault. (fault ≡ Memory) ⊎ ((fault ≡ FrameFault pc) × HasNoBeginning code.now (fallen falls shape.old) (frame_at code.now.frames pc))) }
 {
     let Some(frame) = code.frame_at(pc) else {
-        return if falls {
-            Ok(())
-        } else {
-            Err(Fault::Frame(pc))
-        };
+        return if falls { Ok(()) } else { Err(Fault::Frame(pc)) };
     };
     if !falls_below(falls, shape, frame) {
         return Err(Fault::Frame(pc));
@@ -66,4 +62,77 @@ fn begin<A: Allocator>(
         Ok(()) => Ok(()),
         Err(AllocError) => Err(Fault::Memory),
     }
+}
+
+impl<A: Allocator + Copy> Walk<A> {
+    ghost use Rattle.std.specs.Prelude.{IfOk};
+    ghost use Rattle.verifier.specs.Pass.{IsWalked};
+
+    /// Before the first instruction of code.
+    pub(crate) fn start(alloc: A, code: &Code<A>) -> Result<Self, AllocError>
+        ensures { IfOk result (λ w. IsWalked code.now 0 w.falls w.shape w.depths.items w.depth) }
+    {
+        let shape = Shape::start(alloc, code.slots())?;
+        let depths = Vec::with_capacity(alloc, code.instructions().len())?;
+        Ok(Walk {
+            shape,
+            falls: true,
+            depths,
+            depth: 0,
+        })
+    }
+}
+
+/// The greatest of three depths.
+fn greatest(depth: u16, before: u16, after: u16) -> u16
+    ensures { result ≡ max (max depth before) after }
+{
+    depth.max(before).max(after)
+}
+
+/// The instruction of a number.
+fn instr_at<A: Allocator>(code: &Code<A>, pc: u16) -> Instr
+    requires { pc < length code.now.instructions }
+    ensures { slice_get code.now.instructions pc ≡ Some result }
+{
+    code.instructions()[usize::from(pc)]
+}
+
+/// Notes the depth of one more state.
+fn note<A: Allocator>(depths: &mut Vec<u16, A>, depth: u16) -> Result<(), AllocError>
+    ensures { OnOk result (depths.new.items ≡ depths.old.items ++ depth ∷ []) }
+{
+    depths.push(depth)?;
+    Ok(())
+}
+
+/// What the pass knows after one more instruction.
+pub(crate) fn step<A: Allocator>(
+    code: &Code<A>,
+    counts: &[Option<usize>],
+    pc: u16,
+    walk: &mut Walk<A>,
+) -> Result<(), Fault>
+    requires counts { AreCounts code.now counts.now }
+    requires frames { All (IsFrameFit code.now) code.now.frames }
+    requires inside { pc < length code.now.instructions }
+    requires walked { IsWalked code.now pc walk.old.falls walk.old.shape walk.old.depths.items walk.old.depth }
+    ensures typed { OnOk result (IsWalked code.now (pc + 1) walk.new.falls walk.new.shape walk.new.depths.items walk.new.depth) }
+    ensures fault { IfErr result (λ fault. (fault ≡ Memory) ⊎ IsFirstUntyped code.now fault) }
+{
+    match begin(code, pc, walk.falls, &mut walk.shape) {
+        Ok(()) => {}
+        Err(fault) => return Err(fault),
+    }
+    let instr = instr_at(code, pc);
+    match check(code, counts, pc, instr, &walk.shape) {
+        Ok(()) => {}
+        Err(fault) => return Err(fault),
+    }
+    let before = walk.shape.depth();
+    note(&mut walk.depths, before)?;
+    leave(code, counts, pc, instr, &mut walk.shape)?;
+    walk.depth = greatest(walk.depth, before, walk.shape.depth());
+    walk.falls = instr.goes_on();
+    Ok(())
 }

@@ -1,5 +1,5 @@
 use Rattle.std.proofs.Common.{rules, sym, ◌∙◌}
-use Rattle.verifier.proofs.LeavingLemmas.{bindable, left_is, bound_kept}
+use Rattle.verifier.proofs.LeavingLemmas.{bindable, left_is, bound_kept, room_left}
 use Rattle.verifier.proofs.leaving.leave.Goals as goal
 
 pub bind-requires : goal.bind-requires
@@ -10,3 +10,6 @@ bind-requires g c =
 pub returns : goal.returns
 returns g c =
     left_is c.args.code.now c.args.instr c.args.shape.now _ _ _ _ _ _ c.needed.ensures c.kind-top.ensures c.kinds_pushed.ensures c.pop.ensures c.in_ok-push.ensures c.bind.ensures
+
+pub push-requires : goal.push-requires
+push-requires g c = room_left c.args.code.now c.args.instr c.args.shape.now _ _ c.needed.ensures c.pop.ensures c.requires.typed.depth

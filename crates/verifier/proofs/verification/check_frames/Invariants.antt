@@ -1,0 +1,8 @@
+-- The frames so far are fit.
+use Rattle.std.specs.Prelude.{All, map, take}
+use Rattle.mcode.specs.Frame.{frame_of}
+use Rattle.verifier.specs.Typing.{IsFrameFit}
+use Rattle.verifier.proofs.verification.check_frames.Given as goal
+
+abbrev pub invariant-loop-frame : goal.invariant-loop-frame
+invariant-loop-frame g l = All (IsFrameFit l.code) (take l.frame-index (map frame_of l.frames))

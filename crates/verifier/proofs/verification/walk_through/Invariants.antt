@@ -1,0 +1,6 @@
+-- The instructions so far are typed.
+use Rattle.verifier.specs.Pass.{IsWalked}
+use Rattle.verifier.proofs.verification.walk_through.Given as goal
+
+abbrev pub invariant-loop-pc : goal.invariant-loop-pc
+invariant-loop-pc g l = IsWalked l.code l.pc l.walk.falls l.walk.shape l.walk.depths.items l.walk.depth
