@@ -1,11 +1,10 @@
 -- The texts of what `test` writes.
-use Rattle.std.proofs.Common.{◌≡◌, ℕ, List, [], ◌∷◌, ◌++◌, Some, None, refl, sym, ◌∙◌, ap, append_assoc}
+use Rattle.std.proofs.Common.{◌≡◌, ℕ, List, [], ◌∷◌, ◌++◌, Some, None, refl, ◌∙◌, ap, append_assoc}
 use Rattle.std.specs.Prelude.{codes}
 use Rattle.std.specs.Str.{encode_utf8_all}
 use Rattle.std.proofs.Math.Utf8.{encode}
 use Rattle.std.proofs.lemmas.List.{append-nil}
 use Rattle.term_core.specs.Datum.{Datum}
-use Rattle.term_core.specs.Datum.Datum.{atom}
 use Rattle.term_core.specs.Datum.Items.{no_items, item}
 use Rattle.term_text.specs.Character.{open_brace, close_brace, comma}
 use Rattle.term_text.specs.Canonical.{canonical, items_text, more_items_text, is_reserved}

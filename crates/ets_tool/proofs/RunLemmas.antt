@@ -1,9 +1,11 @@
 -- Lines that are gathered, and then written.
-use Rattle.std.proofs.Common.{◌≡◌, ℕ, ◌+◌, ◌-◌, ◌<◌, inl, inr, Option, Some, None, List, [], ◌∷◌, ◌++◌, take, drop, get_or, slice_get, length, refl, ap, sym, append_assoc, arith}
+use Rattle.std.proofs.Common.{◌≡◌, ◌≢◌, ◌↔◌, ℕ, ◌+◌, ◌-◌, ◌<◌, inl, inr, Option, Some, None, List, [], ◌∷◌, ◌++◌, take, drop, get_or, slice_get, length, refl, ap, sym, append_assoc, arith}
 use Rattle.std.proofs.lemmas.List.{take_more, append-nil, take-append-drop, take_all}
 use Rattle.std.specs.Io.KnownBytes.{Appends}
+use Rattle.std.specs.Str.{IsValidUpTo}
 use Rattle.term_core.specs.Datum.{Datum}
 use Rattle.term_text.specs.Text.{Spells}
+use Rattle.term_text.specs.Causes.{HasCause}
 use Rattle.term_text.specs.declared.fault.TextFault.{TextFault}
 use Rattle.term_text.specs.declared.fault.TextFault.TheVariants as text
 use Rattle.mspec_syntax.specs.Specification.{Specification, IsWithinLimits}
@@ -15,7 +17,7 @@ use Rattle.mspec_meaning.specs.Meaning.{Means}
 use Rattle.ets_tool.specs.declared.run.Report.{Report}
 use Rattle.ets_tool.specs.declared.fault.ToolFault.{ToolFault}
 use Rattle.ets_tool.specs.declared.fault.ToolFault.TheVariants as fault
-use Rattle.ets_tool.specs.Run.{IsQuery, WritesOutput, StopsRun, EndsBy, StopsLines, IsNoSpecification, IsInputFault, of_specification, of_text, AreLines, Puts, Passes, report_line, WritesLines}
+use Rattle.ets_tool.specs.Run.{IsQuery, WritesOutput, StopsRun, EndsBy, StopsLines, IsNoSpecification, IsTextFault, IsInputFault, of_specification, of_text, AreLines, Puts, Passes, report_line, WritesLines}
 
 -- the line of one more object
 lines-more : (r : Report) (s : Specification) (ds : List Datum) (d : Datum) (answer : Option Datum) (out : List ℕ) → AreLines r s ds out → Means s d answer → AreLines r s (ds ++ d ∷ []) (out ++ report_line r answer)
@@ -98,37 +100,40 @@ query-read input (d ∷ ds) first s there spelled read =
     let same : d ≡ first = cc in
     record { first = first; objects = ds; whole = ap (λ x. x ∷ ds) same; spelled = spelled; read = read.0; within = read.1 }
 
-no-specification : (input : List ℕ) (terms : List Datum) (first : Datum) (f : SpecFault) → Some first ≡ slice_get terms 0 → Spells input terms → IsRefusal f first → IsNoSpecification input f
-no-specification input [] first f there spelled refusal = absurd (cc)
-no-specification input (d ∷ ds) first f there spelled refusal =
+no-specification : (input : List ℕ) (terms : List Datum) (first : Datum) (f : SpecFault) → f ≢ specification.Memory → Some first ≡ slice_get terms 0 → Spells input terms → IsRefusal f first → IsNoSpecification input f
+no-specification input [] first f other there spelled refusal = absurd (cc)
+no-specification input (d ∷ ds) first f other there spelled refusal =
     let same : d ≡ first = cc in
-    record { first = d; objects = ds; spelled = spelled; refusal = rw same refusal }
+    record { first = d; objects = ds; spelled = spelled; other = other; refusal = rw same refusal }
 
 -- the first of these terms is refused
 pub query-refused : (input : List ℕ) (terms : List Datum) (first : Datum) (f : SpecFault) → Some first ≡ slice_get terms 0 → Spells input terms → IsRefusal f first → IsInputFault input (of_specification f)
 query-refused input terms first specification.Memory there spelled refusal = tt
-query-refused input terms first specification.NotAList there spelled refusal = no-specification input terms first specification.NotAList there spelled refusal
-query-refused input terms first (specification.NotAClause n) there spelled refusal = no-specification input terms first (specification.NotAClause n) there spelled refusal
-query-refused input terms first (specification.BadHead n) there spelled refusal = no-specification input terms first (specification.BadHead n) there spelled refusal
-query-refused input terms first (specification.BadConditions n) there spelled refusal = no-specification input terms first (specification.BadConditions n) there spelled refusal
-query-refused input terms first (specification.BadBody n) there spelled refusal = no-specification input terms first (specification.BadBody n) there spelled refusal
-query-refused input terms first (specification.UnknownCall n) there spelled refusal = no-specification input terms first (specification.UnknownCall n) there spelled refusal
-query-refused input terms first (specification.Unbound n v) there spelled refusal = no-specification input terms first (specification.Unbound n v) there spelled refusal
-query-refused input terms first (specification.BadVariableName n) there spelled refusal = no-specification input terms first (specification.BadVariableName n) there spelled refusal
-query-refused input terms first (specification.BadExpression n) there spelled refusal = no-specification input terms first (specification.BadExpression n) there spelled refusal
-query-refused input terms first (specification.VariableInMapKey n) there spelled refusal = no-specification input terms first (specification.VariableInMapKey n) there spelled refusal
-query-refused input terms first specification.TooLarge there spelled refusal = no-specification input terms first specification.TooLarge there spelled refusal
+query-refused input terms first specification.NotAList there spelled refusal = no-specification input terms first specification.NotAList (λ e. absurd (cc)) there spelled refusal
+query-refused input terms first (specification.NotAClause n) there spelled refusal = no-specification input terms first (specification.NotAClause n) (λ e. absurd (cc)) there spelled refusal
+query-refused input terms first (specification.BadHead n) there spelled refusal = no-specification input terms first (specification.BadHead n) (λ e. absurd (cc)) there spelled refusal
+query-refused input terms first (specification.BadConditions n) there spelled refusal = no-specification input terms first (specification.BadConditions n) (λ e. absurd (cc)) there spelled refusal
+query-refused input terms first (specification.BadBody n) there spelled refusal = no-specification input terms first (specification.BadBody n) (λ e. absurd (cc)) there spelled refusal
+query-refused input terms first (specification.UnknownCall n) there spelled refusal = no-specification input terms first (specification.UnknownCall n) (λ e. absurd (cc)) there spelled refusal
+query-refused input terms first (specification.Unbound n v) there spelled refusal = no-specification input terms first (specification.Unbound n v) (λ e. absurd (cc)) there spelled refusal
+query-refused input terms first (specification.BadVariableName n) there spelled refusal = no-specification input terms first (specification.BadVariableName n) (λ e. absurd (cc)) there spelled refusal
+query-refused input terms first (specification.BadExpression n) there spelled refusal = no-specification input terms first (specification.BadExpression n) (λ e. absurd (cc)) there spelled refusal
+query-refused input terms first (specification.VariableInMapKey n) there spelled refusal = no-specification input terms first (specification.VariableInMapKey n) (λ e. absurd (cc)) there spelled refusal
+query-refused input terms first specification.TooLarge there spelled refusal = no-specification input terms first specification.TooLarge (λ e. absurd (cc)) there spelled refusal
+
+no-text : (input : List ℕ) (f : TextFault) → f ≢ text.Memory → ((ds : List Datum) → Spells input ds → f ≡ text.Memory) → HasCause input f → ((at : ℕ) → (f ≡ text.BadUtf8 at) ↔ IsValidUpTo input at) → IsTextFault input f
+no-text input f other only cause bad = inl (record { unspelled = λ ds spelled. other (only ds spelled); other = other; cause = cause; bad_utf8 = bad })
 
 -- a text that is refused, though not for want of memory, spells nothing
-pub text-refused : (input : List ℕ) (f : TextFault) → ((ds : List Datum) → Spells input ds → f ≡ text.Memory) → IsInputFault input (of_text f)
-text-refused input text.Memory only = tt
-text-refused input (text.TooDeep at) only = inl (λ ds spelled. let never = only ds spelled in absurd (cc))
-text-refused input (text.TooLong at) only = inl (λ ds spelled. let never = only ds spelled in absurd (cc))
-text-refused input (text.DuplicateKey at) only = inl (λ ds spelled. let never = only ds spelled in absurd (cc))
-text-refused input (text.Syntax at) only = inl (λ ds spelled. let never = only ds spelled in absurd (cc))
-text-refused input (text.BadUtf8 at) only = inl (λ ds spelled. let never = only ds spelled in absurd (cc))
-text-refused input (text.IntegerRange at) only = inl (λ ds spelled. let never = only ds spelled in absurd (cc))
-text-refused input (text.UnsupportedEscape at) only = inl (λ ds spelled. let never = only ds spelled in absurd (cc))
+pub text-refused : (input : List ℕ) (f : TextFault) → ((ds : List Datum) → Spells input ds → f ≡ text.Memory) → HasCause input f → ((at : ℕ) → (f ≡ text.BadUtf8 at) ↔ IsValidUpTo input at) → IsInputFault input (of_text f)
+text-refused input text.Memory only cause bad = tt
+text-refused input (text.TooDeep at) only cause bad = no-text input (text.TooDeep at) (λ e. absurd (cc)) only cause bad
+text-refused input (text.TooLong at) only cause bad = no-text input (text.TooLong at) (λ e. absurd (cc)) only cause bad
+text-refused input (text.DuplicateKey at) only cause bad = no-text input (text.DuplicateKey at) (λ e. absurd (cc)) only cause bad
+text-refused input (text.Syntax at) only cause bad = no-text input (text.Syntax at) (λ e. absurd (cc)) only cause bad
+text-refused input (text.BadUtf8 at) only cause bad = no-text input (text.BadUtf8 at) (λ e. absurd (cc)) only cause bad
+text-refused input (text.IntegerRange at) only cause bad = no-text input (text.IntegerRange at) (λ e. absurd (cc)) only cause bad
+text-refused input (text.UnsupportedEscape at) only cause bad = no-text input (text.UnsupportedEscape at) (λ e. absurd (cc)) only cause bad
 
 -- an input without a term
 pub input-empty : (input : List ℕ) (terms : List Datum) → None ≡ slice_get terms 0 → Spells input terms → IsInputFault input (fault.Text (text.Syntax (length input)))

@@ -1,12 +1,13 @@
 -- What the program writes for what it reads.
-use Rattle.std.specs.Prelude.{ℕ, ◌≡◌, ◌⊎◌, Option, Some, None, List, [], ◌∷◌, ◌++◌, length, codes}
+use Rattle.std.specs.Prelude.{ℕ, ◌≡◌, ◌≢◌, ◌⊎◌, ◌↔◌, Option, Some, None, List, [], ◌∷◌, ◌++◌, length, codes}
 use Rattle.std.specs.Io.KnownBytes.{Appends, Keeps}
-use Rattle.std.specs.Str.{encode_utf8_all}
+use Rattle.std.specs.Str.{encode_utf8_all, IsValidUpTo}
 use Rattle.term_core.specs.Datum.{Datum}
 use Rattle.term_core.specs.Datum.Datum.{atom, tuple}
 use Rattle.term_core.specs.Datum.Items.{no_items, item}
 use Rattle.term_text.specs.Text.{Spells}
 use Rattle.term_text.specs.Canonical.{canonical}
+use Rattle.term_text.specs.Causes.{HasCause}
 use Rattle.term_text.specs.declared.fault.TextFault.{TextFault}
 use Rattle.term_text.specs.declared.fault.TextFault.TheVariants as text
 use Rattle.mspec_syntax.specs.Faults.{IsRefusal}
@@ -114,6 +115,13 @@ abbrev pub of_specification : SpecFault → ToolFault
 of_specification specification.Memory = fault.Memory
 of_specification f = fault.Specification f
 
+-- why an input spells no terms: what the refusal names stands at its byte, and bytes that begin no UTF-8 are named as such
+pub record IsNoText (input : List ℕ) (f : TextFault) : Type 0 where
+  pub unspelled : (ds : List Datum) → ¬ Spells input ds
+  pub other : f ≢ text.Memory
+  pub cause : HasCause input f
+  pub bad_utf8 : (at : ℕ) → (f ≡ text.BadUtf8 at) ↔ IsValidUpTo input at
+
 -- an input without a term ends too early
 pub record IsEmpty (input : List ℕ) (f : TextFault) : Type 0 where
   pub spelled : Spells input []
@@ -124,11 +132,12 @@ pub record IsNoSpecification (input : List ℕ) (f : SpecFault) : Type 0 where
   pub first : Datum
   pub objects : List Datum
   pub spelled : Spells input (first ∷ objects)
+  pub other : f ≢ specification.Memory
   pub refusal : IsRefusal f first
 
 -- why an input is no specification and objects: it spells no terms, or not one
 abbrev pub IsTextFault : List ℕ → TextFault → Type 0
-IsTextFault input f = ((ds : List Datum) → Spells input ds → ⊥) ⊎ IsEmpty input f
+IsTextFault input f = IsNoText input f ⊎ IsEmpty input f
 
 -- why an input is refused
 abbrev pub IsInputFault : List ℕ → ToolFault → Type 0

@@ -1,4 +1,4 @@
-use Rattle.ets_tool.proofs.RunLemmas.{query-read, query-refused, input-empty}
+use Rattle.ets_tool.proofs.RunLemmas.{query-read, query-refused, text-refused, input-empty}
 use Rattle.ets_tool.proofs.run.query_of.Goals as goal
 
 pub returns-in-Ok-read_spec-clause-ok : goal.returns-in-Ok-read_spec-clause-ok
@@ -15,3 +15,7 @@ pub returns-in_default-clause-refused : goal.returns-in_default-clause-refused
 returns-in_default-clause-refused g c =
     let none = rw c.deref.ensures.value at c.in_default.ensures.value in
     input-empty c.args.input.now c.in-Ok.terms.items none c.in-Ok.ensures.ok
+
+pub returns-in-Err-clause-refused : goal.returns-in-Err-clause-refused
+returns-in-Err-clause-refused g c =
+    rw c.text_fault.ensures (text-refused c.args.input.now c.in-Err.fault c.in-Err.ensures.only c.in-Err.ensures.cause (λ at. (λ e. (c.in-Err.ensures.bad_utf8 at).0 (cc), λ v. let bad = (c.in-Err.ensures.bad_utf8 at).1 v in cc)))
