@@ -6,6 +6,8 @@ use failing_alloc::sweep;
 use std::alloc::{Allocator, Global};
 use term_core::{Fault, Term, View};
 
+mod values;
+
 /// The greatest and the least integer.
 const MAX: i64 = i64::MAX;
 
