@@ -40,26 +40,33 @@ fn shown(terms: &[Term], value: &Value<'_>) -> Answer {
 }
 
 /// What a call of two gives, of which the second may be made, and whether that is borrowed.
+fn answer_over(
+    heap: Global,
+    terms: &[Term],
+    name: &str,
+    operands: (Given, Given),
+    is_made: bool,
+) -> Option<(Answer, bool)> {
+    let first = value_of(heap, terms, operands.0, false)?;
+    let second = value_of(heap, terms, operands.1, is_made)?;
+    let mut values = Vec::new(heap);
+    values.push(first).ok()?;
+    values.push(second).ok()?;
+    let function = super::prim(heap, name, 2)?;
+    match call_values(heap, function, values.as_slice()).ok()? {
+        Some(value) => Some((shown(terms, &value), is_borrowed(&value))),
+        None => Some((Answer::Fails, false)),
+    }
+}
+
 fn answer(
     heap: Global,
     name: &str,
-    left: Given,
-    right: Given,
+    operands: (Given, Given),
     is_made: bool,
 ) -> Option<(Answer, bool)> {
     let terms = terms(heap)?;
-    let mut values = Vec::new(heap);
-    values
-        .push(value_of(heap, terms.as_slice(), left, false)?)
-        .ok()?;
-    values
-        .push(value_of(heap, terms.as_slice(), right, is_made)?)
-        .ok()?;
-    let function = super::prim(heap, name, 2)?;
-    match call_values(heap, function, values.as_slice()).ok()? {
-        Some(value) => Some((shown(terms.as_slice(), &value), is_borrowed(&value))),
-        None => Some((Answer::Fails, false)),
-    }
+    answer_over(heap, terms.as_slice(), name, operands, is_made)
 }
 
 #[test]
@@ -76,7 +83,7 @@ fn calls_of_values(rt: HostRuntime) {
         ("max", At(ONE), At(PROPER), true, (Place(PROPER), false)),
     ] {
         assert_eq!(rt;
-            answer(rt.alloc(), name, left, right, is_made),
+            answer(rt.alloc(), name, (left, right), is_made),
             Some(want),
             "{name} {left:?} {right:?} {is_made}"
         );
