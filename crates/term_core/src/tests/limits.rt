@@ -1,4 +1,6 @@
 //! The limits of terms, at them and one past, and which of several refusals is answered.
+ghost use Rattle.std.specs.Prelude.{◌≡◌, length, IfSome};
+
 use super::{integers, nested};
 use crate::fault::Fault;
 use crate::term::{Term, make_list, make_map, make_tuple};
@@ -209,10 +211,18 @@ fn is_list_made(heap: Global, count: usize, more: usize) -> Option<bool> {
     )
 }
 
+/// One pair of this value.
+fn one_pair(heap: Global, value: Term) -> Option<Vec<(Term, Term)>>
+    ensures { IfSome result (λ pairs. length pairs.items ≡ 1) }
+{
+    let mut pairs = Vec::new(heap);
+    pairs.push((Term::int(1), value)).ok()?;
+    Some(pairs)
+}
+
 /// Whether the map is made whose one value is so deep.
 fn is_map_made(heap: Global, levels: u16) -> Option<bool> {
-    let mut pairs = Vec::new(heap);
-    pairs.push((Term::int(1), nested(heap, levels).ok()?)).ok()?;
+    let pairs = one_pair(heap, nested(heap, levels).ok()?)?;
     Some(make_map(heap, pairs).ok()?.is_some())
 }
 

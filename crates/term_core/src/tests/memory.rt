@@ -1,4 +1,8 @@
 //! Each call with memory, and with each of its requests refused in turn: what it makes, and what comes back.
+ghost use Rattle.std.specs.Prelude.{◌≡◌, [], ◌∷◌, pos, IfSome};
+ghost use Rattle.term_core.specs.Datum.Datum.{integer};
+ghost use Rattle.term_core.specs.MapPairs.{keys_of};
+
 use super::integers;
 use crate::fault::Fault;
 use crate::term::{
@@ -304,8 +308,19 @@ fn made_list<A: Allocator + Copy>(heap: A, count: usize) -> Outcome {
     }
 }
 
-fn made_map<A: Allocator + Copy>(heap: A, values: &[(i64, i64)]) -> Outcome {
-    let Some(pairs) = pairs(heap, values) else {
+/// `3 => 30`, `1 => 10`, `2 => 20`.
+fn three_pairs<A: Allocator + Copy>(heap: A) -> Option<Vec<(Term<A>, Term<A>), A>>
+    ensures { IfSome result (λ pairs. keys_of pairs.items ≡ integer (pos 3) ∷ integer (pos 1) ∷ integer (pos 2) ∷ []) }
+{
+    let mut pairs = Vec::new(heap);
+    pairs.push((Term::int(3), Term::int(30))).ok()?;
+    pairs.push((Term::int(1), Term::int(10))).ok()?;
+    pairs.push((Term::int(2), Term::int(20))).ok()?;
+    Some(pairs)
+}
+
+fn made_map<A: Allocator + Copy>(heap: A) -> Outcome {
+    let Some(pairs) = three_pairs(heap) else {
         return Outcome::Memory;
     };
     match make_map(heap, pairs) {
@@ -393,7 +408,7 @@ fn run<A: Allocator + Copy>(heap: A, call: Call) -> Outcome {
         Call::MakeTuple => made_tuple(heap),
         Call::MakeList => made_list(heap, 2),
         Call::MakeListOfNothing => made_list(heap, 0),
-        Call::MakeMap => made_map(heap, &[(3, 30), (1, 10), (2, 20)]),
+        Call::MakeMap => made_map(heap),
         Call::Apart => apart(heap, &[3, 1, 2], true),
         Call::Twins => apart(heap, &[3, 1, 2, 1], false),
     }
