@@ -21,14 +21,9 @@ use Rattle.mspec_syntax.specs.Expression.Expression.{bound, object, bindings, co
 use Rattle.mspec_syntax.specs.Expression.Assignments.{no_assignments, assignment}
 use Rattle.mspec_syntax.specs.ExpressionView.{tail_expression, IsTailExpression}
 use Rattle.mspec_meaning.specs.Match.{Substitution}
-use Rattle.mspec_meaning.specs.Meaning.{true_term, is_too_long, is_past_limits, failed, made, made_of, before, at_key, joined, and_step, and_at, or_step, or_at, value_of, argument_values, entry_values, tail_value, all_true, any_true}
+use Rattle.mspec_meaning.specs.Meaning.{true_term, failed, made_of, before, at_key, joined, and_step, and_at, or_step, or_at, value_of, argument_values, entry_values, tail_value, all_true, any_true}
 use Rattle.mspec_meaning.specs.Value.{joined_to}
 use Rattle.mspec_meaning.specs.declared.value.Mode.{Mode}
-
--- two facts of what a call gives
-pub IfOk-both : {T E : Type 0} (r : Result T E) (P Q R : T → Type 0) → ((v : T) → P v → Q v → R v) → IfOk r P → IfOk r Q → IfOk r R
-IfOk-both (Ok v) P Q R f p q = f v p q
-IfOk-both (Err e) P Q R f p q = tt
 
 no-true : (b : Bool) → Some true ≡ cond b (Some false) None → ⊥
 no-true true e = absurd (cc)
@@ -50,28 +45,6 @@ boolean-true (binary bs) e = absurd (cc)
 
 pub boolean-other : (b : Option Bool) (d : Datum) → b ≡ boolean_of d → (b ≡ Some true → ⊥) → d ≡ true_term → ⊥
 boolean-other b d is other e = other (is ∙ ap boolean_of e)
-
-table-within : (es : Entries) → IsTerm (table es) → is_past_limits (table es) ≡ false
-table-within es term =
-    ap (λ b. b || nat_lt MAX_MAP (entry_count es)) (le-ltb MAX_DEPTH (depth (table es)) term.shallow)
-    ∙ le-ltb MAX_MAP (entry_count es) term.sound.0
-
--- a map that is made, or is refused
-pub map-made : (mode : Mode) (es : Entries) (t : Datum) → table es ≡ t → IsTerm t → Some t ≡ made mode (table es)
-map-made mode es t is term =
-    ap Some (sym is) ∙ sym (ap (λ b. cond b (failed mode) (Some (table es))) (table-within es (subst IsTerm (sym is) term)))
-
-pub map-refused : (mode : Mode) (fault : Fault) (es : List (Datum × Datum)) (value : Option Datum) → IsMapFault fault es → AreRising (entries_of es) → value ≡ failed mode → fault ≢ Memory → value ≡ made mode (table (entries_of es))
-map-refused mode Memory es value f rising e other = absurd (other refl)
-map-refused mode TooDeep es value f rising e other =
-    let whole = table (entries_of es) in
-    e ∙ sym (ap (λ b. cond (b || is_too_long whole) (failed mode) (Some whole)) (lt-ltb MAX_DEPTH (depth whole) f))
-map-refused mode TooLong es value f rising e other =
-    let whole = table (entries_of es) in
-    e
-    ∙ sym (ap (λ b. cond (b || is_too_long whole) (failed mode) (Some whole)) (le-ltb MAX_DEPTH (depth whole) f.0)
-    ∙ ap (λ b. cond b (failed mode) (Some whole)) (lt-ltb MAX_MAP (entry_count (entries_of es)) f.1))
-map-refused mode DuplicateKey es value f rising e other = absurd (apart-no_twin es (apart_from_rising es rising) f.2)
 
 split_at : {X : Type 0} (xs : List X) (i : ℕ) (x : X) → i < length xs → x ≡ get_or xs i x → drop i xs ≡ x ∷ drop (i + 1) xs
 split_at xs i x h e = drop-cons xs i x h ∙ ap (λ y. y ∷ drop (suc i) xs) (sym e) ∙ ap (λ j. x ∷ drop j xs) (sym (add-one i))

@@ -1,14 +1,13 @@
 -- What a specification means on an object. (ERTS User's Guide, "Match Specifications in Erlang", "Semantics".)
-use Rattle.std.specs.Prelude.{ℕ, ◌≡◌, ◌⊎◌, nat_lt, Bool, true, false, ◌||◌, if◌then◌else◌, Option, Some, None, option_map, List, [], ◌∷◌, length, codes}
+use Rattle.std.specs.Prelude.{ℕ, ◌≡◌, ◌⊎◌, Bool, true, false, Option, Some, None, option_map, List, [], ◌∷◌, codes}
 use Rattle.prims.specs.Booleans.{boolean_of}
 use Rattle.prims.specs.Calls.{function_of}
 use Rattle.prims.specs.Operand.{boolean}
 use Rattle.prims.specs.declared.prim.Primitive.{Primitive}
-use Rattle.term_core.specs.Datum.{Datum, Entries, item_count, entry_count, cell_count, cells, items_of}
+use Rattle.term_core.specs.Datum.{Datum, Entries, cells, items_of}
 use Rattle.term_core.specs.Datum.Entries.{no_entries, entry}
-use Rattle.term_core.specs.Datum.Datum.{integer, atom, tuple, map, nil, cons, binary}
-use Rattle.term_core.specs.Limits.{depth}
-use Rattle.term_core.specs.declared.TheConstants.{MAX_DEPTH, MAX_CHARACTERS, MAX_TUPLE, MAX_MAP, MAX_LIST, MAX_BINARY}
+use Rattle.term_core.specs.Datum.Datum.{atom, tuple, map, nil, cons}
+use Rattle.term_core.specs.Limits.{within_limits}
 use Rattle.mspec_syntax.specs.Expression.{Expression, Expressions, Assignments}
 use Rattle.mspec_syntax.specs.Expression.Expression.{bound, object, bindings, constant, quoted, call, and_also, or_else, new_tuple, new_cell, new_map}
 use Rattle.mspec_syntax.specs.Expression.Expressions.{no_expressions, expression}
@@ -17,20 +16,6 @@ use Rattle.mspec_syntax.specs.Specification.{Clause, Specification}
 use Rattle.mspec_meaning.specs.Match.{Substitution, values_of, lookup, Matches}
 use Rattle.mspec_meaning.specs.declared.value.Mode.{Mode}
 use Rattle.mspec_meaning.specs.declared.value.Mode.TheVariants.{Condition, Body}
-
--- past the limit of its kind
-abbrev pub is_too_long : Datum → Bool
-is_too_long (integer z) = false
-is_too_long (atom cs) = nat_lt MAX_CHARACTERS (length cs)
-is_too_long (tuple ds) = nat_lt MAX_TUPLE (item_count ds)
-is_too_long (map es) = nat_lt MAX_MAP (entry_count es)
-is_too_long nil = false
-is_too_long (cons head tail) = nat_lt MAX_LIST (cell_count (cons head tail))
-is_too_long (binary bs) = nat_lt MAX_BINARY (length bs)
-
--- deeper or longer than a term may be, its parts being terms
-abbrev pub is_past_limits : Datum → Bool
-is_past_limits d = nat_lt MAX_DEPTH (depth d) || is_too_long d
 
 -- the atoms 'EXIT' and true
 abbrev pub exit_term : Datum
@@ -44,19 +29,19 @@ abbrev pub failed : Mode → Option Datum
 failed Condition = None
 failed Body = Some exit_term
 
+-- a value where there is one, else what stands for a failure
+abbrev pub or_failed : Mode → Option Datum → Option Datum
+or_failed mode None = failed mode
+or_failed mode (Some d) = Some d
+
 -- a term that is made, which fails where it passes a limit
 abbrev pub made : Mode → Datum → Option Datum
-made mode d = if is_past_limits d then failed mode else Some d
+made mode d = or_failed mode (within_limits d)
 
 -- a term that is made of values, of which in a condition one may be missing
 abbrev pub made_of : Mode → Option Datum → Option Datum
 made_of mode None = None
 made_of mode (Some d) = made mode d
-
--- a value where there is one, else what stands for a failure
-abbrev pub or_failed : Mode → Option Datum → Option Datum
-or_failed mode None = failed mode
-or_failed mode (Some d) = Some d
 
 -- what a call comes to, of its arguments' values where all have one
 abbrev pub called : Mode → Primitive → Option (List Datum) → Option Datum

@@ -2,14 +2,14 @@
 ghost use Rattle.std.specs.Prelude.{◌≡◌, length, IfOk, OnOk, MatchBool, MatchOption};
 ghost use Rattle.mspec_meaning.specs.Match.{Matches};
 ghost use Rattle.mspec_meaning.specs.Meaning.{AllHold, IsApplicable, Applies, Means, body_value, true_term};
-ghost use Rattle.mspec_meaning.specs.Value.{value_datum};
+ghost use Rattle.prims.specs.Value.{value_datum};
 ghost use Rattle.mspec_meaning.specs.Slots.{seen, substitution_of, AreFree, NeverMatches, MatchesBy};
 
 use crate::bind::{Slot, bind};
-use crate::held::Value;
 use crate::part::Part;
 use crate::value::{Mode, value_of};
 use mspec_syntax::{Clause, Expression, Spec, Variables};
+use prims::Value;
 use std::alloc::{AllocError, Allocator};
 use term_core::Term;
 

@@ -6,7 +6,7 @@
 //! - When a pattern matches: `specs/Match.antt`; `bind.rt`, over parts of terms (`part.rt`), by the slots of
 //!   `specs/Slots.antt`.
 //! - The values of expressions: `value.rt`; calls in `called.rt`, what is made in `made.rt`. A value is borrowed until
-//!   it is put into a term or is the answer: `held.rt`.
+//!   it is put into a term or is the answer (`prims::Value`).
 //! - Clauses and specifications: `clauses.rt`.
 //! - Laws of the meaning: `laws.rt`, `specs/Laws.antt`.
 #![tactic(auto)]
@@ -14,7 +14,6 @@
 mod bind;
 mod called;
 mod clauses;
-mod held;
 mod laws;
 mod made;
 mod part;

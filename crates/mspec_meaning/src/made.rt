@@ -1,16 +1,18 @@
 //! Terms that expressions make.
-ghost use Rattle.std.specs.Prelude.{◌≡◌, ◌≢◌, IfOk};
+ghost use Rattle.std.specs.Prelude.{◌≡◌, IfOk};
+ghost use Rattle.std.specs.Option.{option_map};
+ghost use Rattle.prims.specs.Value.{value_datum};
 ghost use Rattle.term_core.specs.Datum.{cells, items_of, entries_of};
 ghost use Rattle.term_core.specs.Datum.Datum.{nil, tuple, map};
 ghost use Rattle.term_core.specs.MapPairs.{AreRising};
-ghost use Rattle.mspec_meaning.specs.Meaning.{failed, made};
+ghost use Rattle.mspec_meaning.specs.Meaning.{failed, made, or_failed};
 ghost use Rattle.mspec_meaning.specs.Slots.{seen, known};
 
 use crate::bind::Slot;
-use crate::held::copied;
 use crate::value::Mode;
+use prims::Value;
 use std::alloc::{AllocError, Allocator};
-use term_core::{Fault, Term};
+use term_core::{Term, make_list, make_map, make_tuple};
 
 /// The value of what fails: none in a condition, `'EXIT'` in a body.
 pub(crate) fn failure<A: Allocator + Copy>(
@@ -31,18 +33,27 @@ pub(crate) fn failure<A: Allocator + Copy>(
     }
 }
 
-/// The value of a term that can't be made.
-fn refusal<A: Allocator + Copy>(
+/// A term that was made, else the value of what fails.
+fn or_failure<A: Allocator + Copy>(
     alloc: A,
     mode: Mode,
-    fault: Fault,
+    made: Option<Term<A>>,
 ) -> Result<Option<Term<A>>, AllocError>
-    ensures value { IfOk result (λ value. value ≡ failed mode) }
-    ensures memory { IfOk result (λ value. fault ≢ Fault.Memory) }
+    ensures { IfOk result (λ value. value ≡ or_failed mode made) }
 {
-    match fault {
-        Fault::Memory => Err(AllocError),
-        Fault::TooDeep | Fault::TooLong | Fault::DuplicateKey => failure(alloc, mode),
+    match made {
+        Some(term) => Ok(Some(term)),
+        None => failure(alloc, mode),
+    }
+}
+
+/// A term that was made as a value, where there is one.
+pub(crate) fn held<'a, A: Allocator>(term: Option<Term<A>>) -> Option<Value<'a, A>>
+    ensures { option_map value_datum result ≡ term }
+{
+    match term {
+        Some(term) => Some(Value::Made(term)),
+        None => None,
     }
 }
 
@@ -56,7 +67,8 @@ fn bound_values<A: Allocator + Copy>(
     let mut values = Vec::with_capacity(alloc, slots.len())?;
     for slot in slots {
         if let Some(part) = slot {
-            values.push(copied(alloc, part.operand())?)?;
+            let value = Value::Borrowed(part.operand());
+            values.push(value.into_term(alloc)?)?;
         }
     }
     Ok(values)
@@ -82,13 +94,7 @@ pub(crate) fn tuple<A: Allocator + Copy>(
 ) -> Result<Option<Term<A>>, AllocError>
     ensures { IfOk result (λ value. value ≡ made mode (tuple (items_of elements.items))) }
 {
-    match Term::tuple(alloc, elements) {
-        Ok(tuple) => {
-            let _ = tuple.depth();
-            Ok(Some(tuple))
-        }
-        Err(refused) => refusal(alloc, mode, refused.fault),
-    }
+    or_failure(alloc, mode, make_tuple(alloc, elements)?)
 }
 
 /// The list of these elements and this tail.
@@ -100,13 +106,7 @@ pub(crate) fn list<A: Allocator + Copy>(
 ) -> Result<Option<Term<A>>, AllocError>
     ensures { IfOk result (λ value. value ≡ made mode (cells elements.items tail)) }
 {
-    match Term::list(alloc, elements, Some(tail)) {
-        Ok(list) => {
-            let _ = list.depth();
-            Ok(Some(list))
-        }
-        Err(refused) => refusal(alloc, mode, refused.fault),
-    }
+    or_failure(alloc, mode, make_list(alloc, elements, tail)?)
 }
 
 /// The map of these pairs.
@@ -118,11 +118,5 @@ pub(crate) fn map<A: Allocator + Copy>(
     requires { AreRising (entries_of pairs.items) }
     ensures { IfOk result (λ value. value ≡ made mode (map (entries_of pairs.items))) }
 {
-    match Term::map(alloc, pairs) {
-        Ok(map) => {
-            let _ = map.depth();
-            Ok(Some(map))
-        }
-        Err(refused) => refusal(alloc, mode, refused.fault),
-    }
+    or_failure(alloc, mode, make_map(alloc, pairs)?)
 }

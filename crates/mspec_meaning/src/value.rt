@@ -6,16 +6,16 @@ ghost use Rattle.mspec_syntax.specs.ExpressionView.{tail_expression};
 ghost use Rattle.mspec_meaning.specs.Match.{lookup};
 ghost use Rattle.mspec_meaning.specs.Meaning.{made_of, value_of as value_under, argument_values as values_under, entry_values as entries_under, all_true as all_true_under, any_true as any_true_under};
 ghost use Rattle.mspec_meaning.specs.Slots.{seen, substitution_of};
-ghost use Rattle.mspec_meaning.specs.Value.{value_datum, joined_to};
+ghost use Rattle.mspec_meaning.specs.Value.{joined_to};
+ghost use Rattle.prims.specs.Value.{value_datum};
 ghost use Rattle.term_core.specs.Datum.{entries_of};
 
 use crate::bind::Slot;
 use crate::called::called;
-use crate::held::{Value, held};
 use crate::made;
-use crate::made::failure;
+use crate::made::{failure, held};
 use mspec_syntax::{Expression, ExpressionKind, Variables};
-use prims::Operand;
+use prims::{Operand, Value};
 use std::alloc::{AllocError, Allocator};
 use term_core::Term;
 

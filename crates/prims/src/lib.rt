@@ -40,4 +40,4 @@ pub use prim::{
     Arithmetic, BooleanFunction, Comparison, Extreme, IntegerFunction, ListFunction, MapFunction,
     Primitive, SizeFunction, Test, TupleFunction,
 };
-pub use value::{Value, call_values};
+pub use value::{MAX_INLINE, Value, call_values};

@@ -1,5 +1,5 @@
 //! What a function is given and what it gives.
-ghost use Rattle.std.specs.Prelude.{◌≡◌, ⊤, MatchOption, IfOk, IfErr};
+ghost use Rattle.std.specs.Prelude.{◌≡◌, ⊤, false, MatchOption, IfOk, IfErr};
 ghost use Rattle.std.specs.Option.{option_copied};
 ghost use Rattle.term_core.specs.Datum.{cells};
 ghost use Rattle.std.specs.Str.{chars};
@@ -42,6 +42,15 @@ impl<'a, A: Allocator> Clone for Operand<'a, A> {
 
     fn clone(&self) -> Result<Self, AllocError> {
         Ok(*self)
+    }
+}
+
+/// The atom `false`, which stands in the free places of a small vector.
+impl<'a, A: Allocator> Default for Operand<'a, A> {
+    ghost is_default = { λ operand. operand_datum operand ≡ boolean_atom false };
+
+    fn default() -> Self {
+        Operand::Bool(false)
     }
 }
 

@@ -7,6 +7,8 @@ use term_core::Term;
 
 mod operands;
 
+mod values;
+
 /// The greatest and the least integer.
 const MAX: i64 = i64::MAX;
 

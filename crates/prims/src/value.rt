@@ -1,15 +1,20 @@
 //! Values, of which those that stand in what was given are borrowed, and calls of functions over them.
-ghost use Rattle.std.specs.Prelude.{◌≡◌, map, IfOk, IfSome};
+ghost use Rattle.std.specs.Prelude.{◌≡◌, ◌≤◌, length, map, IfOk, IfSome, IsOkAnd, IsSome};
+ghost use Rattle.std.specs.List.{All};
 ghost use Rattle.std.specs.Option.{option_map};
 ghost use Rattle.prims.specs.Calls.{function_of};
 ghost use Rattle.prims.specs.Operand.{operand_datum};
-ghost use Rattle.prims.specs.Value.{value_datum};
+ghost use Rattle.prims.specs.Value.{value_datum, IsBorrowed};
 
 use crate::calls::call;
 use crate::operand::Operand;
 use crate::prim::Primitive;
+use smallvec::SmallVec;
 use std::alloc::{AllocError, Allocator, Global};
 use term_core::Term;
+
+/// How many borrowed values a call takes without memory.
+pub const MAX_INLINE: usize = 16;
 
 /// A term that a function is given or gives.
 #[derive(Drop)]
@@ -32,11 +37,11 @@ fn copied<A: Allocator + Copy>(alloc: A, operand: Operand<'_, A>) -> Result<Term
 }
 
 impl<'a, A: Allocator + Copy> Value<'a, A> {
-    ghost use Rattle.std.specs.Prelude.{◌≡◌, IfOk};
+    ghost use Rattle.std.specs.Prelude.{◌≡◌, IfOk, IsOkAnd};
     ghost use Rattle.prims.specs.Booleans.{boolean_of};
     ghost use Rattle.prims.specs.Integers.{integer_of};
     ghost use Rattle.prims.specs.Operand.{operand_datum};
-    ghost use Rattle.prims.specs.Value.{value_datum};
+    ghost use Rattle.prims.specs.Value.{value_datum, IsBorrowed};
 
     /// The value as an operand.
     pub fn operand(&self) -> Operand<'_, A>
@@ -75,7 +80,8 @@ impl<'a, A: Allocator + Copy> Value<'a, A> {
 
     /// The same value once more. A borrowed one takes no memory.
     pub fn copy(&self, alloc: A) -> Result<Value<'a, A>, AllocError>
-        ensures { IfOk result (λ value. value_datum value ≡ value_datum self.now) }
+        ensures value { IfOk result (λ value. value_datum value ≡ value_datum self.now) }
+        ensures borrowed { IsBorrowed self.now → IsOkAnd result IsBorrowed }
     {
         match self {
             Value::Borrowed(operand) => Ok(Value::Borrowed(*operand)),
@@ -98,14 +104,15 @@ fn operands_of<'a, A: Allocator + Copy>(
     Ok(operands)
 }
 
-/// These values as operands, where all are borrowed.
-fn borrowed<'a, A: Allocator + Copy>(
-    alloc: A,
+/// These values as operands, where all are borrowed. So many as a function mostly takes need no memory.
+fn borrowed<'h, 'a, A: Allocator + Copy>(
+    heap: &'h A,
     values: &[Value<'a, A>],
-) -> Result<Option<Vec<Operand<'a, A>, A>>, AllocError>
-    ensures { IfOk result (λ found. IfSome found (λ operands. map operand_datum operands.items ≡ map value_datum values.now)) }
+) -> Result<Option<SmallVec<Operand<'a, A>, MAX_INLINE, &'h A>>, AllocError>
+    ensures value { IfOk result (λ found. IfSome found (λ operands. map operand_datum operands.items ≡ map value_datum values.now)) }
+    ensures all { All IsBorrowed values.now → length values.now ≤ MAX_INLINE → IsOkAnd result IsSome }
 {
-    let mut operands = Vec::with_capacity(alloc, values.len())?;
+    let mut operands = SmallVec::new(heap);
     for value in values {
         match value {
             Value::Borrowed(operand) => operands.push(*operand)?,
@@ -145,15 +152,17 @@ fn call_made<'a, A: Allocator + Copy>(
 }
 
 /// What a function gives of these values, none where the call fails. What it gives of borrowed values alone is borrowed,
-/// else it is copied.
+/// and up to `MAX_INLINE` of them take no memory; else it is copied.
 pub fn call_values<'a, A: Allocator + Copy>(
     alloc: A,
     function: Primitive,
     values: &[Value<'a, A>],
 ) -> Result<Option<Value<'a, A>>, AllocError>
-    ensures { IfOk result (λ value. option_map value_datum value ≡ function_of function (map value_datum values.now)) }
+    ensures value { IfOk result (λ value. option_map value_datum value ≡ function_of function (map value_datum values.now)) }
+    ensures borrowed { All IsBorrowed values.now → length values.now ≤ MAX_INLINE → IsOkAnd result (λ value. IfSome value IsBorrowed) }
 {
-    let Some(operands) = borrowed(alloc, values)? else {
+    let heap = &alloc;
+    let Some(operands) = borrowed(heap, values)? else {
         return call_made(alloc, function, values);
     };
     match call(function, operands.as_slice()) {

@@ -1,7 +1,9 @@
 //! The limits of terms, at them and one past, and which of several refusals is answered.
+ghost use Rattle.std.specs.Prelude.{◌≡◌, length, IfSome};
+
 use super::{integers, nested};
 use crate::fault::Fault;
-use crate::term::Term;
+use crate::term::{Term, make_list, make_map, make_tuple};
 use crate::view::View;
 use std::alloc::Global;
 
@@ -192,4 +194,45 @@ fn the_lowest_number_is_answered(rt: HostRuntime) {
             "{count} {levels}"
         );
     }
+}
+
+/// Whether a tuple of so many elements is made.
+fn is_tuple_made(heap: Global, count: usize) -> Option<bool> {
+    Some(make_tuple(heap, integers(heap, count)?).ok()?.is_some())
+}
+
+/// Whether a list of so many elements and a tail of so many is made.
+fn is_list_made(heap: Global, count: usize, more: usize) -> Option<bool> {
+    let tail = list_of(heap, integers(heap, more)?, None).ok()?;
+    Some(
+        make_list(heap, integers(heap, count)?, tail)
+            .ok()?
+            .is_some(),
+    )
+}
+
+/// One pair of this value.
+fn one_pair(heap: Global, value: Term) -> Option<Vec<(Term, Term)>>
+    ensures { IfSome result (λ pairs. length pairs.items ≡ 1) }
+{
+    let mut pairs = Vec::new(heap);
+    pairs.push((Term::int(1), value)).ok()?;
+    Some(pairs)
+}
+
+/// Whether the map is made whose one value is so deep.
+fn is_map_made(heap: Global, levels: u16) -> Option<bool> {
+    let pairs = one_pair(heap, nested(heap, levels).ok()?)?;
+    Some(make_map(heap, pairs).ok()?.is_some())
+}
+
+#[test]
+fn past_a_limit_none_is_made(rt: HostRuntime) {
+    assert_eq!(rt; is_tuple_made(rt.alloc(), 65_535), Some(true));
+    assert_eq!(rt; is_tuple_made(rt.alloc(), 65_536), Some(false));
+    assert_eq!(rt; is_list_made(rt.alloc(), 1, 1_048_575), Some(true));
+    assert_eq!(rt; is_list_made(rt.alloc(), 1, 1_048_576), Some(false));
+    assert_eq!(rt; is_list_made(rt.alloc(), 0, 1_048_576), Some(true));
+    assert_eq!(rt; is_map_made(rt.alloc(), 254), Some(true));
+    assert_eq!(rt; is_map_made(rt.alloc(), 255), Some(false));
 }

@@ -1,7 +1,13 @@
 //! Each call with memory, and with each of its requests refused in turn: what it makes, and what comes back.
+ghost use Rattle.std.specs.Prelude.{◌≡◌, [], ◌∷◌, pos, IfSome};
+ghost use Rattle.term_core.specs.Datum.Datum.{integer};
+ghost use Rattle.term_core.specs.MapPairs.{keys_of};
+
 use super::integers;
 use crate::fault::Fault;
-use crate::term::{ListParts, Term, copy_all, copy_tail};
+use crate::term::{
+    ListParts, Term, are_apart, copy_all, copy_tail, make_list, make_map, make_tuple,
+};
 use crate::view::View;
 use failing_alloc::{Failing, sweep};
 use std::alloc::{Allocator, Global};
@@ -273,6 +279,74 @@ fn copied_tail<A: Allocator + Copy>(heap: A, is_missing: bool) -> Outcome {
     }
 }
 
+/// The tuple of three elements, as a term that may be past a limit.
+fn made_tuple<A: Allocator + Copy>(heap: A) -> Outcome {
+    let Some(elements) = integers(heap, 3) else {
+        return Outcome::Memory;
+    };
+    match make_tuple(heap, elements) {
+        Ok(Some(term)) => match term.view() {
+            View::Tuple(elements) => made_if(are_integers(elements, &[1, 1, 1])),
+            _ => Outcome::Wrong,
+        },
+        Ok(None) => Outcome::Wrong,
+        Err(_) => Outcome::Memory,
+    }
+}
+
+fn made_list<A: Allocator + Copy>(heap: A, count: usize) -> Outcome {
+    let (Some(elements), Ok(tail)) = (integers(heap, count), Term::atom(heap, "b")) else {
+        return Outcome::Memory;
+    };
+    match make_list(heap, elements, tail) {
+        Ok(Some(term)) => made_if(match count {
+            0 => is_atom(&term, &['b']),
+            _ => is_list(&term, &[1, 1], false),
+        }),
+        Ok(None) => Outcome::Wrong,
+        Err(_) => Outcome::Memory,
+    }
+}
+
+/// `3 => 30`, `1 => 10`, `2 => 20`.
+fn three_pairs<A: Allocator + Copy>(heap: A) -> Option<Vec<(Term<A>, Term<A>), A>>
+    ensures { IfSome result (λ pairs. keys_of pairs.items ≡ integer (pos 3) ∷ integer (pos 1) ∷ integer (pos 2) ∷ []) }
+{
+    let mut pairs = Vec::new(heap);
+    pairs.push((Term::int(3), Term::int(30))).ok()?;
+    pairs.push((Term::int(1), Term::int(10))).ok()?;
+    pairs.push((Term::int(2), Term::int(20))).ok()?;
+    Some(pairs)
+}
+
+fn made_map<A: Allocator + Copy>(heap: A) -> Outcome {
+    let Some(pairs) = three_pairs(heap) else {
+        return Outcome::Memory;
+    };
+    match make_map(heap, pairs) {
+        Ok(Some(term)) => match term.view() {
+            View::Map(pairs) => made_if(are_pairs(pairs, &[(1, 10), (2, 20), (3, 30)])),
+            _ => Outcome::Wrong,
+        },
+        Ok(None) => Outcome::Wrong,
+        Err(_) => Outcome::Memory,
+    }
+}
+
+/// Whether the integers are told to differ where they do.
+fn apart<A: Allocator + Copy>(heap: A, values: &[i64], want: bool) -> Outcome {
+    let mut terms = Vec::new(heap);
+    for value in values {
+        if terms.push(Term::int(*value)).is_err() {
+            return Outcome::Memory;
+        }
+    }
+    match are_apart(heap, terms.as_slice()) {
+        Ok(apart) => made_if(apart == want),
+        Err(_) => Outcome::Memory,
+    }
+}
+
 /// The calls.
 #[derive(Clone, Copy, Debug, PartialEq, Eq)]
 enum Call {
@@ -287,9 +361,15 @@ enum Call {
     CopyAll,
     CopyTail,
     CopyMissingTail,
+    MakeTuple,
+    MakeList,
+    MakeListOfNothing,
+    MakeMap,
+    Apart,
+    Twins,
 }
 
-const CALLS: [Call; 14] = [
+const CALLS: [Call; 20] = [
     Call::Atom,
     Call::FromCharacters,
     Call::Binary,
@@ -304,6 +384,12 @@ const CALLS: [Call; 14] = [
     Call::CopyAll,
     Call::CopyTail,
     Call::CopyMissingTail,
+    Call::MakeTuple,
+    Call::MakeList,
+    Call::MakeListOfNothing,
+    Call::MakeMap,
+    Call::Apart,
+    Call::Twins,
 ];
 
 fn run<A: Allocator + Copy>(heap: A, call: Call) -> Outcome {
@@ -319,6 +405,12 @@ fn run<A: Allocator + Copy>(heap: A, call: Call) -> Outcome {
         Call::CopyAll => copies(heap),
         Call::CopyTail => copied_tail(heap, false),
         Call::CopyMissingTail => copied_tail(heap, true),
+        Call::MakeTuple => made_tuple(heap),
+        Call::MakeList => made_list(heap, 2),
+        Call::MakeListOfNothing => made_list(heap, 0),
+        Call::MakeMap => made_map(heap),
+        Call::Apart => apart(heap, &[3, 1, 2], true),
+        Call::Twins => apart(heap, &[3, 1, 2, 1], false),
     }
 }
 

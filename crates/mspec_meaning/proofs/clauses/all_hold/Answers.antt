@@ -1,7 +1,7 @@
 use Rattle.std.proofs.Common.{◌≡◌, ◌≢◌, Some, option_map, sym, ◌∙◌, ap}
 use Rattle.mspec_meaning.specs.Meaning.{true_term}
 use Rattle.mspec_meaning.specs.Slots.{seen, substitution_of}
-use Rattle.mspec_meaning.specs.Value.{value_datum}
+use Rattle.prims.specs.Value.{value_datum}
 use Rattle.mspec_meaning.proofs.HoldLemmas.{HoldFront-more, HoldFront-never, HoldFront-all}
 use Rattle.mspec_meaning.proofs.clauses.all_hold.Goals as goal
 

@@ -9,7 +9,8 @@ use Rattle.mspec_syntax.specs.ExpressionView.{tail_expression}
 use Rattle.mspec_meaning.specs.Meaning.{value_of, argument_values, entry_values, all_true, any_true, made, made_of, or_failed, called}
 use Rattle.mspec_meaning.specs.Part.{part_of}
 use Rattle.mspec_meaning.specs.Slots.{seen, substitution_of}
-use Rattle.mspec_meaning.specs.Value.{value_datum, joined_to}
+use Rattle.mspec_meaning.specs.Value.{joined_to}
+use Rattle.prims.specs.Value.{value_datum}
 use Rattle.mspec_meaning.proofs.MatchLemmas.{known-values, length-seen}
 use Rattle.mspec_meaning.proofs.ValueLemmas.{expressions_size-at, assignments_size-at, cells-size, some-size, size-some, ValuesFront, ValuesFront-start, ValuesFront-more, ValuesFront-none, ValuesFront-all, EntriesFront, EntriesFront-start, EntriesFront-more, EntriesFront-none, EntriesFront-all, AllFront-step, AllFront-at, AllFront-all, AnyFront-step, AnyFront-at, AnyFront-all, list-value, joined_to-none, joined_to-nothing, entries-rise}
 use Rattle.mspec_meaning.proofs.value.+value.Goals as goal

@@ -3,7 +3,7 @@ use Rattle.std.proofs.Common.{◌≡◌, ◌+◌, ◌-◌, ◌*◌, map}
 use Rattle.mspec_syntax.specs.Expression.{expression_size, expressions_size, assignments_size, expressions_of, assignments_of}
 use Rattle.mspec_syntax.specs.ExpressionView.{tail_expression}
 use Rattle.mspec_meaning.specs.Slots.{seen, substitution_of}
-use Rattle.mspec_meaning.specs.Value.{value_datum}
+use Rattle.prims.specs.Value.{value_datum}
 use Rattle.mspec_meaning.proofs.ValueLemmas.{ValuesFront, EntriesFront, AllFront, AnyFront}
 use Rattle.mspec_meaning.proofs.value.+value.Given as goal
 

@@ -1,8 +1,12 @@
--- the operands so far and the values that are left make the whole
-use Rattle.std.proofs.Common.{◌≡◌, ◌++◌, map, drop}
+-- The operands so far and the values that are left make the whole, and there is room while there are few.
+use Rattle.std.proofs.Common.{◌≡◌, ◌++◌, ◌≤◌, length, map, drop}
 use Rattle.prims.specs.Operand.{operand_datum}
 use Rattle.prims.specs.Value.{value_datum}
+use Rattle.prims.specs.declared.value.TheConstants.{MAX_INLINE}
 use Rattle.prims.proofs.value.borrowed.Given as goal
 
 abbrev pub invariant-loop-value : goal.invariant-loop-value
-invariant-loop-value g l = map operand_datum l.operands.items ++ map value_datum (drop l.value-index l.values) ≡ map value_datum l.values
+invariant-loop-value g l =
+    (map operand_datum l.operands.items ++ map value_datum (drop l.value-index l.values) ≡ map value_datum l.values)
+    × (length l.operands.items ≡ l.value-index)
+    × (MAX_INLINE ≤ l.operands.capacity)
