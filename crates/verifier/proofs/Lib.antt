@@ -4,3 +4,4 @@ pub mod FrameLemmas
 pub mod LeavingLemmas
 pub mod PassLemmas
 pub mod VerifiedLemmas
+pub mod FaultLemmas

@@ -7,3 +7,4 @@ pub mod Kept
 pub mod Verified
 pub mod Pass
 pub mod Leaving
+pub mod Laws

@@ -1,10 +1,22 @@
-//! The verifier of code: what it accepts never gets stuck.
+//! The verifier of code.
+//!
+//! The one contract: `verify` accepts code exactly where `IsTyped` of `specs/Typing.antt` holds, that there is a state for
+//! each instruction such that each finds what it needs and leaves what the next begins with; else it hands the code back
+//! with the first fault (`IsFirstFault` of `specs/Faults.antt`). A `Verified` keeps the typing, the exact budget and the
+//! greatest depth, and only `verify` makes one.
+//!
+//! - `verification`: the frames, then each instruction in turn; `pass`: what is known before an instruction, and after one
+//!   more; `checks`: the checks of one instruction in their order.
+//! - `effect`: what an instruction needs; `leaving`: what it leaves; `keys`: constants that are lists of keys.
+//! - `shape`: what is known of a state: kinds of places, of which those that are any aren't kept, and slots.
+//! - `verified`: what `verify` answers; `fault`: why code is refused; `laws`: that no code is both typed and at fault.
 #![tactic(auto)]
 
 mod checks;
 mod effect;
 mod fault;
 mod keys;
+mod laws;
 mod leaving;
 mod pass;
 mod shape;
@@ -13,6 +25,7 @@ mod verified;
 
 pub use fault::{Fault, Refused};
 pub use verification::verify;
+pub use laws::faulty_code_is_untyped;
 pub use verified::Verified;
 
 /// The greatest depth of the operand stack.

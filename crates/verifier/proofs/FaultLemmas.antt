@@ -1,0 +1,96 @@
+-- A fault of code and a typing of it exclude each other.
+use Rattle.std.specs.Prelude.{ℕ, zero, suc, ◌≡◌, ◌<◌, ◌≤◌, ◌⊎◌, IsTrue, IsSome, IfSome, true, false, Option, Some, None, List, length, slice_get, All}
+use Rattle.std.specs.Option.{option_and_then}
+use Rattle.std.proofs.Common.{arith, refl, sym, ap, subst, ◌∙◌, inl, inr, get_or}
+use Rattle.std.proofs.lemmas.Option.{slice_get_within, get_or_from_slice_get}
+use Rattle.mcode.specs.Program.{Program, Frame, frame_at}
+use Rattle.mcode.specs.declared.instr.Instr.{Instr}
+use Rattle.verifier.specs.Shape.{Shape}
+use Rattle.verifier.specs.Effect.{falling_shape}
+use Rattle.verifier.specs.Typing.{IsFrameFit, IsTypedAt, AreTypedBelow, HasShapes, IsTyped, Begins, falling_into}
+use Rattle.verifier.specs.Faults.{IsFaultIn, IsFirstFault, IsFirstUntyped, IsFirstUnfit, IsEmpty}
+use Rattle.verifier.specs.Pass.{begun, shape_at}
+use Rattle.verifier.specs.declared.fault.Fault.{Fault}
+use Rattle.verifier.specs.declared.fault.Fault.TheVariants as fault
+use Rattle.verifier.proofs.PassLemmas.{shape_begun, begins_once}
+
+-- what falls into the next instruction, where this one is there or not
+falls_same : (p : Program) (s t : Shape) (o : Option Instr) → ((i : Instr) → o ≡ Some i → s ≡ t) → option_and_then (λ i. falling_shape p i s) o ≡ option_and_then (λ i. falling_shape p i t) o
+falls_same p s t None same = refl
+falls_same p s t (Some i) same = ap (falling_shape p i) (same i refl)
+
+-- states of typed instructions are those that the pass knows
+same_falling : (p : Program) (shapes : ℕ → Shape) (n : ℕ) → AreTypedBelow p shapes n → falling_into p shapes n ≡ falling_into p (shape_at p) n
+same_falling p shapes zero typed = refl
+same_falling p shapes (suc n) typed =
+    let before = same_falling p shapes n (λ q i below here. typed q i (omega (arith, below)) here) in
+    falls_same p (shapes n) (shape_at p n) (slice_get p.instructions n) (λ i here.
+      begins_once p (falling_into p shapes n) (frame_at p.frames n) (shapes n) (typed n i (omega arith) here).begins
+      ∙ ap (λ o. begun p o (frame_at p.frames n)) before ∙ sym (shape_begun p n))
+
+-- no instruction is typed and at fault
+contradicts : (p : Program) (pc : ℕ) (i : Instr) (s : Shape) (told : Fault) → IsTypedAt p pc i s → IsFaultIn p pc i s told → ⊥
+contradicts p pc i s fault.Memory typed why = why
+contradicts p pc i s (fault.JumpOutside at) typed why =
+    let target = typed.target in
+    let target = rw why.1.1 at target in
+    absurd (omega (arith, target.inside, why.1.2))
+contradicts p pc i s (fault.JumpBack at) typed why =
+    let target = typed.target in
+    let target = rw why.1.1 at target in
+    absurd (omega (arith, target.ahead, why.1.3))
+contradicts p pc i s (fault.Frame at) typed why = elim why.1 [
+  | inl h ↦
+      let target = typed.target in
+      let target = rw h.jumps at target in
+      let framed = target.framed in
+      let framed = rw h.bare at framed in
+      absurd (cc)
+  | inr h ↦ h.1 typed.jump
+]
+contradicts p pc i s (fault.Constant at) typed why = why.2 typed.constant
+contradicts p pc i s (fault.Underflow at) typed why = absurd (omega (arith, typed.operands, why.2))
+contradicts p pc i s (fault.Kind at) typed why =
+    let yes = typed.kinds in
+    let none = why.2 in
+    absurd (cc)
+contradicts p pc i s (fault.Unbound at) typed why =
+    let yes = typed.slot in
+    let none = why.2 in
+    absurd (cc)
+contradicts p pc i s (fault.Depth at) typed why = absurd (omega (arith, typed.depth, why.2))
+contradicts p pc i s (fault.FallsOff at) typed why = absurd (omega (arith, typed.last why.2, why.3))
+
+untyped_excludes : (p : Program) (told : Fault) → IsFirstUntyped p told → IsTyped p → ⊥
+untyped_excludes p told first typing =
+    let shapes = typing.0 in
+    let pc = first.pc in
+    let inside = slice_get_within p.instructions pc first.instr first.here in
+    let here = typing.1.each pc first.instr inside first.here in
+    let falls : falling_into p first.shapes pc ≡ falling_into p shapes pc =
+          same_falling p first.shapes pc first.before
+          ∙ sym (same_falling p shapes pc (λ q i below there. typing.1.each q i (omega (arith, below, inside)) there)) in
+    elim first.why [
+      | inl h ↦ h.1 (shapes pc) (rw falls here.begins)
+      | inr h ↦
+          let same : first.shapes pc ≡ shapes pc =
+                begins_once p (falling_into p first.shapes pc) (frame_at p.frames pc) (first.shapes pc) h.0
+                ∙ ap (λ o. begun p o (frame_at p.frames pc)) falls
+                ∙ sym (begins_once p (falling_into p shapes pc) (frame_at p.frames pc) (shapes pc) here.begins) in
+          contradicts p pc first.instr (shapes pc) told here.typed (subst (λ s. IsFaultIn p pc first.instr s told) same h.1)
+    ]
+
+unfit_excludes : (p : Program) (told : Fault) → IsFirstUnfit p told → IsTyped p → ⊥
+unfit_excludes p told first typing =
+    let inside = slice_get_within p.frames first.place first.frame first.here in
+    let fit = typing.1.frames first.place first.frame inside in
+    first.unfit (subst (IsFrameFit p) (get_or_from_slice_get p.frames first.place first.frame first.frame first.here) fit)
+
+pub faulty_untyped : (p : Program) (told : Fault) → IsFirstFault p told → IsTyped p → ⊥
+faulty_untyped p told first typing = elim first [
+  | inl h ↦ unfit_excludes p told h typing
+  | inr rest ↦ elim rest [
+      | inl h ↦ absurd (omega (arith, h.none, typing.1.some))
+      | inr h ↦ untyped_excludes p told h typing
+    ]
+]
