@@ -8,6 +8,8 @@ mod frame;
 mod function;
 mod instr;
 mod kind;
+#[cfg(test)]
+mod tests;
 
 pub use builder::Builder;
 pub use code::Code;
