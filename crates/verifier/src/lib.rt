@@ -8,6 +8,8 @@ mod keys;
 mod leaving;
 mod pass;
 mod shape;
+#[cfg(test)]
+mod tests;
 mod verification;
 mod verified;
 
