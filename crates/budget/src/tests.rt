@@ -1,8 +1,9 @@
 //! Worked code: its budget, whether its jumps go forward, and what becomes of it where memory is refused.
 use crate::forward::are_forward;
 use crate::paths::longest_of;
+use crate::{all_forward, longest};
 use failing_alloc::sweep;
-use mcode::{Function, Instr, MAX_COUNT};
+use mcode::{Builder, Code, Function, Instr, MAX_COUNT};
 use prims::{Arithmetic, Test};
 use std::alloc::{AllocError, Allocator};
 
@@ -21,6 +22,30 @@ fn budget_of<A: Allocator + Copy>(
 /// The budget, none also where memory is refused.
 fn budget<A: Allocator + Copy>(heap: A, instructions: &[Instr]) -> Option<u32> {
     budget_of(heap, instructions)?.ok()
+}
+
+/// The code of these instructions, none where they are too many or memory is refused.
+fn code_of<A: Allocator + Copy>(heap: A, instructions: &[Instr]) -> Option<Code<A>> {
+    let mut builder = Builder::new(heap, 0).ok()?;
+    for instr in instructions {
+        builder.instr(*instr).ok()?;
+    }
+    Some(builder.finish())
+}
+
+/// The budget of that code, none also where a jump does not go forward.
+fn code_budget<A: Allocator + Copy>(heap: A, instructions: &[Instr]) -> Option<u32> {
+    let code = code_of(heap, instructions)?;
+    if all_forward(&code) {
+        longest(heap, &code).ok()
+    } else {
+        None
+    }
+}
+
+/// Whether every jump of that code goes forward.
+fn is_code_forward<A: Allocator + Copy>(heap: A, instructions: &[Instr]) -> Option<bool> {
+    Some(all_forward(&code_of(heap, instructions)?))
 }
 
 /// Two ways from a test to one end, of which that by the jump is the longer one.
@@ -115,6 +140,11 @@ fn a_budget_is_the_longest_way(rt: HostRuntime) {
             Some(want),
             "{instructions:?}"
         );
+        assert_eq!(rt;
+            code_budget(rt.alloc(), instructions),
+            Some(want),
+            "{instructions:?}"
+        );
     }
 }
 
@@ -177,22 +207,36 @@ fn jumps_go_forward_and_inside(rt: HostRuntime) {
         ),
     ] {
         assert_eq!(rt; are_forward(instructions), want, "{instructions:?}");
+        assert_eq!(rt;
+            is_code_forward(rt.alloc(), instructions),
+            Some(want),
+            "{instructions:?}"
+        );
     }
 }
 
-/// The budget of so many instructions that go on.
-fn budget_of_many<A: Allocator + Copy>(heap: A, count: usize) -> Option<u32> {
+/// The budget of so many instructions that go on, by themselves and as code.
+fn budget_of_many<A: Allocator + Copy>(heap: A, count: usize) -> Option<[Option<u32>; 2]> {
     let mut instructions = Vec::with_capacity(heap, count).ok()?;
     for _ in 0..count {
         instructions.push(Instr::Dup).ok()?;
     }
-    budget(heap, instructions.as_slice())
+    Some([
+        budget(heap, instructions.as_slice()),
+        code_budget(heap, instructions.as_slice()),
+    ])
 }
 
 #[test]
 fn the_most_instructions(rt: HostRuntime) {
-    assert_eq!(rt; budget_of_many(rt.alloc(), MAX_COUNT), Some(65_535));
-    assert_eq!(rt; budget_of_many(rt.alloc(), MAX_COUNT + 1), None);
+    assert_eq!(rt;
+        budget_of_many(rt.alloc(), MAX_COUNT),
+        Some([Some(65_535), Some(65_535)])
+    );
+    assert_eq!(rt;
+        budget_of_many(rt.alloc(), MAX_COUNT + 1),
+        Some([None, None])
+    );
 }
 
 #[test]
@@ -203,6 +247,11 @@ fn each_request_refused_in_turn(rt: HostRuntime) {
             Some(Err(_)) => heap.was_refused(),
             None => false,
         }
+    });
+    assert!(rt; outcome.is_complete(), "{outcome:?}");
+    let outcome = sweep(rt.alloc(), 10, |heap| match code_budget(heap, &DIAMOND) {
+        Some(budget) => budget == 6,
+        None => heap.was_refused(),
     });
     assert!(rt; outcome.is_complete(), "{outcome:?}");
 }

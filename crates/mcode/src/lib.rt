@@ -16,6 +16,8 @@ mod frame;
 mod function;
 mod instr;
 mod kind;
+#[cfg(test)]
+mod tests;
 
 pub use builder::Builder;
 pub use code::Code;

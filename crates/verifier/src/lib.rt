@@ -20,6 +20,8 @@ mod laws;
 mod leaving;
 mod pass;
 mod shape;
+#[cfg(test)]
+mod tests;
 mod verification;
 mod verified;
 

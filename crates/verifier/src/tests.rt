@@ -1,0 +1,1137 @@
+//! Worked programs: why each is refused, or the budget and the depth of what is accepted; and memory refused in turn.
+use self::Given::{Atom, Improper, Integer, Keys, Map, Nil, Pair, True, Twins};
+use self::Verdict::{Accepted, NotBuilt, Refused, Wrong};
+use crate::{Fault, MAX_DEPTH, Verified, verify};
+use failing_alloc::sweep;
+use mcode::{Builder, Code, Frame, Function, Instr, Kind, Places, Slots};
+use prims::{Arithmetic, ListFunction, SizeFunction, Test};
+use std::alloc::{Allocator, Global};
+use std::test::Fail;
+use term_core::{Term, View};
+
+/// A constant to be made.
+#[derive(Clone, Copy, Debug, PartialEq, Eq)]
+enum Given {
+    /// `true`
+    True,
+    /// `a`
+    Atom,
+    /// `1`
+    Integer,
+    /// `[]`
+    Nil,
+    /// `[1,2]`
+    Keys,
+    /// `[1|2]`
+    Improper,
+    /// `[1,1]`
+    Twins,
+    /// `{1,2}`
+    Pair,
+    /// `#{}`
+    Map,
+}
+
+/// The elements `1` and this one.
+fn two<A: Allocator + Copy>(heap: A, second: i64) -> Option<Vec<Term<A>, A>> {
+    let mut terms = Vec::new(heap);
+    terms.push(Term::int(1)).ok()?;
+    terms.push(Term::int(second)).ok()?;
+    Some(terms)
+}
+
+/// `[1|2]`
+fn improper<A: Allocator + Copy>(heap: A) -> Option<Term<A>> {
+    let mut terms = Vec::new(heap);
+    terms.push(Term::int(1)).ok()?;
+    Term::list(heap, terms, Some(Term::int(2))).ok()
+}
+
+fn term<A: Allocator + Copy>(heap: A, given: Given) -> Option<Term<A>> {
+    match given {
+        Given::True => Term::atom(heap, "true").ok(),
+        Given::Atom => Term::atom(heap, "a").ok(),
+        Given::Integer => Some(Term::int(1)),
+        Given::Nil => Some(Term::nil()),
+        Given::Keys => Term::list(heap, two(heap, 2)?, None).ok(),
+        Given::Improper => improper(heap),
+        Given::Twins => Term::list(heap, two(heap, 1)?, None).ok(),
+        Given::Pair => Term::tuple(heap, two(heap, 2)?).ok(),
+        Given::Map => Term::map(heap, Vec::new(heap)).ok(),
+    }
+}
+
+/// A frame to be made, with one place at most, where the first so many slots are bound.
+#[derive(Clone, Copy, Debug, PartialEq, Eq)]
+struct Listed {
+    pc: u16,
+    depth: u16,
+    place: Option<(u16, Kind)>,
+    slots: u8,
+}
+
+/// A frame of any kinds.
+const fn bare(pc: u16, depth: u16) -> Listed {
+    Listed {
+        pc,
+        depth,
+        place: None,
+        slots: 0,
+    }
+}
+
+/// A frame with the kind of a place.
+const fn typed(pc: u16, depth: u16, place: u16, kind: Kind) -> Listed {
+    Listed {
+        pc,
+        depth,
+        place: Some((place, kind)),
+        slots: 0,
+    }
+}
+
+/// A frame of any kinds where the first so many slots are bound.
+const fn bound(pc: u16, depth: u16, slots: u8) -> Listed {
+    Listed {
+        pc,
+        depth,
+        place: None,
+        slots,
+    }
+}
+
+/// What becomes of code.
+#[derive(Clone, Copy, Debug, PartialEq, Eq)]
+enum Verdict {
+    /// It is accepted, with this budget and depth and the depths of its frames.
+    Accepted(u32, u16),
+    /// It is refused and comes back.
+    Refused(Fault),
+    /// It isn't built.
+    NotBuilt,
+    /// Other code comes back, or the depth of a frame is another.
+    Wrong,
+}
+
+/// Code to be built, and what becomes of it.
+#[derive(Clone, Copy, Debug)]
+struct Worked<'a> {
+    slots: u16,
+    constants: &'a [Given],
+    instructions: &'a [Instr],
+    frames: &'a [Listed],
+    want: Verdict,
+}
+
+/// Code without slots and constants.
+const fn row<'a>(instructions: &'a [Instr], frames: &'a [Listed], want: Verdict) -> Worked<'a> {
+    Worked {
+        slots: 0,
+        constants: &[],
+        instructions,
+        frames,
+        want,
+    }
+}
+
+/// The row with these constants.
+const fn with<'a>(constants: &'a [Given], row: Worked<'a>) -> Worked<'a> {
+    Worked { constants, ..row }
+}
+
+/// The row with so many slots.
+const fn over<'a>(slots: u16, row: Worked<'a>) -> Worked<'a> {
+    Worked { slots, ..row }
+}
+
+fn frame_of<A: Allocator + Copy>(heap: A, listed: Listed) -> Option<Frame<A>> {
+    let mut places = Vec::new(heap);
+    if let Some(place) = listed.place {
+        places.push(place).ok()?;
+    }
+    let mut slots = Vec::new(heap);
+    for slot in 0..listed.slots {
+        slots.push(slot).ok()?;
+    }
+    Some(Frame {
+        pc: listed.pc,
+        depth: listed.depth,
+        places: Places::new(places),
+        slots: Slots::new(slots),
+    })
+}
+
+fn code_of<A: Allocator + Copy>(heap: A, row: Worked) -> Option<Code<A>> {
+    let mut builder = Builder::new(heap, row.slots).ok()?;
+    for given in row.constants {
+        builder.constant(term(heap, *given)?).ok()?;
+    }
+    for instr in row.instructions {
+        builder.instr(*instr).ok()?;
+    }
+    for listed in row.frames {
+        builder.frame(frame_of(heap, *listed)?).ok()?;
+    }
+    Some(builder.finish())
+}
+
+/// Whether the code is that of the row, by its counts and instructions.
+fn is_code<A: Allocator>(code: &Code<A>, row: Worked) -> bool {
+    code.slots() == row.slots
+        && code.constants().len() == row.constants.len()
+        && code.instructions() == row.instructions
+        && code.frames().len() == row.frames.len()
+}
+
+/// The depth of the frame at an instruction, where there is one.
+fn depth_at<A: Allocator>(verified: &Verified<A>, pc: u16) -> Option<u16> {
+    match verified.code().frame_at(pc) {
+        Some(_) => Some(verified.frame_depth(pc)),
+        None => None,
+    }
+}
+
+/// Whether the verified code has the depths of these frames.
+fn are_depths<A: Allocator>(verified: &Verified<A>, frames: &[Listed]) -> bool {
+    for listed in frames {
+        if depth_at(verified, listed.pc) != Some(listed.depth) {
+            return false;
+        }
+    }
+    true
+}
+
+fn verdict_of<A: Allocator + Copy>(heap: A, code: Code<A>, row: Worked) -> Verdict {
+    match verify(heap, code) {
+        Ok(verified) => {
+            if is_code(verified.code(), row) && are_depths(&verified, row.frames) {
+                Accepted(verified.budget(), verified.depth())
+            } else {
+                Wrong
+            }
+        }
+        Err(refused) => {
+            if is_code(&refused.value, row) {
+                Refused(refused.fault)
+            } else {
+                Wrong
+            }
+        }
+    }
+}
+
+fn judged<A: Allocator + Copy>(heap: A, row: Worked) -> Verdict {
+    match code_of(heap, row) {
+        Some(code) => verdict_of(heap, code, row),
+        None => NotBuilt,
+    }
+}
+
+const fn constant(constant: u16) -> Instr {
+    Instr::Const { constant }
+}
+
+const fn get(slot: u8) -> Instr {
+    Instr::Get { slot }
+}
+
+const fn bind(slot: u8) -> Instr {
+    Instr::Bind { slot }
+}
+
+const fn tuple(size: u16, otherwise: u16) -> Instr {
+    Instr::Tuple { size, otherwise }
+}
+
+const fn field(index: u16) -> Instr {
+    Instr::Field { index }
+}
+
+const fn cons(otherwise: u16) -> Instr {
+    Instr::Cons { otherwise }
+}
+
+const fn map(otherwise: u16) -> Instr {
+    Instr::Map { otherwise }
+}
+
+const fn value(key: u16, otherwise: u16) -> Instr {
+    Instr::Value { key, otherwise }
+}
+
+const fn equal(otherwise: u16) -> Instr {
+    Instr::Equal { otherwise }
+}
+
+const fn jump(target: u16) -> Instr {
+    Instr::Jump { target }
+}
+
+const fn is_map(arguments: u16, otherwise: u16) -> Instr {
+    Instr::Call {
+        function: Function::Test(Test::IsMap),
+        arguments,
+        otherwise,
+    }
+}
+
+const fn size(otherwise: u16) -> Instr {
+    Instr::Call {
+        function: Function::Size(SizeFunction::Size),
+        arguments: 1,
+        otherwise,
+    }
+}
+
+const fn hd(otherwise: u16) -> Instr {
+    Instr::Call {
+        function: Function::List(ListFunction::Hd),
+        arguments: 1,
+        otherwise,
+    }
+}
+
+const fn int(otherwise: u16) -> Instr {
+    Instr::Int { otherwise }
+}
+
+const fn add(otherwise: u16) -> Instr {
+    Instr::Arith {
+        function: Arithmetic::Add,
+        otherwise,
+    }
+}
+
+const fn boolean(otherwise: u16) -> Instr {
+    Instr::Bool { otherwise }
+}
+
+const fn branch(otherwise: u16) -> Instr {
+    Instr::Branch { otherwise }
+}
+
+const fn make_tuple(size: u16, otherwise: u16) -> Instr {
+    Instr::MakeTuple { size, otherwise }
+}
+
+const fn make_cons(otherwise: u16) -> Instr {
+    Instr::MakeCons { otherwise }
+}
+
+const fn make_map(keys: u16, otherwise: u16) -> Instr {
+    Instr::MakeMap { keys, otherwise }
+}
+
+const LOAD: Instr = Instr::Load;
+
+const DUP: Instr = Instr::Dup;
+
+const DROP: Instr = Instr::Drop;
+
+const HEAD: Instr = Instr::Head;
+
+const TAIL: Instr = Instr::Tail;
+
+const ANSWER: Instr = Instr::Answer;
+
+const NO_ANSWER: Instr = Instr::NoAnswer;
+
+#[test]
+fn frames_are_checked_first(rt: HostRuntime) {
+    let two = [NO_ANSWER, NO_ANSWER];
+    for row in [
+        row(&[NO_ANSWER], &[bare(0, 0)], Refused(Fault::Frame(0))),
+        row(&[NO_ANSWER], &[bare(1, 0)], Refused(Fault::Frame(1))),
+        row(&two, &[bare(65_535, 0)], Refused(Fault::Frame(65_535))),
+        row(&two, &[bare(1, 16_385)], Refused(Fault::Frame(1))),
+        row(&two, &[bare(1, 16_384)], Accepted(1, 16_384)),
+        row(&two, &[typed(1, 2, 2, Kind::Int)], Refused(Fault::Frame(1))),
+        row(&two, &[typed(1, 2, 1, Kind::Int)], Accepted(1, 2)),
+        over(1, row(&two, &[bound(1, 0, 2)], Refused(Fault::Frame(1)))),
+        over(1, row(&two, &[bound(1, 0, 1)], Accepted(1, 0))),
+        row(
+            &[NO_ANSWER, NO_ANSWER, NO_ANSWER],
+            &[bare(1, 0), bare(2, 16_385), bare(9, 0)],
+            Refused(Fault::Frame(2)),
+        ),
+        // A frame comes before the first instruction, and before there being none.
+        row(&[DROP, NO_ANSWER], &[bare(2, 0)], Refused(Fault::Frame(2))),
+        row(&[], &[bare(0, 0)], Refused(Fault::Frame(0))),
+        row(&[], &[bare(3, 0)], Refused(Fault::Frame(3))),
+    ] {
+        assert_eq!(rt; judged(rt.alloc(), row), row.want, "{row:?}");
+    }
+}
+
+#[test]
+fn jumps_lead_to_later_frames(rt: HostRuntime) {
+    for row in [
+        row(&[jump(0)], &[], Refused(Fault::JumpBack(0))),
+        row(&[LOAD, jump(0)], &[], Refused(Fault::JumpBack(1))),
+        row(
+            &[LOAD, tuple(1, 1), NO_ANSWER],
+            &[bare(1, 1)],
+            Refused(Fault::JumpBack(1)),
+        ),
+        row(&[jump(5), NO_ANSWER], &[], Refused(Fault::JumpOutside(0))),
+        row(&[jump(2), NO_ANSWER], &[], Refused(Fault::JumpOutside(0))),
+        row(&[jump(1), NO_ANSWER], &[], Refused(Fault::Frame(0))),
+        row(&[jump(1), NO_ANSWER], &[bare(1, 0)], Accepted(2, 0)),
+    ] {
+        assert_eq!(rt; judged(rt.alloc(), row), row.want, "{row:?}");
+    }
+}
+
+#[test]
+fn constants_are_what_they_have_to_be(rt: HostRuntime) {
+    let one_key = [LOAD, make_map(0, 3), ANSWER, NO_ANSWER];
+    let two_keys = [LOAD, LOAD, make_map(0, 4), ANSWER, NO_ANSWER];
+    let no_key = [make_map(0, 2), ANSWER, NO_ANSWER];
+    let sought = [LOAD, map(4), value(0, 4), ANSWER, NO_ANSWER];
+    for row in [
+        row(&[constant(0), ANSWER], &[], Refused(Fault::Constant(0))),
+        with(
+            &[True],
+            row(&[constant(1), ANSWER], &[], Refused(Fault::Constant(0))),
+        ),
+        with(
+            &[True],
+            row(
+                &[constant(0), ANSWER, NO_ANSWER],
+                &[bare(2, 0)],
+                Accepted(2, 1),
+            ),
+        ),
+        with(
+            &[True],
+            row(&one_key, &[bare(3, 0)], Refused(Fault::Constant(1))),
+        ),
+        with(
+            &[Map],
+            row(&one_key, &[bare(3, 0)], Refused(Fault::Constant(1))),
+        ),
+        with(
+            &[Improper],
+            row(&one_key, &[bare(3, 0)], Refused(Fault::Constant(1))),
+        ),
+        with(
+            &[Twins],
+            row(&two_keys, &[bare(4, 0)], Refused(Fault::Constant(2))),
+        ),
+        row(&no_key, &[bare(2, 0)], Refused(Fault::Constant(0))),
+        with(&[Keys], row(&two_keys, &[bare(4, 0)], Accepted(4, 2))),
+        with(
+            &[Keys],
+            row(&one_key, &[bare(3, 0)], Refused(Fault::Underflow(1))),
+        ),
+        with(&[Nil], row(&no_key, &[bare(2, 0)], Accepted(2, 1))),
+        row(&sought, &[bare(4, 0)], Refused(Fault::Constant(2))),
+        with(&[Nil], row(&sought, &[bare(4, 0)], Accepted(4, 1))),
+    ] {
+        assert_eq!(rt; judged(rt.alloc(), row), row.want, "{row:?}");
+    }
+}
+
+#[test]
+fn operands_are_there(rt: HostRuntime) {
+    for row in [
+        row(&[DROP, NO_ANSWER], &[], Refused(Fault::Underflow(0))),
+        row(&[DROP, DROP, NO_ANSWER], &[], Refused(Fault::Underflow(0))),
+        row(&[ANSWER], &[], Refused(Fault::Underflow(0))),
+        row(&[DUP, ANSWER], &[], Refused(Fault::Underflow(0))),
+        over(
+            1,
+            row(&[bind(0), NO_ANSWER], &[], Refused(Fault::Underflow(0))),
+        ),
+        row(
+            &[LOAD, equal(2), NO_ANSWER],
+            &[bare(2, 0)],
+            Refused(Fault::Underflow(1)),
+        ),
+        row(
+            &[LOAD, make_cons(3), ANSWER, NO_ANSWER],
+            &[bare(3, 0)],
+            Refused(Fault::Underflow(1)),
+        ),
+        row(
+            &[LOAD, LOAD, make_tuple(3, 4), ANSWER, NO_ANSWER],
+            &[bare(4, 0)],
+            Refused(Fault::Underflow(2)),
+        ),
+        row(&[NO_ANSWER], &[], Accepted(1, 0)),
+        row(&[LOAD, ANSWER], &[], Accepted(2, 1)),
+    ] {
+        assert_eq!(rt; judged(rt.alloc(), row), row.want, "{row:?}");
+    }
+}
+
+#[test]
+fn kinds_are_those_that_tests_leave(rt: HostRuntime) {
+    for row in [
+        row(
+            &[LOAD, branch(2), NO_ANSWER],
+            &[bare(2, 0)],
+            Refused(Fault::Kind(1)),
+        ),
+        row(
+            &[LOAD, boolean(4), branch(4), jump(4), NO_ANSWER],
+            &[bare(4, 0)],
+            Accepted(5, 1),
+        ),
+        row(
+            &[LOAD, tuple(2, 4), DROP, jump(4), NO_ANSWER],
+            &[bare(4, 0)],
+            Accepted(5, 1),
+        ),
+        row(
+            &[LOAD, tuple(2, 4), field(3), ANSWER, NO_ANSWER],
+            &[bare(4, 0)],
+            Refused(Fault::Kind(2)),
+        ),
+        row(
+            &[LOAD, tuple(2, 4), field(2), ANSWER, NO_ANSWER],
+            &[bare(4, 0)],
+            Accepted(4, 1),
+        ),
+        row(
+            &[LOAD, tuple(2, 4), field(0), ANSWER, NO_ANSWER],
+            &[bare(4, 0)],
+            Refused(Fault::Kind(2)),
+        ),
+        row(&[LOAD, field(1), ANSWER], &[], Refused(Fault::Kind(1))),
+        row(&[LOAD, HEAD, ANSWER], &[], Refused(Fault::Kind(1))),
+        row(&[LOAD, TAIL, ANSWER], &[], Refused(Fault::Kind(1))),
+        row(
+            &[LOAD, cons(4), HEAD, ANSWER, NO_ANSWER],
+            &[bare(4, 0)],
+            Accepted(4, 1),
+        ),
+        row(
+            &[LOAD, cons(4), TAIL, ANSWER, NO_ANSWER],
+            &[bare(4, 0)],
+            Accepted(4, 1),
+        ),
+        row(
+            &[LOAD, map(4), TAIL, ANSWER, NO_ANSWER],
+            &[bare(4, 0)],
+            Refused(Fault::Kind(2)),
+        ),
+        with(
+            &[True],
+            row(
+                &[LOAD, value(0, 3), ANSWER, NO_ANSWER],
+                &[bare(3, 0)],
+                Refused(Fault::Kind(1)),
+            ),
+        ),
+        row(
+            &[LOAD, LOAD, add(4), ANSWER, NO_ANSWER],
+            &[bare(4, 0)],
+            Refused(Fault::Kind(2)),
+        ),
+        row(
+            &[LOAD, int(5), LOAD, add(5), ANSWER, NO_ANSWER],
+            &[bare(5, 0)],
+            Refused(Fault::Kind(3)),
+        ),
+        row(
+            &[LOAD, LOAD, int(5), add(5), ANSWER, NO_ANSWER],
+            &[bare(5, 0)],
+            Refused(Fault::Kind(3)),
+        ),
+        row(
+            &[LOAD, int(6), LOAD, int(6), add(6), ANSWER, NO_ANSWER],
+            &[bare(6, 0)],
+            Accepted(6, 2),
+        ),
+        // What is pushed again keeps its kind, and so does what stays below.
+        row(
+            &[
+                LOAD,
+                tuple(2, 7),
+                DUP,
+                field(1),
+                DROP,
+                field(2),
+                ANSWER,
+                NO_ANSWER,
+            ],
+            &[bare(7, 0)],
+            Accepted(7, 2),
+        ),
+    ] {
+        assert_eq!(rt; judged(rt.alloc(), row), row.want, "{row:?}");
+    }
+}
+
+#[test]
+fn kinds_are_those_that_functions_give(rt: HostRuntime) {
+    for row in [
+        row(
+            &[LOAD, LOAD, is_map(2, 4), ANSWER, NO_ANSWER],
+            &[bare(4, 0)],
+            Refused(Fault::Kind(2)),
+        ),
+        row(
+            &[is_map(0, 2), ANSWER, NO_ANSWER],
+            &[bare(2, 0)],
+            Refused(Fault::Kind(0)),
+        ),
+        row(
+            &[LOAD, is_map(1, 3), ANSWER, NO_ANSWER],
+            &[bare(3, 0)],
+            Accepted(3, 1),
+        ),
+        row(
+            &[LOAD, is_map(1, 3), branch(3), NO_ANSWER],
+            &[bare(3, 0)],
+            Accepted(4, 1),
+        ),
+        row(
+            &[LOAD, size(5), DUP, add(5), ANSWER, NO_ANSWER],
+            &[bare(5, 0)],
+            Accepted(5, 2),
+        ),
+        row(
+            &[LOAD, hd(4), HEAD, ANSWER, NO_ANSWER],
+            &[bare(4, 0)],
+            Refused(Fault::Kind(2)),
+        ),
+        row(
+            &[LOAD, LOAD, make_tuple(2, 5), field(2), ANSWER, NO_ANSWER],
+            &[bare(5, 0)],
+            Accepted(5, 2),
+        ),
+        row(
+            &[LOAD, LOAD, make_tuple(2, 5), field(3), ANSWER, NO_ANSWER],
+            &[bare(5, 0)],
+            Refused(Fault::Kind(3)),
+        ),
+        row(
+            &[LOAD, LOAD, make_cons(5), HEAD, ANSWER, NO_ANSWER],
+            &[bare(5, 0)],
+            Accepted(5, 2),
+        ),
+        with(
+            &[Nil],
+            row(
+                &[make_map(0, 3), value(0, 3), ANSWER, NO_ANSWER],
+                &[bare(3, 0)],
+                Accepted(3, 1),
+            ),
+        ),
+    ] {
+        assert_eq!(rt; judged(rt.alloc(), row), row.want, "{row:?}");
+    }
+}
+
+#[test]
+fn constants_have_kinds(rt: HostRuntime) {
+    let sum = [constant(0), constant(0), add(4), ANSWER, NO_ANSWER];
+    let second = [constant(0), field(2), ANSWER];
+    let third = [constant(0), field(3), ANSWER];
+    let sought = [constant(0), value(0, 3), ANSWER, NO_ANSWER];
+    let head = [constant(0), HEAD, ANSWER];
+    let branched = [constant(0), branch(2), NO_ANSWER];
+    for row in [
+        with(&[Integer], row(&sum, &[bare(4, 0)], Accepted(4, 2))),
+        with(&[Nil], row(&sum, &[bare(4, 0)], Refused(Fault::Kind(2)))),
+        with(&[Pair], row(&second, &[], Accepted(3, 1))),
+        with(&[Pair], row(&third, &[], Refused(Fault::Kind(1)))),
+        with(&[Map], row(&sought, &[bare(3, 0)], Accepted(3, 1))),
+        with(&[Keys], row(&head, &[], Accepted(3, 1))),
+        with(&[Improper], row(&head, &[], Accepted(3, 1))),
+        with(&[Nil], row(&head, &[], Refused(Fault::Kind(1)))),
+        with(&[True], row(&branched, &[bare(2, 0)], Accepted(3, 1))),
+        with(
+            &[Atom],
+            row(&branched, &[bare(2, 0)], Refused(Fault::Kind(1))),
+        ),
+    ] {
+        assert_eq!(rt; judged(rt.alloc(), row), row.want, "{row:?}");
+    }
+}
+
+#[test]
+fn slots_are_bound_before_they_are_read(rt: HostRuntime) {
+    let last = [LOAD, bind(255), get(255), ANSWER];
+    for row in [
+        over(1, row(&[get(0), ANSWER], &[], Refused(Fault::Unbound(0)))),
+        over(256, row(&last, &[], Accepted(4, 1))),
+        over(255, row(&last, &[], Refused(Fault::Unbound(1)))),
+        over(
+            1,
+            row(&[LOAD, bind(1), NO_ANSWER], &[], Refused(Fault::Unbound(1))),
+        ),
+        over(
+            1,
+            row(
+                &[LOAD, bind(0), get(1), ANSWER],
+                &[],
+                Refused(Fault::Unbound(2)),
+            ),
+        ),
+        over(
+            2,
+            row(
+                &[LOAD, bind(0), get(1), ANSWER],
+                &[],
+                Refused(Fault::Unbound(2)),
+            ),
+        ),
+        // A frame that doesn't name the slot forgets it.
+        over(
+            1,
+            row(
+                &[LOAD, bind(0), get(0), ANSWER],
+                &[bare(2, 0)],
+                Refused(Fault::Unbound(2)),
+            ),
+        ),
+        over(
+            1,
+            row(
+                &[LOAD, bind(0), get(0), ANSWER],
+                &[bound(2, 0, 1)],
+                Accepted(4, 1),
+            ),
+        ),
+        over(
+            1,
+            row(
+                &[LOAD, bind(0), jump(3), get(0), ANSWER],
+                &[bound(3, 0, 1)],
+                Accepted(5, 1),
+            ),
+        ),
+    ] {
+        assert_eq!(rt; judged(rt.alloc(), row), row.want, "{row:?}");
+    }
+}
+
+#[test]
+fn what_falls_into_a_frame_is_below_it(rt: HostRuntime) {
+    for row in [
+        row(&[LOAD, ANSWER, NO_ANSWER], &[], Refused(Fault::Frame(2))),
+        row(&[LOAD, NO_ANSWER], &[bare(1, 0)], Refused(Fault::Frame(1))),
+        row(
+            &[LOAD, DROP, NO_ANSWER],
+            &[bare(2, 1)],
+            Refused(Fault::Frame(2)),
+        ),
+        row(
+            &[LOAD, NO_ANSWER],
+            &[typed(1, 1, 0, Kind::Int)],
+            Refused(Fault::Frame(1)),
+        ),
+        with(
+            &[Integer],
+            row(
+                &[constant(0), NO_ANSWER],
+                &[typed(1, 1, 0, Kind::Int)],
+                Accepted(2, 1),
+            ),
+        ),
+        with(
+            &[Integer],
+            row(&[constant(0), NO_ANSWER], &[bare(1, 1)], Accepted(2, 1)),
+        ),
+        with(
+            &[Pair],
+            row(
+                &[constant(0), NO_ANSWER],
+                &[typed(1, 1, 0, Kind::Tuple(3))],
+                Refused(Fault::Frame(1)),
+            ),
+        ),
+        with(
+            &[Pair],
+            row(
+                &[constant(0), NO_ANSWER],
+                &[typed(1, 1, 0, Kind::Tuple(2))],
+                Accepted(2, 1),
+            ),
+        ),
+        // A frame that doesn't name the kinds forgets them.
+        with(
+            &[Integer],
+            row(
+                &[constant(0), constant(0), add(4), ANSWER, NO_ANSWER],
+                &[bare(2, 2), bare(4, 0)],
+                Refused(Fault::Kind(2)),
+            ),
+        ),
+        over(
+            1,
+            row(
+                &[LOAD, DROP, NO_ANSWER],
+                &[bound(2, 0, 1)],
+                Refused(Fault::Frame(2)),
+            ),
+        ),
+        over(
+            1,
+            row(
+                &[LOAD, bind(0), NO_ANSWER],
+                &[bound(2, 0, 1)],
+                Accepted(3, 1),
+            ),
+        ),
+    ] {
+        assert_eq!(rt; judged(rt.alloc(), row), row.want, "{row:?}");
+    }
+}
+
+#[test]
+fn what_jumps_to_a_frame_is_cut_and_below_it(rt: HostRuntime) {
+    let compared = [LOAD, LOAD, equal(4), NO_ANSWER, NO_ANSWER];
+    let sought = [LOAD, map(4), value(0, 4), ANSWER, ANSWER];
+    for row in [
+        row(
+            &[jump(1), NO_ANSWER],
+            &[bare(1, 1)],
+            Refused(Fault::Frame(0)),
+        ),
+        row(
+            &[LOAD, LOAD, jump(3), NO_ANSWER],
+            &[bare(3, 1)],
+            Accepted(4, 2),
+        ),
+        // The lowest place stays.
+        with(
+            &[Integer],
+            row(
+                &[constant(0), LOAD, jump(3), NO_ANSWER],
+                &[typed(3, 1, 0, Kind::Int)],
+                Accepted(4, 2),
+            ),
+        ),
+        with(
+            &[Integer],
+            row(
+                &[LOAD, constant(0), jump(3), NO_ANSWER],
+                &[typed(3, 1, 0, Kind::Int)],
+                Refused(Fault::Frame(2)),
+            ),
+        ),
+        // The operands are gone, but not the top of a test.
+        row(&compared, &[bare(4, 1)], Refused(Fault::Frame(2))),
+        row(&compared, &[bare(4, 0)], Accepted(4, 2)),
+        row(
+            &[LOAD, tuple(1, 3), ANSWER, ANSWER],
+            &[bare(3, 1)],
+            Accepted(3, 1),
+        ),
+        with(
+            &[True],
+            row(&sought, &[bare(4, 1)], Refused(Fault::Frame(2))),
+        ),
+        // What a test finds is not known where it jumps.
+        row(
+            &[LOAD, tuple(1, 3), ANSWER, field(1), ANSWER],
+            &[typed(3, 1, 0, Kind::Tuple(1))],
+            Refused(Fault::Frame(1)),
+        ),
+        over(
+            1,
+            row(
+                &[LOAD, tuple(1, 3), bind(0), get(0), ANSWER],
+                &[bound(3, 0, 1)],
+                Refused(Fault::Frame(1)),
+            ),
+        ),
+        over(
+            2,
+            row(
+                &[LOAD, bind(0), jump(3), NO_ANSWER],
+                &[bound(3, 0, 2)],
+                Refused(Fault::Frame(2)),
+            ),
+        ),
+    ] {
+        assert_eq!(rt; judged(rt.alloc(), row), row.want, "{row:?}");
+    }
+}
+
+#[test]
+fn the_last_instruction_ends(rt: HostRuntime) {
+    for row in [
+        row(&[], &[], Refused(Fault::FallsOff(0))),
+        row(&[LOAD], &[], Refused(Fault::FallsOff(0))),
+        row(&[LOAD, DROP], &[], Refused(Fault::FallsOff(1))),
+        row(
+            &[NO_ANSWER, LOAD],
+            &[bare(1, 3)],
+            Refused(Fault::FallsOff(1)),
+        ),
+    ] {
+        assert_eq!(rt; judged(rt.alloc(), row), row.want, "{row:?}");
+    }
+}
+
+#[test]
+fn the_stack_ends_at_its_greatest_depth(rt: HostRuntime) {
+    let pushed = [NO_ANSWER, LOAD, NO_ANSWER];
+    let made = [NO_ANSWER, make_tuple(0, 2), NO_ANSWER];
+    for row in [
+        row(&pushed, &[bare(1, 16_384)], Refused(Fault::Depth(1))),
+        row(&pushed, &[bare(1, 16_383)], Accepted(1, 16_384)),
+        row(
+            &[NO_ANSWER, DUP, NO_ANSWER],
+            &[bare(1, 16_384)],
+            Refused(Fault::Depth(1)),
+        ),
+        row(
+            &[NO_ANSWER, DROP, LOAD, NO_ANSWER],
+            &[bare(1, 16_384)],
+            Accepted(1, 16_384),
+        ),
+        row(
+            &made,
+            &[bare(1, 16_384), bare(2, 0)],
+            Refused(Fault::Depth(1)),
+        ),
+    ] {
+        assert_eq!(rt; judged(rt.alloc(), row), row.want, "{row:?}");
+    }
+}
+
+#[test]
+fn the_first_of_two_faults_is_told(rt: HostRuntime) {
+    let sought = [value(0, 1), NO_ANSWER];
+    let called = [NO_ANSWER, is_map(0, 2), NO_ANSWER];
+    let made = [NO_ANSWER, make_tuple(0, 2), NO_ANSWER];
+    for row in [
+        // The target before the constant,
+        row(
+            &[value(0, 5), NO_ANSWER],
+            &[],
+            Refused(Fault::JumpOutside(0)),
+        ),
+        row(&sought, &[], Refused(Fault::Frame(0))),
+        row(
+            &[LOAD, value(0, 1), NO_ANSWER],
+            &[],
+            Refused(Fault::JumpBack(1)),
+        ),
+        // that before the number of operands,
+        row(&sought, &[bare(1, 0)], Refused(Fault::Constant(0))),
+        // that before their kinds,
+        with(
+            &[True],
+            row(&sought, &[bare(1, 0)], Refused(Fault::Underflow(0))),
+        ),
+        row(
+            &[LOAD, LOAD, is_map(3, 4), ANSWER, NO_ANSWER],
+            &[bare(4, 0)],
+            Refused(Fault::Underflow(2)),
+        ),
+        // those before the depth and the jump,
+        row(
+            &called,
+            &[bare(1, 16_384), bare(2, 0)],
+            Refused(Fault::Kind(1)),
+        ),
+        row(
+            &[LOAD, branch(2), NO_ANSWER],
+            &[bare(2, 1)],
+            Refused(Fault::Kind(1)),
+        ),
+        // the slot before the depth and the end,
+        over(
+            1,
+            row(
+                &[NO_ANSWER, get(0), NO_ANSWER],
+                &[bare(1, 16_384)],
+                Refused(Fault::Unbound(1)),
+            ),
+        ),
+        row(&[LOAD, bind(0)], &[], Refused(Fault::Unbound(1))),
+        // the depth before the jump and the end.
+        over(
+            1,
+            row(
+                &made,
+                &[bare(1, 16_384), bound(2, 0, 1)],
+                Refused(Fault::Depth(1)),
+            ),
+        ),
+        row(
+            &[NO_ANSWER, LOAD],
+            &[bare(1, 16_384)],
+            Refused(Fault::Depth(1)),
+        ),
+        // How an instruction begins comes before what it does.
+        row(
+            &[LOAD, DROP, NO_ANSWER],
+            &[bare(1, 0)],
+            Refused(Fault::Frame(1)),
+        ),
+        row(&[LOAD, jump(0)], &[bare(1, 0)], Refused(Fault::Frame(1))),
+        row(&[NO_ANSWER, jump(9)], &[], Refused(Fault::Frame(1))),
+    ] {
+        assert_eq!(rt; judged(rt.alloc(), row), row.want, "{row:?}");
+    }
+}
+
+/// What becomes of so many times these two instructions and then a third.
+fn repeated(heap: Global, pair: (Instr, Instr), times: u32, last: Instr) -> Verdict {
+    let mut instructions = Vec::new(heap);
+    for _ in 0..times {
+        if instructions.push(pair.0).is_err() || instructions.push(pair.1).is_err() {
+            return NotBuilt;
+        }
+    }
+    if instructions.push(last).is_err() {
+        return NotBuilt;
+    }
+    judged(heap, row(instructions.as_slice(), &[], NotBuilt))
+}
+
+/// What becomes of so many loads and then an answer.
+fn loads(heap: Global, count: u32) -> Verdict {
+    let mut instructions = Vec::new(heap);
+    for _ in 0..count {
+        if instructions.push(LOAD).is_err() {
+            return NotBuilt;
+        }
+    }
+    if instructions.push(ANSWER).is_err() {
+        return NotBuilt;
+    }
+    judged(heap, row(instructions.as_slice(), &[], NotBuilt))
+}
+
+#[test]
+fn the_largest_code(rt: HostRuntime) {
+    assert_eq!(rt; MAX_DEPTH, 16_384);
+    assert_eq!(rt; loads(rt.alloc(), 16_384), Accepted(16_385, 16_384));
+    assert_eq!(rt; loads(rt.alloc(), 16_385), Refused(Fault::Depth(16_384)));
+    assert_eq!(rt;
+        repeated(rt.alloc(), (LOAD, DROP), 32_767, NO_ANSWER),
+        Accepted(65_535, 1)
+    );
+}
+
+/// What becomes of code with constants, kinds and slots.
+fn large<A: Allocator + Copy>(heap: A) -> Verdict {
+    judged(
+        heap,
+        over(
+            2,
+            with(
+                &[Keys, Integer, True],
+                row(
+                    &[
+                        constant(1),
+                        constant(1),
+                        make_map(0, 7),
+                        value(1, 7),
+                        bind(1),
+                        get(1),
+                        ANSWER,
+                        NO_ANSWER,
+                    ],
+                    &[bare(7, 0)],
+                    NotBuilt,
+                ),
+            ),
+        ),
+    )
+}
+
+/// What becomes of code that is refused after some of it was typed.
+fn unfit<A: Allocator + Copy>(heap: A) -> Verdict {
+    judged(
+        heap,
+        with(
+            &[Keys],
+            row(&[constant(0), HEAD, HEAD, ANSWER], &[], NotBuilt),
+        ),
+    )
+}
+
+/// Whether a verdict is this one, or the request that was refused is why it isn't.
+fn is_well(verdict: Verdict, want: Verdict, was_refused: bool) -> bool {
+    match verdict {
+        NotBuilt | Refused(Fault::Memory) => was_refused,
+        _ => verdict == want,
+    }
+}
+
+#[test]
+fn each_request_refused_in_turn(rt: HostRuntime) {
+    // 7 of the 8 instructions are on the longest way, and two places are the most.
+    let want = Accepted(7, 2);
+    assert_eq!(rt; large(rt.alloc()), want);
+    let outcome = sweep(rt.alloc(), 200, |heap| {
+        is_well(large(heap), want, heap.was_refused())
+    });
+    assert!(rt; outcome.is_complete(), "{outcome:?}");
+    let want = Refused(Fault::Kind(2));
+    assert_eq!(rt; unfit(rt.alloc()), want);
+    let outcome = sweep(rt.alloc(), 200, |heap| {
+        is_well(unfit(heap), want, heap.was_refused())
+    });
+    assert!(rt; outcome.is_complete(), "{outcome:?}");
+}
+
+#[test]
+fn faults_have_numbers_places_and_texts(rt: HostRuntime) -> Result<(), Fail> {
+    for (fault, number, pc, text) in [
+        (Fault::Memory, 1, None, "out of memory"),
+        (
+            Fault::Underflow(0),
+            40,
+            Some(0),
+            "instruction 0 finds too few operands",
+        ),
+        (
+            Fault::Kind(1),
+            41,
+            Some(1),
+            "instruction 1 finds an operand of the wrong kind",
+        ),
+        (
+            Fault::Unbound(2),
+            42,
+            Some(2),
+            "instruction 2 names a slot that isn't bound",
+        ),
+        (
+            Fault::JumpOutside(3),
+            43,
+            Some(3),
+            "instruction 3 jumps out of the code",
+        ),
+        (Fault::JumpBack(4), 44, Some(4), "instruction 4 jumps back"),
+        (
+            Fault::Frame(5),
+            45,
+            Some(5),
+            "the frame at or of instruction 5 doesn't hold",
+        ),
+        (
+            Fault::FallsOff(6),
+            46,
+            Some(6),
+            "the code ends after instruction 6, which goes on",
+        ),
+        (
+            Fault::Constant(7),
+            47,
+            Some(7),
+            "instruction 7 names a constant that isn't what it needs",
+        ),
+        (
+            Fault::Depth(65_535),
+            48,
+            Some(65_535),
+            "instruction 65535 leaves a stack that is too deep",
+        ),
+    ] {
+        assert_eq!(rt; (fault.number(), fault.pc()), (number, pc), "{fault:?}");
+        assert_eq!(rt; fault.to_string(rt.alloc())?.as_str(), text);
+    }
+    Ok(())
+}
