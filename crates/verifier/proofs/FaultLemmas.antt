@@ -25,8 +25,8 @@ same_falling p shapes zero typed = refl
 same_falling p shapes (suc n) typed =
     let before = same_falling p shapes n (λ q i below here. typed q i (omega (arith, below)) here) in
     falls_same p (shapes n) (shape_at p n) (slice_get p.instructions n) (λ i here.
-      begins_once p (falling_into p shapes n) (frame_at p.frames n) (shapes n) (typed n i (omega arith) here).begins
-      ∙ ap (λ o. begun p o (frame_at p.frames n)) before ∙ sym (shape_begun p n))
+    begins_once p (falling_into p shapes n) (frame_at p.frames n) (shapes n) (typed n i (omega arith) here).begins
+    ∙ ap (λ o. begun p o (frame_at p.frames n)) before ∙ sym (shape_begun p n))
 
 -- no instruction is typed and at fault
 contradicts : (p : Program) (pc : ℕ) (i : Instr) (s : Shape) (told : Fault) → IsTypedAt p pc i s → IsFaultIn p pc i s told → ⊥
@@ -68,15 +68,15 @@ untyped_excludes p told first typing =
     let inside = slice_get_within p.instructions pc first.instr first.here in
     let here = typing.1.each pc first.instr inside first.here in
     let falls : falling_into p first.shapes pc ≡ falling_into p shapes pc =
-          same_falling p first.shapes pc first.before
-          ∙ sym (same_falling p shapes pc (λ q i below there. typing.1.each q i (omega (arith, below, inside)) there)) in
+    same_falling p first.shapes pc first.before
+    ∙ sym (same_falling p shapes pc (λ q i below there. typing.1.each q i (omega (arith, below, inside)) there)) in
     elim first.why [
       | inl h ↦ h.1 (shapes pc) (rw falls here.begins)
       | inr h ↦
           let same : first.shapes pc ≡ shapes pc =
-                begins_once p (falling_into p first.shapes pc) (frame_at p.frames pc) (first.shapes pc) h.0
-                ∙ ap (λ o. begun p o (frame_at p.frames pc)) falls
-                ∙ sym (begins_once p (falling_into p shapes pc) (frame_at p.frames pc) (shapes pc) here.begins) in
+          begins_once p (falling_into p first.shapes pc) (frame_at p.frames pc) (first.shapes pc) h.0
+          ∙ ap (λ o. begun p o (frame_at p.frames pc)) falls
+          ∙ sym (begins_once p (falling_into p shapes pc) (frame_at p.frames pc) (shapes pc) here.begins) in
           contradicts p pc first.instr (shapes pc) told here.typed (subst (λ s. IsFaultIn p pc first.instr s told) same h.1)
     ]
 
@@ -90,7 +90,7 @@ pub faulty_untyped : (p : Program) (told : Fault) → IsFirstFault p told → Is
 faulty_untyped p told first typing = elim first [
   | inl h ↦ unfit_excludes p told h typing
   | inr rest ↦ elim rest [
-      | inl h ↦ absurd (omega (arith, h.none, typing.1.some))
-      | inr h ↦ untyped_excludes p told h typing
-    ]
+    | inl h ↦ absurd (omega (arith, h.none, typing.1.some))
+    | inr h ↦ untyped_excludes p told h typing
+  ]
 ]

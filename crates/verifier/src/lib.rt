@@ -26,8 +26,8 @@ mod verification;
 mod verified;
 
 pub use fault::{Fault, Refused};
-pub use verification::verify;
 pub use laws::faulty_code_is_untyped;
+pub use verification::verify;
 pub use verified::Verified;
 
 /// The greatest depth of the operand stack.
