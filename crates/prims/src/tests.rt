@@ -6,7 +6,6 @@ use std::alloc::Global;
 use term_core::Term;
 
 mod operands;
-
 mod values;
 
 /// The greatest and the least integer.
