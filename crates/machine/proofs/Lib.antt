@@ -6,3 +6,6 @@ pub mod FindLemmas
 pub mod StepLemmas
 pub mod EdgeLemmas
 pub mod RunLemmas
+pub mod StackLemmas
+pub mod MakeLemmas
+pub mod ComeLemmas
