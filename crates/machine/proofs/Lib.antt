@@ -9,3 +9,4 @@ pub mod RunLemmas
 pub mod StackLemmas
 pub mod MakeLemmas
 pub mod ComeLemmas
+pub mod ReadyLemmas
