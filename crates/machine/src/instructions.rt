@@ -60,13 +60,13 @@ fn bind<'a, A: Allocator + Copy>(
     stack: &mut Stack<'a, '_, A>,
     slots: &mut Slots<'a, '_, A>,
     slot: u8,
-) -> Flow<'a, A>
+) -> Result<Flow<'a, A>, AllocError>
     requires some { 0 < length stack.old }
     requires slot { slot < length slots.old }
-    ensures { (p : Program) (object : Datum) (pc : ℕ) → flow_outcome p pc result stack.new slots.new ≡ does p object (instr.Bind slot) pc stack.old slots.old }
+    ensures { IfOk result (λ flow. (p : Program) (object : Datum) (pc : ℕ) → flow_outcome p pc flow stack.new slots.new ≡ does p object (instr.Bind slot) pc stack.old slots.old) }
 {
-    slots.bind(slot, stack.pop());
-    Flow::Next
+    slots.bind(slot, stack.pop())?;
+    Ok(Flow::Next)
 }
 
 /// Pushes the top again.
@@ -77,7 +77,7 @@ fn duplicate<'a, A: Allocator + Copy>(
     requires { 0 < length stack.old }
     ensures { IfOk result (λ flow. DoesAnywhere instr.Dup stack.old flow stack.new) }
 {
-    let top = stack.top().copy(alloc)?;
+    let top = stack.copy_top(alloc)?;
     push(stack, top)
 }
 
@@ -281,7 +281,7 @@ pub(crate) fn execute<'a, A: Allocator + Copy>(
             push(stack, Value::Borrowed(Operand::Term(constant)))
         }
         Instr::Get { slot } => push(stack, slots.get(alloc, slot)?),
-        Instr::Bind { slot } => Ok(bind(stack, slots, slot)),
+        Instr::Bind { slot } => bind(stack, slots, slot),
         Instr::Dup => duplicate(alloc, stack),
         Instr::Drop => Ok(discard(stack)),
         Instr::Tuple { size, otherwise } => Ok(test(stack, Kind::Tuple(size), otherwise)),

@@ -1,7 +1,7 @@
 //! The machine that runs code.
 //!
 //! - `laws`: that a run has one end, that typed code is never stuck and ends, and that no run passes the budget.
-//! - `stack`, `slots`: the operand stack and the slots. `flow`: where an instruction leads.
+//! - `place`, `stack`, `slots`: where values are kept, the operand stack and the slots. `flow`: where an instruction leads.
 //! - `values`, `maps`: what instructions make of values. `instructions`: what each instruction does.
 #![tactic(auto)]
 
@@ -10,6 +10,7 @@ mod flow;
 mod instructions;
 mod laws;
 mod maps;
+mod place;
 mod slots;
 mod stack;
 mod values;

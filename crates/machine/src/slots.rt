@@ -1,4 +1,5 @@
 //! The slots of running code.
+use crate::place::Place;
 use prims::Value;
 use smallvec::SmallVec;
 use std::alloc::{AllocError, Allocator};
@@ -7,7 +8,7 @@ use std::marker::Model;
 /// The slots, none of which is bound at first. So many take no allocation.
 #[derive(Drop)]
 pub(crate) struct Slots<'a, 'h, A: Allocator> {
-    bindings: SmallVec<Option<Value<'a, A>>, 8, &'h A>,
+    bindings: SmallVec<Option<Place<'a, 'h, A>>, 8, &'h A>,
 }
 
 impl<'a, 'h, A: Allocator> Model for Slots<'a, 'h, A> {
@@ -63,19 +64,21 @@ impl<'a, 'h, A: Allocator + Copy> Slots<'a, 'h, A> {
     {
         let bindings = self.bindings.as_slice();
         match &bindings[usize::from(slot)] {
-            Some(value) => value.copy(alloc),
+            Some(place) => place.copy(alloc),
             None => unreachable!(),
         }
     }
 
     /// Binds a slot.
-    pub(crate) fn bind(&mut self, slot: u8, value: Value<'a, A>)
+    pub(crate) fn bind(&mut self, slot: u8, value: Value<'a, A>) -> Result<(), AllocError>
         requires { slot < length self.old }
-        ensures { self.new ≡ set self.old slot (Some (value_datum value.entry)) }
+        ensures { OnOk result (self.new ≡ set self.old slot (Some (value_datum value.entry))) }
     {
+        let place = Place::new(*self.bindings.allocator(), value)?;
         match self.bindings.get_mut(usize::from(slot)) {
-            Some(binding) => *binding = Some(value),
+            Some(binding) => *binding = Some(place),
             None => unreachable!(),
         }
+        Ok(())
     }
 }

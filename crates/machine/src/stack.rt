@@ -1,27 +1,14 @@
 //! The operand stack of running code.
+use crate::place::Place;
 use prims::{Operand, Value};
 use smallvec::SmallVec;
 use std::alloc::{AllocError, Allocator};
 use std::marker::Model;
 
-/// A place of the operand stack. What its value is by default is what unused memory is filled with.
-#[derive(Drop)]
-struct Place<'a, A: Allocator> {
-    value: Value<'a, A>,
-}
-
-impl<'a, A: Allocator> Default for Place<'a, A> {
-    fn default() -> Self {
-        Place {
-            value: Value::Borrowed(Operand::Bool(false)),
-        }
-    }
-}
-
 /// The operand stack, of which contracts see the terms from the top. So many places take no allocation.
 #[derive(Drop)]
 pub(crate) struct Stack<'a, 'h, A: Allocator> {
-    places: SmallVec<Place<'a, A>, 16, &'h A>,
+    places: SmallVec<Place<'a, 'h, A>, 16, &'h A>,
 }
 
 impl<'a, 'h, A: Allocator> Model for Stack<'a, 'h, A> {
@@ -40,7 +27,9 @@ impl<'a, 'h, A: Allocator> Model for Stack<'a, 'h, A> {
 
 impl<'a, 'h, A: Allocator + Copy> Stack<'a, 'h, A> {
     ghost use Rattle.std.specs.Prelude.{◌≡◌, ◌<◌, ◌≤◌, ◌-◌, ◌∷◌, [], OnOk, IfOk, length, take, drop, map, reverse};
+    ghost use Rattle.prims.specs.Operand.{operand_datum};
     ghost use Rattle.prims.specs.Value.{value_datum};
+    ghost use Rattle.machine.specs.Stack.{place_datum};
 
     /// Nothing.
     pub(crate) fn new(heap: &'h A) -> Self
@@ -55,7 +44,8 @@ impl<'a, 'h, A: Allocator + Copy> Stack<'a, 'h, A> {
     pub(crate) fn push(&mut self, value: Value<'a, A>) -> Result<(), AllocError>
         ensures { OnOk result (self.new ≡ value_datum value.entry ∷ self.old) }
     {
-        self.places.push(Place { value })?;
+        let place = Place::new(*self.places.allocator(), value)?;
+        self.places.push(place)?;
         Ok(())
     }
 
@@ -65,18 +55,34 @@ impl<'a, 'h, A: Allocator + Copy> Stack<'a, 'h, A> {
         ensures { self.old ≡ value_datum result ∷ self.new }
     {
         match self.places.pop() {
-            Some(place) => place.value,
+            Some(place) => place.into_value(),
             None => unreachable!(),
         }
     }
 
-    /// The top, which stays.
-    pub(crate) fn top(&self) -> &Value<'a, A>
+    /// The place of the top.
+    fn top_place(&self) -> &Place<'a, 'h, A>
         requires { 0 < length self.now }
-        ensures { self.now ≡ value_datum result.now ∷ drop 1 self.now }
+        ensures { self.now ≡ place_datum result.now ∷ drop 1 self.now }
     {
         let places = self.places.as_slice();
-        &places[places.len() - 1].value
+        &places[places.len() - 1]
+    }
+
+    /// The top, which stays.
+    pub(crate) fn top(&self) -> Operand<'_, A>
+        requires { 0 < length self.now }
+        ensures { self.now ≡ operand_datum result ∷ drop 1 self.now }
+    {
+        self.top_place().operand()
+    }
+
+    /// The top once more.
+    pub(crate) fn copy_top(&self, alloc: A) -> Result<Value<'a, A>, AllocError>
+        requires { 0 < length self.now }
+        ensures { IfOk result (λ value. self.now ≡ value_datum value ∷ drop 1 self.now) }
+    {
+        self.top_place().copy(alloc)
     }
 
     /// Takes so many values from the top, and gives them from the lowest.

@@ -170,10 +170,9 @@ fn is_map<A: Allocator>(operand: Operand<'_, A>) -> bool
 }
 
 /// Whether a value is of a kind.
-pub(crate) fn holds<A: Allocator + Copy>(kind: Kind, value: &Value<'_, A>) -> bool
-    ensures { result ≡ holds_for kind (value_datum value.now) }
+pub(crate) fn holds<A: Allocator>(kind: Kind, operand: Operand<'_, A>) -> bool
+    ensures { result ≡ holds_for kind (operand_datum operand.entry) }
 {
-    let operand = value.operand();
     match kind {
         Kind::Any => true,
         Kind::Int => operand.integer().is_some(),

@@ -155,7 +155,7 @@ returns-in_ok-get-in-Get g c =
 
 pub returns-in-Bind : goal.returns-in-Bind
 returns-in-Bind g c =
-    rw c.in-Bind.is (λ pc. c.bind.ensures c.args.code.now c.args.object.now pc)
+    rw c.in-Bind.is (IfOk-weaker c.bind.result _ _ (λ flow does pc. does c.args.code.now c.args.object.now pc) c.bind.ensures)
 
 pub returns-in-Tuple : goal.returns-in-Tuple
 returns-in-Tuple g c =
