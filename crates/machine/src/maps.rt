@@ -12,10 +12,7 @@ use std::alloc::{AllocError, Allocator};
 use term_core::{Term, make_map};
 
 /// The elements of a proper list.
-fn elements_of<A: Allocator + Copy>(
-    alloc: A,
-    list: &Term<A>,
-) -> Result<Vec<Term<A>, A>, AllocError>
+fn elements_of<A: Allocator + Copy>(alloc: A, list: &Term<A>) -> Result<Vec<Term<A>, A>, AllocError>
     requires { IsSome (proper_elements list.now) }
     ensures { IfOk result (λ elements. proper_elements list.now ≡ Some elements.items) }
 {

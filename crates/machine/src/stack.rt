@@ -86,11 +86,7 @@ impl<'a, 'h, A: Allocator + Copy> Stack<'a, 'h, A> {
     }
 
     /// Takes so many values from the top, and gives them from the lowest.
-    pub(crate) fn take(
-        &mut self,
-        alloc: A,
-        count: u16,
-    ) -> Result<Vec<Value<'a, A>, A>, AllocError>
+    pub(crate) fn take(&mut self, alloc: A, count: u16) -> Result<Vec<Value<'a, A>, A>, AllocError>
         requires { count ≤ length self.old }
         ensures values { IfOk result (λ values. map value_datum values.items ≡ reverse (take count self.old)) }
         ensures rest { OnOk result (self.new ≡ drop count self.old) }

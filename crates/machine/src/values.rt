@@ -92,7 +92,12 @@ pub(crate) fn field<'a, A: Allocator + Copy>(
     ensures { IfOk result (λ value. field_of index (value_datum tuple.entry) ≡ Some (value_datum value)) }
 {
     let place = Value::Borrowed(Operand::Int(i64::from(index)));
-    match call_two(alloc, Primitive::Tuple(TupleFunction::Element), place, tuple)? {
+    match call_two(
+        alloc,
+        Primitive::Tuple(TupleFunction::Element),
+        place,
+        tuple,
+    )? {
         Some(value) => Ok(value),
         None => unreachable!(),
     }

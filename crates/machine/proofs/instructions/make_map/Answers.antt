@@ -1,4 +1,4 @@
-use Rattle.std.proofs.Common.{◌≡◌, slice_get, Some, rules, ◌∙◌}
+use Rattle.std.proofs.Common.{rules, ◌∙◌}
 use Rattle.std.proofs.lemmas.Result.{IfOk-weaker}
 use Rattle.machine.proofs.ReadyLemmas.{read_there, keys_inside, keys_there, map_is}
 use Rattle.machine.proofs.instructions.make_map.Goals as goal

@@ -1,4 +1,4 @@
-use Rattle.std.proofs.Common.{sym, ap, ◌∙◌}
+use Rattle.std.proofs.Common.{ap, ◌∙◌}
 use Rattle.machine.proofs.MakeLemmas.{elements_so_far, elements_start, elements_more, elements_end}
 use Rattle.prims.specs.Operand.{operand_datum}
 use Rattle.machine.proofs.maps.elements_of.Goals as goal

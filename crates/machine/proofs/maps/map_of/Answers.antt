@@ -1,5 +1,4 @@
-use Rattle.std.proofs.Common.{◌≡◌, ◌≤◌, length, Some, sym, ◌∙◌, arith, rules}
-use Rattle.mcode.specs.Machine.{map_keys}
+use Rattle.std.proofs.Common.{sym, ◌∙◌, rules}
 use Rattle.machine.proofs.MakeLemmas.{map_keys_are, pairs_apart}
 use Rattle.machine.proofs.maps.map_of.Goals as goal
 
