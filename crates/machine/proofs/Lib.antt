@@ -6,3 +6,7 @@ pub mod FindLemmas
 pub mod StepLemmas
 pub mod EdgeLemmas
 pub mod RunLemmas
+pub mod StackLemmas
+pub mod MakeLemmas
+pub mod ComeLemmas
+pub mod ReadyLemmas

@@ -1,2 +1,5 @@
 pub mod Fits
 pub mod Laws
+pub mod Stack
+pub mod Flow
+pub mod Way
