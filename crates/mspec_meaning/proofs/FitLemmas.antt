@@ -1,17 +1,15 @@
 -- What fits a pattern, and claims on substitutions taken together.
-use Rattle.std.proofs.Common.{◌≡◌, ◌≢◌, ℕ, zero, suc, ◌+◌, ◌<◌, ◌≤◌, Bool, true, false, MatchBool, ◌⊎◌, inl, inr, Option, Some, None, List, [], ◌∷◌, ◌++◌, length, get_or, take, drop, refl, sym, ◌∙◌, ap, subst, arith, drop-cons, add-one}
+use Rattle.std.proofs.Common.{◌≡◌, ℕ, suc, ◌+◌, ◌<◌, ◌≤◌, Bool, true, false, MatchBool, Option, Some, None, List, [], ◌∷◌, length, get_or, drop, refl, sym, ◌∙◌, ap, subst, arith, drop-cons, add-one}
 use Rattle.std.proofs.lemmas.List.{drop_all}
-use Rattle.term_core.specs.Datum.{Datum, Items, Entries, items_of, entries_of, cells, cell_count, IsNoList}
+use Rattle.term_core.specs.Datum.{Datum, Items, Entries, items_of, entries_of, cells, cell_count}
 use Rattle.term_core.specs.Datum.Datum.{integer, atom, tuple, nil, cons, binary, map as table}
 use Rattle.term_core.specs.Datum.Items.{no_items, item}
-use Rattle.term_core.specs.Term.{tail_of, IsTail}
 use Rattle.mspec_syntax.specs.Pattern.{Pattern, Patterns, Fields, patterns_of, fields_of, cells_of}
 use Rattle.mspec_syntax.specs.Pattern.Pattern.{variable, anything, literal, tuple_of, cell_of, map_of}
 use Rattle.mspec_syntax.specs.Pattern.Patterns.{no_patterns, pattern}
 use Rattle.mspec_syntax.specs.Pattern.Fields.{no_fields, field}
 use Rattle.prims.specs.Maps.{value_at}
 use Rattle.mspec_meaning.specs.Match.{Fits, AllFit, FieldsFit}
-use Rattle.mspec_meaning.specs.Part.{rest_of}
 use Rattle.mspec_meaning.specs.Slots.{assigned, Extends, IsOver, Binds, NeverHolds, Answers}
 
 mutual

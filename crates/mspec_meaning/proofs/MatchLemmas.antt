@@ -1,8 +1,8 @@
 -- What the slots of a head say of substitutions.
-use Rattle.std.proofs.Common.{◌≡◌, ◌≢◌, ℕ, zero, suc, ◌+◌, ◌<◌, ◌≤◌, ◌==◌, cond, Bool, true, false, ◌||◌, ◌⊎◌, inl, inr, Option, Some, None, List, [], ◌∷◌, ◌++◌, map, length, take, drop, refl, sym, ◌∙◌, ap, subst, arith}
-use Rattle.std.proofs.lemmas.Bool.{cases_eq, eq-eqb, ne_eqb, or_cases, cases_Bool}
+use Rattle.std.proofs.Common.{◌≡◌, ℕ, zero, suc, ◌==◌, cond, Bool, true, false, ◌||◌, inl, inr, Option, Some, None, List, [], ◌∷◌, ◌++◌, map, length, take, refl, sym, ◌∙◌, ap, subst, arith}
+use Rattle.std.proofs.lemmas.Bool.{cases_eq, eq-eqb, ne_eqb, or_cases}
 use Rattle.term_core.specs.Datum.{Datum, Items, Entries}
-use Rattle.term_core.specs.Datum.Datum.{integer, atom, tuple, nil, cons, binary, map as table}
+use Rattle.term_core.specs.Datum.Datum.{tuple, cons, map as table}
 use Rattle.term_core.specs.Datum.Items.{no_items, item}
 use Rattle.mspec_syntax.specs.Pattern.{Pattern, Patterns, Fields, pattern_variables, patterns_variables, fields_variables}
 use Rattle.mspec_syntax.specs.Pattern.Pattern.{variable, anything, literal, tuple_of, cell_of, map_of}
@@ -12,7 +12,7 @@ use Rattle.mspec_syntax.specs.Rising.{rising}
 use Rattle.mspec_syntax.specs.Grammar.{is_among}
 use Rattle.mspec_syntax.proofs.RisingLemmas.{Rises, Rises-tail, Rises-rising, behind, among-rising}
 use Rattle.mspec_meaning.specs.Match.{Substitution, domain, values_of, lookup, Fits, AllFit, FieldsFit, Matches}
-use Rattle.mspec_meaning.specs.Slots.{assigned, Extends, IsOver, Binds, NeverHolds, AreFree, known, substitution_of, NeverMatches}
+use Rattle.mspec_meaning.specs.Slots.{assigned, Extends, Binds, NeverHolds, AreFree, known, substitution_of, NeverMatches}
 use Rattle.mspec_meaning.proofs.FitLemmas.{Fits-more}
 
 lookup-out : (s : Substitution) (n : ℕ) → is_among (domain s) n ≡ false → lookup s n ≡ None

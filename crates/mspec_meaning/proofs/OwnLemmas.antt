@@ -1,7 +1,7 @@
 -- Patterns that spell a term.
 use Rattle.std.proofs.Common.{◌≡◌, ◌↔◌, ℕ, Option, Some, None, option_map, List, [], ◌∷◌, ◌++◌, refl, sym, ◌∙◌, ap, subst}
 use Rattle.term_core.specs.Datum.{Datum, Items}
-use Rattle.term_core.specs.Datum.Datum.{integer, atom, tuple, nil, cons, binary, map as table}
+use Rattle.term_core.specs.Datum.Datum.{tuple, cons}
 use Rattle.term_core.specs.Datum.Items.{no_items, item}
 use Rattle.mspec_syntax.specs.Pattern.{Pattern, Patterns, pattern_variables, patterns_variables}
 use Rattle.mspec_syntax.specs.Pattern.Pattern.{variable, anything, literal, tuple_of, cell_of, map_of}

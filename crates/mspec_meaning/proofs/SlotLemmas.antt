@@ -1,11 +1,10 @@
 -- Slots and claims on substitutions.
-use Rattle.std.proofs.Common.{◌≡◌, ◌≢◌, ℕ, zero, suc, ◌+◌, ◌<◌, ◌≤◌, ◌==◌, Bool, true, false, MatchBool, if◌then◌else◌, ◌⊎◌, inl, inr, Option, Some, None, option_map, List, [], ◌∷◌, ◌++◌, map, length, get_or, slice_get, slice_set, take, drop, refl, sym, ◌∙◌, ap, subst, arith}
+use Rattle.std.proofs.Common.{◌≡◌, ℕ, zero, suc, Bool, true, false, MatchBool, inl, inr, Option, Some, None, List, [], ◌∷◌, map, length, get_or, slice_get, slice_set, refl, sym, ◌∙◌, ap, arith}
 use Rattle.std.proofs.lemmas.Bool.{cases_eq, eq-eqb, ne_eqb}
 use Rattle.term_core.specs.Datum.{Datum}
 use Rattle.mspec_syntax.specs.Rising.{rising}
-use Rattle.mspec_syntax.specs.Grammar.{is_among}
 use Rattle.mspec_syntax.proofs.RisingLemmas.{Rises, Rises-tail, Rises-below, Rises-itself}
-use Rattle.mspec_meaning.specs.Slots.{assigned, Extends, IsOver, Binds, NeverHolds, Answers}
+use Rattle.mspec_meaning.specs.Slots.{assigned, Binds, Answers}
 
 module _ {X : Type 0} (f : X → Option Datum) where
   -- the value of the variable at a place

@@ -1,27 +1,20 @@
 -- Values of expressions, part by part.
-use Rattle.std.proofs.Common.{◌≡◌, ◌≢◌, ℕ, zero, suc, ◌+◌, ◌<◌, ◌≤◌, Bool, true, false, ◌||◌, cond, Option, Some, None, option_map, Box, Result, Ok, Err, List, [], ◌∷◌, ◌++◌, map, length, get_or, drop, refl, sym, ◌∙◌, ap, subst, arith, drop-cons, add-one}
-use Rattle.std.specs.Prelude.{IfOk, nat_lt, nat_eq, codes}
+use Rattle.std.proofs.Common.{◌≡◌, ℕ, zero, suc, ◌+◌, ◌<◌, ◌≤◌, Bool, true, false, cond, Option, Some, None, option_map, Box, List, [], ◌∷◌, ◌++◌, length, get_or, drop, refl, sym, ◌∙◌, ap, subst, arith, drop-cons, add-one}
+use Rattle.std.specs.Prelude.{nat_eq, codes}
 use Rattle.std.proofs.lemmas.List.{drop_all, append_assoc, append-nil}
 use Rattle.std.specs.Cmp.Lexicographic.{pointwise, bytes_decides}
-use Rattle.std.proofs.lemmas.Bool.{le-ltb, lt-ltb}
 use Rattle.prims.specs.Booleans.{boolean_of}
-use Rattle.term_core.specs.Datum.{Datum, Entries, cells, entries_of, entry_count}
+use Rattle.term_core.specs.Datum.{Datum, Entries, entries_of}
 use Rattle.term_core.specs.Datum.Datum.{integer, atom, tuple, map as table, nil, cons, binary}
 use Rattle.term_core.specs.Datum.Entries.{no_entries, entry}
-use Rattle.term_core.specs.Fault.{IsFault}
-use Rattle.term_core.specs.Limits.{IsTerm, depth}
-use Rattle.term_core.specs.MapPairs.{AreRising, IsMapFault}
+use Rattle.term_core.specs.MapPairs.{AreRising}
 use Rattle.term_core.specs.Order.{IsBelow, IsBelowFirst}
-use Rattle.term_core.specs.declared.TheConstants.{MAX_DEPTH, MAX_MAP}
-use Rattle.term_core.specs.declared.fault.Fault.{Fault}
-use Rattle.term_core.specs.declared.fault.Fault.TheVariants.{Memory, TooDeep, TooLong, DuplicateKey}
-use Rattle.term_core.proofs.MapLemmas.{apart-no_twin, apart_from_rising}
-use Rattle.mspec_syntax.specs.Expression.{Expression, Expressions, Assignments, expressions_of, assignments_of, new_cells, expression_size, expressions_size, assignments_size, AreKeysRising, IsBelowNext, IsNoListExpression}
+use Rattle.mspec_syntax.specs.Expression.{Expression, Assignments, expressions_of, assignments_of, new_cells, expression_size, expressions_size, assignments_size, AreKeysRising, IsBelowNext, IsNoListExpression}
 use Rattle.mspec_syntax.specs.Expression.Expression.{bound, object, bindings, constant, quoted, call, and_also, or_else, new_tuple, new_cell, new_map}
 use Rattle.mspec_syntax.specs.Expression.Assignments.{no_assignments, assignment}
 use Rattle.mspec_syntax.specs.ExpressionView.{tail_expression, IsTailExpression}
 use Rattle.mspec_meaning.specs.Match.{Substitution}
-use Rattle.mspec_meaning.specs.Meaning.{true_term, failed, made_of, before, at_key, joined, and_step, and_at, or_step, or_at, value_of, argument_values, entry_values, tail_value, all_true, any_true}
+use Rattle.mspec_meaning.specs.Meaning.{true_term, made_of, before, at_key, joined, and_step, and_at, or_step, or_at, value_of, argument_values, entry_values, tail_value, all_true, any_true}
 use Rattle.mspec_meaning.specs.Value.{joined_to}
 use Rattle.mspec_meaning.specs.declared.value.Mode.{Mode}
 

@@ -1,5 +1,5 @@
 -- Laws of matching and meaning.
-use Rattle.std.specs.Prelude.{◌≡◌, ◌↔◌, Option, Some, None, option_map, List, [], ◌∷◌}
+use Rattle.std.specs.Prelude.{◌≡◌, ◌↔◌, Option, Some, None, option_map, [], ◌∷◌}
 use Rattle.term_core.specs.Datum.{Datum, Items}
 use Rattle.term_core.specs.Datum.Datum.{tuple, cons}
 use Rattle.term_core.specs.Datum.Items.{no_items, item}

@@ -2,7 +2,7 @@
 use Rattle.std.specs.Prelude.{ℕ, ◌≡◌, ◌==◌, if◌then◌else◌, Option, Some, None, List, [], ◌∷◌, map}
 use Rattle.prims.specs.Maps.{value_at}
 use Rattle.term_core.specs.Datum.{Datum, Items, Entries}
-use Rattle.term_core.specs.Datum.Datum.{integer, atom, nil, binary, tuple, cons, map as table}
+use Rattle.term_core.specs.Datum.Datum.{tuple, cons, map as table}
 use Rattle.term_core.specs.Datum.Items.{no_items, item}
 use Rattle.mspec_syntax.specs.Pattern.{Pattern, Patterns, Fields, pattern_variables}
 use Rattle.mspec_syntax.specs.Pattern.Pattern.{variable, anything, literal, tuple_of, cell_of, map_of}

@@ -1,5 +1,5 @@
 -- What a specification means on an object. (ERTS User's Guide, "Match Specifications in Erlang", "Semantics".)
-use Rattle.std.specs.Prelude.{ℕ, ◌≡◌, ◌⊎◌, Bool, true, false, Option, Some, None, option_map, List, [], ◌∷◌, codes}
+use Rattle.std.specs.Prelude.{◌≡◌, ◌⊎◌, Bool, true, false, Option, Some, None, option_map, List, [], ◌∷◌, codes}
 use Rattle.prims.specs.Booleans.{boolean_of}
 use Rattle.prims.specs.Calls.{function_of}
 use Rattle.prims.specs.Operand.{boolean}

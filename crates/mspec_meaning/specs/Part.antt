@@ -1,8 +1,8 @@
 -- Parts of an object, which are terms.
-use Rattle.std.specs.Prelude.{ℕ, zero, suc, ◌≡◌, ◌≢◌, Option, Some, None, List, [], ◌∷◌}
+use Rattle.std.specs.Prelude.{ℕ, zero, suc, ◌≡◌, Option, None, List, [], ◌∷◌}
 use Rattle.std.specs.Option.{option_copied}
 use Rattle.term_core.specs.Datum.{Datum, cells, IsNoList}
-use Rattle.term_core.specs.Datum.Datum.{integer, atom, tuple, nil, cons, binary, map as table}
+use Rattle.term_core.specs.Datum.Datum.{tuple, cons, map as table}
 use Rattle.term_core.specs.Term.{tail_of, IsTail}
 use Rattle.mspec_meaning.specs.declared.part.Part.{Part}
 use Rattle.mspec_meaning.specs.declared.part.Part.TheVariants.{Whole, Rest}

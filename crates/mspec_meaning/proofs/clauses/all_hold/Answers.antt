@@ -1,4 +1,4 @@
-use Rattle.std.proofs.Common.{◌≡◌, ◌≢◌, Some, option_map, sym, ◌∙◌, ap}
+use Rattle.std.proofs.Common.{◌≡◌, Some, option_map, sym, ◌∙◌, ap}
 use Rattle.mspec_meaning.specs.Meaning.{true_term}
 use Rattle.mspec_meaning.specs.Slots.{seen, substitution_of}
 use Rattle.prims.specs.Value.{value_datum}

@@ -1,5 +1,4 @@
 -- the conditions that are left decide
-use Rattle.std.proofs.Common.{drop}
 use Rattle.mspec_meaning.proofs.HoldLemmas.{HoldFront}
 use Rattle.mspec_meaning.specs.Slots.{seen, substitution_of}
 use Rattle.mspec_meaning.proofs.clauses.all_hold.Given as goal

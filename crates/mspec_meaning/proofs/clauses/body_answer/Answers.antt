@@ -1,4 +1,4 @@
-use Rattle.std.proofs.Common.{◌≡◌, Some, sym, ◌∙◌, ap}
+use Rattle.std.proofs.Common.{Some, sym, ◌∙◌, ap}
 use Rattle.mspec_meaning.specs.Slots.{seen, substitution_of}
 use Rattle.mspec_meaning.proofs.HoldLemmas.{body_value-last}
 use Rattle.mspec_meaning.proofs.clauses.body_answer.Goals as goal

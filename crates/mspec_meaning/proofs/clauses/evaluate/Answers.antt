@@ -1,8 +1,6 @@
-use Rattle.std.proofs.Common.{◌≡◌, Option, Some, None, length, MatchBool, MatchOption, sym, ◌∙◌, ap, subst}
+use Rattle.std.proofs.Common.{None, sym, ◌∙◌, ap}
 use Rattle.std.proofs.lemmas.Result.{IfOk-weaker}
-use Rattle.term_core.specs.Datum.{Datum}
-use Rattle.mspec_syntax.specs.Specification.{Specification}
-use Rattle.mspec_meaning.specs.Meaning.{Means, body_value}
+use Rattle.mspec_meaning.specs.Meaning.{body_value}
 use Rattle.mspec_meaning.specs.Slots.{seen, substitution_of}
 use Rattle.mspec_meaning.proofs.HoldLemmas.{Means-skip, Means-here, Means-end, clause-applies, clause-fails, clause-unmatched}
 use Rattle.mspec_meaning.proofs.clauses.evaluate.Goals as goal

@@ -1,10 +1,10 @@
-use Rattle.std.proofs.Common.{◌≡◌, ◌+◌, ◌*◌, ◌++◌, ◌∷◌, [], List, true, false, Some, None, option_map, map, length, ap, sym, ◌∙◌, subst, arith}
+use Rattle.std.proofs.Common.{◌+◌, ◌∷◌, [], List, true, false, Some, None, option_map, map, ap, sym, ◌∙◌, subst, arith}
 use Rattle.std.proofs.lemmas.List.{map-append}
 use Rattle.std.proofs.lemmas.Result.{IfOk-weaker}
 use Rattle.prims.specs.Calls.{function_of}
 use Rattle.term_core.specs.Datum.{Datum, cells, items_of, entries_of}
 use Rattle.term_core.specs.Datum.Datum.{tuple, nil, map as table}
-use Rattle.mspec_syntax.specs.Expression.{Expression, expression_size, expressions_size, assignments_size, expressions_of, assignments_of}
+use Rattle.mspec_syntax.specs.Expression.{expression_size, expressions_size, assignments_size, expressions_of, assignments_of}
 use Rattle.mspec_syntax.specs.ExpressionView.{tail_expression}
 use Rattle.mspec_meaning.specs.Meaning.{value_of, argument_values, entry_values, all_true, any_true, made, made_of, or_failed, called}
 use Rattle.mspec_meaning.specs.Part.{part_of}
