@@ -47,10 +47,3 @@ for n in 10000 100000 1000000; do conditions "$n" > "$work/in"; measure "$n obje
 for n in 665 1330 2660; do nodes "$n" > "$work/in"; measure "$((n * 3)) nodes in a body" "$work/in"; done
 for n in 64 128 256; do variables "$n" > "$work/in"; measure "$n variables, 1,000 objects" "$work/in"; done
 for n in 10000 100000 1000000; do looked_at "$n" > "$work/in"; measure "a list of $n in a condition" "$work/in"; done
-
-machine=$top/crates/machine_bench/out/machine_bench
-[ -x "$machine" ] || { echo "bench/run.sh: no program at $machine: build it by 'cd crates/machine_bench && rt run -- verify'" >&2; exit 2; }
-for word in verify run run_true; do
-  { command time -f '%e s, %M KB at most' "$machine" "$word" > "$work/out"; } 2> "$work/time" || true
-  printf '%-28s %s  %s\n' "machine_bench $word" "$(cat "$work/out")" "$(tail -n 1 "$work/time")"
-done

@@ -1,8 +1,14 @@
-//! The machine that runs code.
+//! The machine that runs verified code.
 //!
-//! - `laws`: that a run has one end, that typed code is never stuck and ends, and that no run passes the budget.
-//! - `place`, `stack`, `slots`: where values are kept, the operand stack and the slots. `flow`: where an instruction leads.
-//! - `values`, `maps`: what instructions make of values. `instructions`: what each instruction does.
+//! The one contract: `run` gives the answer of the run of the code on an object, by the machine's definition (`Runs` of
+//! `mcode/specs/Machine.antt`), and the exact number of instructions executed, which is at most the budget; no state of the
+//! run is stuck. `run_true` gives whether that answer is `true`, and the same number. Neither tests what the verifier knows.
+//!
+//! - `execution`: runs; `instructions`: what each instruction does; `flow`: where one leads.
+//! - `place`, `stack`, `slots`: where values are kept, the operand stack and the slots. `values`, `maps`: what instructions make
+//!   of values.
+//! - `laws`: that a run has one end, that typed code is never stuck and ends, and that no run passes the budget. What is
+//!   known of a state that is of the shape known to the verifier stands in `specs/Fits.antt`.
 #![tactic(auto)]
 
 mod execution;
