@@ -1,12 +1,17 @@
 #!/usr/bin/env bash
 # Times `ets_tool run`, as `rt run` builds it, over inputs that are made here: objects {N,a} in growing numbers, without and
 # with a condition, a term 255 deep, a list of a million integers, a map of 65,535 pairs in falling order, specifications of up to
-# 8,000 nodes and 256 variables, and a long list that a condition looks at. Time and memory are to be linear.
-# usage: bench/run.sh [PROGRAM]
+# 8,000 nodes and 256 variables, and a long list that a condition looks at. Time and memory are to be linear. Then it times
+# `machine_bench`: the largest code verified, with frames at a third of its instructions and at nearly all, and short code
+# run a million times.
+# usage: bench/run.sh
 set -eu
 top=$(cd "$(dirname "$0")/.." && pwd)
-program=${1:-$top/crates/ets_tool/out/ets_tool}
-[ -x "$program" ] || { echo "bench/run.sh: no program at $program: build it by 'cd crates/ets_tool && rt run </dev/null'" >&2; exit 2; }
+program=$top/crates/ets_tool/out/ets_tool
+machine=$top/crates/machine_bench/out/machine_bench
+for built in "$program" "$machine"; do
+  [ -x "$built" ] || { echo "bench/run.sh: no program at $built: build it by 'rt run </dev/null' in its crate" >&2; exit 2; }
+done
 work=$(mktemp -d)
 trap 'rm -rf "$work"' EXIT
 
@@ -34,6 +39,11 @@ variables() {
 looked_at() {
   awk -v n="$1" 'BEGIN { print "[{{'\''$1'\''},[{is_list,'\''$1'\''},{'\''=:='\'',{hd,{tl,'\''$1'\''}},1}],[{length,'\''$1'\''}]}]."; printf "{[0"; for (i = 1; i < n; i++) printf ",%d", i; print "]}." }'
 }
+measure_machine() {
+  name=$1 word=$2
+  { command time -f '%e %M' "$machine" "$word" > "$work/out"; } 2> "$work/time"
+  printf '%-28s %8s counted  %s s, KB at most\n' "$name" "$(cat "$work/out")" "$(tail -n 1 "$work/time")"
+}
 measure() {
   name=$1 file=$2
   { command time -f '%e %M' "$program" run < "$file" > "$work/out"; } 2> "$work/time" || true
@@ -47,3 +57,7 @@ for n in 10000 100000 1000000; do conditions "$n" > "$work/in"; measure "$n obje
 for n in 665 1330 2660; do nodes "$n" > "$work/in"; measure "$((n * 3)) nodes in a body" "$work/in"; done
 for n in 64 128 256; do variables "$n" > "$work/in"; measure "$n variables, 1,000 objects" "$work/in"; done
 for n in 10000 100000 1000000; do looked_at "$n" > "$work/in"; measure "a list of $n in a condition" "$work/in"; done
+measure_machine "verify, a third framed" third
+measure_machine "verify, nearly all framed" each
+measure_machine "a million runs" run
+measure_machine "a million tests" run_true
