@@ -10,3 +10,5 @@ pub mod StackLemmas
 pub mod MakeLemmas
 pub mod ComeLemmas
 pub mod ReadyLemmas
+pub mod BorrowLemmas
+pub mod MemoryLemmas

@@ -3,3 +3,4 @@ pub mod Laws
 pub mod Stack
 pub mod Flow
 pub mod Way
+pub mod Memory

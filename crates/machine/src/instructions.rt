@@ -1,16 +1,19 @@
 //! What each instruction does.
-ghost use Rattle.std.specs.Prelude.{ℕ, ◌≡◌, ◌≢◌, ◌<◌, ◌≤◌, ◌∷◌, Some, IfOk, OnOk, List, length};
+ghost use Rattle.std.specs.Prelude.{ℕ, ◌≡◌, ◌≢◌, ◌<◌, ◌≤◌, ◌-◌, ◌∷◌, Some, IsTrue, IsOk, IsOkAnd, IfOk, IfSome, OnOk, List, length, take, drop, reverse};
 ghost use Rattle.std.specs.Option.{option_map, option_and_then};
 ghost use Rattle.term_core.specs.Datum.{Datum};
-ghost use Rattle.prims.specs.Value.{value_datum};
+ghost use Rattle.prims.specs.Calls.{function_of};
+ghost use Rattle.prims.specs.Value.{value_datum, IsBorrowed};
 ghost use Rattle.mcode.specs.Machine.{Bindings, does, given, next, tested};
 ghost use Rattle.mcode.specs.Machine.Outcome.{Stuck};
 ghost use Rattle.mcode.specs.Program.{Program};
 ghost use Rattle.mcode.specs.declared.instr.Instr.TheVariants as instr;
 ghost use Rattle.machine.specs.Flow.{flow_outcome, top_holds, Leads, IsReady, Does, IsReadyAnywhere, DoesAnywhere};
+ghost use Rattle.machine.specs.Memory.{MakesNone, HasRoom, AreBorrowed};
 
 use crate::flow::Flow;
 use crate::maps::map_of;
+use crate::place::INLINE_PLACES;
 use crate::slots::Slots;
 use crate::stack::Stack;
 use crate::values;
@@ -24,7 +27,8 @@ fn push<'a, A: Allocator + Copy>(
     stack: &mut Stack<'a, '_, A>,
     value: Value<'a, A>,
 ) -> Result<Flow<'a, A>, AllocError>
-    ensures { IfOk result (λ flow. Leads flow stack.new (λ p pc slots. next pc (value_datum value.entry ∷ stack.old) slots)) }
+    ensures flow { IfOk result (λ flow. Leads flow stack.new.terms (λ p pc slots. next pc (value_datum value.entry ∷ stack.old.terms) slots)) }
+    ensures memory { IsTrue stack.old.borrowed → IsBorrowed value.entry → length stack.old.terms < INLINE_PLACES → IsOk result × IsTrue stack.new.borrowed }
 {
     stack.push(value)?;
     Ok(Flow::Next)
@@ -36,7 +40,8 @@ fn push_or_jump<'a, A: Allocator + Copy>(
     value: Option<Value<'a, A>>,
     otherwise: u16,
 ) -> Result<Flow<'a, A>, AllocError>
-    ensures { IfOk result (λ flow. Leads flow stack.new (λ p pc slots. given p pc otherwise stack.old slots (option_map value_datum value.entry))) }
+    ensures flow { IfOk result (λ flow. Leads flow stack.new.terms (λ p pc slots. given p pc otherwise stack.old.terms slots (option_map value_datum value.entry))) }
+    ensures memory { IsTrue stack.old.borrowed → IfSome value.entry IsBorrowed → length stack.old.terms < INLINE_PLACES → IsOk result × IsTrue stack.new.borrowed }
 {
     match value {
         Some(value) => push(stack, value),
@@ -61,9 +66,10 @@ fn bind<'a, A: Allocator + Copy>(
     slots: &mut Slots<'a, '_, A>,
     slot: u8,
 ) -> Result<Flow<'a, A>, AllocError>
-    requires some { 0 < length stack.old }
-    requires slot { slot < length slots.old }
-    ensures { IfOk result (λ flow. (p : Program) (object : Datum) (pc : ℕ) → flow_outcome p pc flow stack.new slots.new ≡ does p object (instr.Bind slot) pc stack.old slots.old) }
+    requires some { 0 < length stack.old.terms }
+    requires slot { slot < length slots.old.bindings }
+    ensures flow { IfOk result (λ flow. (p : Program) (object : Datum) (pc : ℕ) → flow_outcome p pc flow stack.new.terms slots.new.bindings ≡ does p object (instr.Bind slot) pc stack.old.terms slots.old.bindings) }
+    ensures memory { AreBorrowed stack.old slots.old → IsOk result × AreBorrowed stack.new slots.new }
 {
     slots.bind(slot, stack.pop())?;
     Ok(Flow::Next)
@@ -74,8 +80,9 @@ fn duplicate<'a, A: Allocator + Copy>(
     alloc: A,
     stack: &mut Stack<'a, '_, A>,
 ) -> Result<Flow<'a, A>, AllocError>
-    requires { 0 < length stack.old }
-    ensures { IfOk result (λ flow. DoesAnywhere instr.Dup stack.old flow stack.new) }
+    requires { 0 < length stack.old.terms }
+    ensures flow { IfOk result (λ flow. DoesAnywhere instr.Dup stack.old.terms flow stack.new.terms) }
+    ensures memory { IsTrue stack.old.borrowed → length stack.old.terms < INLINE_PLACES → IsOk result × IsTrue stack.new.borrowed }
 {
     let top = stack.copy_top(alloc)?;
     push(stack, top)
@@ -83,8 +90,9 @@ fn duplicate<'a, A: Allocator + Copy>(
 
 /// Takes the top away.
 fn discard<'a, A: Allocator + Copy>(stack: &mut Stack<'a, '_, A>) -> Flow<'a, A>
-    requires { 0 < length stack.old }
-    ensures { DoesAnywhere instr.Drop stack.old result stack.new }
+    requires { 0 < length stack.old.terms }
+    ensures flow { DoesAnywhere instr.Drop stack.old.terms result stack.new.terms }
+    ensures borrowed { IsTrue stack.old.borrowed → IsTrue stack.new.borrowed }
 {
     stack.pop();
     Flow::Next
@@ -96,8 +104,8 @@ fn test<'a, A: Allocator + Copy>(
     kind: Kind,
     otherwise: u16,
 ) -> Flow<'a, A>
-    requires { 0 < length stack.now }
-    ensures { Leads result stack.now (λ p pc slots. tested p pc otherwise stack.now slots (top_holds kind stack.now)) }
+    requires { 0 < length stack.now.terms }
+    ensures { Leads result stack.now.terms (λ p pc slots. tested p pc otherwise stack.now.terms slots (top_holds kind stack.now.terms)) }
 {
     jump_unless(values::holds(kind, stack.top()), otherwise)
 }
@@ -108,8 +116,9 @@ fn field<'a, A: Allocator + Copy>(
     stack: &mut Stack<'a, '_, A>,
     index: u16,
 ) -> Result<Flow<'a, A>, AllocError>
-    requires { IsReadyAnywhere (instr.Field index) stack.old }
-    ensures { IfOk result (λ flow. DoesAnywhere (instr.Field index) stack.old flow stack.new) }
+    requires { IsReadyAnywhere (instr.Field index) stack.old.terms }
+    ensures flow { IfOk result (λ flow. DoesAnywhere (instr.Field index) stack.old.terms flow stack.new.terms) }
+    ensures memory { IsTrue stack.old.borrowed → length stack.old.terms ≤ INLINE_PLACES → IsOk result × IsTrue stack.new.borrowed }
 {
     let tuple = stack.pop();
     push(stack, values::field(alloc, index, tuple)?)
@@ -120,8 +129,9 @@ fn head<'a, A: Allocator + Copy>(
     alloc: A,
     stack: &mut Stack<'a, '_, A>,
 ) -> Result<Flow<'a, A>, AllocError>
-    requires { IsReadyAnywhere instr.Head stack.old }
-    ensures { IfOk result (λ flow. DoesAnywhere instr.Head stack.old flow stack.new) }
+    requires { IsReadyAnywhere instr.Head stack.old.terms }
+    ensures flow { IfOk result (λ flow. DoesAnywhere instr.Head stack.old.terms flow stack.new.terms) }
+    ensures memory { IsTrue stack.old.borrowed → length stack.old.terms ≤ INLINE_PLACES → IsOk result × IsTrue stack.new.borrowed }
 {
     let list = stack.pop();
     push(stack, values::head(alloc, list)?)
@@ -132,8 +142,9 @@ fn tail<'a, A: Allocator + Copy>(
     alloc: A,
     stack: &mut Stack<'a, '_, A>,
 ) -> Result<Flow<'a, A>, AllocError>
-    requires { IsReadyAnywhere instr.Tail stack.old }
-    ensures { IfOk result (λ flow. DoesAnywhere instr.Tail stack.old flow stack.new) }
+    requires { IsReadyAnywhere instr.Tail stack.old.terms }
+    ensures flow { IfOk result (λ flow. DoesAnywhere instr.Tail stack.old.terms flow stack.new.terms) }
+    ensures memory { IsTrue stack.old.borrowed → length stack.old.terms ≤ INLINE_PLACES → IsOk result × IsTrue stack.new.borrowed }
 {
     let list = stack.pop();
     push(stack, values::tail(alloc, list)?)
@@ -147,8 +158,9 @@ fn value<'a, A: Allocator + Copy>(
     key: u16,
     otherwise: u16,
 ) -> Result<Flow<'a, A>, AllocError>
-    requires { IsReady code.now (instr.Value key otherwise) stack.old }
-    ensures { IfOk result (λ flow. Does code.now (instr.Value key otherwise) stack.old flow stack.new) }
+    requires { IsReady code.now (instr.Value key otherwise) stack.old.terms }
+    ensures flow { IfOk result (λ flow. Does code.now (instr.Value key otherwise) stack.old.terms flow stack.new.terms) }
+    ensures memory { IsTrue stack.old.borrowed → length stack.old.terms ≤ INLINE_PLACES → IsOk result × IsTrue stack.new.borrowed }
 {
     let map = stack.pop();
     let key = &code.constants()[usize::from(key)];
@@ -158,12 +170,37 @@ fn value<'a, A: Allocator + Copy>(
 
 /// Takes two terms away, and jumps where they are not the same.
 fn equal<'a, A: Allocator + Copy>(stack: &mut Stack<'a, '_, A>, otherwise: u16) -> Flow<'a, A>
-    requires { IsReadyAnywhere (instr.Equal otherwise) stack.old }
-    ensures { DoesAnywhere (instr.Equal otherwise) stack.old result stack.new }
+    requires { IsReadyAnywhere (instr.Equal otherwise) stack.old.terms }
+    ensures flow { DoesAnywhere (instr.Equal otherwise) stack.old.terms result stack.new.terms }
+    ensures borrowed { IsTrue stack.old.borrowed → IsTrue stack.new.borrowed }
 {
     let right = stack.pop();
     let left = stack.pop();
     jump_unless(values::are_same(&left, &right), otherwise)
+}
+
+/// What a function gives of so many values at the top, which go; none where the call fails. Few borrowed ones take no memory.
+fn call_top<'a, A: Allocator + Copy>(
+    alloc: A,
+    stack: &mut Stack<'a, '_, A>,
+    function: Primitive,
+    count: u16,
+) -> Result<Option<Value<'a, A>>, AllocError>
+    requires { count ≤ length stack.old.terms }
+    ensures value { IfOk result (λ value. option_map value_datum value ≡ function_of function (reverse (take count stack.old.terms))) }
+    ensures rest { OnOk result (stack.new.terms ≡ drop count stack.old.terms) }
+    ensures memory { IsTrue stack.old.borrowed → count ≤ INLINE_PLACES → IsOkAnd result (λ value. IfSome value IsBorrowed) × IsTrue stack.new.borrowed }
+{
+    match stack.operands(count)? {
+        Some(operands) => {
+            stack.lower(count);
+            Ok(values::call_borrowed(function, operands.as_slice()))
+        }
+        None => {
+            let values = stack.take(alloc, count)?;
+            call_values(alloc, function, values.as_slice())
+        }
+    }
 }
 
 /// Puts what a function gives in the place of its arguments, or jumps.
@@ -174,11 +211,11 @@ fn call<'a, A: Allocator + Copy>(
     arguments: u16,
     otherwise: u16,
 ) -> Result<Flow<'a, A>, AllocError>
-    requires { IsReadyAnywhere (instr.Call function arguments otherwise) stack.old }
-    ensures { IfOk result (λ flow. DoesAnywhere (instr.Call function arguments otherwise) stack.old flow stack.new) }
+    requires { IsReadyAnywhere (instr.Call function arguments otherwise) stack.old.terms }
+    ensures flow { IfOk result (λ flow. DoesAnywhere (instr.Call function arguments otherwise) stack.old.terms flow stack.new.terms) }
+    ensures memory { IsTrue stack.old.borrowed → length stack.old.terms ≤ INLINE_PLACES → length stack.old.terms - arguments < INLINE_PLACES → IsOk result × IsTrue stack.new.borrowed }
 {
-    let values = stack.take(alloc, arguments)?;
-    let value = call_values(alloc, function.primitive(), values.as_slice())?;
+    let value = call_top(alloc, stack, function.primitive(), arguments)?;
     push_or_jump(stack, value, otherwise)
 }
 
@@ -189,8 +226,9 @@ fn arithmetic<'a, A: Allocator + Copy>(
     function: Arithmetic,
     otherwise: u16,
 ) -> Result<Flow<'a, A>, AllocError>
-    requires { IsReadyAnywhere (instr.Arith function otherwise) stack.old }
-    ensures { IfOk result (λ flow. DoesAnywhere (instr.Arith function otherwise) stack.old flow stack.new) }
+    requires { IsReadyAnywhere (instr.Arith function otherwise) stack.old.terms }
+    ensures flow { IfOk result (λ flow. DoesAnywhere (instr.Arith function otherwise) stack.old.terms flow stack.new.terms) }
+    ensures memory { IsTrue stack.old.borrowed → length stack.old.terms ≤ INLINE_PLACES → IsOk result × IsTrue stack.new.borrowed }
 {
     let right = stack.pop();
     let left = stack.pop();
@@ -200,8 +238,9 @@ fn arithmetic<'a, A: Allocator + Copy>(
 
 /// Takes a truth value away, and jumps where it is false.
 fn branch<'a, A: Allocator + Copy>(stack: &mut Stack<'a, '_, A>, otherwise: u16) -> Flow<'a, A>
-    requires { IsReadyAnywhere (instr.Branch otherwise) stack.old }
-    ensures { DoesAnywhere (instr.Branch otherwise) stack.old result stack.new }
+    requires { IsReadyAnywhere (instr.Branch otherwise) stack.old.terms }
+    ensures flow { DoesAnywhere (instr.Branch otherwise) stack.old.terms result stack.new.terms }
+    ensures borrowed { IsTrue stack.old.borrowed → IsTrue stack.new.borrowed }
 {
     match stack.pop().into_boolean() {
         Some(holds) => jump_unless(holds, otherwise),
@@ -216,8 +255,8 @@ fn make_tuple<'a, A: Allocator + Copy>(
     size: u16,
     otherwise: u16,
 ) -> Result<Flow<'a, A>, AllocError>
-    requires { IsReadyAnywhere (instr.MakeTuple size otherwise) stack.old }
-    ensures { IfOk result (λ flow. DoesAnywhere (instr.MakeTuple size otherwise) stack.old flow stack.new) }
+    requires { IsReadyAnywhere (instr.MakeTuple size otherwise) stack.old.terms }
+    ensures { IfOk result (λ flow. DoesAnywhere (instr.MakeTuple size otherwise) stack.old.terms flow stack.new.terms) }
 {
     let elements = stack.take(alloc, size)?;
     let tuple = values::tuple_of(alloc, elements)?;
@@ -230,8 +269,8 @@ fn make_list<'a, A: Allocator + Copy>(
     stack: &mut Stack<'a, '_, A>,
     otherwise: u16,
 ) -> Result<Flow<'a, A>, AllocError>
-    requires { IsReadyAnywhere (instr.MakeCons otherwise) stack.old }
-    ensures { IfOk result (λ flow. DoesAnywhere (instr.MakeCons otherwise) stack.old flow stack.new) }
+    requires { IsReadyAnywhere (instr.MakeCons otherwise) stack.old.terms }
+    ensures { IfOk result (λ flow. DoesAnywhere (instr.MakeCons otherwise) stack.old.terms flow stack.new.terms) }
 {
     let tail = stack.pop();
     let head = stack.pop();
@@ -247,8 +286,8 @@ fn make_map<'a, A: Allocator + Copy>(
     keys: u16,
     otherwise: u16,
 ) -> Result<Flow<'a, A>, AllocError>
-    requires { IsReady code.now (instr.MakeMap keys otherwise) stack.old }
-    ensures { IfOk result (λ flow. Does code.now (instr.MakeMap keys otherwise) stack.old flow stack.new) }
+    requires { IsReady code.now (instr.MakeMap keys otherwise) stack.old.terms }
+    ensures { IfOk result (λ flow. Does code.now (instr.MakeMap keys otherwise) stack.old.terms flow stack.new.terms) }
 {
     let map = map_of(alloc, &code.constants()[usize::from(keys)], stack)?;
     push_or_jump(stack, map, otherwise)
@@ -256,8 +295,9 @@ fn make_map<'a, A: Allocator + Copy>(
 
 /// Ends with the top.
 fn answer<'a, A: Allocator + Copy>(stack: &mut Stack<'a, '_, A>) -> Flow<'a, A>
-    requires { 0 < length stack.old }
-    ensures { DoesAnywhere instr.Answer stack.old result stack.new }
+    requires { 0 < length stack.old.terms }
+    ensures flow { DoesAnywhere instr.Answer stack.old.terms result stack.new.terms }
+    ensures borrowed { IsTrue stack.old.borrowed → IsTrue stack.new.borrowed }
 {
     Flow::Answer(stack.pop())
 }
@@ -271,8 +311,9 @@ pub(crate) fn execute<'a, A: Allocator + Copy>(
     stack: &mut Stack<'a, '_, A>,
     slots: &mut Slots<'a, '_, A>,
 ) -> Result<Flow<'a, A>, AllocError>
-    requires { (pc : ℕ) × (does code.now object.now instr pc stack.old slots.old ≢ Stuck) }
-    ensures { IfOk result (λ flow. (pc : ℕ) → flow_outcome code.now pc flow stack.new slots.new ≡ does code.now object.now instr pc stack.old slots.old) }
+    requires { (pc : ℕ) × (does code.now object.now instr pc stack.old.terms slots.old.bindings ≢ Stuck) }
+    ensures flow { IfOk result (λ flow. (pc : ℕ) → flow_outcome code.now pc flow stack.new.terms slots.new.bindings ≡ does code.now object.now instr pc stack.old.terms slots.old.bindings) }
+    ensures memory { MakesNone instr → HasRoom code.now instr (length stack.old.terms) → AreBorrowed stack.old slots.old → IsOk result × AreBorrowed stack.new slots.new }
 {
     match instr {
         Instr::Load => push(stack, Value::Borrowed(Operand::Term(object))),

@@ -2,13 +2,15 @@
 //!
 //! The one contract: `run` gives the answer of the run of the code on an object, by the machine's definition (`Runs` of
 //! `mcode/specs/Machine.antt`), and the exact number of instructions executed, which is at most the budget; no state of the
-//! run is stuck. `run_true` gives whether that answer is `true`, and the same number. Neither tests what the verifier knows.
+//! run is stuck. `run_true` gives whether that answer is `true`, and the same number; of code that makes no terms, and has few
+//! places and slots, it takes no memory. Neither tests what the verifier knows.
 //!
 //! - `execution`: runs; `instructions`: what each instruction does; `flow`: where one leads.
 //! - `place`, `stack`, `slots`: where values are kept, the operand stack and the slots. `values`, `maps`: what instructions make
 //!   of values.
 //! - `laws`: that a run has one end, that typed code is never stuck and ends, and that no run passes the budget. What is
-//!   known of a state that is of the shape known to the verifier stands in `specs/Fits.antt`.
+//!   known of a state that is of the shape known to the verifier stands in `specs/Fits.antt`, and which code needs no memory in
+//!   `specs/Memory.antt`.
 #![tactic(auto)]
 
 mod execution;
@@ -28,3 +30,4 @@ pub use laws::{
     machine_is_deterministic, runs_stay_within_the_budget, typed_code_ends,
     typed_code_is_never_stuck,
 };
+pub use place::{INLINE_PLACES, INLINE_SLOTS};

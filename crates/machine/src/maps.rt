@@ -31,9 +31,9 @@ fn pairs_of<'a, A: Allocator + Copy>(
     keys: Vec<Term<A>, A>,
     stack: &mut Stack<'a, '_, A>,
 ) -> Result<Vec<(Term<A>, Term<A>), A>, AllocError>
-    requires { length keys.items ≤ length stack.old }
-    ensures pairs { IfOk result (λ pairs. pairs.items ≡ zip keys.items (reverse (take (length keys.items) stack.old))) }
-    ensures rest { OnOk result (stack.new ≡ drop (length keys.items) stack.old) }
+    requires { length keys.items ≤ length stack.old.terms }
+    ensures pairs { IfOk result (λ pairs. pairs.items ≡ zip keys.items (reverse (take (length keys.items) stack.old.terms))) }
+    ensures rest { OnOk result (stack.new.terms ≡ drop (length keys.items) stack.old.terms) }
 {
     let mut keys = keys;
     let mut pairs = Vec::with_capacity(alloc, keys.len())?;
@@ -51,9 +51,9 @@ pub(crate) fn map_of<'a, A: Allocator + Copy>(
     stack: &mut Stack<'a, '_, A>,
 ) -> Result<Option<Value<'a, A>>, AllocError>
     requires keys { IsSome (map_keys keys.now) }
-    requires deep { IfSome (map_keys keys.now) (λ keys. length keys ≤ length stack.old) }
-    ensures map { IfOk result (λ map. IfSome (map_keys keys.now) (λ keys. option_map value_datum map ≡ map_made keys (reverse (take (length keys) stack.old)))) }
-    ensures rest { OnOk result (IfSome (map_keys keys.now) (λ keys. stack.new ≡ drop (length keys) stack.old)) }
+    requires deep { IfSome (map_keys keys.now) (λ keys. length keys ≤ length stack.old.terms) }
+    ensures map { IfOk result (λ map. IfSome (map_keys keys.now) (λ keys. option_map value_datum map ≡ map_made keys (reverse (take (length keys) stack.old.terms)))) }
+    ensures rest { OnOk result (IfSome (map_keys keys.now) (λ keys. stack.new.terms ≡ drop (length keys) stack.old.terms)) }
 {
     let keys = elements_of(alloc, keys)?;
     let pairs = pairs_of(alloc, keys, stack)?;

@@ -3,6 +3,12 @@ use prims::{Operand, Value};
 use std::alloc::{AllocError, Allocator};
 use term_core::Term;
 
+/// How many places of the operand stack take no memory.
+pub const INLINE_PLACES: usize = 16;
+
+/// How many slots take no memory.
+pub const INLINE_SLOTS: usize = 8;
+
 /// A value as the operand stack and the slots keep it: what was made is behind a pointer, so that places are small.
 #[derive(Drop)]
 pub(crate) enum Place<'a, 'h, A: Allocator> {
@@ -20,14 +26,15 @@ impl<'a, 'h, A: Allocator> Default for Place<'a, 'h, A> {
 }
 
 impl<'a, 'h, A: Allocator + Copy> Place<'a, 'h, A> {
-    ghost use Rattle.std.specs.Prelude.{◌≡◌, IfOk};
+    ghost use Rattle.std.specs.Prelude.{◌≡◌, IsTrue, IfOk, IsOkAnd};
     ghost use Rattle.prims.specs.Operand.{operand_datum};
-    ghost use Rattle.prims.specs.Value.{value_datum};
-    ghost use Rattle.machine.specs.Stack.{place_datum};
+    ghost use Rattle.prims.specs.Value.{value_datum, IsBorrowed};
+    ghost use Rattle.machine.specs.Stack.{place_datum, is_borrowed};
 
-    /// A place for a value.
+    /// A place for a value. A borrowed one takes no memory.
     pub(crate) fn new(heap: &'h A, value: Value<'a, A>) -> Result<Self, AllocError>
-        ensures { IfOk result (λ place. place_datum place ≡ value_datum value.entry) }
+        ensures value { IfOk result (λ place. place_datum place ≡ value_datum value.entry) }
+        ensures memory { IsBorrowed value.entry → IsOkAnd result (λ place. IsTrue (is_borrowed place)) }
     {
         match value {
             Value::Borrowed(operand) => Ok(Place::Borrowed(operand)),
@@ -37,7 +44,8 @@ impl<'a, 'h, A: Allocator + Copy> Place<'a, 'h, A> {
 
     /// The value.
     pub(crate) fn into_value(self) -> Value<'a, A>
-        ensures { value_datum result ≡ place_datum self.entry }
+        ensures value { value_datum result ≡ place_datum self.entry }
+        ensures borrowed { IsTrue (is_borrowed self.entry) → IsBorrowed result }
     {
         match self {
             Place::Borrowed(operand) => Value::Borrowed(operand),
@@ -57,7 +65,8 @@ impl<'a, 'h, A: Allocator + Copy> Place<'a, 'h, A> {
 
     /// The value once more. A borrowed one takes no memory.
     pub(crate) fn copy(&self, alloc: A) -> Result<Value<'a, A>, AllocError>
-        ensures { IfOk result (λ value. value_datum value ≡ place_datum self.now) }
+        ensures value { IfOk result (λ value. value_datum value ≡ place_datum self.now) }
+        ensures memory { IsTrue (is_borrowed self.now) → IsOkAnd result IsBorrowed }
     {
         match self {
             Place::Borrowed(operand) => Ok(Value::Borrowed(*operand)),

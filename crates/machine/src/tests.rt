@@ -1,6 +1,6 @@
 //! Worked runs: code and objects, what is answered and how many instructions are executed; and memory refused in turn.
 use crate::{run, run_true};
-use failing_alloc::sweep;
+use failing_alloc::{Failing, sweep};
 use mcode::{Builder, Code, Frame, Function, Instr, Places, Slots};
 use prims::{Arithmetic, ListFunction, TupleFunction};
 use std::alloc::{Allocator, Global};
@@ -361,4 +361,139 @@ fn each_request_refused_in_turn(rt: HostRuntime) {
         }
     });
     assert!(rt; outcome.is_complete(), "{outcome:?}");
+}
+
+/// How many requests of memory it takes to build this code and to read this object.
+fn requests(alloc: Global, program: Program, object: &[u8]) -> Option<u64> {
+    let heap = Failing::counting(alloc);
+    let _code = verified(&heap, program)?;
+    let _objects = read_terms(&heap, object).ok()?;
+    Some(heap.requests())
+}
+
+/// What `run_true` gives where each request is refused once the code and the object are there, none where it is refused.
+fn held_without(alloc: Global, program: Program, object: &[u8]) -> Option<(bool, u32)> {
+    let built = requests(alloc, program, object)?;
+    let heap = Failing::refusing_from(alloc, built.saturating_add(1));
+    let code = verified(&heap, program)?;
+    let objects = read_terms(&heap, object).ok()?;
+    run_true(&heap, &code, objects.first()?).ok()
+}
+
+/// What `ran` gives so.
+fn ran_without(alloc: Global, program: Program, object: &[u8]) -> Option<(Vec<u8>, u32)> {
+    let built = requests(alloc, program, object)?;
+    let heap = Failing::refusing_from(alloc, built.saturating_add(1));
+    ran(alloc, &heap, program, object)
+}
+
+fn holds_without(alloc: Global, program: Program, object: &str, executed: u32) -> bool {
+    match held_without(alloc, program, object.as_bytes()) {
+        Some((holds, steps)) => holds && steps == executed,
+        None => false,
+    }
+}
+
+fn is_refused(alloc: Global, program: Program, object: &str) -> bool {
+    held_without(alloc, program, object.as_bytes()).is_none()
+}
+
+fn is_run_without(alloc: Global, program: Program, object: &str, answer: &str) -> bool {
+    match ran_without(alloc, program, object.as_bytes()) {
+        Some((out, _)) => out.as_slice() == answer.as_bytes(),
+        None => false,
+    }
+}
+
+#[test]
+fn code_that_makes_nothing_takes_no_memory(rt: HostRuntime) {
+    let parts = [
+        LOAD,
+        tuple(2, 37),
+        DUP,
+        Instr::Field { index: 1 },
+        cons(37),
+        DUP,
+        Instr::Head,
+        Instr::Bind { slot: 0 },
+        Instr::Tail,
+        Instr::Bind { slot: 7 },
+        Instr::Field { index: 2 },
+        Instr::Map { otherwise: 37 },
+        Instr::Value {
+            key: 0,
+            otherwise: 37,
+        },
+        Instr::Get { slot: 0 },
+        Instr::Int { otherwise: 37 },
+        Instr::Const { constant: 1 },
+        Instr::Arith {
+            function: Arithmetic::Add,
+            otherwise: 37,
+        },
+        DROP,
+        Instr::Get { slot: 7 },
+        Instr::Call {
+            function: Function::List(ListFunction::Hd),
+            arguments: 1,
+            otherwise: 37,
+        },
+        DROP,
+        DUP,
+        DUP,
+        DUP,
+        DUP,
+        DUP,
+        DUP,
+        DUP,
+        DUP,
+        DUP,
+        DUP,
+        DUP,
+        DUP,
+        DUP,
+        DUP,
+        DUP,
+        ANSWER,
+        NO_ANSWER,
+    ];
+    let object = "{[1,2],#{k=>true}}.";
+    let wide = [
+        LOAD, LOAD, LOAD, LOAD, LOAD, LOAD, LOAD, LOAD, LOAD, LOAD, LOAD, LOAD, LOAD, LOAD, LOAD,
+        LOAD, LOAD, ANSWER, NO_ANSWER,
+    ];
+    let taken = Program {
+        slots: 8,
+        constants: "k. 1.",
+        instructions: &parts,
+        frame: (37, 0),
+    };
+    let slotted = Program { slots: 9, ..taken };
+    assert!(rt; holds_without(rt.alloc(), taken, object, 37));
+    assert!(rt; holds_without(rt.alloc(), plain("", &wide[1..], (17, 0)), "true.", 17));
+    for (code, object, executed) in [
+        (slotted, object, 37),
+        (plain("", &wide, (18, 0)), "true.", 18),
+    ] {
+        assert!(rt; is_run(rt.alloc(), code, object, "true", executed));
+        assert!(rt; is_refused(rt.alloc(), code, object), "{object}");
+    }
+}
+
+#[test]
+fn a_number_is_answered_without_memory(rt: HostRuntime) {
+    let less = [
+        LOAD,
+        Instr::Int { otherwise: 5 },
+        FIRST,
+        Instr::Arith {
+            function: Arithmetic::Subtract,
+            otherwise: 5,
+        },
+        ANSWER,
+        NO_ANSWER,
+    ];
+    let less = plain("1.", &less, (5, 0));
+    assert!(rt; is_run_without(rt.alloc(), less, "5.", "4"));
+    assert!(rt; is_run_without(rt.alloc(), less, "a.", ""));
 }

@@ -1,5 +1,5 @@
 //! What instructions make of values.
-ghost use Rattle.std.specs.Prelude.{◌≡◌, ◌∷◌, [], Some, IsSome, IfOk, IfSome, map};
+ghost use Rattle.std.specs.Prelude.{◌≡◌, ◌∷◌, [], Some, IsSome, IfOk, IfSome, IsOkAnd, map};
 ghost use Rattle.std.specs.Option.{option_map};
 ghost use Rattle.term_core.specs.Datum.Datum.{cons};
 ghost use Rattle.term_core.specs.Limits.{within_limits};
@@ -8,7 +8,7 @@ ghost use Rattle.prims.specs.Lists.{head_of, tail_behind};
 ghost use Rattle.prims.specs.Maps.{map_get_of};
 ghost use Rattle.prims.specs.Operand.{operand_datum};
 ghost use Rattle.prims.specs.Order.{is_same};
-ghost use Rattle.prims.specs.Value.{value_datum};
+ghost use Rattle.prims.specs.Value.{value_datum, IsBorrowed};
 ghost use Rattle.mcode.specs.Kind.{holds as holds_for};
 ghost use Rattle.mcode.specs.Machine.{field_of, tuple_made};
 ghost use Rattle.mcode.specs.declared.kind.Kind.TheVariants as kind;
@@ -23,7 +23,8 @@ use term_core::{Term, make_list, make_tuple};
 
 /// The operand that a value is, where it is borrowed.
 fn borrowed<'a, A: Allocator>(value: &Value<'a, A>) -> Option<Operand<'a, A>>
-    ensures { IfSome result (λ operand. operand_datum operand ≡ value_datum value.now) }
+    ensures value { IfSome result (λ operand. operand_datum operand ≡ value_datum value.now) }
+    ensures borrowed { IsBorrowed value.now → IsSome result }
 {
     match value {
         Value::Borrowed(operand) => Some(*operand),
@@ -32,11 +33,12 @@ fn borrowed<'a, A: Allocator>(value: &Value<'a, A>) -> Option<Operand<'a, A>>
 }
 
 /// What a function gives of operands, borrowed from where they are.
-fn call_borrowed<'a, A: Allocator>(
+pub(crate) fn call_borrowed<'a, A: Allocator>(
     function: Primitive,
     operands: &[Operand<'a, A>],
 ) -> Option<Value<'a, A>>
-    ensures { option_map value_datum result ≡ function_of function (map operand_datum operands.now) }
+    ensures value { option_map value_datum result ≡ function_of function (map operand_datum operands.now) }
+    ensures borrowed { IfSome result IsBorrowed }
 {
     match call(function, operands) {
         Some(operand) => Some(Value::Borrowed(operand)),
@@ -44,13 +46,14 @@ fn call_borrowed<'a, A: Allocator>(
     }
 }
 
-/// What a function gives of one value, none where the call fails.
+/// What a function gives of one value, none where the call fails. A borrowed one takes no memory.
 pub(crate) fn call_one<'a, A: Allocator + Copy>(
     alloc: A,
     function: Primitive,
     value: Value<'a, A>,
 ) -> Result<Option<Value<'a, A>>, AllocError>
-    ensures { IfOk result (λ given. option_map value_datum given ≡ function_of function (value_datum value.entry ∷ [])) }
+    ensures value { IfOk result (λ given. option_map value_datum given ≡ function_of function (value_datum value.entry ∷ [])) }
+    ensures memory { IsBorrowed value.entry → IsOkAnd result (λ given. IfSome given IsBorrowed) }
 {
     match borrowed(&value) {
         Some(operand) => Ok(call_borrowed(function, &[operand])),
@@ -62,14 +65,15 @@ pub(crate) fn call_one<'a, A: Allocator + Copy>(
     }
 }
 
-/// What a function gives of two values, none where the call fails.
+/// What a function gives of two values, none where the call fails. Borrowed ones take no memory.
 pub(crate) fn call_two<'a, A: Allocator + Copy>(
     alloc: A,
     function: Primitive,
     left: Value<'a, A>,
     right: Value<'a, A>,
 ) -> Result<Option<Value<'a, A>>, AllocError>
-    ensures { IfOk result (λ given. option_map value_datum given ≡ function_of function (value_datum left.entry ∷ value_datum right.entry ∷ [])) }
+    ensures value { IfOk result (λ given. option_map value_datum given ≡ function_of function (value_datum left.entry ∷ value_datum right.entry ∷ [])) }
+    ensures memory { IsBorrowed left.entry → IsBorrowed right.entry → IsOkAnd result (λ given. IfSome given IsBorrowed) }
 {
     if let Some(first) = borrowed(&left) {
         if let Some(second) = borrowed(&right) {
@@ -89,7 +93,8 @@ pub(crate) fn field<'a, A: Allocator + Copy>(
     tuple: Value<'a, A>,
 ) -> Result<Value<'a, A>, AllocError>
     requires { IsSome (field_of index (value_datum tuple)) }
-    ensures { IfOk result (λ value. field_of index (value_datum tuple.entry) ≡ Some (value_datum value)) }
+    ensures value { IfOk result (λ value. field_of index (value_datum tuple.entry) ≡ Some (value_datum value)) }
+    ensures memory { IsBorrowed tuple.entry → IsOkAnd result IsBorrowed }
 {
     let place = Value::Borrowed(Operand::Int(i64::from(index)));
     match call_two(
@@ -109,7 +114,8 @@ pub(crate) fn head<'a, A: Allocator + Copy>(
     list: Value<'a, A>,
 ) -> Result<Value<'a, A>, AllocError>
     requires { IsSome (head_of (value_datum list)) }
-    ensures { IfOk result (λ value. head_of (value_datum list.entry) ≡ Some (value_datum value)) }
+    ensures value { IfOk result (λ value. head_of (value_datum list.entry) ≡ Some (value_datum value)) }
+    ensures memory { IsBorrowed list.entry → IsOkAnd result IsBorrowed }
 {
     match call_one(alloc, Primitive::List(ListFunction::Hd), list)? {
         Some(value) => Ok(value),
@@ -123,7 +129,8 @@ pub(crate) fn tail<'a, A: Allocator + Copy>(
     list: Value<'a, A>,
 ) -> Result<Value<'a, A>, AllocError>
     requires { IsSome (tail_behind (value_datum list)) }
-    ensures { IfOk result (λ value. tail_behind (value_datum list.entry) ≡ Some (value_datum value)) }
+    ensures value { IfOk result (λ value. tail_behind (value_datum list.entry) ≡ Some (value_datum value)) }
+    ensures memory { IsBorrowed list.entry → IsOkAnd result IsBorrowed }
 {
     match call_one(alloc, Primitive::List(ListFunction::Tl), list)? {
         Some(value) => Ok(value),
@@ -137,7 +144,8 @@ pub(crate) fn value_of_key<'a, A: Allocator + Copy>(
     key: &'a Term<A>,
     map: Value<'a, A>,
 ) -> Result<Option<Value<'a, A>>, AllocError>
-    ensures { IfOk result (λ value. option_map value_datum value ≡ map_get_of key.now (value_datum map.entry)) }
+    ensures value { IfOk result (λ value. option_map value_datum value ≡ map_get_of key.now (value_datum map.entry)) }
+    ensures memory { IsBorrowed map.entry → IsOkAnd result (λ value. IfSome value IsBorrowed) }
 {
     let key = Value::Borrowed(Operand::Term(key));
     call_two(alloc, Primitive::Map(MapFunction::MapGet), key, map)

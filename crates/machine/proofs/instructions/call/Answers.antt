@@ -3,10 +3,10 @@ use Rattle.std.proofs.lemmas.Result.{IfOk-weaker}
 use Rattle.machine.proofs.MakeLemmas.{called_is}
 use Rattle.machine.proofs.instructions.call.Goals as goal
 
-pub returns : goal.returns
-returns g c =
+pub returns-clause-flow : goal.returns-clause-flow
+returns-clause-flow g c =
     let value = c.in_ok-value.ensures.value in
-    let value = rw (c.primitive.ensures, c.as_slice.ensures.value, c.in_ok-values.ensures.values) at value in
+    let value = rw c.primitive.ensures at value in
     IfOk-weaker c.push_or_jump.result _ _
-    (λ flow leads p object pc slots. leads p pc slots ∙ called_is c.args.function c.args.arguments c.args.otherwise c.args.stack.now c.requires _ _ c.in_ok-values.ensures.rest value p object pc slots)
-    c.push_or_jump.ensures
+    (λ flow leads p object pc slots. leads p pc slots ∙ called_is c.args.function c.args.arguments c.args.otherwise c.args.stack.now.terms c.requires _ _ c.in_ok-value.ensures.rest value p object pc slots)
+    c.push_or_jump.ensures.flow

@@ -8,5 +8,5 @@ returns g c =
     let tuple = c.in_ok-tuple.ensures in
     let tuple = rw c.in_ok-elements.ensures.values at tuple in
     IfOk-weaker c.push_or_jump.result _ _
-    (λ flow leads p object pc slots. leads p pc slots ∙ tuple_is c.args.size c.args.otherwise c.args.stack.now c.requires _ _ c.in_ok-elements.ensures.rest tuple p object pc slots)
-    c.push_or_jump.ensures
+    (λ flow leads p object pc slots. leads p pc slots ∙ tuple_is c.args.size c.args.otherwise c.args.stack.now.terms c.requires _ _ c.in_ok-elements.ensures.rest tuple p object pc slots)
+    c.push_or_jump.ensures.flow

@@ -13,7 +13,7 @@ make_map-requires g c =
     let are = map_keys_are c.args.keys.now c.in_ok-keys.keys.items c.requires.keys c.in_ok-keys.ensures in
     let deep = c.requires.deep in
     let deep = rw are.1 at deep in
-    rw c.in_ok-pairs.ensures.pairs (pairs_apart c.in_ok-keys.keys.items c.args.stack.now deep are.0)
+    rw c.in_ok-pairs.ensures.pairs (pairs_apart c.in_ok-keys.keys.items c.args.stack.now.terms deep are.0)
 
 pub returns-in-Some-clause-map : goal.returns-in-Some-clause-map
 returns-in-Some-clause-map g c =

@@ -5,9 +5,9 @@ use Rattle.machine.proofs.maps.pairs_of.Given as goal
 
 abbrev pub invariant-loop-key : goal.invariant-loop-key
 invariant-loop-key g l =
-    (length l.keys.items ≤ length l.stack)
-    × (pairs_so_far l.keys.items l.stack l.pairs.items ≡ pairs_so_far l.fn.keys.items l.fn.stack [])
-    × (drop (length l.keys.items) l.stack ≡ drop (length l.fn.keys.items) l.fn.stack)
+    (length l.keys.items ≤ length l.stack.terms)
+    × (pairs_so_far l.keys.items l.stack.terms l.pairs.items ≡ pairs_so_far l.fn.keys.items l.fn.stack.terms [])
+    × (drop (length l.keys.items) l.stack.terms ≡ drop (length l.fn.keys.items) l.fn.stack.terms)
 
 abbrev pub decreases-loop-key : goal.decreases-loop-key
 decreases-loop-key g l = length l.keys.items

@@ -5,7 +5,7 @@ use Rattle.machine.proofs.stack.Stack.take.Given as goal
 
 abbrev pub invariant-loop-values : goal.invariant-loop-values
 invariant-loop-values g l =
-    (length l.values.items ≤ l.count) × (map value_datum l.values.items ≡ take (length l.values.items) l.fn.self) × (l.self ≡ drop (length l.values.items) l.fn.self)
+    (length l.values.items ≤ l.count) × (map value_datum l.values.items ≡ take (length l.values.items) l.fn.self.terms) × (l.self.terms ≡ drop (length l.values.items) l.fn.self.terms)
 
 abbrev pub decreases-loop-values : goal.decreases-loop-values
 decreases-loop-values g l = l.count - length l.values.items

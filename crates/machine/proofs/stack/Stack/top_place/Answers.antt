@@ -3,8 +3,8 @@ use Rattle.machine.specs.Stack.{place_datum, stack_of}
 use Rattle.machine.proofs.StackLemmas.{stack_depth, stack_top}
 use Rattle.machine.proofs.stack.Stack.top_place.Goals as goal
 
-pub returns : goal.returns
-returns g c =
+pub returns-clause-terms : goal.returns-clause-terms
+returns-clause-terms g c =
     let places = c.as_slice-places.result.now in
     let some = c.requires in
     let some = rw (← c.self.view_is, ← c.as_slice-places.ensures) at some in
