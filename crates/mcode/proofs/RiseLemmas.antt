@@ -1,5 +1,5 @@
 -- Lists whose numbers rise, and one more at their end.
-use Rattle.std.specs.Prelude.{ℕ, zero, suc, ◌≡◌, ◌≢◌, ◌+◌, ◌-◌, ◌<◌, ◌≤◌, ◌⊎◌, cond, Bool, true, false, nat_eq, List, [], ◌∷◌, ◌++◌, length, map, Option, Some, None, slice_get, All}
+use Rattle.std.specs.Prelude.{ℕ, zero, suc, ◌≡◌, ◌≢◌, ◌+◌, ◌-◌, ◌<◌, cond, Bool, true, false, nat_eq, List, [], ◌∷◌, ◌++◌, length, map, Some, None, slice_get, All}
 use Rattle.std.proofs.Common.{arith, get_or, refl, sym, ap, subst, ◌∙◌, inl, inr}
 use Rattle.std.proofs.lemmas.Bool.{eq-eqb, eqb-true, ne_eqb, cases_lt}
 use Rattle.std.proofs.lemmas.Cmp.{nat_cmp_total}

@@ -1,14 +1,14 @@
 -- A fault of code and a typing of it exclude each other.
-use Rattle.std.specs.Prelude.{ℕ, zero, suc, ◌≡◌, ◌<◌, ◌≤◌, ◌⊎◌, IsTrue, IsSome, IfSome, true, false, Option, Some, None, List, length, slice_get, All}
+use Rattle.std.specs.Prelude.{ℕ, zero, suc, ◌≡◌, Option, Some, None, slice_get}
 use Rattle.std.specs.Option.{option_and_then}
-use Rattle.std.proofs.Common.{arith, refl, sym, ap, subst, ◌∙◌, inl, inr, get_or}
+use Rattle.std.proofs.Common.{arith, refl, sym, ap, subst, ◌∙◌, inl, inr}
 use Rattle.std.proofs.lemmas.Option.{slice_get_within, get_or_from_slice_get}
-use Rattle.mcode.specs.Program.{Program, Frame, frame_at}
+use Rattle.mcode.specs.Program.{Program, frame_at}
 use Rattle.mcode.specs.declared.instr.Instr.{Instr}
 use Rattle.verifier.specs.Shape.{Shape}
 use Rattle.verifier.specs.Effect.{falling_shape}
-use Rattle.verifier.specs.Typing.{IsFrameFit, IsTypedAt, AreTypedBelow, HasShapes, IsTyped, Begins, falling_into}
-use Rattle.verifier.specs.Faults.{IsFaultIn, IsFirstFault, IsFirstUntyped, IsFirstUnfit, IsEmpty}
+use Rattle.verifier.specs.Typing.{IsFrameFit, IsTypedAt, AreTypedBelow, IsTyped, falling_into}
+use Rattle.verifier.specs.Faults.{IsFaultIn, IsFirstFault, IsFirstUntyped, IsFirstUnfit}
 use Rattle.verifier.specs.Pass.{begun, shape_at}
 use Rattle.verifier.specs.declared.fault.Fault.{Fault}
 use Rattle.verifier.specs.declared.fault.Fault.TheVariants as fault

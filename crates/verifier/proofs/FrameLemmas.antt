@@ -1,7 +1,7 @@
 -- Frames that are fit.
-use Rattle.std.specs.Prelude.{ℕ, ◌≡◌, ◌<◌, Some, All, List, length}
-use Rattle.std.proofs.Common.{sym, get_or}
-use Rattle.mcode.specs.Program.{Program, Frame, IsProgram, frame_at, frame_number, IsFrame}
+use Rattle.std.specs.Prelude.{ℕ, ◌≡◌, ◌<◌, Some, All}
+use Rattle.std.proofs.Common.{sym}
+use Rattle.mcode.specs.Program.{Program, Frame, IsProgram, frame_at, frame_number}
 use Rattle.mcode.proofs.RiseLemmas.{number_stands}
 use Rattle.verifier.specs.Kept.{AreKept}
 use Rattle.verifier.specs.Typing.{IsFrameFit}

@@ -1,5 +1,5 @@
 -- Constants that are lists of keys, and the kinds at the top.
-use Rattle.std.specs.Prelude.{ℕ, ◌≡◌, Bool, true, false, if◌then◌else◌, Option, Some, None, List, [], ◌∷◌, length, slice_get}
+use Rattle.std.specs.Prelude.{◌≡◌, Bool, true, false, if◌then◌else◌, Option, Some, None, List, [], ◌∷◌, length, slice_get}
 use Rattle.std.specs.Option.{option_map, option_and_then}
 use Rattle.std.proofs.Common.{refl, sym, ap, ◌∙◌, cond}
 use Rattle.term_core.specs.Datum.{Datum, cells, proper_elements, IsNoList}

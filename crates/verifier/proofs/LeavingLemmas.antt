@@ -1,6 +1,6 @@
 -- What an instruction leaves.
-use Rattle.std.specs.Prelude.{ℕ, ◌≡◌, ◌+◌, ◌<◌, ◌≤◌, ◌++◌, IsTrue, Bool, Option, Some, None, List, [], ◌∷◌, length, drop, slice_get, nat_lt}
-use Rattle.std.proofs.Common.{arith, rules, refl, sym, ap, ap₂, ◌∙◌, subst}
+use Rattle.std.specs.Prelude.{ℕ, ◌≡◌, ◌+◌, ◌<◌, ◌≤◌, ◌++◌, IsTrue, Bool, Option, List, [], ◌∷◌, length, drop, slice_get}
+use Rattle.std.proofs.Common.{arith, refl, ap, ap₂, ◌∙◌}
 use Rattle.std.proofs.lemmas.Bool.{ltb-true}
 use Rattle.std.proofs.lemmas.List.{length-append}
 use Rattle.verifier.specs.declared.TheConstants.{MAX_DEPTH}

@@ -1,7 +1,7 @@
 -- The one state in which each instruction can begin, and the pass that knows it.
-use Rattle.std.specs.Prelude.{ℕ, zero, suc, ◌≡◌, ◌+◌, ◌<◌, ◌≤◌, ◌⊎◌, max, Bool, true, false, if◌then◌else◌, cond, IsTrue, IfSome, Option, Some, None, List, [], ◌∷◌, ◌++◌, length, set, replicate, slice_get, All}
+use Rattle.std.specs.Prelude.{ℕ, zero, suc, ◌≡◌, ◌+◌, ◌<◌, ◌⊎◌, max, Bool, true, false, Option, Some, None, List, [], ◌∷◌, ◌++◌, length, set, replicate, slice_get, All}
 use Rattle.std.specs.Option.{option_and_then}
-use Rattle.std.proofs.Common.{arith, refl, sym, ap, subst, ◌∙◌, inl, inr, get_or}
+use Rattle.std.proofs.Common.{arith, refl, sym, ap, ◌∙◌, inl, inr, get_or}
 use Rattle.std.proofs.lemmas.Bool.{cases_lt}
 use Rattle.std.proofs.lemmas.List.{length-set, length-replicate, length-append}
 use Rattle.std.proofs.lemmas.Option.{slice_get-get_or}
@@ -12,9 +12,9 @@ use Rattle.mcode.specs.Program.{Program, Frame, frame_at}
 use Rattle.mcode.specs.Instr.{goes_on}
 use Rattle.mcode.specs.declared.instr.Instr.{Instr}
 use Rattle.mcode.specs.declared.instr.Instr.TheVariants as instr
-use Rattle.verifier.specs.Shape.{Shape, start_shape, shape_of, marked, IsAtOrBelow}
-use Rattle.verifier.specs.Effect.{left_bound, left_shape, falling_shape}
-use Rattle.verifier.specs.Typing.{IsFrameFit, IsTypedAt, IsTypedIn, AreTypedBelow, Begins, falling_into, IsDepthAt}
+use Rattle.verifier.specs.Shape.{Shape, shape_of, marked}
+use Rattle.verifier.specs.Effect.{left_shape, falling_shape}
+use Rattle.verifier.specs.Typing.{IsFrameFit, IsTypedAt, AreTypedBelow, Begins, falling_into}
 use Rattle.verifier.specs.Pass.{begun, shape_at, fallen, IsDeepestBelow, AreDepthsBelow, IsWalked}
 use Rattle.verifier.proofs.ShapeLemmas.{length-frame_kinds}
 use native.Mathlib.Numerals.{unary_clauses}

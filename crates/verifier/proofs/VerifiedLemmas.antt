@@ -1,21 +1,18 @@
 -- What the pass over all instructions says of the code.
-use Rattle.std.specs.Prelude.{ℕ, zero, suc, ◌≡◌, ◌+◌, ◌<◌, ◌≤◌, ◌⊎◌, nat_eq, Bool, true, false, Option, Some, None, IfSome, List, [], ◌∷◌, ◌++◌, length, map, take, slice_get, All}
-use Rattle.std.proofs.Common.{arith, refl, sym, ap, subst, ◌∙◌, inl, inr, get_or}
+use Rattle.std.specs.Prelude.{ℕ, zero, suc, ◌≡◌, ◌+◌, ◌<◌, ◌≤◌, Bool, Some, List, [], ◌∷◌, length, take, slice_get, All}
+use Rattle.std.proofs.Common.{arith, refl, sym, ap, subst, ◌∙◌, inl, get_or}
 use Rattle.std.proofs.lemmas.List.{take_more, take_all}
 use Rattle.std.proofs.lemmas.List.Elements.{All-append}
-use Rattle.std.proofs.lemmas.Bool.{cases_lt}
 use Rattle.std.proofs.lemmas.Option.{slice_get-get_or, slice_get_within}
 use Rattle.budget.specs.Paths.{AllForward, IsBudget}
-use Rattle.mcode.specs.Program.{Program, Frame, IsProgram, frame_at}
-use Rattle.mcode.specs.Instr.{target_of}
+use Rattle.mcode.specs.Program.{Program, Frame, IsProgram}
 use Rattle.mcode.specs.declared.instr.Instr.{Instr}
 use Rattle.mcode.specs.declared.instr.Instr.TheVariants as instr
 use Rattle.verifier.specs.Shape.{Shape}
-use Rattle.verifier.specs.Typing.{IsFrameFit, IsTarget, HasShapes, IsTyped, IsDepth, IsDepthAt}
+use Rattle.verifier.specs.Typing.{IsFrameFit, HasShapes, IsDepth, IsDepthAt}
 use Rattle.verifier.specs.Pass.{shape_at, IsDeepestBelow, IsWalked}
-use Rattle.verifier.specs.Verified.{AreDepths, IsVerified}
+use Rattle.verifier.specs.Verified.{IsVerified}
 use Rattle.verifier.specs.Faults.{IsFirstUnfit}
-use Rattle.verifier.specs.declared.fault.Fault.{Fault}
 use Rattle.verifier.specs.declared.fault.Fault.TheVariants as fault
 use Rattle.verifier.proofs.FrameLemmas.{frame_found}
 

@@ -1,5 +1,5 @@
 -- What an instruction needs, and what it leaves.
-use Rattle.std.specs.Prelude.{ℕ, zero, suc, ◌≡◌, ◌<◌, ◌≤◌, nat_lt, nat_le, Bool, true, false, ◌&&◌, IsTrue, IsSome, if◌then◌else◌, Option, Some, None, option_map, List, [], ◌∷◌, ◌++◌, length, drop, set, slice_get, unwrap_or}
+use Rattle.std.specs.Prelude.{ℕ, ◌<◌, nat_lt, nat_le, Bool, true, false, ◌&&◌, IsSome, if◌then◌else◌, Option, Some, None, option_map, List, [], ◌∷◌, ◌++◌, length, drop, set, slice_get, unwrap_or}
 use Rattle.std.specs.Option.{option_map_or, option_and_then}
 use Rattle.prims.specs.Gives.{gives_of}
 use Rattle.prims.specs.Names.{takes}

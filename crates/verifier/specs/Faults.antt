@@ -1,5 +1,5 @@
 -- What a fault of code says, and that nothing stands before it.
-use Rattle.std.specs.Prelude.{ℕ, suc, ◌≡◌, ◌<◌, ◌≤◌, ◌⊎◌, IsTrue, Option, Some, None, List, length, slice_get, All, take, false}
+use Rattle.std.specs.Prelude.{ℕ, suc, ◌≡◌, ◌<◌, ◌≤◌, ◌⊎◌, IsTrue, Option, Some, None, length, slice_get, All, take, false}
 use Rattle.mcode.specs.Instr.{target_of, goes_on}
 use Rattle.mcode.specs.Program.{Program, Frame, frame_at}
 use Rattle.mcode.specs.declared.instr.Instr.{Instr}

@@ -1,5 +1,4 @@
 -- Laws of typed code.
-use Rattle.std.specs.Prelude.{ℕ}
 use Rattle.mcode.specs.Program.{Program}
 use Rattle.verifier.specs.Faults.{IsFirstFault}
 use Rattle.verifier.specs.Typing.{IsTyped}

@@ -1,6 +1,5 @@
 -- Words of what an instruction leaves.
-use Rattle.std.specs.Prelude.{ℕ, ◌<◌, if◌then◌else◌, is_some, Option, Some, None, List, [], ◌∷◌, slice_get}
-use Rattle.std.specs.Option.{option_map_or}
+use Rattle.std.specs.Prelude.{ℕ, ◌<◌, if◌then◌else◌, is_some, Option, Some, None, List, [], ◌∷◌}
 use Rattle.term_core.specs.Datum.{Datum}
 use Rattle.prims.specs.Booleans.{boolean_of}
 use Rattle.mcode.specs.Program.{Program}

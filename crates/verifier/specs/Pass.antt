@@ -11,7 +11,7 @@ use Rattle.mcode.specs.declared.instr.Instr.TheVariants as instr
 use Rattle.mcode.specs.declared.kind.Kind.{Kind}
 use Rattle.mcode.specs.declared.kind.Kind.TheVariants as kind
 use Rattle.verifier.specs.Shape.{Shape, start_shape, shape_of}
-use Rattle.verifier.specs.Effect.{falling_shape, left_shape}
+use Rattle.verifier.specs.Effect.{falling_shape}
 use Rattle.verifier.specs.Typing.{falling_into, AreTypedBelow, IsDepthAt}
 
 -- how many keys a term has that is a proper list of terms of which no two are the same

@@ -1,5 +1,5 @@
 -- What is known of a state of the machine.
-use Rattle.std.specs.Prelude.{ℕ, zero, suc, ◌≡◌, ◌≤◌, ◌-◌, Bool, true, false, IsTrue, Option, Some, None, List, [], ◌∷◌, length, drop, set, replicate, slice_get, unwrap_or, All}
+use Rattle.std.specs.Prelude.{ℕ, zero, suc, ◌≤◌, ◌-◌, Bool, true, false, IsTrue, List, [], ◌∷◌, length, drop, set, replicate, slice_get, unwrap_or, All}
 use Rattle.std.specs.Option.{option_map_or}
 use Rattle.mcode.specs.Kind.{is_below}
 use Rattle.mcode.specs.Program.{Program, Frame, place_number, with_number}

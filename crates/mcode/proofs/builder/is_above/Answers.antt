@@ -1,4 +1,4 @@
-use Rattle.std.proofs.Common.{rules, ◌≡◌, ℕ, suc, ◌-◌, ◌<◌, map, length, get_or}
+use Rattle.std.proofs.Common.{rules, ◌≡◌, ℕ, suc, ◌-◌, map, length, get_or}
 use Rattle.mcode.specs.Frame.{frame_of}
 use Rattle.mcode.specs.Program.{frame_number}
 use Rattle.mcode.specs.Program as program

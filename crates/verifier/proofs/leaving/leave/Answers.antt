@@ -1,4 +1,3 @@
-use Rattle.std.proofs.Common.{rules, sym, ◌∙◌}
 use Rattle.verifier.proofs.LeavingLemmas.{bindable, left_is, bound_kept, room_left}
 use Rattle.verifier.proofs.leaving.leave.Goals as goal
 

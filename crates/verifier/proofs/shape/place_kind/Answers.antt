@@ -1,6 +1,5 @@
-use Rattle.std.proofs.Common.{rules, ap, ◌∙◌, Option, Some}
+use Rattle.std.proofs.Common.{rules, ap}
 use Rattle.std.proofs.lemmas.Fn.{always_returns_same}
-use Rattle.std.specs.Option.{option_map_or}
 use Rattle.std.specs.Ordering.{nat_cmp}
 use Rattle.mcode.specs.Program.{place_number}
 use Rattle.mcode.specs.declared.kind.Kind.TheVariants as kind

@@ -1,4 +1,3 @@
-use Rattle.std.proofs.Common.{arith, rules, sym}
 use Rattle.std.proofs.lemmas.Bool.{leb-false}
 use Rattle.mcode.specs.Program.{place_number}
 use Rattle.mcode.proofs.RiseLemmas.{rise_within}

@@ -1,4 +1,4 @@
-use Rattle.std.proofs.Common.{arith, ap, sym, subst, length, ◌≡◌}
+use Rattle.std.proofs.Common.{arith, ap, subst, length, ◌≡◌}
 use Rattle.verifier.specs.Pass.{IsWalked}
 use Rattle.verifier.proofs.verification.walk_through.Goals as goal
 

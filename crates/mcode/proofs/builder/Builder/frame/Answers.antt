@@ -1,4 +1,4 @@
-use Rattle.std.proofs.Common.{rules, refl}
+use Rattle.std.proofs.Common.{refl}
 use Rattle.mcode.proofs.builder.Builder.frame.Goals as goal
 
 pub returns-in-Some-clause-refused : goal.returns-in-Some-clause-refused

@@ -1,4 +1,4 @@
-use Rattle.std.proofs.Common.{rules, arith, sym, ◌∙◌, ◌≡◌, length}
+use Rattle.std.proofs.Common.{sym, ◌∙◌, ◌≡◌, length}
 use Rattle.verifier.proofs.ShapeLemmas.{below-length, length-frame_kinds}
 use Rattle.verifier.proofs.shape.Shape.is_at_or_below.Goals as goal
 

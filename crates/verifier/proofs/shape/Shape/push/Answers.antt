@@ -1,4 +1,4 @@
-use Rattle.std.proofs.Common.{arith, sym, ap, ◌∙◌}
+use Rattle.std.proofs.Common.{arith}
 use Rattle.verifier.proofs.ShapeLemmas.{depth_is}
 use Rattle.verifier.proofs.shape.Shape.push.Goals as goal
 
