@@ -21,8 +21,6 @@ mod maps;
 mod place;
 mod slots;
 mod stack;
-#[cfg(test)]
-mod tests;
 mod values;
 
 pub use execution::{run, run_true};

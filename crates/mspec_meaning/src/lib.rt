@@ -17,8 +17,6 @@ mod clauses;
 mod laws;
 mod made;
 mod part;
-#[cfg(test)]
-mod tests;
 mod value;
 
 pub use clauses::evaluate;

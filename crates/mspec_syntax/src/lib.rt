@@ -19,8 +19,6 @@ mod head;
 mod pattern;
 mod read;
 mod size;
-#[cfg(test)]
-mod tests;
 mod variables;
 mod word;
 

@@ -4,8 +4,6 @@
 //! shows to be a total order; `key_hash` is the hash of its `KeyHash.antt`.
 #![tactic(auto)]
 
-#[cfg(test)]
-mod tests;
 
 ghost use Rattle.std.specs.Prelude.{◌≡◌};
 ghost use Rattle.std.specs.Ordering.{MatchOrdering};

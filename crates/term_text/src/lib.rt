@@ -23,5 +23,3 @@ pub use law::canonical_text_is_read_back;
 pub use text::read_terms;
 pub use write::write_term;
 
-#[cfg(test)]
-mod tests;

@@ -20,8 +20,6 @@ mod laws;
 mod leaving;
 mod pass;
 mod shape;
-#[cfg(test)]
-mod tests;
 mod verification;
 mod verified;
 

@@ -2,10 +2,10 @@
 use super::worked::Given::{Integer, Keys, True};
 use super::worked::Verdict::{Accepted, NotBuilt, Refused};
 use super::worked::*;
-use crate::{Fault, MAX_DEPTH};
 use failing_alloc::sweep;
 use mcode::Instr;
 use std::alloc::{Allocator, Global};
+use verifier::{Fault, MAX_DEPTH};
 
 /// What becomes of so many times these two instructions and then a third.
 fn repeated(heap: Global, pair: (Instr, Instr), times: u32, last: Instr) -> Verdict {

@@ -1,8 +1,8 @@
 //! The order on terms of each kind, and hashes that are known.
-use super::*;
 use std::alloc::Global;
-use std::cmp::Ordering::{Equal, Greater, Less};
+use std::cmp::Ordering::{self, Equal, Greater, Less};
 use std::test::*;
+use term_order::{compare, key_hash};
 use term_text::read_terms;
 
 /// How the first term of a text stands to the second.

@@ -1,6 +1,6 @@
 //! Worked runs: code and objects, what is answered and how many instructions are executed; and memory refused in turn.
-use crate::{run, run_true};
 use failing_alloc::{Failing, sweep};
+use machine::{run, run_true};
 use mcode::{Builder, Code, Frame, Function, Instr, Places, Slots};
 use prims::{Arithmetic, ListFunction, TupleFunction};
 use std::alloc::{Allocator, Global};

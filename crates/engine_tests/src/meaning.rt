@@ -1,6 +1,6 @@
 //! Worked answers: a specification and objects, and the lines of what is answered on them.
-use super::*;
 use failing_alloc::sweep;
+use mspec_meaning::evaluate;
 use mspec_syntax::read_spec;
 use std::alloc::{Allocator, Global};
 use std::test::*;

@@ -1,8 +1,9 @@
-use super::*;
+//! Texts and what is written of them, refusals at their places, and what is met exactly at its limit.
 use failing_alloc::{Failing, sweep};
 use std::alloc::{AllocError, Allocator, Global};
 use std::test::*;
 use term_core::Term;
+use term_text::{TextFault, read_terms, write_term};
 
 /// The canonical texts of these terms, a dot behind each and a bar between.
 fn joined<A: Allocator>(alloc: Global, terms: &[Term<A>]) -> Result<Vec<u8>, AllocError> {

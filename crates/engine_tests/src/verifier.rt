@@ -5,9 +5,9 @@ mod worked;
 use self::worked::Given::{Atom, Improper, Integer, Keys, Map, Nil, Pair, True, Twins};
 use self::worked::Verdict::{Accepted, Refused};
 use self::worked::*;
-use crate::Fault;
 use mcode::Kind;
 use std::test::Fail;
+use verifier::Fault;
 
 #[test]
 fn frames_are_checked_first(rt: HostRuntime) {

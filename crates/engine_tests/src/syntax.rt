@@ -1,6 +1,6 @@
 //! What no clause says: each refusal is met on a text, and the limits are met where they should be.
-use super::*;
 use failing_alloc::sweep;
+use mspec_syntax::{MAX_NODES, SpecFault, read_spec};
 use std::alloc::{Allocator, Global};
 use std::test::*;
 use term_text::read_terms;

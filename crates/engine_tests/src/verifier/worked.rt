@@ -1,10 +1,10 @@
 //! Code to be built for a test, and what becomes of it.
 use self::Verdict::{Accepted, NotBuilt, Refused, Wrong};
-use crate::{Fault, Verified, verify};
 use mcode::{Builder, Code, Frame, Function, Instr, Kind, Places, Slots};
 use prims::{Arithmetic, ListFunction, SizeFunction, Test};
 use std::alloc::Allocator;
-use term_core::{Term, View};
+use term_core::Term;
+use verifier::{Fault, Verified, verify};
 
 /// A constant to be made.
 #[derive(Clone, Copy, Debug, PartialEq, Eq)]
