@@ -12,8 +12,6 @@
 mod forward;
 mod laws;
 mod paths;
-#[cfg(test)]
-mod tests;
 
 pub use forward::all_forward;
 pub use laws::budget_is_one;

@@ -4,9 +4,13 @@
 //!
 //! - `order`: how terms stand to each other; `text`: terms read and written.
 //! - `syntax`: specifications that are read or refused; `meaning`: what they answer.
-//! - `verifier`: which code is accepted; `machine`: what it answers.
+//! - `code`: code built part by part; `budget`: its longest way; `verifier`: which code is accepted; `machine`: what it answers.
 #![tactic(auto)]
 
+#[cfg(test)]
+mod budget;
+#[cfg(test)]
+mod code;
 #[cfg(test)]
 mod machine;
 #[cfg(test)]

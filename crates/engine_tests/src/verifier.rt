@@ -2,7 +2,6 @@
 mod memory;
 mod worked;
 
-use self::worked::Given::{Atom, Improper, Integer, Keys, Map, Nil, Pair, True, Twins};
 use self::worked::Verdict::{Accepted, Refused};
 use self::worked::*;
 use mcode::Kind;
@@ -64,11 +63,11 @@ fn constants_are_what_they_have_to_be(rt: HostRuntime) {
     for row in [
         row(&[constant(0), ANSWER], &[], Refused(Fault::Constant(0))),
         with(
-            &[True],
+            "true.",
             row(&[constant(1), ANSWER], &[], Refused(Fault::Constant(0))),
         ),
         with(
-            &[True],
+            "true.",
             row(
                 &[constant(0), ANSWER, NO_ANSWER],
                 &[bare(2, 0)],
@@ -76,30 +75,30 @@ fn constants_are_what_they_have_to_be(rt: HostRuntime) {
             ),
         ),
         with(
-            &[True],
+            "true.",
             row(&one_key, &[bare(3, 0)], Refused(Fault::Constant(1))),
         ),
         with(
-            &[Map],
+            "#{}.",
             row(&one_key, &[bare(3, 0)], Refused(Fault::Constant(1))),
         ),
         with(
-            &[Improper],
+            "[1|2].",
             row(&one_key, &[bare(3, 0)], Refused(Fault::Constant(1))),
         ),
         with(
-            &[Twins],
+            "[1,1].",
             row(&two_keys, &[bare(4, 0)], Refused(Fault::Constant(2))),
         ),
         row(&no_key, &[bare(2, 0)], Refused(Fault::Constant(0))),
-        with(&[Keys], row(&two_keys, &[bare(4, 0)], Accepted(4, 2))),
+        with("[1,2].", row(&two_keys, &[bare(4, 0)], Accepted(4, 2))),
         with(
-            &[Keys],
+            "[1,2].",
             row(&one_key, &[bare(3, 0)], Refused(Fault::Underflow(1))),
         ),
-        with(&[Nil], row(&no_key, &[bare(2, 0)], Accepted(2, 1))),
+        with("[].", row(&no_key, &[bare(2, 0)], Accepted(2, 1))),
         row(&sought, &[bare(4, 0)], Refused(Fault::Constant(2))),
-        with(&[Nil], row(&sought, &[bare(4, 0)], Accepted(4, 1))),
+        with("[].", row(&sought, &[bare(4, 0)], Accepted(4, 1))),
     ] {
         assert_eq!(rt; judged(rt.alloc(), row), row.want, "{row:?}");
     }
@@ -190,7 +189,7 @@ fn kinds_are_those_that_tests_leave(rt: HostRuntime) {
             Refused(Fault::Kind(2)),
         ),
         with(
-            &[True],
+            "true.",
             row(
                 &[LOAD, value(0, 3), ANSWER, NO_ANSWER],
                 &[bare(3, 0)],
@@ -286,7 +285,7 @@ fn kinds_are_those_that_functions_give(rt: HostRuntime) {
             Accepted(5, 2),
         ),
         with(
-            &[Nil],
+            "[].",
             row(
                 &[make_map(0, 3), value(0, 3), ANSWER, NO_ANSWER],
                 &[bare(3, 0)],
@@ -307,19 +306,16 @@ fn constants_have_kinds(rt: HostRuntime) {
     let head = [constant(0), HEAD, ANSWER];
     let branched = [constant(0), branch(2), NO_ANSWER];
     for row in [
-        with(&[Integer], row(&sum, &[bare(4, 0)], Accepted(4, 2))),
-        with(&[Nil], row(&sum, &[bare(4, 0)], Refused(Fault::Kind(2)))),
-        with(&[Pair], row(&second, &[], Accepted(3, 1))),
-        with(&[Pair], row(&third, &[], Refused(Fault::Kind(1)))),
-        with(&[Map], row(&sought, &[bare(3, 0)], Accepted(3, 1))),
-        with(&[Keys], row(&head, &[], Accepted(3, 1))),
-        with(&[Improper], row(&head, &[], Accepted(3, 1))),
-        with(&[Nil], row(&head, &[], Refused(Fault::Kind(1)))),
-        with(&[True], row(&branched, &[bare(2, 0)], Accepted(3, 1))),
-        with(
-            &[Atom],
-            row(&branched, &[bare(2, 0)], Refused(Fault::Kind(1))),
-        ),
+        with("1.", row(&sum, &[bare(4, 0)], Accepted(4, 2))),
+        with("[].", row(&sum, &[bare(4, 0)], Refused(Fault::Kind(2)))),
+        with("{1,2}.", row(&second, &[], Accepted(3, 1))),
+        with("{1,2}.", row(&third, &[], Refused(Fault::Kind(1)))),
+        with("#{}.", row(&sought, &[bare(3, 0)], Accepted(3, 1))),
+        with("[1,2].", row(&head, &[], Accepted(3, 1))),
+        with("[1|2].", row(&head, &[], Accepted(3, 1))),
+        with("[].", row(&head, &[], Refused(Fault::Kind(1)))),
+        with("true.", row(&branched, &[bare(2, 0)], Accepted(3, 1))),
+        with("a.", row(&branched, &[bare(2, 0)], Refused(Fault::Kind(1)))),
     ] {
         assert_eq!(rt; judged(rt.alloc(), row), row.want, "{row:?}");
     }
@@ -398,7 +394,7 @@ fn what_falls_into_a_frame_is_below_it(rt: HostRuntime) {
             Refused(Fault::Frame(1)),
         ),
         with(
-            &[Integer],
+            "1.",
             row(
                 &[constant(0), NO_ANSWER],
                 &[typed(1, 1, 0, Kind::Int)],
@@ -406,11 +402,11 @@ fn what_falls_into_a_frame_is_below_it(rt: HostRuntime) {
             ),
         ),
         with(
-            &[Integer],
+            "1.",
             row(&[constant(0), NO_ANSWER], &[bare(1, 1)], Accepted(2, 1)),
         ),
         with(
-            &[Pair],
+            "{1,2}.",
             row(
                 &[constant(0), NO_ANSWER],
                 &[typed(1, 1, 0, Kind::Tuple(3))],
@@ -418,7 +414,7 @@ fn what_falls_into_a_frame_is_below_it(rt: HostRuntime) {
             ),
         ),
         with(
-            &[Pair],
+            "{1,2}.",
             row(
                 &[constant(0), NO_ANSWER],
                 &[typed(1, 1, 0, Kind::Tuple(2))],
@@ -427,7 +423,7 @@ fn what_falls_into_a_frame_is_below_it(rt: HostRuntime) {
         ),
         // A frame that doesn't name the kinds forgets them.
         with(
-            &[Integer],
+            "1.",
             row(
                 &[constant(0), constant(0), add(4), ANSWER, NO_ANSWER],
                 &[bare(2, 2), bare(4, 0)],
@@ -472,7 +468,7 @@ fn what_jumps_to_a_frame_is_cut_and_below_it(rt: HostRuntime) {
         ),
         // The lowest place stays.
         with(
-            &[Integer],
+            "1.",
             row(
                 &[constant(0), LOAD, jump(3), NO_ANSWER],
                 &[typed(3, 1, 0, Kind::Int)],
@@ -480,7 +476,7 @@ fn what_jumps_to_a_frame_is_cut_and_below_it(rt: HostRuntime) {
             ),
         ),
         with(
-            &[Integer],
+            "1.",
             row(
                 &[LOAD, constant(0), jump(3), NO_ANSWER],
                 &[typed(3, 1, 0, Kind::Int)],
@@ -496,7 +492,7 @@ fn what_jumps_to_a_frame_is_cut_and_below_it(rt: HostRuntime) {
             Accepted(3, 1),
         ),
         with(
-            &[True],
+            "true.",
             row(&sought, &[bare(4, 1)], Refused(Fault::Frame(2))),
         ),
         // What a test finds is not known where it jumps.
@@ -591,7 +587,7 @@ fn the_first_of_two_faults_is_told(rt: HostRuntime) {
         row(&sought, &[bare(1, 0)], Refused(Fault::Constant(0))),
         // that before their kinds,
         with(
-            &[True],
+            "true.",
             row(&sought, &[bare(1, 0)], Refused(Fault::Underflow(0))),
         ),
         row(

@@ -16,8 +16,6 @@ mod frame;
 mod function;
 mod instr;
 mod kind;
-#[cfg(test)]
-mod tests;
 
 pub use builder::Builder;
 pub use code::Code;

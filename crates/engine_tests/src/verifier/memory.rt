@@ -1,5 +1,4 @@
 //! The largest code, and code with each request for memory refused in turn.
-use super::worked::Given::{Integer, Keys, True};
 use super::worked::Verdict::{Accepted, NotBuilt, Refused};
 use super::worked::*;
 use failing_alloc::sweep;
@@ -53,7 +52,7 @@ fn large<A: Allocator + Copy>(heap: A) -> Verdict {
         over(
             2,
             with(
-                &[Keys, Integer, True],
+                "[1,2]. 1. true.",
                 row(
                     &[
                         constant(1),
@@ -78,7 +77,7 @@ fn unfit<A: Allocator + Copy>(heap: A) -> Verdict {
     judged(
         heap,
         with(
-            &[Keys],
+            "[1,2].",
             row(&[constant(0), HEAD, HEAD, ANSWER], &[], NotBuilt),
         ),
     )

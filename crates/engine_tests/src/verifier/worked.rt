@@ -3,60 +3,8 @@ use self::Verdict::{Accepted, NotBuilt, Refused, Wrong};
 use mcode::{Builder, Code, Frame, Function, Instr, Kind, Places, Slots};
 use prims::{Arithmetic, ListFunction, SizeFunction, Test};
 use std::alloc::Allocator;
-use term_core::Term;
+use term_text::read_terms;
 use verifier::{Fault, Verified, verify};
-
-/// A constant to be made.
-#[derive(Clone, Copy, Debug, PartialEq, Eq)]
-pub(super) enum Given {
-    /// `true`
-    True,
-    /// `a`
-    Atom,
-    /// `1`
-    Integer,
-    /// `[]`
-    Nil,
-    /// `[1,2]`
-    Keys,
-    /// `[1|2]`
-    Improper,
-    /// `[1,1]`
-    Twins,
-    /// `{1,2}`
-    Pair,
-    /// `#{}`
-    Map,
-}
-
-/// The elements `1` and this one.
-pub(super) fn two<A: Allocator + Copy>(heap: A, second: i64) -> Option<Vec<Term<A>, A>> {
-    let mut terms = Vec::new(heap);
-    terms.push(Term::int(1)).ok()?;
-    terms.push(Term::int(second)).ok()?;
-    Some(terms)
-}
-
-/// `[1|2]`
-pub(super) fn improper<A: Allocator + Copy>(heap: A) -> Option<Term<A>> {
-    let mut terms = Vec::new(heap);
-    terms.push(Term::int(1)).ok()?;
-    Term::list(heap, terms, Some(Term::int(2))).ok()
-}
-
-pub(super) fn term<A: Allocator + Copy>(heap: A, given: Given) -> Option<Term<A>> {
-    match given {
-        Given::True => Term::atom(heap, "true").ok(),
-        Given::Atom => Term::atom(heap, "a").ok(),
-        Given::Integer => Some(Term::int(1)),
-        Given::Nil => Some(Term::nil()),
-        Given::Keys => Term::list(heap, two(heap, 2)?, None).ok(),
-        Given::Improper => improper(heap),
-        Given::Twins => Term::list(heap, two(heap, 1)?, None).ok(),
-        Given::Pair => Term::tuple(heap, two(heap, 2)?).ok(),
-        Given::Map => Term::map(heap, Vec::new(heap)).ok(),
-    }
-}
 
 /// A frame to be made, with one place at most, where the first so many slots are bound.
 #[derive(Clone, Copy, Debug, PartialEq, Eq)]
@@ -114,7 +62,8 @@ pub(super) enum Verdict {
 #[derive(Clone, Copy, Debug)]
 pub(super) struct Worked<'a> {
     pub(super) slots: u16,
-    pub(super) constants: &'a [Given],
+    /// The text of its constants.
+    pub(super) constants: &'a str,
     pub(super) instructions: &'a [Instr],
     pub(super) frames: &'a [Listed],
     pub(super) want: Verdict,
@@ -128,7 +77,7 @@ pub(super) const fn row<'a>(
 ) -> Worked<'a> {
     Worked {
         slots: 0,
-        constants: &[],
+        constants: "",
         instructions,
         frames,
         want,
@@ -136,7 +85,7 @@ pub(super) const fn row<'a>(
 }
 
 /// The row with these constants.
-pub(super) const fn with<'a>(constants: &'a [Given], row: Worked<'a>) -> Worked<'a> {
+pub(super) const fn with<'a>(constants: &'a str, row: Worked<'a>) -> Worked<'a> {
     Worked { constants, ..row }
 }
 
@@ -164,8 +113,8 @@ pub(super) fn frame_of<A: Allocator + Copy>(heap: A, listed: Listed) -> Option<F
 
 pub(super) fn code_of<A: Allocator + Copy>(heap: A, row: Worked) -> Option<Code<A>> {
     let mut builder = Builder::new(heap, row.slots).ok()?;
-    for given in row.constants {
-        builder.constant(term(heap, *given)?).ok()?;
+    for constant in read_terms(heap, row.constants.as_bytes()).ok()? {
+        builder.constant(constant).ok()?;
     }
     for instr in row.instructions {
         builder.instr(*instr).ok()?;
@@ -176,10 +125,10 @@ pub(super) fn code_of<A: Allocator + Copy>(heap: A, row: Worked) -> Option<Code<
     Some(builder.finish())
 }
 
-/// Whether the code is that of the row, by its counts and instructions.
-pub(super) fn is_code<A: Allocator>(code: &Code<A>, row: Worked) -> bool {
+/// Whether the code is that of the row with so many constants, by its counts and instructions.
+pub(super) fn is_code<A: Allocator>(code: &Code<A>, row: Worked, constants: usize) -> bool {
     code.slots() == row.slots
-        && code.constants().len() == row.constants.len()
+        && code.constants().len() == constants
         && code.instructions() == row.instructions
         && code.frames().len() == row.frames.len()
 }
@@ -203,16 +152,17 @@ pub(super) fn are_depths<A: Allocator>(verified: &Verified<A>, frames: &[Listed]
 }
 
 pub(super) fn verdict_of<A: Allocator + Copy>(heap: A, code: Code<A>, row: Worked) -> Verdict {
+    let constants = code.constants().len();
     match verify(heap, code) {
         Ok(verified) => {
-            if is_code(verified.code(), row) && are_depths(&verified, row.frames) {
+            if is_code(verified.code(), row, constants) && are_depths(&verified, row.frames) {
                 Accepted(verified.budget(), verified.depth())
             } else {
                 Wrong
             }
         }
         Err(refused) => {
-            if is_code(&refused.value, row) {
+            if is_code(&refused.value, row, constants) {
                 Refused(refused.fault)
             } else {
                 Wrong

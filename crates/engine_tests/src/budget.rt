@@ -1,28 +1,9 @@
 //! Worked code: its budget, whether its jumps go forward, and what becomes of it where memory is refused.
-use crate::forward::are_forward;
-use crate::paths::longest_of;
-use crate::{all_forward, longest};
+use budget::{all_forward, longest};
 use failing_alloc::sweep;
 use mcode::{Builder, Code, Function, Instr, MAX_COUNT};
 use prims::{Arithmetic, Test};
-use std::alloc::{AllocError, Allocator};
-
-/// The budget of code of these instructions, none where a jump does not go forward or they are too many.
-fn budget_of<A: Allocator + Copy>(
-    heap: A,
-    instructions: &[Instr],
-) -> Option<Result<u32, AllocError>> {
-    if instructions.len() <= MAX_COUNT && are_forward(instructions) {
-        Some(longest_of(heap, instructions))
-    } else {
-        None
-    }
-}
-
-/// The budget, none also where memory is refused.
-fn budget<A: Allocator + Copy>(heap: A, instructions: &[Instr]) -> Option<u32> {
-    budget_of(heap, instructions)?.ok()
-}
+use std::alloc::Allocator;
 
 /// The code of these instructions, none where they are too many or memory is refused.
 fn code_of<A: Allocator + Copy>(heap: A, instructions: &[Instr]) -> Option<Code<A>> {
@@ -34,7 +15,7 @@ fn code_of<A: Allocator + Copy>(heap: A, instructions: &[Instr]) -> Option<Code<
 }
 
 /// The budget of that code, none also where a jump does not go forward.
-fn code_budget<A: Allocator + Copy>(heap: A, instructions: &[Instr]) -> Option<u32> {
+fn budget<A: Allocator + Copy>(heap: A, instructions: &[Instr]) -> Option<u32> {
     let code = code_of(heap, instructions)?;
     if all_forward(&code) {
         longest(heap, &code).ok()
@@ -140,11 +121,6 @@ fn a_budget_is_the_longest_way(rt: HostRuntime) {
             Some(want),
             "{instructions:?}"
         );
-        assert_eq!(rt;
-            code_budget(rt.alloc(), instructions),
-            Some(want),
-            "{instructions:?}"
-        );
     }
 }
 
@@ -206,7 +182,6 @@ fn jumps_go_forward_and_inside(rt: HostRuntime) {
             false,
         ),
     ] {
-        assert_eq!(rt; are_forward(instructions), want, "{instructions:?}");
         assert_eq!(rt;
             is_code_forward(rt.alloc(), instructions),
             Some(want),
@@ -215,41 +190,24 @@ fn jumps_go_forward_and_inside(rt: HostRuntime) {
     }
 }
 
-/// The budget of so many instructions that go on, by themselves and as code.
-fn budget_of_many<A: Allocator + Copy>(heap: A, count: usize) -> Option<[Option<u32>; 2]> {
+/// The budget of so many instructions that go on.
+fn budget_of_many<A: Allocator + Copy>(heap: A, count: usize) -> Option<u32> {
     let mut instructions = Vec::with_capacity(heap, count).ok()?;
     for _ in 0..count {
         instructions.push(Instr::Dup).ok()?;
     }
-    Some([
-        budget(heap, instructions.as_slice()),
-        code_budget(heap, instructions.as_slice()),
-    ])
+    budget(heap, instructions.as_slice())
 }
 
 #[test]
 fn the_most_instructions(rt: HostRuntime) {
-    assert_eq!(rt;
-        budget_of_many(rt.alloc(), MAX_COUNT),
-        Some([Some(65_535), Some(65_535)])
-    );
-    assert_eq!(rt;
-        budget_of_many(rt.alloc(), MAX_COUNT + 1),
-        Some([None, None])
-    );
+    assert_eq!(rt; budget_of_many(rt.alloc(), MAX_COUNT), Some(65_535));
+    assert_eq!(rt; budget_of_many(rt.alloc(), MAX_COUNT + 1), None);
 }
 
 #[test]
 fn each_request_refused_in_turn(rt: HostRuntime) {
-    let outcome = sweep(rt.alloc(), 10, |heap| {
-        match budget_of(heap, &DIAMOND) {
-            Some(Ok(budget)) => budget == 6,
-            Some(Err(_)) => heap.was_refused(),
-            None => false,
-        }
-    });
-    assert!(rt; outcome.is_complete(), "{outcome:?}");
-    let outcome = sweep(rt.alloc(), 10, |heap| match code_budget(heap, &DIAMOND) {
+    let outcome = sweep(rt.alloc(), 10, |heap| match budget(heap, &DIAMOND) {
         Some(budget) => budget == 6,
         None => heap.was_refused(),
     });

@@ -1,7 +1,7 @@
 //! Code built part by part: the numbers of parts, where counts end, what comes back of a refused part, and memory refused
 //! in turn.
-use crate::{Builder, Code, Fault, Frame, Function, Instr, Kind, MAX_COUNT, Places, Slots};
 use failing_alloc::sweep;
+use mcode::{Builder, Code, Fault, Frame, Function, Instr, Kind, MAX_COUNT, Places, Slots};
 use prims::{
     Arithmetic, BooleanFunction, Comparison, Extreme, IntegerFunction, ListFunction, MapFunction,
     Primitive, SizeFunction, Test, TupleFunction,
