@@ -2,11 +2,14 @@
 //!
 //! It has no code of its own. What a test here calls is proved in its own crate once, and not a second time with its tests.
 //!
+//! - `functions`: what calls of functions give, operands and values.
 //! - `order`: how terms stand to each other; `text`: terms read and written.
 //! - `syntax`: specifications that are read or refused; `meaning`: what they answer.
 //! - `verifier`: which code is accepted; `machine`: what it answers.
 #![tactic(auto)]
 
+#[cfg(test)]
+mod functions;
 #[cfg(test)]
 mod machine;
 #[cfg(test)]
