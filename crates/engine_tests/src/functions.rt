@@ -30,8 +30,8 @@ enum Row {
     /// What a call gives: `{Name,[Operand],{gives,Term}}`, with `fails` for a call that fails and `unknown` where there is
     /// no such function.
     Answer,
-    /// That each of these functions fails: `{[Operand],[Name]}`.
-    Failure,
+    /// What the calls of several functions give: `{[Name],[Operand],Wanted}`, with what is wanted as above.
+    Answers,
     /// Of which of the rising terms a test holds: `{Name,[Term]}`.
     Kind,
     /// For which orders of the first term to the second a comparison holds: `{Name,[Order]}`.
@@ -202,41 +202,22 @@ fn is_right_answer(heap: Global, row: &Term) -> Option<bool> {
     Some(is_answered(heap, name, elements(operands)?, wanted))
 }
 
-/// Whether the call fails, with these terms in each of the mixtures.
-fn fails_in(heap: Global, function: Primitive, terms: &[Term], mixtures: &[[bool; 3]]) -> bool {
-    for i in 0..mixtures.len() {
-        match mixed(heap, terms, &mixtures[i]) {
-            Some(operands) => {
-                if call(function, operands.as_slice()).is_some() {
-                    return false;
-                }
-            }
-            None => return false,
-        }
-    }
-    true
-}
-
-/// Whether there are functions of these names, and each fails with these terms.
-fn all_fail(heap: Global, terms: &[Term], names: &[Term]) -> bool {
+/// Whether the call of each name with these terms gives what is wanted.
+fn are_answered(heap: Global, names: &[Term], terms: &[Term], wanted: &Term) -> bool {
     for i in 0..names.len() {
-        match function(&names[i], terms.len()) {
-            Some(function) => {
-                if !fails_in(heap, function, terms, &MIXTURES) {
-                    return false;
-                }
-            }
-            None => return false,
+        if !is_answered(heap, &names[i], terms, wanted) {
+            return false;
         }
     }
     !names.is_empty()
 }
 
-fn is_right_failure(heap: Global, row: &Term) -> Option<bool> {
-    let View::Tuple([operands, names]) = row.view() else {
+fn is_right_answers(heap: Global, row: &Term) -> Option<bool> {
+    let View::Tuple([names, operands, wanted]) = row.view() else {
         return None;
     };
-    Some(all_fail(heap, elements(operands)?, elements(names)?))
+    let terms = elements(operands)?;
+    Some(are_answered(heap, elements(names)?, terms, wanted))
 }
 
 /// Whether the call gives this truth value.
@@ -425,7 +406,7 @@ fn is_right_gives(row: &Term) -> Option<bool> {
 fn is_right(heap: Global, row: Row, rising: &[Term], term: &Term) -> Option<bool> {
     match row {
         Row::Answer => is_right_answer(heap, term),
-        Row::Failure => is_right_failure(heap, term),
+        Row::Answers => is_right_answers(heap, term),
         Row::Kind => is_right_kind(rising, term),
         Row::Order => is_right_order(rising, term),
         Row::Count => is_right_count(term),
@@ -718,15 +699,15 @@ fn functions_of_three_terms(rt: HostRuntime) {
 
 /// Operands of which one is no integer.
 const NO_INTEGERS: &str = "
-    {[a,1],['+','-','*','div','rem','band','bor','bxor','bsl','bsr']}.
-    {[1,[]],['+','-','*','div','rem','band','bor','bxor','bsl','bsr']}.
-    {[#{1=>a,true=>2,[1,2]=>ab},<<7,8>>],['+','-','*','div','rem','band','bor','bxor','bsl','bsr']}.
-    {[true,1],['+','-','*','div','rem','band','bor','bxor','bsl','bsr']}.
+    {['+','-','*','div','rem','band','bor','bxor','bsl','bsr'],[a,1],fails}.
+    {['+','-','*','div','rem','band','bor','bxor','bsl','bsr'],[1,[]],fails}.
+    {['+','-','*','div','rem','band','bor','bxor','bsl','bsr'],[#{1=>a,true=>2,[1,2]=>ab},<<7,8>>],fails}.
+    {['+','-','*','div','rem','band','bor','bxor','bsl','bsr'],[true,1],fails}.
 ";
 
 #[test]
 fn functions_of_two_integers_want_integers(rt: HostRuntime) {
-    assert_eq!(rt; judged(rt.alloc(), Row::Failure, NO_INTEGERS), Ok(4));
+    assert_eq!(rt; judged(rt.alloc(), Row::Answers, NO_INTEGERS), Ok(4));
 }
 
 /// How many terms a text has.
