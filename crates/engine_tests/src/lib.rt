@@ -2,24 +2,29 @@
 //!
 //! It has no code of its own. What a test here calls is proved in its own crate once, and not a second time with its tests.
 //!
-//! - `order`: how terms stand to each other; `text`: terms read and written.
+//! - `terms`: terms made, looked at, copied and refused; `order`: how they stand to each other; `text`: terms read and written.
+//! - `functions`: what calls of functions give, operands and values.
 //! - `syntax`: specifications that are read or refused; `meaning`: what they answer.
-//! - `code`: code built part by part; `budget`: its longest way; `verifier`: which code is accepted; `machine`: what it answers.
+//! - `code`: code built part by part; `budgets`: its longest way; `verification`: which code is accepted; `runs`: what it answers.
 #![tactic(auto)]
 
 #[cfg(test)]
-mod budget;
+mod budgets;
 #[cfg(test)]
 mod code;
 #[cfg(test)]
-mod machine;
+mod functions;
 #[cfg(test)]
 mod meaning;
 #[cfg(test)]
 mod order;
 #[cfg(test)]
+mod runs;
+#[cfg(test)]
 mod syntax;
+#[cfg(test)]
+mod terms;
 #[cfg(test)]
 mod text;
 #[cfg(test)]
-mod verifier;
+mod verification;

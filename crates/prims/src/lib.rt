@@ -27,8 +27,6 @@ mod order;
 mod prim;
 mod shifts;
 mod sizes;
-#[cfg(test)]
-mod tests;
 mod tuples;
 mod value;
 mod view;
