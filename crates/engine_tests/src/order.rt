@@ -5,10 +5,15 @@ use std::test::*;
 use term_order::{compare, key_hash};
 use term_text::read_terms;
 
-/// How the first term of a text stands to the second.
+/// How the first term of a text stands to the second, `None` where `==` says otherwise.
 fn order(heap: Global, text: &str) -> Option<Ordering> {
     let terms = read_terms(heap, text.as_bytes()).ok()?;
-    Some(compare(terms.first()?, terms.last()?))
+    let order = compare(terms.first()?, terms.last()?);
+    if (terms.first()? == terms.last()?) == (order == Equal) {
+        Some(order)
+    } else {
+        None
+    }
 }
 
 /// The hash of the first term of a text.
@@ -22,10 +27,13 @@ fn terms_are_ordered(rt: HostRuntime) {
     for (text, want) in [
         ("1. 2.", Less),
         ("-1. -2.", Greater),
+        ("-1. a.", Less),
         ("9223372036854775807. a.", Less),
         ("ab. b.", Less),
         ("a. ab.", Less),
         ("z. {}.", Less),
+        ("a. {1}.", Less),
+        ("{1}. [].", Less),
         ("{9}. {1,1}.", Less),
         ("{1,2}. {1,1}.", Greater),
         ("{}. #{}.", Less),
@@ -35,9 +43,12 @@ fn terms_are_ordered(rt: HostRuntime) {
         ("#{a=>1}. [].", Less),
         ("[]. [1].", Less),
         ("[1|2]. [1].", Less),
+        ("[1]. [1|b].", Greater),
         ("[1,2]. [1].", Greater),
         ("[1]. <<>>.", Less),
+        ("<<>>. -1.", Greater),
         ("<<1,2>>. <<2>>.", Less),
+        ("[1|b]. [1|b].", Equal),
         ("{[a|b],#{k=><<1>>}}. {[a|b],#{k=><<1>>}}.", Equal),
     ] {
         assert_eq!(rt; order(rt.alloc(), text), Some(want), "{text}");
@@ -45,8 +56,16 @@ fn terms_are_ordered(rt: HostRuntime) {
 }
 
 #[test]
-fn numbers_are_their_own_hashes(rt: HostRuntime) {
-    for (text, want) in [("5.", 5), ("-1.", u64::MAX), ("[].", 4)] {
+fn hashes_are_the_known_numbers(rt: HostRuntime) {
+    for (text, want) in [
+        ("5.", 5),
+        ("-1.", u64::MAX),
+        ("a.", 1_099_511_628_308),
+        ("{1}.", 2_199_023_256_423),
+        ("[].", 4),
+        ("[1].", 4_783_975_093_399_940),
+        ("<<>>.", 6),
+    ] {
         assert_eq!(rt; hash(rt.alloc(), text), Some(want), "{text}");
     }
 }

@@ -248,7 +248,13 @@ fn row(alloc: Global, opening: &str, one: &str, count: u32, ending: &str) -> Opt
 }
 
 /// So many of one text between an opening and an ending.
-fn run(alloc: Global, opening: &str, one: &str, count: u32, ending: &str) -> Option<Vec<u8>> {
+pub(super) fn run(
+    alloc: Global,
+    opening: &str,
+    one: &str,
+    count: u32,
+    ending: &str,
+) -> Option<Vec<u8>> {
     let mut out = Vec::new(alloc);
     out.extend_from_slice(opening.as_bytes()).ok()?;
     for _ in 0..count {

@@ -5,8 +5,6 @@ mod fault;
 mod hash;
 mod order;
 mod term;
-#[cfg(test)]
-mod tests;
 mod view;
 
 pub use fault::{Fault, Refused};

@@ -12,9 +12,6 @@ use crate::fault::{Fault, Refused};
 use crate::{MAX_DEPTH, MAX_MAP};
 use std::alloc::{AllocError, Allocator};
 
-#[cfg(test)]
-mod tests;
-
 /// The greatest depth among the keys and values of these pairs, 0 where there is none.
 fn deepest_pair<A: Allocator>(pairs: &[(Term<A>, Term<A>)]) -> u8
     ensures value { result ≡ entries_depth (entries_of pairs.now) }
