@@ -1,5 +1,5 @@
 //! Operands: the term that each is, its values, a list taken apart, its limits, and each request for memory refused.
-use super::{Row, elements, is_atom, judged, operand};
+use super::rows::{Row, elements, is_atom, judged, operand};
 use failing_alloc::sweep;
 use prims::{Comparison, Operand, Primitive, call};
 use std::alloc::{Allocator, Global};

@@ -1,6 +1,6 @@
 //! Values: what calls over them give, borrowed or made, what is read of them, and each request refused in turn.
 use super::operands::{is_number, is_truth};
-use super::{
+use super::rows::{
     MIXTURES, Row, elements, function, is_atom, is_in_form, is_term, judged, mixed, operand,
 };
 use failing_alloc::{Failing, sweep};
