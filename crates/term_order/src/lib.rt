@@ -4,7 +4,6 @@
 //! shows to be a total order; `key_hash` is the hash of its `KeyHash.antt`.
 #![tactic(auto)]
 
-
 ghost use Rattle.std.specs.Prelude.{◌≡◌};
 ghost use Rattle.std.specs.Ordering.{MatchOrdering};
 ghost use Rattle.term_core.specs.KeyHash.{key_hash};

@@ -22,4 +22,3 @@ pub use fault::TextFault;
 pub use law::canonical_text_is_read_back;
 pub use text::read_terms;
 pub use write::write_term;
-
