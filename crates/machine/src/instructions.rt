@@ -17,8 +17,8 @@ use crate::place::INLINE_PLACES;
 use crate::slots::Slots;
 use crate::stack::Stack;
 use crate::values;
-use mcode::{Code, Function, Instr, Kind};
-use prims::{Arithmetic, Operand, Primitive, Value, call_values};
+use mcode::{Code, Instr, Kind};
+use prims::{Arithmetic, Function, Operand, Primitive, Value, call_values};
 use std::alloc::{AllocError, Allocator};
 use term_core::Term;
 
@@ -215,7 +215,7 @@ fn call<'a, A: Allocator + Copy>(
     ensures flow { IfOk result (λ flow. DoesAnywhere (instr.Call function arguments otherwise) stack.old.terms flow stack.new.terms) }
     ensures memory { IsTrue stack.old.borrowed → length stack.old.terms ≤ INLINE_PLACES → length stack.old.terms - arguments < INLINE_PLACES → IsOk result × IsTrue stack.new.borrowed }
 {
-    let value = call_top(alloc, stack, function.primitive(), arguments)?;
+    let value = call_top(alloc, stack, Primitive::Function(function), arguments)?;
     push_or_jump(stack, value, otherwise)
 }
 

@@ -7,22 +7,19 @@ ghost use Rattle.prims.specs.Value.{value_datum};
 ghost use Rattle.mcode.specs.Machine.{map_keys, map_made};
 
 use crate::stack::Stack;
-use prims::{Operand, Value};
+use prims::Value;
 use std::alloc::{AllocError, Allocator};
-use term_core::{Term, make_map};
+use term_core::{Term, copy_all, make_map};
 
 /// The elements of a proper list.
 fn elements_of<A: Allocator + Copy>(alloc: A, list: &Term<A>) -> Result<Vec<Term<A>, A>, AllocError>
     requires { IsSome (proper_elements list.now) }
     ensures { IfOk result (λ elements. proper_elements list.now ≡ Some elements.items) }
 {
-    let mut elements = Vec::new(alloc);
-    let mut rest = Operand::Term(list);
-    while let Some((element, behind)) = rest.split() {
-        elements.push(element.copy(alloc)?)?;
-        rest = behind;
+    match list.proper_elements() {
+        Some(elements) => copy_all(alloc, elements),
+        None => unreachable!(),
     }
-    Ok(elements)
 }
 
 /// These keys, each with the value that stands for it on the stack, of which the last is the top.

@@ -15,8 +15,8 @@ ghost use Rattle.mcode.specs.declared.kind.Kind.TheVariants as kind;
 
 use mcode::Kind;
 use prims::{
-    Comparison, ListFunction, MapFunction, Operand, Primitive, SizeFunction, TupleFunction, Value,
-    call, call_values,
+    Comparison, Function, ListFunction, MapFunction, Operand, Primitive, SizeFunction,
+    TupleFunction, Value, call, call_values,
 };
 use std::alloc::{AllocError, Allocator};
 use term_core::{Term, make_list, make_tuple};
@@ -99,7 +99,7 @@ pub(crate) fn field<'a, A: Allocator + Copy>(
     let place = Value::Borrowed(Operand::Int(i64::from(index)));
     match call_two(
         alloc,
-        Primitive::Tuple(TupleFunction::Element),
+        Primitive::Function(Function::Tuple(TupleFunction::Element)),
         place,
         tuple,
     )? {
@@ -117,7 +117,11 @@ pub(crate) fn head<'a, A: Allocator + Copy>(
     ensures value { IfOk result (λ value. head_of (value_datum list.entry) ≡ Some (value_datum value)) }
     ensures memory { IsBorrowed list.entry → IsOkAnd result IsBorrowed }
 {
-    match call_one(alloc, Primitive::List(ListFunction::Hd), list)? {
+    match call_one(
+        alloc,
+        Primitive::Function(Function::List(ListFunction::Hd)),
+        list,
+    )? {
         Some(value) => Ok(value),
         None => unreachable!(),
     }
@@ -132,7 +136,11 @@ pub(crate) fn tail<'a, A: Allocator + Copy>(
     ensures value { IfOk result (λ value. tail_behind (value_datum list.entry) ≡ Some (value_datum value)) }
     ensures memory { IsBorrowed list.entry → IsOkAnd result IsBorrowed }
 {
-    match call_one(alloc, Primitive::List(ListFunction::Tl), list)? {
+    match call_one(
+        alloc,
+        Primitive::Function(Function::List(ListFunction::Tl)),
+        list,
+    )? {
         Some(value) => Ok(value),
         None => unreachable!(),
     }
@@ -148,7 +156,12 @@ pub(crate) fn value_of_key<'a, A: Allocator + Copy>(
     ensures memory { IsBorrowed map.entry → IsOkAnd result (λ value. IfSome value IsBorrowed) }
 {
     let key = Value::Borrowed(Operand::Term(key));
-    call_two(alloc, Primitive::Map(MapFunction::MapGet), key, map)
+    call_two(
+        alloc,
+        Primitive::Function(Function::Map(MapFunction::MapGet)),
+        key,
+        map,
+    )
 }
 
 /// Whether two values are the same term.
@@ -156,7 +169,10 @@ pub(crate) fn are_same<A: Allocator + Copy>(left: &Value<'_, A>, right: &Value<'
     ensures { result ≡ is_same (value_datum left.now) (value_datum right.now) }
 {
     let operands = [left.operand(), right.operand()];
-    match call(Primitive::Comparison(Comparison::ExactlyEqual), &operands) {
+    match call(
+        Primitive::Function(Function::Comparison(Comparison::ExactlyEqual)),
+        &operands,
+    ) {
         Some(operand) => matches!(operand.boolean(), Some(true)),
         None => unreachable!(),
     }
@@ -166,7 +182,10 @@ pub(crate) fn are_same<A: Allocator + Copy>(left: &Value<'_, A>, right: &Value<'
 fn is_tuple<A: Allocator>(size: u16, operand: Operand<'_, A>) -> bool
     ensures { result ≡ holds_for (kind.Tuple size) (operand_datum operand.entry) }
 {
-    match call(Primitive::Size(SizeFunction::TupleSize), &[operand]) {
+    match call(
+        Primitive::Function(Function::Size(SizeFunction::TupleSize)),
+        &[operand],
+    ) {
         Some(count) => match count.integer() {
             Some(number) => number == i64::from(size),
             None => unreachable!(),
@@ -179,7 +198,11 @@ fn is_tuple<A: Allocator>(size: u16, operand: Operand<'_, A>) -> bool
 fn is_map<A: Allocator>(operand: Operand<'_, A>) -> bool
     ensures { result ≡ holds_for kind.Map (operand_datum operand.entry) }
 {
-    call(Primitive::Map(MapFunction::MapSize), &[operand]).is_some()
+    call(
+        Primitive::Function(Function::Map(MapFunction::MapSize)),
+        &[operand],
+    )
+    .is_some()
 }
 
 /// Whether a value is of a kind.

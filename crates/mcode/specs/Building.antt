@@ -1,8 +1,7 @@
 -- What adding a part to code comes to.
 use Rattle.std.specs.Prelude.{ℕ, ◌<◌, ◌≤◌, ◌⊎◌, List, [], ◌∷◌, ◌++◌, length}
 use Rattle.term_core.specs.Datum.{Datum}
-use Rattle.mcode.specs.Program.{Program, Frame, IsOrdered, Rise, frame_number}
-use Rattle.mcode.specs.declared.TheConstants.{MAX_COUNT}
+use Rattle.mcode.specs.Program.{Program, Frame, most_parts, IsOrdered, Rise, frame_number}
 use Rattle.mcode.specs.declared.fault.Fault.{Fault}
 use Rattle.mcode.specs.declared.fault.Fault.TheVariants.{Memory, Limit, FrameOrder}
 use Rattle.mcode.specs.declared.instr.Instr.{Instr}
@@ -28,13 +27,13 @@ with_frame p f =
 
 -- what a refusal says where there were so many of the parts: memory only where one more would do
 abbrev pub IsPartRefused : ℕ → Fault → Type 0
-IsPartRefused count Memory = count < MAX_COUNT
-IsPartRefused count Limit = MAX_COUNT ≤ count
+IsPartRefused count Memory = count < most_parts
+IsPartRefused count Limit = most_parts ≤ count
 IsPartRefused count FrameOrder = ⊥
 
 -- there are as many frames as there may be, or too many places in this one
 abbrev pub IsFrameTooMany : List Frame → Frame → Type 0
-IsFrameTooMany fs f = (MAX_COUNT ≤ length fs) ⊎ (MAX_COUNT < length f.places)
+IsFrameTooMany fs f = (most_parts ≤ length fs) ⊎ (most_parts < length f.places)
 
 -- the frame stands above those that are there, and its places and slots are in order
 pub record IsNextFrame (fs : List Frame) (f : Frame) : Type 0 where

@@ -1,4 +1,3 @@
-pub mod Function
 pub mod Instr
 pub mod Kind
 pub mod Program

@@ -1,20 +1,18 @@
 //! Code built part by part.
 ghost use Rattle.std.specs.Prelude.{◌≡◌, ◌≤◌, ◌↔◌, ◌++◌, ◌∷◌, [], IsTrue, IfSome, IfNone, IfErr, OnOk, OnErr, All, length, map};
 ghost use Rattle.mcode.specs.Frame.{frame_of};
-ghost use Rattle.mcode.specs.Program.{Rise, place_number, frame_number, IsTelling, IsOrdered, AreFrames};
+ghost use Rattle.mcode.specs.Program.{Rise, place_number, frame_number, IsTelling, IsOrdered};
 ghost use Rattle.mcode.specs.Building.{IsFrameTooMany, IsNextFrame, IsFrameRefused};
-ghost use Rattle.mcode.specs.declared.fault.Fault.TheVariants.{Memory};
-ghost use Rattle.mcode.specs.declared.TheConstants.{MAX_COUNT};
 
 use crate::code::Code;
-use crate::fault::{Fault, Refused};
+use crate::fault::Fault;
 use crate::frame::Frame;
 use crate::instr::Instr;
 use crate::kind::Kind;
 use crate::{MAX_COUNT, MAX_SLOTS};
-use std::alloc::{Allocator, Global};
+use std::alloc::{AllocError, Allocator, Global};
 use std::marker::Model;
-use term_core::Term;
+use term_core::{Refused, Term};
 
 /// Whether the places rise.
 fn places_rise(places: &[(u16, Kind)]) -> bool
@@ -90,36 +88,10 @@ fn frame_fault<A: Allocator>(frames: &[Frame<A>], frame: &Frame<A>) -> Option<Fa
     None
 }
 
-/// Adds a frame that fits.
-fn push_frame<A: Allocator>(
-    frames: &mut Vec<Frame<A>, A>,
-    frame: Frame<A>,
-) -> Result<(), Refused<Frame<A>>>
-    requires frames { AreFrames (map frame_of frames.old.items) }
-    requires fits { ¬ IsFrameTooMany (map frame_of frames.old.items) (frame_of frame) }
-    requires next { IsNextFrame (map frame_of frames.old.items) (frame_of frame) }
-    ensures items { OnOk result (map frame_of frames.new.items ≡ map frame_of frames.old.items ++ frame_of frame ∷ []) }
-    ensures frames { AreFrames (map frame_of frames.new.items) }
-    ensures count { length (map frame_of frames.new.items) ≤ MAX_COUNT }
-    ensures kept { OnErr result (frames.new.items ≡ frames.old.items) }
-    ensures refused { IfErr result (λ r. (frame_of r.value ≡ frame_of frame) × (r.fault ≡ Memory)) }
-{
-    match frames.push(frame) {
-        Ok(()) => Ok(()),
-        Err(failed) => Err(Refused {
-            value: failed.value,
-            fault: Fault::Memory,
-        }),
-    }
-}
-
 /// Code that is built part by part. What is refused leaves it as it was.
 #[derive(Drop)]
 pub struct Builder<A: Allocator = Global> {
-    slots: u16,
-    constants: Vec<Term<A>, A>,
-    instructions: Vec<Instr, A>,
-    frames: Vec<Frame<A>, A>,
+    code: Code<A>,
 }
 
 impl<A: Allocator> Model for Builder<A> {
@@ -131,53 +103,47 @@ impl<A: Allocator> Model for Builder<A> {
 
     ghost coded = { Prim.hlevel (codes, datum_code) };
 
-    ghost use Rattle.mcode.specs.Frame.{program_of};
+    ghost view = { λ b. b.code };
 
-    ghost view = { λ b. program_of b.slots b.constants.items b.instructions.items b.frames.items };
-
-    ghost invariant = { λ b. IsProgram (program_of b.slots b.constants.items b.instructions.items b.frames.items) };
+    ghost invariant = { λ b. IsProgram b.code };
 }
 
 impl<A: Allocator> Builder<A> {
     ghost use Rattle.std.specs.Prelude.{◌≡◌, ◌<◌, ◌≤◌, ◌++◌, ◌∷◌, [], length, IfOk, IfErr, OnOk, OnErr};
     ghost use Rattle.mcode.specs.Frame.{frame_of};
-    ghost use Rattle.mcode.specs.Program.{Program};
+    ghost use Rattle.mcode.specs.Program.{Program, most_slots};
     ghost use Rattle.mcode.specs.Building.{empty_program, with_constant, with_instruction, with_frame, IsPartRefused, IsFrameTooMany, IsFrameRefused, IsNextFrame};
-    ghost use Rattle.mcode.specs.declared.TheConstants.{MAX_COUNT, MAX_SLOTS};
     ghost use Rattle.mcode.specs.declared.fault.Fault.TheVariants.{Limit};
 
     /// Code without parts, over this many slots. More than `MAX_SLOTS` are refused.
     pub fn new(alloc: A, slots: u16) -> Result<Self, Fault>
     where
         A: Copy,
-        ensures ok { IfOk result (λ b. (b ≡ empty_program slots) × (slots ≤ MAX_SLOTS)) }
-        ensures refused { IfErr result (λ fault. (fault ≡ Limit) × (MAX_SLOTS < slots)) }
+        ensures ok { IfOk result (λ b. (b ≡ empty_program slots) × (slots ≤ most_slots)) }
+        ensures refused { IfErr result (λ fault. (fault ≡ Limit) × (most_slots < slots)) }
     {
         if slots > MAX_SLOTS {
             return Err(Fault::Limit);
         }
         Ok(Builder {
-            slots,
-            constants: Vec::new(alloc),
-            instructions: Vec::new(alloc),
-            frames: Vec::new(alloc),
+            code: Code::empty(alloc, slots),
         })
     }
 
     /// Adds a constant and answers its number, from 0. More than `MAX_COUNT` are refused.
-    pub fn constant(&mut self, term: Term<A>) -> Result<u16, Refused<Term<A>>>
+    pub fn constant(&mut self, term: Term<A>) -> Result<u16, Refused<Term<A>, Fault>>
         ensures ok { IfOk result (λ number. (self.new ≡ with_constant self.old term) × (number ≡ length self.old.constants)) }
         ensures kept { OnErr result (self.new ≡ self.old) }
         ensures refused { IfErr result (λ r. (r.value ≡ term) × IsPartRefused (length self.old.constants) r.fault) }
     {
-        let number = self.constants.len();
+        let number = self.code.constants().len();
         if number >= MAX_COUNT {
             return Err(Refused {
                 value: term,
                 fault: Fault::Limit,
             });
         }
-        match self.constants.push(term) {
+        match self.code.push_constant(term) {
             Ok(()) => Ok(number as u16),
             Err(failed) => Err(Refused {
                 value: failed.value,
@@ -192,30 +158,36 @@ impl<A: Allocator> Builder<A> {
         ensures kept { OnErr result (self.new ≡ self.old) }
         ensures refused { IfErr result (λ fault. IsPartRefused (length self.old.instructions) fault) }
     {
-        let number = self.instructions.len();
+        let number = self.code.instructions().len();
         if number >= MAX_COUNT {
             return Err(Fault::Limit);
         }
-        match self.instructions.push(instr) {
+        match self.code.push_instruction(instr) {
             Ok(()) => Ok(number as u16),
-            Err(_) => Err(Fault::Memory),
+            Err(AllocError) => Err(Fault::Memory),
         }
     }
 
     /// Adds a frame, which has to stand above those that are there, with places and slots that rise. More than
     /// `MAX_COUNT` frames, or places of one, are refused.
-    pub fn frame(&mut self, frame: Frame<A>) -> Result<(), Refused<Frame<A>>>
+    pub fn frame(&mut self, frame: Frame<A>) -> Result<(), Refused<Frame<A>, Fault>>
         ensures ok { OnOk result (self.new ≡ with_frame self.old (frame_of frame)) }
         ensures next { OnOk result ((¬ IsFrameTooMany self.old.frames (frame_of frame)) × IsNextFrame self.old.frames (frame_of frame)) }
         ensures kept { OnErr result (self.new ≡ self.old) }
         ensures refused { IfErr result (λ r. (frame_of r.value ≡ frame_of frame) × IsFrameRefused self.old.frames (frame_of frame) r.fault) }
     {
-        match frame_fault(self.frames.as_slice(), &frame) {
-            Some(fault) => Err(Refused {
+        if let Some(fault) = frame_fault(self.code.frames(), &frame) {
+            return Err(Refused {
                 value: frame,
                 fault,
+            });
+        }
+        match self.code.push_frame(frame) {
+            Ok(()) => Ok(()),
+            Err(failed) => Err(Refused {
+                value: failed.value,
+                fault: Fault::Memory,
             }),
-            None => push_frame(&mut self.frames, frame),
         }
     }
 
@@ -223,6 +195,6 @@ impl<A: Allocator> Builder<A> {
     pub fn finish(self) -> Code<A>
         ensures { result ≡ self }
     {
-        Code::new(self.slots, self.constants, self.instructions, self.frames)
+        self.code
     }
 }

@@ -1,12 +1,13 @@
 //! Code, of which only the counts and the order of frames are known to be right.
-ghost use Rattle.std.specs.Prelude.{◌≡◌, map};
+ghost use Rattle.std.specs.Prelude.{◌≡◌, ◌≤◌, ◌++◌, ◌∷◌, [], length, map, OnOk, OnErr, IfErr};
 ghost use Rattle.std.specs.Option.{option_map, option_copied};
 ghost use Rattle.mcode.specs.Frame.{frame_of};
-ghost use Rattle.mcode.specs.Program.{Rise, frame_number, frame_at};
+ghost use Rattle.mcode.specs.Program.{most_parts, Rise, AreFrames, frame_number, frame_at};
+ghost use Rattle.mcode.specs.Building.{IsFrameTooMany, IsNextFrame};
 
 use crate::frame::Frame;
 use crate::instr::Instr;
-use std::alloc::{Allocator, Global};
+use std::alloc::{AllocError, AllocFailed, Allocator, Global};
 use std::marker::Model;
 use term_core::Term;
 
@@ -18,6 +19,26 @@ fn frame_with<A: Allocator>(frames: &[Frame<A>], pc: u16) -> Option<&Frame<A>>
     match frames.binary_search_by(|frame| frame.pc.cmp(&pc)) {
         Ok(place) => Some(&frames[place]),
         Err(_) => None,
+    }
+}
+
+/// Puts a frame that fits at the end of those that are there.
+fn add_frame<A: Allocator>(
+    frames: &mut Vec<Frame<A>, A>,
+    frame: Frame<A>,
+) -> Result<(), AllocFailed<Frame<A>>>
+    requires frames { AreFrames (map frame_of frames.old.items) }
+    requires fits { ¬ IsFrameTooMany (map frame_of frames.old.items) (frame_of frame) }
+    requires next { IsNextFrame (map frame_of frames.old.items) (frame_of frame) }
+    ensures items { OnOk result (map frame_of frames.new.items ≡ map frame_of frames.old.items ++ frame_of frame ∷ []) }
+    ensures frames { AreFrames (map frame_of frames.new.items) }
+    ensures count { length (map frame_of frames.new.items) ≤ most_parts }
+    ensures kept { OnErr result (frames.new.items ≡ frames.old.items) }
+    ensures back { IfErr result (λ failed. frame_of failed.value ≡ frame_of frame) }
+{
+    match frames.push(frame) {
+        Ok(()) => Ok(()),
+        Err(failed) => Err(failed),
     }
 }
 
@@ -48,27 +69,59 @@ impl<A: Allocator> Model for Code<A> {
 }
 
 impl<A: Allocator> Code<A> {
-    ghost use Rattle.std.specs.Prelude.{◌≡◌, map};
+    ghost use Rattle.std.specs.Prelude.{◌≡◌, ◌<◌, ◌≤◌, length, map, OnOk, OnErr, IfErr};
     ghost use Rattle.std.specs.Option.{option_map, option_copied};
-    ghost use Rattle.mcode.specs.Frame.{frame_of, program_of};
-    ghost use Rattle.mcode.specs.Program.{IsProgram, frame_at};
+    ghost use Rattle.mcode.specs.Frame.{frame_of};
+    ghost use Rattle.mcode.specs.Program.{IsProgram, most_slots, most_parts, frame_at};
+    ghost use Rattle.mcode.specs.Building.{empty_program, with_constant, with_instruction, with_frame, IsFrameTooMany, IsNextFrame};
 
-    /// These parts.
-    pub(crate) fn new(
-        slots: u16,
-        constants: Vec<Term<A>, A>,
-        instructions: Vec<Instr, A>,
-        frames: Vec<Frame<A>, A>,
-    ) -> Self
-        requires { IsProgram (program_of slots constants.items instructions.items frames.items) }
-        ensures { result ≡ program_of slots constants.items instructions.items frames.items }
+    /// Code without parts over this many slots.
+    pub(crate) fn empty(alloc: A, slots: u16) -> Self
+    where
+        A: Copy,
+        requires { slots ≤ most_slots }
+        ensures { result ≡ empty_program slots }
     {
         Code {
             slots,
-            constants,
-            instructions,
-            frames,
+            constants: Vec::new(alloc),
+            instructions: Vec::new(alloc),
+            frames: Vec::new(alloc),
         }
+    }
+
+    /// Puts a constant at the end.
+    pub(crate) fn push_constant(&mut self, term: Term<A>) -> Result<(), AllocFailed<Term<A>>>
+        requires { length self.old.constants < most_parts }
+        ensures ok { OnOk result (self.new ≡ with_constant self.old term) }
+        ensures kept { OnErr result (self.new ≡ self.old) }
+        ensures back { IfErr result (λ failed. failed.value ≡ term) }
+    {
+        self.constants.push(term)
+    }
+
+    /// Puts an instruction at the end.
+    pub(crate) fn push_instruction(&mut self, instr: Instr) -> Result<(), AllocError>
+        requires { length self.old.instructions < most_parts }
+        ensures ok { OnOk result (self.new ≡ with_instruction self.old instr) }
+        ensures kept { OnErr result (self.new ≡ self.old) }
+    {
+        match self.instructions.push(instr) {
+            Ok(()) => Ok(()),
+            Err(_) => Err(AllocError),
+        }
+    }
+
+    /// Puts a frame at the end, which stands above the others and is in order.
+    pub(crate) fn push_frame(&mut self, frame: Frame<A>) -> Result<(), AllocFailed<Frame<A>>>
+        requires fits { ¬ IsFrameTooMany self.old.frames (frame_of frame) }
+        requires next { IsNextFrame self.old.frames (frame_of frame) }
+        ensures ok { OnOk result (self.new ≡ with_frame self.old (frame_of frame)) }
+        ensures kept { OnErr result (self.new ≡ self.old) }
+        ensures back { IfErr result (λ failed. frame_of failed.value ≡ frame_of frame) }
+        ensures within { IsProgram self.new }
+    {
+        add_frame(&mut self.frames, frame)
     }
 
     /// How many slots there are, at most `MAX_SLOTS`.

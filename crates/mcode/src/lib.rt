@@ -4,7 +4,7 @@
 //! nothing else is known of it. `Builder` makes it part by part, and refuses what would break that. What each instruction
 //! does is `does` of `specs/Machine.antt`, a run is `Runs`.
 //!
-//! - `instr`: the instructions; `function`: the functions that they call; `kind`: the kinds of terms that the verifier tells
+//! - `instr`: the instructions; `kind`: the kinds of terms that the verifier tells
 //!   apart (`specs/Kind.antt`); `frame`: what is known where jumps lead.
 //! - `code`: code; `builder`: how it is built; `fault`: why a part is refused.
 #![tactic(auto)]
@@ -13,15 +13,13 @@ mod builder;
 mod code;
 mod fault;
 mod frame;
-mod function;
 mod instr;
 mod kind;
 
 pub use builder::Builder;
 pub use code::Code;
-pub use fault::{Fault, Refused};
+pub use fault::Fault;
 pub use frame::{Frame, Places, Slots};
-pub use function::Function;
 pub use instr::Instr;
 pub use kind::Kind;
 

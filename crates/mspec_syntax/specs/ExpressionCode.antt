@@ -9,6 +9,7 @@ use Rattle.term_core.specs.DatumCode.{datum_code}
 use Rattle.prims.specs.PrimitiveCode.{primitive_code}
 use Rattle.prims.specs.declared.prim.Primitive.{Primitive}
 use Rattle.prims.specs.declared.prim.Primitive.TheVariants as prim
+use Rattle.prims.specs.declared.prim.Function.TheVariants as function
 use Rattle.prims.specs.declared.prim.BooleanFunction.TheVariants as boolean
 use Rattle.mspec_syntax.specs.Expression.{Expression, Expressions, Assignments}
 use Rattle.mspec_syntax.specs.Expression.Expression.{bound, object, bindings, constant, quoted, call, and_also, or_else, new_tuple, new_cell, new_map}
@@ -20,7 +21,7 @@ abbrev pub Mark : Type 0
 Mark = ℕ × (ℕ × (Datum × Primitive))
 
 abbrev pub no_function : Primitive
-no_function = prim.Boolean boolean.Not
+no_function = prim.Function (function.Boolean boolean.Not)
 
 abbrev pub part : ℕ → Mark
 part kind = (kind, (0, (nil, no_function)))

@@ -10,27 +10,28 @@ use Rattle.prims.specs.PrimitiveCode.{found_at}
 use Rattle.prims.specs.declared.names.TheConstants.{ALL}
 use Rattle.prims.specs.declared.prim.Primitive.{Primitive}
 use Rattle.prims.specs.declared.prim.Primitive.TheVariants as prim
+use Rattle.prims.specs.declared.prim.Function.TheVariants as function
 use Rattle.prims.specs.declared.prim.BooleanFunction.TheVariants as boolean
 
-found_itself : (function : Primitive) (n : ℕ) → takes function n ≡ true → found (name_of function) n ALL ≡ Some function
-found_itself (prim.Boolean boolean.And) n takes_n = ap (λ b. cond b (Some (prim.Boolean boolean.And)) None) takes_n
-found_itself (prim.Boolean boolean.Or) n takes_n = ap (λ b. cond b (Some (prim.Boolean boolean.Or)) None) takes_n
-found_itself function n takes_n =
-    subst (λ m. found (name_of function) m ALL ≡ Some function) (sym ((Decides-eqb n (arity_of function)).0 takes_n)) (found_at function)
+found_itself : (p : Primitive) (n : ℕ) → takes p n ≡ true → found (name_of p) n ALL ≡ Some p
+found_itself (prim.Function (function.Boolean boolean.And)) n takes_n = ap (λ b. cond b (Some (prim.Function (function.Boolean boolean.And))) None) takes_n
+found_itself (prim.Function (function.Boolean boolean.Or)) n takes_n = ap (λ b. cond b (Some (prim.Function (function.Boolean boolean.Or))) None) takes_n
+found_itself p n takes_n =
+    subst (λ m. found (name_of p) m ALL ≡ Some p) (sym ((Decides-eqb n (arity_of p)).0 takes_n)) (found_at p)
 
 -- what is found has the name and takes so many arguments
-found_says : (cs : List ℕ) (n : ℕ) (functions : List Primitive) (function : Primitive) → found cs n functions ≡ Some function → (name_of function ≡ cs) × (takes function n ≡ true)
-found_says cs n [] function e = absurd (none-some function e)
-found_says cs n (first ∷ rest) function e =
-    by (pointwise nat_eq (name_of first) cs && takes first n) refl (found_says cs n rest function) e
+found_says : (cs : List ℕ) (n : ℕ) (functions : List Primitive) (p : Primitive) → found cs n functions ≡ Some p → (name_of p ≡ cs) × (takes p n ≡ true)
+found_says cs n [] p e = absurd (none-some p e)
+found_says cs n (first ∷ rest) p e =
+    by (pointwise nat_eq (name_of first) cs && takes first n) refl (found_says cs n rest p) e
   where
-    by : (b : Bool) → (pointwise nat_eq (name_of first) cs && takes first n) ≡ b → (found cs n rest ≡ Some function → (name_of function ≡ cs) × (takes function n ≡ true)) → cond b (Some first) (found cs n rest) ≡ Some function → (name_of function ≡ cs) × (takes function n ≡ true)
+    by : (b : Bool) → (pointwise nat_eq (name_of first) cs && takes first n) ≡ b → (found cs n rest ≡ Some p → (name_of p ≡ cs) × (takes p n ≡ true)) → cond b (Some first) (found cs n rest) ≡ Some p → (name_of p ≡ cs) × (takes p n ≡ true)
     by true passes later e =
-        subst (λ f. (name_of f ≡ cs) × (takes f n ≡ true)) (same_Some first function e)
+        subst (λ f. (name_of f ≡ cs) × (takes f n ≡ true)) (same_Some first p e)
         ((bytes_decides (name_of first) cs).0 (first_so (pointwise nat_eq (name_of first) cs) (takes first n) passes), second_so (pointwise nat_eq (name_of first) cs) (takes first n) passes)
     by false passes later e = later e
 
 -- the table both ways
-pub named_is : (cs : List ℕ) (n : ℕ) (r : Option Primitive) → r ≡ found cs n ALL → (function : Primitive) → (r ≡ Some function) ↔ ((name_of function ≡ cs) × IsTrue (takes function n))
-named_is cs n r r_is function =
-    (λ e. found_says cs n ALL function (sym r_is ∙ e), λ h. r_is ∙ subst (λ ds. found ds n ALL ≡ Some function) h.0 (found_itself function n h.1))
+pub named_is : (cs : List ℕ) (n : ℕ) (r : Option Primitive) → r ≡ found cs n ALL → (p : Primitive) → (r ≡ Some p) ↔ ((name_of p ≡ cs) × IsTrue (takes p n))
+named_is cs n r r_is p =
+    (λ e. found_says cs n ALL p (sym r_is ∙ e), λ h. r_is ∙ subst (λ ds. found ds n ALL ≡ Some p) h.0 (found_itself p n h.1))

@@ -14,20 +14,23 @@ use Rattle.prims.specs.Maps.{is_map_key_of, map_get_of, map_size_of}
 use Rattle.prims.specs.Sizes.{size_of}
 use Rattle.prims.specs.declared.prim.Primitive.{Primitive}
 use Rattle.prims.specs.declared.prim.Primitive.TheVariants as prim
+use Rattle.prims.specs.declared.prim.Function.{Function}
+use Rattle.prims.specs.declared.prim.Function.TheVariants as function
+use Rattle.prims.specs.declared.prim.Arithmetic.{Arithmetic}
 use Rattle.prims.specs.declared.prim.TupleFunction.TheVariants.{IsRecord, Element}
 use Rattle.prims.specs.declared.prim.ListFunction.TheVariants.{Hd, Tl, Length}
 use Rattle.prims.specs.declared.prim.MapFunction.TheVariants.{IsMapKey, MapGet, MapSize}
 
 -- what a function gives of one term
-abbrev pub unary_of : Primitive → Datum → Option Datum
-unary_of (prim.Test test) d = Some (boolean (test_of test d))
-unary_of (prim.Integer function) d = option_map integer (option_and_then (integer_function_of function) (integer_of d))
-unary_of (prim.List Hd) d = head_of d
-unary_of (prim.List Tl) d = tail_behind d
-unary_of (prim.List Length) d = option_map integer (length_of d)
-unary_of (prim.Map MapSize) d = option_map integer (map_size_of d)
-unary_of (prim.Size function) d = option_map integer (size_of function d)
-unary_of function d = None
+abbrev pub unary_of : Function → Datum → Option Datum
+unary_of (function.Test test) d = Some (boolean (test_of test d))
+unary_of (function.Integer of_integer) d = option_map integer (option_and_then (integer_function_of of_integer) (integer_of d))
+unary_of (function.List Hd) d = head_of d
+unary_of (function.List Tl) d = tail_behind d
+unary_of (function.List Length) d = option_map integer (length_of d)
+unary_of (function.Map MapSize) d = option_map integer (map_size_of d)
+unary_of (function.Size of_a_term) d = option_map integer (size_of of_a_term d)
+unary_of f d = None
 
 -- a function of two integers at two terms, none where one is no integer
 abbrev pub at_integers : (ℤ → ℤ → Option ℤ) → Option ℤ → Option ℤ → Option ℤ
@@ -35,24 +38,33 @@ at_integers f (Some x) (Some y) = f x y
 at_integers f x y = None
 
 -- what a function gives of two terms
-abbrev pub binary_of : Primitive → Datum → Datum → Option Datum
-binary_of (prim.Comparison comparison) d e = Some (boolean (comparison_of comparison d e))
-binary_of (prim.Extreme extreme) d e = Some (extreme_of extreme d e)
-binary_of (prim.Arithmetic function) d e = option_map integer (at_integers (arithmetic_of function) (integer_of d) (integer_of e))
-binary_of (prim.Tuple Element) d e = element_of d e
-binary_of (prim.Map IsMapKey) d e = option_map boolean (is_map_key_of d e)
-binary_of (prim.Map MapGet) d e = map_get_of d e
-binary_of function d e = None
+abbrev pub binary_of : Function → Datum → Datum → Option Datum
+binary_of (function.Comparison comparison) d e = Some (boolean (comparison_of comparison d e))
+binary_of (function.Extreme extreme) d e = Some (extreme_of extreme d e)
+binary_of (function.Tuple Element) d e = element_of d e
+binary_of (function.Map IsMapKey) d e = option_map boolean (is_map_key_of d e)
+binary_of (function.Map MapGet) d e = map_get_of d e
+binary_of f d e = None
 
 -- what a function gives of three terms
-abbrev pub ternary_of : Primitive → Datum → Datum → Datum → Option Datum
-ternary_of (prim.Tuple IsRecord) d e f = option_map boolean (is_record_of d e f)
-ternary_of function d e f = None
+abbrev pub ternary_of : Function → Datum → Datum → Datum → Option Datum
+ternary_of (function.Tuple IsRecord) d e g = option_map boolean (is_record_of d e g)
+ternary_of f d e g = None
 
--- what a function gives of a list of terms, none where it takes another number of them
+-- what a function but those of two integers gives of a list of terms, none where it takes another number of them
+abbrev pub value_of_function : Function → List Datum → Option Datum
+value_of_function (function.Boolean boolean_function) ds = option_map boolean (boolean_function_of boolean_function ds)
+value_of_function f (d ∷ []) = unary_of f d
+value_of_function f (d ∷ e ∷ []) = binary_of f d e
+value_of_function f (d ∷ e ∷ g ∷ []) = ternary_of f d e g
+value_of_function f ds = None
+
+-- what a function of two integers gives of a list of terms
+abbrev pub value_of_arithmetic : Arithmetic → List Datum → Option Datum
+value_of_arithmetic arithmetic (d ∷ e ∷ []) = option_map integer (at_integers (arithmetic_of arithmetic) (integer_of d) (integer_of e))
+value_of_arithmetic arithmetic ds = None
+
+-- what a function gives of a list of terms
 abbrev pub function_of : Primitive → List Datum → Option Datum
-function_of (prim.Boolean function) ds = option_map boolean (boolean_function_of function ds)
-function_of function (d ∷ []) = unary_of function d
-function_of function (d ∷ e ∷ []) = binary_of function d e
-function_of function (d ∷ e ∷ f ∷ []) = ternary_of function d e f
-function_of function ds = None
+function_of (prim.Arithmetic arithmetic) ds = value_of_arithmetic arithmetic ds
+function_of (prim.Function f) ds = value_of_function f ds

@@ -12,6 +12,7 @@ pub mod Maps
 pub mod Sizes
 pub mod Calls
 pub mod Names
+pub mod Numbers
 pub mod PrimitiveCode
 pub mod Gives
 pub mod Bits

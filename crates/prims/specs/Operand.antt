@@ -6,7 +6,7 @@ use Rattle.term_core.specs.Datum.Datum.{integer, atom, cons}
 use Rattle.term_core.specs.Fault.{IsTooLong}
 use Rattle.term_core.specs.Limits.{depth}
 use Rattle.term_core.specs.Term.{tail_of}
-use Rattle.term_core.specs.declared.TheConstants.{MAX_DEPTH}
+use Rattle.term_core.specs.Sizes.{depth_limit}
 use Rattle.term_core.specs.declared.fault.Fault.{Fault}
 use Rattle.term_core.specs.declared.fault.Fault.TheVariants.{Memory, TooDeep, TooLong, DuplicateKey}
 use Rattle.prims.specs.declared.operand.Operand.{Operand}
@@ -31,6 +31,6 @@ IsNoCell d = Unit {0}
 -- What a refusal says of the term that was to be copied: that it is past a limit, as only the rest of a list can be. Want of memory says nothing of it.
 abbrev pub IsRefusal : Fault → Datum → Type 0
 IsRefusal Memory d = Unit {0}
-IsRefusal TooDeep d = MAX_DEPTH < depth d
-IsRefusal TooLong d = (depth d ≤ MAX_DEPTH) × IsTooLong d
+IsRefusal TooDeep d = depth_limit < depth d
+IsRefusal TooLong d = (depth d ≤ depth_limit) × IsTooLong d
 IsRefusal DuplicateKey d = ⊥

@@ -2,7 +2,7 @@
 ghost use Rattle.std.specs.Prelude.{◌≡◌};
 ghost use Rattle.prims.specs.Gives.{gives_of};
 
-use crate::prim::{ListFunction, MapFunction, Primitive, TupleFunction};
+use crate::prim::{Function, ListFunction, MapFunction, Primitive, TupleFunction};
 
 /// Which kind of term a function gives, where it gives one.
 #[derive(Clone, Copy, Debug, PartialEq, Eq)]
@@ -15,22 +15,41 @@ pub enum Gives {
     Any,
 }
 
+impl Function {
+    ghost use Rattle.std.specs.Prelude.{◌≡◌};
+    ghost use Rattle.prims.specs.Gives.{gives_of};
+    ghost use Rattle.prims.specs.declared.prim.Primitive.TheVariants as prim;
+
+    /// Which kind of term the function gives.
+    pub const fn gives(self) -> Gives
+        ensures { result ≡ gives_of (prim.Function self) }
+    {
+        match self {
+            Function::Test(_) | Function::Boolean(_) | Function::Comparison(_) => Gives::Boolean,
+            Function::Tuple(TupleFunction::IsRecord) | Function::Map(MapFunction::IsMapKey) => {
+                Gives::Boolean
+            }
+            Function::Integer(_) | Function::Size(_) => Gives::Integer,
+            Function::List(ListFunction::Length) | Function::Map(MapFunction::MapSize) =>
+                Gives::Integer,
+            Function::Extreme(_) | Function::Tuple(TupleFunction::Element) => Gives::Any,
+            Function::List(ListFunction::Hd | ListFunction::Tl)
+            | Function::Map(MapFunction::MapGet) => { Gives::Any }
+        }
+    }
+}
+
 impl Primitive {
+    ghost use Rattle.std.specs.Prelude.{◌≡◌};
+    ghost use Rattle.prims.specs.Gives.{gives_of};
+
     /// Which kind of term the function gives.
     pub const fn gives(self) -> Gives
         ensures { result ≡ gives_of self }
     {
         match self {
-            Primitive::Test(_) | Primitive::Boolean(_) | Primitive::Comparison(_) => Gives::Boolean,
-            Primitive::Tuple(TupleFunction::IsRecord) | Primitive::Map(MapFunction::IsMapKey) => {
-                Gives::Boolean
-            }
-            Primitive::Integer(_) | Primitive::Arithmetic(_) | Primitive::Size(_) => Gives::Integer,
-            Primitive::List(ListFunction::Length) | Primitive::Map(MapFunction::MapSize) =>
-                Gives::Integer,
-            Primitive::Extreme(_) | Primitive::Tuple(TupleFunction::Element) => Gives::Any,
-            Primitive::List(ListFunction::Hd | ListFunction::Tl)
-            | Primitive::Map(MapFunction::MapGet) => { Gives::Any }
+            Primitive::Arithmetic(_) => Gives::Integer,
+            Primitive::Function(function) => function.gives(),
         }
     }
 }

@@ -6,6 +6,7 @@
 //! on lists of terms, and none exactly where that has no value.
 //!
 //! - `prim`: which functions there are, in families; `names`: their names and numbers of arguments;
+//!   `numbers`: the numbers by which instructions name them;
 //!   `gives`: the kind of term that each gives.
 //! - `operand`: what a function is given and gives; `view`: an operand taken apart.
 //! - `kinds`, `booleans`, `order`, `integers`, `shifts`, `tuples`, `lists`, `maps`, `sizes`: a family
@@ -22,6 +23,7 @@ mod kinds;
 mod lists;
 mod maps;
 mod names;
+mod numbers;
 mod operand;
 mod order;
 mod prim;
@@ -35,7 +37,7 @@ pub use calls::call;
 pub use gives::Gives;
 pub use operand::Operand;
 pub use prim::{
-    Arithmetic, BooleanFunction, Comparison, Extreme, IntegerFunction, ListFunction, MapFunction,
-    Primitive, SizeFunction, Test, TupleFunction,
+    Arithmetic, BooleanFunction, Comparison, Extreme, Function, IntegerFunction, ListFunction,
+    MapFunction, Primitive, SizeFunction, Test, TupleFunction,
 };
 pub use value::{MAX_INLINE, Value, call_values};

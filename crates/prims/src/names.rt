@@ -2,50 +2,63 @@
 ghost use Rattle.std.specs.Prelude.{◌≡◌, ◌↔◌, nat_eq, IsTrue, Some};
 ghost use Rattle.std.specs.Cmp.Lexicographic.{pointwise};
 ghost use Rattle.prims.specs.Names as spec;
-ghost use Rattle.prims.specs.declared.prim.Primitive.{Primitive as Function};
+ghost use Rattle.prims.specs.declared.prim.Primitive.{Primitive as AnyPrimitive};
 ghost use Rattle.prims.specs.declared.prim.Primitive.TheVariants as prim;
+ghost use Rattle.prims.specs.declared.prim.Function.TheVariants as function;
 
 use crate::prim::{
-    Arithmetic, BooleanFunction, Comparison, Extreme, IntegerFunction, ListFunction, MapFunction,
-    Primitive, SizeFunction, Test, TupleFunction,
+    Arithmetic, BooleanFunction, Comparison, Extreme, Function, IntegerFunction, ListFunction,
+    MapFunction, Primitive, SizeFunction, Test, TupleFunction,
 };
 
-/// All functions.
-const ALL: [Primitive; 56] = [
-    Primitive::Test(Test::IsAtom),
-    Primitive::Test(Test::IsInteger),
-    Primitive::Test(Test::IsList),
-    Primitive::Test(Test::IsNumber),
-    Primitive::Test(Test::IsTuple),
-    Primitive::Test(Test::IsMap),
-    Primitive::Test(Test::IsBinary),
-    Primitive::Test(Test::IsBitstring),
-    Primitive::Test(Test::IsBoolean),
-    Primitive::Test(Test::IsFloat),
-    Primitive::Test(Test::IsPid),
-    Primitive::Test(Test::IsPort),
-    Primitive::Test(Test::IsReference),
-    Primitive::Test(Test::IsFunction),
-    Primitive::Boolean(BooleanFunction::Not),
-    Primitive::Boolean(BooleanFunction::And),
-    Primitive::Boolean(BooleanFunction::Or),
-    Primitive::Boolean(BooleanFunction::Xor),
-    Primitive::Comparison(Comparison::Greater),
-    Primitive::Comparison(Comparison::GreaterOrEqual),
-    Primitive::Comparison(Comparison::Less),
-    Primitive::Comparison(Comparison::LessOrEqual),
-    Primitive::Comparison(Comparison::ExactlyEqual),
-    Primitive::Comparison(Comparison::ExactlyUnequal),
-    Primitive::Comparison(Comparison::Equal),
-    Primitive::Comparison(Comparison::Unequal),
-    Primitive::Extreme(Extreme::Max),
-    Primitive::Extreme(Extreme::Min),
-    Primitive::Integer(IntegerFunction::Abs),
-    Primitive::Integer(IntegerFunction::Round),
-    Primitive::Integer(IntegerFunction::Trunc),
-    Primitive::Integer(IntegerFunction::Plus),
-    Primitive::Integer(IntegerFunction::Negate),
-    Primitive::Integer(IntegerFunction::Bnot),
+/// All functions: those of `Function` and then those of two integers, each in the order of its number.
+pub(crate) const ALL: [Primitive; 56] = [
+    Primitive::Function(Function::Test(Test::IsAtom)),
+    Primitive::Function(Function::Test(Test::IsInteger)),
+    Primitive::Function(Function::Test(Test::IsList)),
+    Primitive::Function(Function::Test(Test::IsNumber)),
+    Primitive::Function(Function::Test(Test::IsTuple)),
+    Primitive::Function(Function::Test(Test::IsMap)),
+    Primitive::Function(Function::Map(MapFunction::IsMapKey)),
+    Primitive::Function(Function::Test(Test::IsBinary)),
+    Primitive::Function(Function::Test(Test::IsBitstring)),
+    Primitive::Function(Function::Test(Test::IsBoolean)),
+    Primitive::Function(Function::Tuple(TupleFunction::IsRecord)),
+    Primitive::Function(Function::Test(Test::IsFloat)),
+    Primitive::Function(Function::Test(Test::IsPid)),
+    Primitive::Function(Function::Test(Test::IsPort)),
+    Primitive::Function(Function::Test(Test::IsReference)),
+    Primitive::Function(Function::Test(Test::IsFunction)),
+    Primitive::Function(Function::Boolean(BooleanFunction::Not)),
+    Primitive::Function(Function::Boolean(BooleanFunction::And)),
+    Primitive::Function(Function::Boolean(BooleanFunction::Or)),
+    Primitive::Function(Function::Boolean(BooleanFunction::Xor)),
+    Primitive::Function(Function::Integer(IntegerFunction::Abs)),
+    Primitive::Function(Function::Tuple(TupleFunction::Element)),
+    Primitive::Function(Function::List(ListFunction::Hd)),
+    Primitive::Function(Function::List(ListFunction::Tl)),
+    Primitive::Function(Function::List(ListFunction::Length)),
+    Primitive::Function(Function::Size(SizeFunction::Size)),
+    Primitive::Function(Function::Size(SizeFunction::TupleSize)),
+    Primitive::Function(Function::Size(SizeFunction::ByteSize)),
+    Primitive::Function(Function::Size(SizeFunction::BitSize)),
+    Primitive::Function(Function::Map(MapFunction::MapSize)),
+    Primitive::Function(Function::Map(MapFunction::MapGet)),
+    Primitive::Function(Function::Integer(IntegerFunction::Round)),
+    Primitive::Function(Function::Integer(IntegerFunction::Trunc)),
+    Primitive::Function(Function::Integer(IntegerFunction::Plus)),
+    Primitive::Function(Function::Integer(IntegerFunction::Negate)),
+    Primitive::Function(Function::Integer(IntegerFunction::Bnot)),
+    Primitive::Function(Function::Comparison(Comparison::Greater)),
+    Primitive::Function(Function::Comparison(Comparison::GreaterOrEqual)),
+    Primitive::Function(Function::Comparison(Comparison::Less)),
+    Primitive::Function(Function::Comparison(Comparison::LessOrEqual)),
+    Primitive::Function(Function::Comparison(Comparison::ExactlyEqual)),
+    Primitive::Function(Function::Comparison(Comparison::ExactlyUnequal)),
+    Primitive::Function(Function::Comparison(Comparison::Equal)),
+    Primitive::Function(Function::Comparison(Comparison::Unequal)),
+    Primitive::Function(Function::Extreme(Extreme::Max)),
+    Primitive::Function(Function::Extreme(Extreme::Min)),
     Primitive::Arithmetic(Arithmetic::Add),
     Primitive::Arithmetic(Arithmetic::Subtract),
     Primitive::Arithmetic(Arithmetic::Multiply),
@@ -56,22 +69,10 @@ const ALL: [Primitive; 56] = [
     Primitive::Arithmetic(Arithmetic::Bxor),
     Primitive::Arithmetic(Arithmetic::Bsl),
     Primitive::Arithmetic(Arithmetic::Bsr),
-    Primitive::Tuple(TupleFunction::IsRecord),
-    Primitive::Tuple(TupleFunction::Element),
-    Primitive::List(ListFunction::Hd),
-    Primitive::List(ListFunction::Tl),
-    Primitive::List(ListFunction::Length),
-    Primitive::Map(MapFunction::IsMapKey),
-    Primitive::Map(MapFunction::MapGet),
-    Primitive::Map(MapFunction::MapSize),
-    Primitive::Size(SizeFunction::Size),
-    Primitive::Size(SizeFunction::TupleSize),
-    Primitive::Size(SizeFunction::ByteSize),
-    Primitive::Size(SizeFunction::BitSize),
 ];
 
 const fn test_name(test: Test) -> &'static str
-    ensures { result.now ≡ spec.name_of (prim.Test test) }
+    ensures { result.now ≡ spec.name_of (prim.Function (function.Test test)) }
 {
     match test {
         Test::IsAtom => "is_atom",
@@ -92,7 +93,7 @@ const fn test_name(test: Test) -> &'static str
 }
 
 const fn boolean_name(boolean: BooleanFunction) -> &'static str
-    ensures { result.now ≡ spec.name_of (prim.Boolean boolean) }
+    ensures { result.now ≡ spec.name_of (prim.Function (function.Boolean boolean)) }
 {
     match boolean {
         BooleanFunction::Not => "not",
@@ -103,7 +104,7 @@ const fn boolean_name(boolean: BooleanFunction) -> &'static str
 }
 
 const fn comparison_name(comparison: Comparison) -> &'static str
-    ensures { result.now ≡ spec.name_of (prim.Comparison comparison) }
+    ensures { result.now ≡ spec.name_of (prim.Function (function.Comparison comparison)) }
 {
     match comparison {
         Comparison::Greater => ">",
@@ -118,7 +119,7 @@ const fn comparison_name(comparison: Comparison) -> &'static str
 }
 
 const fn extreme_name(extreme: Extreme) -> &'static str
-    ensures { result.now ≡ spec.name_of (prim.Extreme extreme) }
+    ensures { result.now ≡ spec.name_of (prim.Function (function.Extreme extreme)) }
 {
     match extreme {
         Extreme::Max => "max",
@@ -127,7 +128,7 @@ const fn extreme_name(extreme: Extreme) -> &'static str
 }
 
 const fn integer_name(integer: IntegerFunction) -> &'static str
-    ensures { result.now ≡ spec.name_of (prim.Integer integer) }
+    ensures { result.now ≡ spec.name_of (prim.Function (function.Integer integer)) }
 {
     match integer {
         IntegerFunction::Abs => "abs",
@@ -157,7 +158,7 @@ const fn arithmetic_name(arithmetic: Arithmetic) -> &'static str
 }
 
 const fn tuple_name(tuple: TupleFunction) -> &'static str
-    ensures { result.now ≡ spec.name_of (prim.Tuple tuple) }
+    ensures { result.now ≡ spec.name_of (prim.Function (function.Tuple tuple)) }
 {
     match tuple {
         TupleFunction::IsRecord => "is_record",
@@ -166,7 +167,7 @@ const fn tuple_name(tuple: TupleFunction) -> &'static str
 }
 
 const fn list_name(list: ListFunction) -> &'static str
-    ensures { result.now ≡ spec.name_of (prim.List list) }
+    ensures { result.now ≡ spec.name_of (prim.Function (function.List list)) }
 {
     match list {
         ListFunction::Hd => "hd",
@@ -176,7 +177,7 @@ const fn list_name(list: ListFunction) -> &'static str
 }
 
 const fn map_name(map: MapFunction) -> &'static str
-    ensures { result.now ≡ spec.name_of (prim.Map map) }
+    ensures { result.now ≡ spec.name_of (prim.Function (function.Map map)) }
 {
     match map {
         MapFunction::IsMapKey => "is_map_key",
@@ -186,7 +187,7 @@ const fn map_name(map: MapFunction) -> &'static str
 }
 
 const fn size_name(size: SizeFunction) -> &'static str
-    ensures { result.now ≡ spec.name_of (prim.Size size) }
+    ensures { result.now ≡ spec.name_of (prim.Function (function.Size size)) }
 {
     match size {
         SizeFunction::Size => "size",
@@ -224,44 +225,68 @@ fn find(prims: &[Primitive], name: &[char], arguments: usize) -> Option<Primitiv
     None
 }
 
+impl Function {
+    ghost use Rattle.std.specs.Prelude.{◌≡◌};
+    ghost use Rattle.prims.specs.Names as spec;
+    ghost use Rattle.prims.specs.declared.prim.Primitive.TheVariants as prim;
+
+    /// The atom that names the function.
+    const fn name(self) -> &'static str
+        ensures { result.now ≡ spec.name_of (prim.Function self) }
+    {
+        match self {
+            Function::Test(test) => test_name(test),
+            Function::Boolean(boolean) => boolean_name(boolean),
+            Function::Comparison(comparison) => comparison_name(comparison),
+            Function::Extreme(extreme) => extreme_name(extreme),
+            Function::Integer(integer) => integer_name(integer),
+            Function::Tuple(tuple) => tuple_name(tuple),
+            Function::List(list) => list_name(list),
+            Function::Map(map) => map_name(map),
+            Function::Size(size) => size_name(size),
+        }
+    }
+
+    /// How many arguments the function takes: `and` and `or` so many or more.
+    const fn arity(self) -> usize
+        ensures { result ≡ spec.arity_of (prim.Function self) }
+    {
+        match self {
+            Function::Test(_) | Function::Integer(_) | Function::List(_) | Function::Size(_) => 1,
+            Function::Comparison(_) | Function::Extreme(_) => 2,
+            Function::Boolean(BooleanFunction::Not | BooleanFunction::And | BooleanFunction::Or) =>
+                1,
+            Function::Boolean(BooleanFunction::Xor) => 2,
+            Function::Tuple(TupleFunction::IsRecord) => 3,
+            Function::Tuple(TupleFunction::Element) => 2,
+            Function::Map(MapFunction::IsMapKey | MapFunction::MapGet) => 2,
+            Function::Map(MapFunction::MapSize) => 1,
+        }
+    }
+
+    /// Whether the function takes so many arguments.
+    pub const fn takes(self, arguments: usize) -> bool
+        ensures { result ≡ spec.takes (prim.Function self) arguments }
+    {
+        match self {
+            Function::Boolean(BooleanFunction::And | BooleanFunction::Or) => 0 < arguments,
+            _ => arguments == self.arity(),
+        }
+    }
+}
+
 impl Primitive {
     ghost use Rattle.std.specs.Prelude.{◌≡◌, ◌↔◌, IsTrue, Some};
     ghost use Rattle.prims.specs.Names as spec;
-    ghost use Rattle.prims.specs.declared.prim.Primitive.{Primitive as Function};
+    ghost use Rattle.prims.specs.declared.prim.Primitive.{Primitive as AnyPrimitive};
 
     /// The atom that names the function.
     pub const fn name(self) -> &'static str
         ensures { result.now ≡ spec.name_of self }
     {
         match self {
-            Primitive::Test(test) => test_name(test),
-            Primitive::Boolean(boolean) => boolean_name(boolean),
-            Primitive::Comparison(comparison) => comparison_name(comparison),
-            Primitive::Extreme(extreme) => extreme_name(extreme),
-            Primitive::Integer(integer) => integer_name(integer),
             Primitive::Arithmetic(arithmetic) => arithmetic_name(arithmetic),
-            Primitive::Tuple(tuple) => tuple_name(tuple),
-            Primitive::List(list) => list_name(list),
-            Primitive::Map(map) => map_name(map),
-            Primitive::Size(size) => size_name(size),
-        }
-    }
-
-    /// How many arguments the function takes: `and` and `or` so many or more.
-    const fn arity(self) -> usize
-        ensures { result ≡ spec.arity_of self }
-    {
-        match self {
-            Primitive::Test(_) | Primitive::Integer(_) | Primitive::List(_) | Primitive::Size(_) =>
-                1,
-            Primitive::Comparison(_) | Primitive::Extreme(_) | Primitive::Arithmetic(_) => 2,
-            Primitive::Boolean(BooleanFunction::Not | BooleanFunction::And | BooleanFunction::Or) =>
-                1,
-            Primitive::Boolean(BooleanFunction::Xor) => 2,
-            Primitive::Tuple(TupleFunction::IsRecord) => 3,
-            Primitive::Tuple(TupleFunction::Element) => 2,
-            Primitive::Map(MapFunction::IsMapKey | MapFunction::MapGet) => 2,
-            Primitive::Map(MapFunction::MapSize) => 1,
+            Primitive::Function(function) => function.name(),
         }
     }
 
@@ -270,15 +295,15 @@ impl Primitive {
         ensures { result ≡ spec.takes self arguments }
     {
         match self {
-            Primitive::Boolean(BooleanFunction::And | BooleanFunction::Or) => 0 < arguments,
-            _ => arguments == self.arity(),
+            Primitive::Arithmetic(_) => arguments == 2,
+            Primitive::Function(function) => function.takes(arguments),
         }
     }
 
     /// The function of that name that takes so many arguments, none where there is none.
     pub fn named(name: &[char], arguments: usize) -> Option<Primitive>
         ensures value { result ≡ spec.named name.now arguments }
-        ensures table { (p : Function) → (result ≡ Some p) ↔ ((spec.name_of p ≡ name.now) × IsTrue (spec.takes p arguments)) }
+        ensures table { (p : AnyPrimitive) → (result ≡ Some p) ↔ ((spec.name_of p ≡ name.now) × IsTrue (spec.takes p arguments)) }
     {
         find(&ALL, name, arguments)
     }

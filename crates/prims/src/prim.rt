@@ -4,6 +4,15 @@
 /// same names in the Erlang Reference Manual, "Expressions", and module erlang).
 #[derive(Clone, Copy, Debug, PartialEq, Eq)]
 pub enum Primitive {
+    /// Of two integers.
+    Arithmetic(Arithmetic),
+    /// Any other.
+    Function(Function),
+}
+
+/// A function but those of two integers.
+#[derive(Clone, Copy, Debug, PartialEq, Eq)]
+pub enum Function {
     /// What kind of term one is.
     Test(Test),
     /// Of truth values.
@@ -14,8 +23,6 @@ pub enum Primitive {
     Extreme(Extreme),
     /// Of one integer.
     Integer(IntegerFunction),
-    /// Of two integers.
-    Arithmetic(Arithmetic),
     /// Of tuples.
     Tuple(TupleFunction),
     /// Of lists.
@@ -30,160 +37,160 @@ pub enum Primitive {
 #[derive(Clone, Copy, Debug, PartialEq, Eq)]
 pub enum Test {
     /// `is_atom`
-    IsAtom,
+    IsAtom = 1,
     /// `is_integer`
-    IsInteger,
+    IsInteger = 2,
     /// `is_list`: `[]` or any non-empty list, proper or not.
-    IsList,
+    IsList = 3,
     /// `is_number`
-    IsNumber,
+    IsNumber = 4,
     /// `is_tuple`
-    IsTuple,
+    IsTuple = 5,
     /// `is_map`
-    IsMap,
+    IsMap = 6,
     /// `is_binary`
-    IsBinary,
+    IsBinary = 8,
     /// `is_bitstring`: as `is_binary`, since each binary has whole bytes.
-    IsBitstring,
+    IsBitstring = 9,
     /// `is_boolean`
-    IsBoolean,
+    IsBoolean = 10,
     /// `is_float`: of no term, as the four that follow.
-    IsFloat,
+    IsFloat = 12,
     /// `is_pid`
-    IsPid,
+    IsPid = 13,
     /// `is_port`
-    IsPort,
+    IsPort = 14,
     /// `is_reference`
-    IsReference,
+    IsReference = 15,
     /// `is_function`
-    IsFunction,
+    IsFunction = 16,
 }
 
 /// Functions of the atoms `true` and `false`.
 #[derive(Clone, Copy, Debug, PartialEq, Eq)]
 pub enum BooleanFunction {
     /// `not`
-    Not,
+    Not = 17,
     /// `and`, of one or more arguments.
-    And,
+    And = 18,
     /// `or`, of one or more arguments.
-    Or,
+    Or = 19,
     /// `xor`, of two.
-    Xor,
+    Xor = 20,
 }
 
 /// Comparisons of two terms.
 #[derive(Clone, Copy, Debug, PartialEq, Eq)]
 pub enum Comparison {
     /// `>`
-    Greater,
+    Greater = 37,
     /// `>=`
-    GreaterOrEqual,
+    GreaterOrEqual = 38,
     /// `<`
-    Less,
+    Less = 39,
     /// `=<`
-    LessOrEqual,
+    LessOrEqual = 40,
     /// `=:=`
-    ExactlyEqual,
+    ExactlyEqual = 41,
     /// `=/=`
-    ExactlyUnequal,
+    ExactlyUnequal = 42,
     /// `==`, which agrees with `=:=`, since there are no floats.
-    Equal,
+    Equal = 43,
     /// `/=`
-    Unequal,
+    Unequal = 44,
 }
 
 /// Which of two terms is given.
 #[derive(Clone, Copy, Debug, PartialEq, Eq)]
 pub enum Extreme {
     /// `max`
-    Max,
+    Max = 45,
     /// `min`
-    Min,
+    Min = 46,
 }
 
 /// Functions of one integer.
 #[derive(Clone, Copy, Debug, PartialEq, Eq)]
 pub enum IntegerFunction {
     /// `abs`
-    Abs,
+    Abs = 21,
     /// `round`: the integer itself.
-    Round,
+    Round = 32,
     /// `trunc`: the integer itself.
-    Trunc,
+    Trunc = 33,
     /// `+`: the integer itself.
-    Plus,
+    Plus = 34,
     /// `-`
-    Negate,
+    Negate = 35,
     /// `bnot`
-    Bnot,
+    Bnot = 36,
 }
 
 /// Functions of two integers.
 #[derive(Clone, Copy, Debug, PartialEq, Eq)]
 pub enum Arithmetic {
     /// `+`
-    Add,
+    Add = 1,
     /// `-`
-    Subtract,
+    Subtract = 2,
     /// `*`
-    Multiply,
+    Multiply = 3,
     /// `div`: truncates toward zero.
-    Div,
+    Div = 4,
     /// `rem`: has the sign of the dividend.
-    Rem,
+    Rem = 5,
     /// `band`
-    Band,
+    Band = 6,
     /// `bor`
-    Bor,
+    Bor = 7,
     /// `bxor`
-    Bxor,
+    Bxor = 8,
     /// `bsl`: `X bsl N` is X times 2 to the power N. With a negative N it is `X bsr -N`.
-    Bsl,
+    Bsl = 9,
     /// `bsr`: `X bsr N` is X divided by 2 to the power N, rounded down. With a negative N it is `X bsl -N`.
-    Bsr,
+    Bsr = 10,
 }
 
 /// Functions of tuples.
 #[derive(Clone, Copy, Debug, PartialEq, Eq)]
 pub enum TupleFunction {
     /// `is_record` of a term, a name and a size: a tuple of that size whose first element is the name.
-    IsRecord,
+    IsRecord = 11,
     /// `element` of a place, from 1, and a tuple.
-    Element,
+    Element = 22,
 }
 
 /// Functions of lists.
 #[derive(Clone, Copy, Debug, PartialEq, Eq)]
 pub enum ListFunction {
     /// `hd`
-    Hd,
+    Hd = 23,
     /// `tl`
-    Tl,
+    Tl = 24,
     /// `length`, of a proper list.
-    Length,
+    Length = 25,
 }
 
 /// Functions of maps.
 #[derive(Clone, Copy, Debug, PartialEq, Eq)]
 pub enum MapFunction {
     /// `is_map_key` of a key and a map.
-    IsMapKey,
+    IsMapKey = 7,
     /// `map_get` of a key and a map.
-    MapGet,
+    MapGet = 31,
     /// `map_size`
-    MapSize,
+    MapSize = 30,
 }
 
 /// How large a term is.
 #[derive(Clone, Copy, Debug, PartialEq, Eq)]
 pub enum SizeFunction {
     /// `size`: a tuple's elements or a binary's bytes.
-    Size,
+    Size = 26,
     /// `tuple_size`
-    TupleSize,
+    TupleSize = 27,
     /// `byte_size`
-    ByteSize,
+    ByteSize = 28,
     /// `bit_size`: 8 for each byte.
-    BitSize,
+    BitSize = 29,
 }

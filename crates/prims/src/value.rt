@@ -4,7 +4,7 @@ ghost use Rattle.std.specs.List.{All};
 ghost use Rattle.std.specs.Option.{option_map};
 ghost use Rattle.prims.specs.Calls.{function_of};
 ghost use Rattle.prims.specs.Operand.{operand_datum};
-ghost use Rattle.prims.specs.Value.{value_datum, IsBorrowed};
+ghost use Rattle.prims.specs.Value.{value_datum, inline_values, IsBorrowed};
 
 use crate::calls::call;
 use crate::operand::Operand;
@@ -110,7 +110,7 @@ fn borrowed<'h, 'a, A: Allocator + Copy>(
     values: &[Value<'a, A>],
 ) -> Result<Option<SmallVec<Operand<'a, A>, MAX_INLINE, &'h A>>, AllocError>
     ensures value { IfOk result (λ found. IfSome found (λ operands. map operand_datum operands.items ≡ map value_datum values.now)) }
-    ensures all { All IsBorrowed values.now → length values.now ≤ MAX_INLINE → IsOkAnd result IsSome }
+    ensures all { All IsBorrowed values.now → length values.now ≤ inline_values → IsOkAnd result IsSome }
 {
     let mut operands = SmallVec::new(heap);
     for value in values {
@@ -159,7 +159,7 @@ pub fn call_values<'a, A: Allocator + Copy>(
     values: &[Value<'a, A>],
 ) -> Result<Option<Value<'a, A>>, AllocError>
     ensures value { IfOk result (λ value. option_map value_datum value ≡ function_of function (map value_datum values.now)) }
-    ensures borrowed { All IsBorrowed values.now → length values.now ≤ MAX_INLINE → IsOkAnd result (λ value. IfSome value IsBorrowed) }
+    ensures borrowed { All IsBorrowed values.now → length values.now ≤ inline_values → IsOkAnd result (λ value. IfSome value IsBorrowed) }
 {
     let heap = &alloc;
     let Some(operands) = borrowed(heap, values)? else {

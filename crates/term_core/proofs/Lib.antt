@@ -6,3 +6,4 @@ pub mod MapLemmas
 pub mod DepthLemmas
 pub mod ByKeyLemmas
 pub mod MadeLemmas
+pub mod ProperLemmas

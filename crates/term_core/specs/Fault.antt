@@ -3,25 +3,25 @@ use Rattle.std.specs.Prelude.{ℕ, ◌≡◌, ◌<◌, ◌≤◌, length}
 use Rattle.term_core.specs.Datum.{Datum, item_count, entry_count, cell_count}
 use Rattle.term_core.specs.Datum.Datum.{integer, atom, tuple, map, nil, cons, binary}
 use Rattle.term_core.specs.Limits.{depth, IsTerm}
-use Rattle.term_core.specs.declared.TheConstants.{MAX_DEPTH, MAX_CHARACTERS, MAX_TUPLE, MAX_MAP, MAX_LIST, MAX_BINARY}
+use Rattle.term_core.specs.Sizes.{depth_limit, atom_limit, tuple_limit, map_limit, list_limit, binary_limit}
 use Rattle.term_core.specs.declared.fault.Fault.{Fault}
 use Rattle.term_core.specs.declared.fault.Fault.TheVariants.{Memory, TooDeep, TooLong, DuplicateKey}
 
 -- past the limit of its kind
 abbrev pub IsTooLong : Datum → Type 0
 IsTooLong (integer z) = ⊥
-IsTooLong (atom cs) = MAX_CHARACTERS < length cs
-IsTooLong (tuple ds) = MAX_TUPLE < item_count ds
-IsTooLong (map es) = MAX_MAP < entry_count es
+IsTooLong (atom cs) = atom_limit < length cs
+IsTooLong (tuple ds) = tuple_limit < item_count ds
+IsTooLong (map es) = map_limit < entry_count es
 IsTooLong nil = ⊥
-IsTooLong (cons head tail) = MAX_LIST < cell_count (cons head tail)
-IsTooLong (binary bs) = MAX_BINARY < length bs
+IsTooLong (cons head tail) = list_limit < cell_count (cons head tail)
+IsTooLong (binary bs) = binary_limit < length bs
 
 -- What a refusal says of the term that was to be made: the depth comes first, then the length, and want of memory last.
 abbrev pub IsFault : Fault → Datum → Type 0
-IsFault Memory d = (depth d ≤ MAX_DEPTH) × ¬ IsTooLong d
-IsFault TooDeep d = MAX_DEPTH < depth d
-IsFault TooLong d = (depth d ≤ MAX_DEPTH) × IsTooLong d
+IsFault Memory d = (depth d ≤ depth_limit) × ¬ IsTooLong d
+IsFault TooDeep d = depth_limit < depth d
+IsFault TooLong d = (depth d ≤ depth_limit) × IsTooLong d
 IsFault DuplicateKey d = ⊥
 
 -- a term's depth, and that it is a term

@@ -3,6 +3,7 @@ pub mod DatumCode
 pub mod Order
 pub mod OrderLaws
 pub mod KeyHash
+pub mod Sizes
 pub mod Limits
 pub mod Term
 pub mod TermFalls

@@ -8,7 +8,7 @@ use Rattle.term_core.specs.Datum.Datum.{integer, atom, tuple, map, nil, cons, bi
 use Rattle.term_core.specs.Datum.Items.{no_items, item}
 use Rattle.term_core.specs.Datum.Entries.{no_entries, entry}
 use Rattle.term_core.specs.Order.{IsBelowFirst}
-use Rattle.term_core.specs.declared.TheConstants.{MAX_DEPTH, MAX_CHARACTERS, MAX_TUPLE, MAX_MAP, MAX_LIST, MAX_BINARY}
+use Rattle.term_core.specs.Sizes.{depth_limit, atom_limit, tuple_limit, map_limit, list_limit, binary_limit}
 
 abbrev mutual
   -- 1 for what holds nothing, else one more than the greatest depth of its elements, tail, keys and values
@@ -52,12 +52,12 @@ abbrev mutual
   -- each part is a term but for its depth
   pub IsSound : Datum → Type 0
   IsSound (integer z) = FitsSigned w64 z
-  IsSound (atom cs) = (length cs ≤ MAX_CHARACTERS) × AreScalars cs
-  IsSound (tuple ds) = (item_count ds ≤ MAX_TUPLE) × AreSound ds
-  IsSound (map es) = (entry_count es ≤ MAX_MAP) × ArePairsSound es
+  IsSound (atom cs) = (length cs ≤ atom_limit) × AreScalars cs
+  IsSound (tuple ds) = (item_count ds ≤ tuple_limit) × AreSound ds
+  IsSound (map es) = (entry_count es ≤ map_limit) × ArePairsSound es
   IsSound nil = Unit {0}
-  IsSound (cons head tail) = (cell_count (cons head tail) ≤ MAX_LIST) × IsSound head × IsSound tail
-  IsSound (binary bs) = (length bs ≤ MAX_BINARY) × AreBytes bs
+  IsSound (cons head tail) = (cell_count (cons head tail) ≤ list_limit) × IsSound head × IsSound tail
+  IsSound (binary bs) = (length bs ≤ binary_limit) × AreBytes bs
 
   pub AreSound : Items → Type 0
   AreSound no_items = Unit {0}
@@ -71,21 +71,21 @@ abbrev mutual
 -- a term: sound, and at most 255 deep
 pub record IsTerm (d : Datum) : Type 0 where
   pub sound : IsSound d
-  pub shallow : depth d ≤ MAX_DEPTH
+  pub shallow : depth d ≤ depth_limit
 
 -- past the limit of its kind
 abbrev pub is_too_long : Datum → Bool
 is_too_long (integer z) = false
-is_too_long (atom cs) = nat_lt MAX_CHARACTERS (length cs)
-is_too_long (tuple ds) = nat_lt MAX_TUPLE (item_count ds)
-is_too_long (map es) = nat_lt MAX_MAP (entry_count es)
+is_too_long (atom cs) = nat_lt atom_limit (length cs)
+is_too_long (tuple ds) = nat_lt tuple_limit (item_count ds)
+is_too_long (map es) = nat_lt map_limit (entry_count es)
 is_too_long nil = false
-is_too_long (cons head tail) = nat_lt MAX_LIST (cell_count (cons head tail))
-is_too_long (binary bs) = nat_lt MAX_BINARY (length bs)
+is_too_long (cons head tail) = nat_lt list_limit (cell_count (cons head tail))
+is_too_long (binary bs) = nat_lt binary_limit (length bs)
 
 -- deeper or longer than a term may be, its parts being terms
 abbrev pub is_past_limits : Datum → Bool
-is_past_limits d = nat_lt MAX_DEPTH (depth d) || is_too_long d
+is_past_limits d = nat_lt depth_limit (depth d) || is_too_long d
 
 -- what is made of terms, none where it passes a limit
 abbrev pub within_limits : Datum → Option Datum

@@ -7,7 +7,7 @@ use Rattle.std.specs.List.{list_any}
 use Rattle.std.specs.Ordering.{is_lt, eq_by_cmp}
 use Rattle.term_core.specs.Order.{IsBelowFirst, datum_cmp}
 use Rattle.term_core.specs.Limits.{depth, IsSound}
-use Rattle.term_core.specs.declared.TheConstants.{MAX_DEPTH, MAX_MAP}
+use Rattle.term_core.specs.Sizes.{depth_limit, map_limit}
 use Rattle.term_core.specs.declared.fault.Fault.{Fault}
 use Rattle.term_core.specs.declared.fault.Fault.TheVariants.{Memory, TooDeep, TooLong, DuplicateKey}
 use Rattle.term_core.specs.Fault.{IsFault, IsTooLong}
@@ -56,7 +56,7 @@ pub record IsMapOf (pairs : List (Datum × Datum)) (d : Datum) : Type 0 where
 -- want of memory last.
 abbrev pub IsMapFault : Fault → List (Datum × Datum) → Type 0
 IsMapFault DuplicateKey pairs =
-    (depth (map (entries_of pairs)) ≤ MAX_DEPTH) × (¬ IsTooLong (map (entries_of pairs))) × HasTwice pairs
+    (depth (map (entries_of pairs)) ≤ depth_limit) × (¬ IsTooLong (map (entries_of pairs))) × HasTwice pairs
 IsMapFault Memory pairs = IsFault Memory (map (entries_of pairs))
 IsMapFault TooDeep pairs = IsFault TooDeep (map (entries_of pairs))
 IsMapFault TooLong pairs = IsFault TooLong (map (entries_of pairs))
@@ -68,6 +68,6 @@ IsPairSound pair = IsSound pair.0 × IsSound pair.1
 -- how deep the map of pairs is that are within the limits
 pub record IsMapDepth (level : ℕ) (pairs : List (Datum × Datum)) : Type 0 where
   pub depth : level ≡ depth (map (entries_of pairs))
-  pub shallow : level ≤ MAX_DEPTH
-  pub short : length pairs ≤ MAX_MAP
+  pub shallow : level ≤ depth_limit
+  pub short : length pairs ≤ map_limit
   pub sound : All IsPairSound pairs

@@ -37,9 +37,9 @@ impl Fault {
 
 /// A value that was moved into a call that refused it, and why.
 #[derive(Debug, Drop)]
-pub struct Refused<T> {
+pub struct Refused<T, F = Fault> {
     /// What the call was given.
     pub value: T,
     /// Why it was refused.
-    pub fault: Fault,
+    pub fault: F,
 }

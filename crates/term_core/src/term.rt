@@ -318,7 +318,8 @@ fn with_nil<A: Allocator>(
 
 impl<A: Allocator> Term<A> {
     ghost use Rattle.std.specs.Prelude.{◌≡◌, IfOk, IfErr};
-    ghost use Rattle.term_core.specs.Datum.{items_of, cells as cells_of};
+    ghost use Rattle.std.specs.Option.{option_copied};
+    ghost use Rattle.term_core.specs.Datum.{items_of, cells as cells_of, proper_elements};
     ghost use Rattle.term_core.specs.Term.{tail_of};
     ghost use Rattle.term_core.specs.ListParts.{HandsBack};
     ghost use Rattle.term_core.specs.Datum.Datum.{integer, nil, atom, binary, tuple};
@@ -466,6 +467,19 @@ impl<A: Allocator> Term<A> {
             Shape::List(_, cells) => View::List(cells.elements.as_slice(), cells.tail.as_ref()),
             Shape::Map(_, pairs) => View::Map(pairs.as_slice()),
             Shape::Binary(bytes) => View::Binary(bytes.as_slice()),
+        }
+    }
+
+    /// The elements of a list that has no tail but `[]`, none of any other term.
+    pub fn proper_elements(&self) -> Option<&[Term<A>]>
+        ensures { option_copied result ≡ proper_elements self.now }
+    {
+        match self.view() {
+            View::Nil => Some(&[]),
+            View::List(elements, None) => Some(elements),
+            View::List(_, Some(_)) => None,
+            View::Integer(_) | View::Atom(_) => None,
+            View::Tuple(_) | View::Map(_) | View::Binary(_) => None,
         }
     }
 }

@@ -1,5 +1,5 @@
 -- A reader that stops names what stands at the place where it stops: terms and whole texts.
-use Rattle.std.proofs.Common.{◌≡◌, ◌&&◌, ℕ, zero, suc, ◌+◌, ◌-◌, ◌≤◌, ◌<◌, inl, inr, true, false, List, [], ◌∷◌, length, take, Option, Some, None, refl, sym, ap, ◌∙◌, arith}
+use Rattle.std.proofs.Common.{◌≡◌, ◌&&◌, ℕ, zero, suc, ◌+◌, ◌-◌, ◌≤◌, ◌<◌, inl, inr, true, false, List, [], ◌∷◌, length, take, Option, Some, None, refl, sym, ap, subst, ◌∙◌, arith}
 use Rattle.std.specs.Prelude.{IfOk, IfErr, IfSome, ◌==◌}
 use Rattle.std.specs.List.{Contains}
 use Rattle.std.specs.List.Sorted.{IsPermutation}
@@ -25,11 +25,11 @@ use Rattle.term_text.specs.Text.{Gap, Spelled}
 use Rattle.term_text.specs.Fault.{fault_of}
 use Rattle.term_text.specs.Causes.{Due, Due as due, WholeGap, Row, most_elements, BeginsTerm, IsTooDeep, IsTooLong, IsKeyTwice, IsOutOfRange, IsNoEscape, StandsAt, HasCause, BeginsInteger, BeginsWith, BeginsWithBoth, BeginsDot, FollowsElement, IsUnexpected, IsNew}
 use Rattle.term_text.specs.Causes.{BeginsTerm as begins_term}
-use Rattle.term_text.specs.Causes.IsUnexpected.{no_character, no_escaped, no_term, no_segment, behind_element, behind_tail, behind_key, behind_pair, behind_segment, no_dot}
+use Rattle.term_text.specs.Causes.IsUnexpected.{no_character, no_escaped, no_term, no_element, no_key, no_segment, behind_element, behind_tail, behind_key, behind_pair, behind_segment, no_dot}
 use Rattle.term_text.specs.Causes.Place.{a_sentence, a_term, an_element, a_pair, a_segment}
 use Rattle.term_text.specs.Causes.Row.{in_tuple, in_list}
 use Rattle.term_text.specs.Causes.Quotes.{of_atom, of_string, of_bytes}
-use Rattle.term_text.specs.Causes.IsTooDeep.{deep_term, deep_character}
+use Rattle.term_text.specs.Causes.IsTooDeep.{deep_term, deep_element, deep_key, deep_character}
 use Rattle.term_text.specs.Causes.IsTooLong.{one_element, one_pair, one_byte, one_character, one_letter}
 use Rattle.term_text.specs.Causes.IsKeyTwice.{key_twice}
 use Rattle.term_text.specs.Causes.IsOutOfRange.{wide_term, wide_segment, no_byte, no_byte_character}
@@ -46,9 +46,25 @@ use Rattle.term_text.proofs.Blames.{Left, Blames, at_once, whole_gap, gap_before
 use Rattle.term_text.proofs.Words.{BeginsInteger as IsIntegerStart}
 use Rattle.term_text.proofs.Blames.{integer_starts}
 
+-- A place where a term with so many levels left is due if there is room for one more, and what else is wrong there.
+pub record TermDue (whole : List ℕ) (n room : ℕ) (text : List ℕ) : Type 0 where
+  pub due_here : 0 < room → Due whole (a_term n 0) text
+  pub deep : n ≡ 0 → BeginsTerm text → IsTooDeep whole text
+  pub long : room ≡ 0 → BeginsTerm text → IsTooLong whole text
+  pub other : ¬ BeginsTerm text → IsUnexpected whole text
+
+one_due : (whole : List ℕ) (n : ℕ) (text : List ℕ) → Due whole (a_term n 0) text → TermDue whole n 1 text
+one_due whole n text d =
+    record {
+      due_here = λ room. d;
+      deep = λ none b. deep_term (subst (λ m. Due whole (a_term m 0) text) none d) b;
+      long = λ none b. absurd (omega arith);
+      other = λ no. no_term d no;
+    }
+
 -- a reader of terms that names what stands where it stops
 abbrev pub BlamesTerm : List ℕ → ℕ → TermReader → Type 0
-BlamesTerm whole n read = (room : ℕ) (text : List ℕ) → Due whole (a_term n 0) text → (BeginsTerm text → room ≡ 0 → IsTooLong whole text) → IfErr (read room text) (Blames whole)
+BlamesTerm whole n read = (room : ℕ) (text : List ℕ) → TermDue whole n room text → IfErr (read room text) (Blames whole)
 
 abbrev pub BlamesTail : List ℕ → ℕ → TailReader → Type 0
 BlamesTail whole n read = (front : List Datum) (text : List ℕ) → length front ≤ MAX_LIST → Due whole (a_term n (length front)) text → IfErr (read front text) (Blames whole)
@@ -193,11 +209,20 @@ module _ (whole : List ℕ) (n : ℕ) (read : TermReader) (reads : IsReader n re
       few : length ds ≤ limit
       place : Due whole (an_element r n (length ds)) text
 
+    element_due : (ds : List Datum) (text : List ℕ) → ElementDue ds text → TermDue whole n (limit - length ds) text
+    element_due ds text g =
+        record {
+          due_here = λ room. due.element g.place (omega arith);
+          deep = λ none b. deep_element (subst (λ m. Due whole (an_element r m (length ds)) text) none g.place) b;
+          long = λ none b. one_element g.place (let few = g.few in omega arith) b;
+          other = λ no. no_element g.place no;
+        }
+
     element_blames : (ds : List Datum) (text : List ℕ) → ElementDue ds text → IfErr (element_at read limit ds text) (Blames whole)
     unfolding element_at
     element_blames ds text g =
         bind_any (Blames whole) (read (limit - length ds) text) _
-        (blames (limit - length ds) text (due.element g.place) (λ b none. one_element g.place (let few = g.few in omega arith) b)) (λ x. tt)
+        (blames (limit - length ds) text (element_due ds text g)) (λ x. tt)
 
     element_count : (s : List Datum) (text : List ℕ) (u : List Datum) (t : List ℕ) → ElementRead n limit s text u t → length u ≡ suc (length s)
     element_count s text u t i = let made = ap length i.made in omega (arith, length-append s (i.element ∷ []))
@@ -302,16 +327,26 @@ module _ (whole : List ℕ) (n : ℕ) (read : TermReader) (reads : IsReader n re
   pair_few : (es : List (Datum × Datum)) (text : List ℕ) (g : PairDue es text) (key : Datum) (t : List ℕ) → 0 < MAX_MAP - length es → length g.seen < MAX_MAP
   pair_few es text g key t room = let len = length_permutation es g.seen g.permuted in omega arith
 
+  key_due : (es : List (Datum × Datum)) (text : List ℕ) → PairDue es text → TermDue whole n (MAX_MAP - length es) text
+  key_due es text g =
+      let len = length_permutation es g.seen g.permuted in
+      record {
+        due_here = λ room. due.key g.place (omega arith);
+        deep = λ none b. deep_key (subst (λ m. Due whole (a_pair m g.seen) text) none g.place) b;
+        long = λ none b. one_pair g.place (let few = g.few in omega arith) b;
+        other = λ no. no_key g.place no;
+      }
+
   pair_blames : (es : List (Datum × Datum)) (text : List ℕ) → PairDue es text → IfErr (pair_at read es text) (Blames whole)
   unfolding pair_at
   pair_blames es text g =
       bind_blames (λ (k : Datum × List ℕ). Spelled n text k.0 k.1 × (0 < MAX_MAP - length es)) (Blames whole) (read (MAX_MAP - length es) text) _ (reads (MAX_MAP - length es) text)
-      (blames (MAX_MAP - length es) text (due.key g.place) (λ b none. one_pair g.place (let few = g.few in let len = length_permutation es g.seen g.permuted in omega arith) b))
+      (blames (MAX_MAP - length es) text (key_due es text g))
       (λ k key. if_blames (Blames whole) (has_key k.0 es) _ _ (λ h. at_once text (twice es text k.0 k.1 g key.0 h))
       (λ fresh. let few = pair_few es text g k.0 k.1 key.1 in let new = is_new k.0 es g.seen g.permuted fresh in bind_blames (λ (rest : List ℕ). after_gap false k.1 ≡ equals ∷ greater ∷ rest) (Blames whole) (expect_both equals greater (after_gap false k.1)) _ (expect_both_holds equals greater (after_gap false k.1))
       (expect_both_blames whole equals greater (after_gap false k.1) (λ no. behind_key g.place few new key.0 (whole_gap k.1) no))
       (λ rest e. bind_any (Blames whole) (read 1 (after_gap false rest)) _
-      (blames 1 (after_gap false rest) (due.value g.place few new key.0 (gap_before equals (greater ∷ rest) (whole_gap k.1) e) (whole_gap rest)) (λ b none. absurd (omega arith)))
+      (blames 1 (after_gap false rest) (one_due whole n (after_gap false rest) (due.value g.place few new key.0 (gap_before equals (greater ∷ rest) (whole_gap k.1) e) (whole_gap rest))))
       (λ v. tt))))
 
   next_pair_due : (s : List (Datum × Datum)) (text : List ℕ) (u : List (Datum × Datum)) (t w rest : List ℕ) → PairDue s text → PairRead n s text u t → Gap t (comma ∷ w) → WholeGap w rest → PairDue u rest
@@ -378,13 +413,13 @@ mutual
   unfolding term_at tail_at
 
   term_blames : (whole : List ℕ) (n : ℕ) → BlamesTerm whole n (term_at n)
-  term_blames whole zero room text d long =
+  term_blames whole zero room text d =
       bind_blames (λ (o : Opening × List ℕ). Opens o.0 text o.1 × (0 < 0) × (0 < room)) (Blames whole) (enter 0 room text) _ (enter_holds 0 room text)
-      (enter_blames whole 0 room text (λ no. no_term d no) (λ b _. deep_term d b) long) (λ o h. absurd (let none = h.1 in omega arith))
-  term_blames whole (suc n) room text d long =
+      (enter_blames whole 0 room text d.other (λ b none. d.deep none b) (λ b none. d.long none b)) (λ o h. absurd (let none = h.1 in omega arith))
+  term_blames whole (suc n) room text d =
       bind_blames (λ (o : Opening × List ℕ). Opens o.0 text o.1 × (0 < suc n) × (0 < room)) (Blames whole) (enter (suc n) room text) _ (enter_holds (suc n) room text)
-      (enter_blames whole (suc n) room text (λ no. no_term d no) (λ b none. absurd (omega arith)) long)
-      (λ o h. form_blames whole n (term_at n) (term_holds n) (term_blames whole n) (tail_at n) (tail_blames whole n) (tail_holds n) o.0 text o.1 h.0 d)
+      (enter_blames whole (suc n) room text d.other (λ b none. absurd (omega arith)) (λ b none. d.long none b))
+      (λ o h. form_blames whole n (term_at n) (term_holds n) (term_blames whole n) (tail_at n) (tail_blames whole n) (tail_holds n) o.0 text o.1 h.0 (d.due_here h.2))
 
   tail_blames : (whole : List ℕ) (n : ℕ) → BlamesTail whole n (tail_at n)
   tail_blames whole zero front text few d =
@@ -407,7 +442,7 @@ dot_blames whole (c ∷ cs) h = if_blames (Blames whole) (c == dot && begins_gap
 sentence_blames : (whole : List ℕ) (c : ℕ) (cs : List ℕ) → Due whole a_sentence (c ∷ cs) → IfErr (sentence_at (c ∷ cs)) (Blames whole)
 unfolding sentence_at
 sentence_blames whole c cs d =
-    bind_blames (λ (x : Datum × List ℕ). Spelled MAX_DEPTH (c ∷ cs) x.0 x.1 × (0 < 1)) (Blames whole) (term_at MAX_DEPTH 1 (c ∷ cs)) _ (term_holds MAX_DEPTH 1 (c ∷ cs)) (term_blames whole MAX_DEPTH 1 (c ∷ cs) (due.outermost d) (λ b none. absurd (omega arith)))
+    bind_blames (λ (x : Datum × List ℕ). Spelled MAX_DEPTH (c ∷ cs) x.0 x.1 × (0 < 1)) (Blames whole) (term_at MAX_DEPTH 1 (c ∷ cs)) _ (term_holds MAX_DEPTH 1 (c ∷ cs)) (term_blames whole MAX_DEPTH 1 (c ∷ cs) (one_due whole MAX_DEPTH (c ∷ cs) (due.outermost d)))
     (λ x s. bind_any (Blames whole) (dot_at (after_gap false x.1)) _ (dot_blames whole (after_gap false x.1) (λ no. no_dot d s.0 (whole_gap x.1) no)) (λ rest. tt))
 
 abbrev SentenceDue : List ℕ → List Datum → List ℕ → Type 0
@@ -444,6 +479,8 @@ stands left text IsSuch l ends =
 
 deep_ends : (text rest : List ℕ) → IsTooDeep text rest → EndsIn text rest
 deep_ends text rest (deep_term d b) = due_ends d
+deep_ends text rest (deep_element d b) = due_ends d
+deep_ends text rest (deep_key d b) = due_ends d
 deep_ends text rest (deep_character d n) = due_ends d
 
 long_ends : (text rest : List ℕ) → IsTooLong text rest → EndsIn text rest
@@ -469,6 +506,8 @@ unexpected_ends : (text rest : List ℕ) → IsUnexpected text rest → EndsIn t
 unexpected_ends text rest (no_character d) = due_ends d
 unexpected_ends text rest (no_escaped d l f) = ends_behind backslash (due_ends d)
 unexpected_ends text rest (no_term d b) = due_ends d
+unexpected_ends text rest (no_element d b) = due_ends d
+unexpected_ends text rest (no_key d b) = due_ends d
 unexpected_ends text rest (no_segment d b q) = due_ends d
 unexpected_ends text rest (behind_element d l s g n) = then (due_ends d) (then (spelled_ends s) (whole_gap_ends g))
 unexpected_ends text rest (behind_tail d s l g n) = then (due_ends d) (then (spelled_ends s) (whole_gap_ends g))

@@ -49,3 +49,7 @@ no_bad_utf8 (stops.At causes.DuplicateKey left) text at h = absurd cc
 no_bad_utf8 (stops.At causes.Syntax left) text at h = absurd cc
 no_bad_utf8 (stops.At causes.IntegerRange left) text at h = absurd cc
 no_bad_utf8 (stops.At causes.UnsupportedEscape left) text at h = absurd cc
+
+pub spelled_once : (bytes : List ℕ) (ds es : List Datum) → Spells bytes ds → Spells bytes es → ds ≡ es
+spelled_once bytes ds es h k =
+    let again : done ds ≡ done es = sym (text_again (chars bytes) ds h.sentences) ∙ text_again (chars bytes) es k.sentences in cc

@@ -5,3 +5,4 @@ pub mod Reading
 pub mod Canonical
 pub mod Fault
 pub mod FaultNumbers
+pub mod Laws

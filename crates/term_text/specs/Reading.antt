@@ -12,7 +12,7 @@ use Rattle.term_core.specs.Datum.Datum.{integer, atom, tuple, map, nil, binary}
 use Rattle.term_core.specs.Order.{datum_cmp}
 use Rattle.term_core.specs.Limits.{depth, items_depth}
 use Rattle.term_core.specs.Fault.{IsTooLong}
-use Rattle.term_core.specs.declared.TheConstants.{MAX_CHARACTERS, MAX_TUPLE, MAX_MAP, MAX_LIST, MAX_BINARY, MAX_DEPTH}
+use Rattle.term_core.specs.Sizes.{atom_limit, tuple_limit, map_limit, list_limit, binary_limit, depth_limit}
 use Rattle.term_text.specs.declared.fault.Cause.{Cause}
 use Rattle.term_text.specs.declared.fault.Cause.TheVariants.{TooDeep, TooLong, DuplicateKey, Syntax, IntegerRange, UnsupportedEscape}
 use Rattle.term_text.specs.declared.fault.Stop.{Stop}
@@ -152,7 +152,7 @@ integer_at text = number_at (behind_sign text).0 text (behind_sign text).1
 -- a bare word, and the text behind it
 unfoldable pub word_at : List ℕ → Read (List ℕ)
 word_at text =
-    if nat_lt MAX_CHARACTERS (prefix_len is_word text) then stop TooLong (drop MAX_CHARACTERS text)
+    if nat_lt atom_limit (prefix_len is_word text) then stop TooLong (drop atom_limit text)
     else Ok (take (prefix_len is_word text) text, drop (prefix_len is_word text) text)
 
 abbrev pub escape_as : Option ℕ → List ℕ → List ℕ → Read ℕ
@@ -197,19 +197,19 @@ abbrev pub quoted_at : Marks → List ℕ → Read (List ℕ)
 quoted_at m text = all_steps (quoted_step m) [] text
 
 abbrev pub atom_marks : Marks
-atom_marks = record { mark = single_quote; room = MAX_CHARACTERS; past = TooLong; only_bytes = false }
+atom_marks = record { mark = single_quote; room = atom_limit; past = TooLong; only_bytes = false }
 
 -- of a string that follows so many elements, its characters having so many levels left
 abbrev pub string_marks : ℕ → ℕ → Marks
 string_marks levels before = record {
   mark = double_quote;
-  room = (if levels == 0 then 0 else MAX_LIST - before);
+  room = (if levels == 0 then 0 else list_limit - before);
   past = (if levels == 0 then TooDeep else TooLong);
   only_bytes = false;
 }
 
 abbrev pub byte_marks : ℕ → Marks
-byte_marks before = record { mark = double_quote; room = MAX_BINARY - before; past = TooLong; only_bytes = true }
+byte_marks before = record { mark = double_quote; room = binary_limit - before; past = TooLong; only_bytes = true }
 
 -- the list of these elements and a string's characters
 unfoldable pub string_at : ℕ → List Datum → List ℕ → Read Datum
@@ -224,7 +224,7 @@ unfoldable pub byte_at : List ℕ → Read ℕ
 byte_at text = integer_at text >>= λ z. byte_of z.0 text >>= λ b. Ok (b, z.1)
 
 abbrev pub one_byte_at : List ℕ → List ℕ → Read (List ℕ)
-one_byte_at bytes text = if length bytes == MAX_BINARY then stop TooLong text else byte_at text >>= λ b. Ok (bytes ++ b.0 ∷ [], b.1)
+one_byte_at bytes text = if length bytes == binary_limit then stop TooLong text else byte_at text >>= λ b. Ok (bytes ++ b.0 ∷ [], b.1)
 
 abbrev pub segment_as : Option (Opening × List ℕ) → List ℕ → List ℕ → Read (List ℕ)
 segment_as None bytes text = stop Syntax text
@@ -272,7 +272,7 @@ elements_at read limit ds text = all_steps (separated (element_at read limit)) d
 -- the elements of a tuple, none where it closes at once
 abbrev pub items_at : TermReader → Option (List ℕ) → List ℕ → Read (List Datum)
 items_at read (Some rest) text = Ok ([], rest)
-items_at read None text = elements_at read MAX_TUPLE [] text >>= λ x. expect close_brace x.1 >>= λ rest. Ok (x.0, rest)
+items_at read None text = elements_at read tuple_limit [] text >>= λ x. expect close_brace x.1 >>= λ rest. Ok (x.0, rest)
 
 -- behind the opening of a tuple
 unfoldable pub tuple_at : TermReader → List ℕ → Read Datum
@@ -288,7 +288,7 @@ list_end read_tail ds text = end_at read_tail ds (behind bar text) text
 
 abbrev pub list_from : TermReader → TailReader → List Datum → Option (List ℕ) → List ℕ → Read Datum
 list_from read read_tail front (Some rest) text = Ok (cells front nil, rest)
-list_from read read_tail front None text = elements_at read MAX_LIST front text >>= λ x. list_end read_tail x.0 x.1
+list_from read read_tail front None text = elements_at read list_limit front text >>= λ x. list_end read_tail x.0 x.1
 
 -- a list that begins with these elements, behind the opening of its last part
 unfoldable pub list_at : TermReader → TailReader → List Datum → List ℕ → Read Datum
@@ -299,7 +299,7 @@ has_key k [] = false
 has_key k (e ∷ es) = is_eq (datum_cmp k e.0) || has_key k es
 
 unfoldable pub pair_at : TermReader → List (Datum × Datum) → List ℕ → Read (List (Datum × Datum))
-pair_at read es text = read (MAX_MAP - length es) text >>= λ k.
+pair_at read es text = read (map_limit - length es) text >>= λ k.
     if has_key k.0 es then stop DuplicateKey text
     else expect_both equals greater (after_gap false k.1) >>= λ rest. read 1 (after_gap false rest) >>= λ v. Ok (insert_entry datum_cmp es k.0 v.0, v.1)
 
@@ -359,7 +359,7 @@ dot_at [] = Err (Syntax, 0)
 dot_at (c ∷ cs) = if c == dot && begins_gap cs then Ok cs else stop Syntax (c ∷ cs)
 
 unfoldable pub sentence_at : List ℕ → Read Datum
-sentence_at text = term_at MAX_DEPTH 1 text >>= λ x. dot_at (after_gap false x.1) >>= λ rest. Ok (x.0, rest)
+sentence_at text = term_at depth_limit 1 text >>= λ x. dot_at (after_gap false x.1) >>= λ rest. Ok (x.0, rest)
 
 unfoldable pub sentence_step : Step (List Datum)
 sentence_step ds [] = Ok (false, ds, [])
@@ -371,9 +371,9 @@ text_at text = all_steps sentence_step [] (after_gap false text) >>= λ x. Ok x.
 
 -- within the limits, so that nothing but memory refuses the term
 abbrev pub IsWithin : Datum → Type 0
-IsWithin d = (depth d ≤ MAX_DEPTH) × ¬ IsTooLong d
+IsWithin d = (depth d ≤ depth_limit) × ¬ IsTooLong d
 
 -- elements that a list may begin with
 pub record AreElements (ds : List Datum) : Type 0 where
-  pub few : length ds ≤ MAX_LIST
-  pub shallow : items_depth (items_of ds) < MAX_DEPTH
+  pub few : length ds ≤ list_limit
+  pub shallow : items_depth (items_of ds) < depth_limit

@@ -10,7 +10,7 @@ use Rattle.std.specs.Prelude.{map as each}
 use Rattle.term_core.specs.Datum.{Datum, items_of, entries_of, cells, cell_count}
 use Rattle.term_core.specs.MapPairs.{AreRising}
 use Rattle.term_core.specs.Datum.Datum.{integer, atom, tuple, map, nil, binary}
-use Rattle.term_core.specs.declared.TheConstants.{MAX_CHARACTERS, MAX_TUPLE, MAX_MAP, MAX_LIST, MAX_BINARY, MAX_DEPTH}
+use Rattle.term_core.specs.Sizes.{atom_limit, tuple_limit, map_limit, list_limit, binary_limit, depth_limit}
 use Rattle.term_text.specs.Character.{line_feed, percent, plus, minus, comma, dot, backslash, single_quote, double_quote, open_brace, close_brace, open_bracket, close_bracket, bar, number_sign, equals, less, greater, is_white_space, is_word, escaped}
 
 mutual
@@ -79,19 +79,19 @@ mutual
   -- of a string are one level below their term.
   pub data Spelled : ℕ → List ℕ → Datum → List ℕ → Type 0 where
     an_integer : {n : ℕ} {text rest : List ℕ} {z : ℤ} → Integer text z rest → Spelled (suc n) text (integer z) rest
-    a_word : {n c : ℕ} {text cs rest : List ℕ} → IsTrue (is_ascii_lowercase c) → Run is_word (c ∷ text) cs rest → length cs ≤ MAX_CHARACTERS → Spelled (suc n) (c ∷ text) (atom cs) rest
-    a_quoted_atom : {n : ℕ} {text cs rest : List ℕ} → Quoted single_quote text cs rest → length cs ≤ MAX_CHARACTERS → Spelled (suc n) (single_quote ∷ text) (atom cs) rest
+    a_word : {n c : ℕ} {text cs rest : List ℕ} → IsTrue (is_ascii_lowercase c) → Run is_word (c ∷ text) cs rest → length cs ≤ atom_limit → Spelled (suc n) (c ∷ text) (atom cs) rest
+    a_quoted_atom : {n : ℕ} {text cs rest : List ℕ} → Quoted single_quote text cs rest → length cs ≤ atom_limit → Spelled (suc n) (single_quote ∷ text) (atom cs) rest
     an_empty_string : {n : ℕ} {rest : List ℕ} → Spelled (suc n) (double_quote ∷ double_quote ∷ rest) nil rest
-    a_string : {n : ℕ} {text cs rest : List ℕ} → Quoted double_quote text cs rest → length cs ≤ MAX_LIST → Spelled (suc (suc n)) (double_quote ∷ text) (cells (each code_point cs) nil) rest
+    a_string : {n : ℕ} {text cs rest : List ℕ} → Quoted double_quote text cs rest → length cs ≤ list_limit → Spelled (suc (suc n)) (double_quote ∷ text) (cells (each code_point cs) nil) rest
     an_empty_tuple : {n : ℕ} {text rest : List ℕ} → Gap text (close_brace ∷ rest) → Spelled (suc n) (open_brace ∷ text) (tuple (items_of [])) rest
-    a_tuple : {n : ℕ} {text t rest : List ℕ} {ds : List Datum} → Gap text t → Elements n t ds (close_brace ∷ rest) → length ds ≤ MAX_TUPLE → Spelled (suc n) (open_brace ∷ text) (tuple (items_of ds)) rest
+    a_tuple : {n : ℕ} {text t rest : List ℕ} {ds : List Datum} → Gap text t → Elements n t ds (close_brace ∷ rest) → length ds ≤ tuple_limit → Spelled (suc n) (open_brace ∷ text) (tuple (items_of ds)) rest
     an_empty_list : {n : ℕ} {text rest : List ℕ} → Gap text (close_bracket ∷ rest) → Spelled (suc n) (open_bracket ∷ text) nil rest
-    a_list : {n : ℕ} {text t rest : List ℕ} {ds : List Datum} → Gap text t → Elements n t ds (close_bracket ∷ rest) → length ds ≤ MAX_LIST → Spelled (suc n) (open_bracket ∷ text) (cells ds nil) rest
-    a_list_with_tail : {n : ℕ} {text t u v w rest : List ℕ} {ds : List Datum} {d : Datum} → Gap text t → Elements n t ds (bar ∷ u) → Gap u v → Spelled n v d w → Gap w (close_bracket ∷ rest) → cell_count (cells ds d) ≤ MAX_LIST → Spelled (suc n) (open_bracket ∷ text) (cells ds d) rest
+    a_list : {n : ℕ} {text t rest : List ℕ} {ds : List Datum} → Gap text t → Elements n t ds (close_bracket ∷ rest) → length ds ≤ list_limit → Spelled (suc n) (open_bracket ∷ text) (cells ds nil) rest
+    a_list_with_tail : {n : ℕ} {text t u v w rest : List ℕ} {ds : List Datum} {d : Datum} → Gap text t → Elements n t ds (bar ∷ u) → Gap u v → Spelled n v d w → Gap w (close_bracket ∷ rest) → cell_count (cells ds d) ≤ list_limit → Spelled (suc n) (open_bracket ∷ text) (cells ds d) rest
     an_empty_map : {n : ℕ} {text rest : List ℕ} → Gap text (close_brace ∷ rest) → Spelled (suc n) (number_sign ∷ open_brace ∷ text) (map (entries_of [])) rest
-    a_map : {n : ℕ} {text t rest : List ℕ} {es ordered : List (Datum × Datum)} → Gap text t → Pairs n t es (close_brace ∷ rest) → length es ≤ MAX_MAP → IsPermutation es ordered → AreRising (entries_of ordered) → Spelled (suc n) (number_sign ∷ open_brace ∷ text) (map (entries_of ordered)) rest
+    a_map : {n : ℕ} {text t rest : List ℕ} {es ordered : List (Datum × Datum)} → Gap text t → Pairs n t es (close_brace ∷ rest) → length es ≤ map_limit → IsPermutation es ordered → AreRising (entries_of ordered) → Spelled (suc n) (number_sign ∷ open_brace ∷ text) (map (entries_of ordered)) rest
     an_empty_binary : {n : ℕ} {text rest : List ℕ} → Gap text (greater ∷ greater ∷ rest) → Spelled (suc n) (less ∷ less ∷ text) (binary []) rest
-    a_binary : {n : ℕ} {text t rest bytes : List ℕ} → Gap text t → Segments t bytes (greater ∷ greater ∷ rest) → length bytes ≤ MAX_BINARY → Spelled (suc n) (less ∷ less ∷ text) (binary bytes) rest
+    a_binary : {n : ℕ} {text t rest bytes : List ℕ} → Gap text t → Segments t bytes (greater ∷ greater ∷ rest) → length bytes ≤ binary_limit → Spelled (suc n) (less ∷ less ∷ text) (binary bytes) rest
 
   -- one or more terms with commas between, and the gap behind the last
   pub data Elements : ℕ → List ℕ → List Datum → List ℕ → Type 0 where
@@ -115,7 +115,7 @@ BeginsGap (c ∷ text) = IsTrue (is_white_space c) ⊎ (c ≡ percent)
 -- a text of characters: terms, each followed by a dot
 pub data Sentences : List ℕ → List Datum → Type 0 where
   none : {text rest : List ℕ} → Gap text rest → IsLastComment rest → Sentences text []
-  sentence : {text t u rest : List ℕ} {d : Datum} {ds : List Datum} → Gap text t → Spelled MAX_DEPTH t d u → Gap u (dot ∷ rest) → BeginsGap rest → Sentences rest ds → Sentences text (d ∷ ds)
+  sentence : {text t u rest : List ℕ} {d : Datum} {ds : List Datum} → Gap text t → Spelled depth_limit t d u → Gap u (dot ∷ rest) → BeginsGap rest → Sentences rest ds → Sentences text (d ∷ ds)
 
 -- the text, in UTF-8, spells these terms
 pub record Spells (bytes : List ℕ) (ds : List Datum) : Type 0 where

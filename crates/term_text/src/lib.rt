@@ -19,6 +19,6 @@ mod token;
 mod write;
 
 pub use fault::TextFault;
-pub use law::canonical_text_is_read_back;
+pub use law::{a_text_spells_one_list, canonical_text_is_read_back};
 pub use text::read_terms;
 pub use write::write_term;

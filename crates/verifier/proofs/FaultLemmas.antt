@@ -20,7 +20,7 @@ falls_same p s t None same = refl
 falls_same p s t (Some i) same = ap (falling_shape p i) (same i refl)
 
 -- states of typed instructions are those that the pass knows
-same_falling : (p : Program) (shapes : ℕ → Shape) (n : ℕ) → AreTypedBelow p shapes n → falling_into p shapes n ≡ falling_into p (shape_at p) n
+pub same_falling : (p : Program) (shapes : ℕ → Shape) (n : ℕ) → AreTypedBelow p shapes n → falling_into p shapes n ≡ falling_into p (shape_at p) n
 same_falling p shapes zero typed = refl
 same_falling p shapes (suc n) typed =
     let before = same_falling p shapes n (λ q i below here. typed q i (omega (arith, below)) here) in
@@ -29,7 +29,7 @@ same_falling p shapes (suc n) typed =
     ∙ ap (λ o. begun p o (frame_at p.frames n)) before ∙ sym (shape_begun p n))
 
 -- no instruction is typed and at fault
-contradicts : (p : Program) (pc : ℕ) (i : Instr) (s : Shape) (told : Fault) → IsTypedAt p pc i s → IsFaultIn p pc i s told → ⊥
+pub contradicts : (p : Program) (pc : ℕ) (i : Instr) (s : Shape) (told : Fault) → IsTypedAt p pc i s → IsFaultIn p pc i s told → ⊥
 contradicts p pc i s fault.Memory typed why = why
 contradicts p pc i s (fault.JumpOutside at) typed why =
     let target = typed.target in

@@ -5,3 +5,4 @@ pub mod LeavingLemmas
 pub mod PassLemmas
 pub mod VerifiedLemmas
 pub mod FaultLemmas
+pub mod OnceLemmas

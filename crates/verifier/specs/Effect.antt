@@ -5,7 +5,7 @@ use Rattle.prims.specs.Gives.{gives_of}
 use Rattle.prims.specs.Names.{takes}
 use Rattle.prims.specs.declared.gives.Gives.{Gives}
 use Rattle.prims.specs.declared.gives.Gives.TheVariants as gives
-use Rattle.mcode.specs.Function.{primitive_of}
+use Rattle.prims.specs.declared.prim.Primitive.TheVariants as prim
 use Rattle.mcode.specs.Instr.{goes_on}
 use Rattle.mcode.specs.Kind.{kind_of}
 use Rattle.mcode.specs.Machine.{map_keys}
@@ -65,7 +65,7 @@ kinds_fit instr.Tail (kind.Cons ∷ ks) = true
 kinds_fit instr.Tail ks = false
 kinds_fit (instr.Value c l) (kind.Map ∷ ks) = true
 kinds_fit (instr.Value c l) ks = false
-kinds_fit (instr.Call f n l) ks = takes (primitive_of f) n
+kinds_fit (instr.Call f n l) ks = takes (prim.Function f) n
 kinds_fit (instr.Arith f l) (kind.Int ∷ kind.Int ∷ ks) = true
 kinds_fit (instr.Arith f l) ks = false
 kinds_fit (instr.Branch l) (kind.Bool ∷ ks) = true
@@ -106,7 +106,7 @@ pushed_kinds p (instr.Map l) ks = kind.Map ∷ []
 pushed_kinds p (instr.Value c l) ks = kind.Any ∷ []
 pushed_kinds p (instr.Equal l) ks = []
 pushed_kinds p (instr.Jump l) ks = []
-pushed_kinds p (instr.Call f n l) ks = given_kind (gives_of (primitive_of f)) ∷ []
+pushed_kinds p (instr.Call f n l) ks = given_kind (gives_of (prim.Function f)) ∷ []
 pushed_kinds p (instr.Int l) ks = kind.Int ∷ []
 pushed_kinds p (instr.Arith f l) ks = kind.Int ∷ []
 pushed_kinds p (instr.Bool l) ks = kind.Bool ∷ []

@@ -5,8 +5,7 @@ use Rattle.mcode.specs.Program.{Program, Frame, frame_at}
 use Rattle.mcode.specs.declared.instr.Instr.{Instr}
 use Rattle.verifier.specs.Shape.{Shape}
 use Rattle.verifier.specs.Effect.{needs, IsConstantFit, kinds_fit, slot_fits, left_shape}
-use Rattle.verifier.specs.Typing.{IsFrameFit, IsTargetFit, IsJumpFit, Begins, falling_into, AreTypedBelow}
-use Rattle.verifier.specs.declared.TheConstants.{MAX_DEPTH}
+use Rattle.verifier.specs.Typing.{most_places, IsFrameFit, IsTargetFit, IsJumpFit, Begins, falling_into, AreTypedBelow}
 use Rattle.verifier.specs.declared.fault.Fault.{Fault}
 use Rattle.verifier.specs.declared.fault.Fault.TheVariants as fault
 
@@ -45,7 +44,7 @@ pub record IsSlotFit (p : Program) (pc : ℕ) (i : Instr) (s : Shape) : Type 0 w
 -- and what is left isn't too deep
 pub record IsDepthFit (p : Program) (pc : ℕ) (i : Instr) (s : Shape) : Type 0 where
   pub slot : IsSlotFit p pc i s
-  pub depth : length (left_shape p i s).kinds ≤ MAX_DEPTH
+  pub depth : length (left_shape p i s).kinds ≤ most_places
 
 -- and the jump's state is at or below the frame
 pub record IsLeavingFit (p : Program) (pc : ℕ) (i : Instr) (s : Shape) : Type 0 where
@@ -62,7 +61,7 @@ IsFaultIn p pc i s (fault.Constant at) = (at ≡ pc) × IsTargetFit p pc i × ¬
 IsFaultIn p pc i s (fault.Underflow at) = (at ≡ pc) × IsNamingFit p pc i × (length s.kinds < needs p i)
 IsFaultIn p pc i s (fault.Kind at) = (at ≡ pc) × AreOperandsFit p pc i s × (kinds_fit i s.kinds ≡ false)
 IsFaultIn p pc i s (fault.Unbound at) = (at ≡ pc) × AreKindsFit p pc i s × (slot_fits p i s.bound ≡ false)
-IsFaultIn p pc i s (fault.Depth at) = (at ≡ pc) × IsSlotFit p pc i s × (MAX_DEPTH < length (left_shape p i s).kinds)
+IsFaultIn p pc i s (fault.Depth at) = (at ≡ pc) × IsSlotFit p pc i s × (most_places < length (left_shape p i s).kinds)
 IsFaultIn p pc i s (fault.FallsOff at) = (at ≡ pc) × IsLeavingFit p pc i s × IsTrue (goes_on i) × (length p.instructions ≤ suc pc)
 
 -- no state is one in which the instruction can begin: neither does one fall into it nor has it a frame, or the one that falls into it isn't at or below its frame

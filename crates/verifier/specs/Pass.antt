@@ -3,7 +3,7 @@ use Rattle.std.specs.Prelude.{ℕ, zero, suc, ◌≡◌, ◌<◌, ◌≤◌, nat
 use Rattle.std.specs.Option.{option_and_then}
 use Rattle.term_core.specs.Datum.{Datum}
 use Rattle.prims.specs.Names.{takes}
-use Rattle.mcode.specs.Function.{primitive_of}
+use Rattle.prims.specs.declared.prim.Primitive.TheVariants as prim
 use Rattle.mcode.specs.Machine.{map_keys}
 use Rattle.mcode.specs.Program.{Program, Frame, frame_at}
 use Rattle.mcode.specs.declared.instr.Instr.{Instr}
@@ -32,7 +32,7 @@ tops_fit instr.Tail (Some kind.Cons) second = true
 tops_fit instr.Tail top second = false
 tops_fit (instr.Value c l) (Some kind.Map) second = true
 tops_fit (instr.Value c l) top second = false
-tops_fit (instr.Call f n l) top second = takes (primitive_of f) n
+tops_fit (instr.Call f n l) top second = takes (prim.Function f) n
 tops_fit (instr.Arith f l) (Some kind.Int) (Some kind.Int) = true
 tops_fit (instr.Arith f l) top second = false
 tops_fit (instr.Branch l) (Some kind.Bool) second = true

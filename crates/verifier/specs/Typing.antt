@@ -6,13 +6,16 @@ use Rattle.mcode.specs.Program.{Program, Frame, frame_at, place_number}
 use Rattle.mcode.specs.declared.instr.Instr.{Instr}
 use Rattle.verifier.specs.Shape.{Shape, start_shape, shape_of, IsAtOrBelow, IsCutBelow}
 use Rattle.verifier.specs.Effect.{needs, IsConstantFit, kinds_fit, slot_fits, left_shape, jump_shape, falling_shape}
-use Rattle.verifier.specs.declared.TheConstants.{MAX_DEPTH}
+
+-- places of the stack
+abbrev pub most_places : ℕ
+most_places = 16384
 
 -- the frame is at an instruction other than the first, not deeper than allowed, its places within its depth and its slots within the code's
 pub record IsFrameFit (p : Program) (f : Frame) : Type 0 where
   pub later : 0 < f.pc
   pub inside : f.pc < length p.instructions
-  pub depth : f.depth ≤ MAX_DEPTH
+  pub depth : f.depth ≤ most_places
   pub places : All (λ place. place_number place < f.depth) f.places
   pub slots : All (λ slot. slot < p.slots) f.slots
 
@@ -37,7 +40,7 @@ pub record IsTypedAt (p : Program) (pc : ℕ) (i : Instr) (s : Shape) : Type 0 w
   pub operands : needs p i ≤ length s.kinds
   pub kinds : IsTrue (kinds_fit i s.kinds)
   pub slot : IsTrue (slot_fits p i s.bound)
-  pub depth : length (left_shape p i s).kinds ≤ MAX_DEPTH
+  pub depth : length (left_shape p i s).kinds ≤ most_places
   pub jump : IsJumpFit p i s
   pub last : IsTrue (goes_on i) → suc pc < length p.instructions
 

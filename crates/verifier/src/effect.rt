@@ -2,7 +2,6 @@
 ghost use Rattle.std.specs.Prelude.{◌≡◌, ◌<◌, ◌≤◌, ◌↔◌, IsTrue, OnOk, length, slice_get};
 ghost use Rattle.std.specs.Option.{option_map_or};
 ghost use Rattle.prims.specs.Gives.{gives_of};
-ghost use Rattle.mcode.specs.Function.{primitive_of};
 ghost use Rattle.mcode.specs.Kind.{kind_of as exact_kind};
 ghost use Rattle.verifier.specs.Effect.{needs, IsConstantFit, kinds_fit, slot_fits, left_shape, top_stays as top_is_kept, given_kind as kind_given};
 ghost use Rattle.verifier.specs.Pass.{AreCounts, tops_fit as tops_are_fit, pushed_count as count_pushed};
@@ -70,7 +69,7 @@ fn tops_fit(instr: Instr, top: Option<Kind>, second: Option<Kind>) -> bool
             function,
             arguments,
             ..
-        } => function.primitive().takes(usize::from(arguments)),
+        } => function.takes(usize::from(arguments)),
         _ => true,
     }
 }

@@ -90,12 +90,3 @@ impl Fault {
         }
     }
 }
-
-/// A value that was moved into a call that refused it, and why.
-#[derive(Debug, Drop)]
-pub struct Refused<T> {
-    /// What the call was given.
-    pub value: T,
-    /// Why it was refused.
-    pub fault: Fault,
-}

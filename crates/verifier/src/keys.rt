@@ -7,27 +7,19 @@ ghost use Rattle.verifier.specs.Pass.{keys_counted, AreCounts};
 
 use mcode::Code;
 use std::alloc::{AllocError, Allocator};
-use term_core::{Term, View, are_apart};
+use term_core::{Term, are_apart};
 
 /// How many keys a term has that is a proper list of terms of which no two are the same.
 fn counted<A: Allocator + Copy>(alloc: A, term: &Term<A>) -> Result<Option<usize>, AllocError>
     ensures { IfOk result (λ count. count ≡ keys_counted term.now) }
 {
-    match term.view() {
-        View::Nil => Ok(Some(0)),
-        View::List(elements, None) => {
-            if are_apart(alloc, elements)? {
-                Ok(Some(elements.len()))
-            } else {
-                Ok(None)
-            }
-        }
-        View::List(_, Some(_)) => Ok(None),
-        View::Integer(_) => Ok(None),
-        View::Atom(_) => Ok(None),
-        View::Tuple(_) => Ok(None),
-        View::Map(_) => Ok(None),
-        View::Binary(_) => Ok(None),
+    let Some(elements) = term.proper_elements() else {
+        return Ok(None);
+    };
+    if are_apart(alloc, elements)? {
+        Ok(Some(elements.len()))
+    } else {
+        Ok(None)
     }
 }
 

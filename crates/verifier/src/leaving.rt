@@ -95,7 +95,7 @@ fn kinds_pushed<A: Allocator>(code: &Code<A>, instr: Instr, top: Option<Kind>) -
         Instr::Map { .. } | Instr::MakeMap { .. } => Pushed::One(Kind::Map),
         Instr::Int { .. } | Instr::Arith { .. } => Pushed::One(Kind::Int),
         Instr::Bool { .. } => Pushed::One(Kind::Bool),
-        Instr::Call { function, .. } => Pushed::One(given_kind(function.primitive().gives())),
+        Instr::Call { function, .. } => Pushed::One(given_kind(function.gives())),
         Instr::Bind { .. } | Instr::Drop | Instr::Equal { .. } => Pushed::Nothing,
         Instr::Jump { .. } | Instr::Branch { .. } => Pushed::Nothing,
         Instr::Answer | Instr::NoAnswer => Pushed::Nothing,

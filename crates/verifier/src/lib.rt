@@ -23,8 +23,8 @@ mod shape;
 mod verification;
 mod verified;
 
-pub use fault::{Fault, Refused};
-pub use laws::faulty_code_is_untyped;
+pub use fault::Fault;
+pub use laws::{depth_is_one, faulty_code_is_untyped, first_fault_is_one};
 pub use verification::verify;
 pub use verified::Verified;
 

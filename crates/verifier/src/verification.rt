@@ -10,13 +10,14 @@ ghost use Rattle.verifier.specs.Verified.{IsVerified};
 ghost use Rattle.verifier.specs.declared.fault.Fault.TheVariants.{Memory};
 
 use crate::MAX_DEPTH;
-use crate::fault::{Fault, Refused};
+use crate::fault::Fault;
 use crate::keys::key_counts;
 use crate::pass::{Walk, step};
 use crate::verified::Verified;
 use budget::longest;
 use mcode::{Code, Frame};
 use std::alloc::{AllocError, Allocator};
+use term_core::Refused;
 
 /// Whether all of these places are within a depth.
 fn are_within(places: &[(u16, mcode::Kind)], depth: u16) -> bool
@@ -112,7 +113,10 @@ fn find_out<A: Allocator + Copy>(alloc: A, code: &Code<A>) -> Result<Findings<A>
 /// Verifies code. It is accepted exactly where there is a state for each instruction such that each finds what it needs
 /// and leaves what the next begins with; else the first fault is answered, and the code comes back. Frames come first,
 /// by rising number, then that there is an instruction, then each instruction in turn.
-pub fn verify<A: Allocator + Copy>(alloc: A, code: Code<A>) -> Result<Verified<A>, Refused<Code<A>>>
+pub fn verify<A: Allocator + Copy>(
+    alloc: A,
+    code: Code<A>,
+) -> Result<Verified<A>, Refused<Code<A>, Fault>>
     ensures ok { IfOk result (λ v. (v ≡ code) × IsTyped code) }
     ensures refused { IfErr result (λ r. (r.value ≡ code) × ((r.fault ≡ Memory) ⊎ IsFirstFault code r.fault)) }
 {

@@ -4,6 +4,6 @@ use Rattle.prims.specs.Operand.{operand_datum}
 use Rattle.prims.proofs.GivesLemmas.{given_result}
 use Rattle.prims.proofs.calls.call.Goals as goal
 
-pub returns-in-len2-clause-kind : goal.returns-in-len2-clause-kind
-returns-in-len2-clause-kind g c =
-    given_result c.of_two.result c.args.prim (map operand_datum c.args.operands.now) (grind (arith, common_steps))
+pub returns-in-Function-clause-kind : goal.returns-in-Function-clause-kind
+returns-in-Function-clause-kind g c =
+    given_result c.of_any.result c.args.prim (map operand_datum c.args.operands.now) (grind (arith, common_steps))
