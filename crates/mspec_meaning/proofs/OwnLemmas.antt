@@ -3,11 +3,10 @@ use Rattle.std.proofs.Common.{◌≡◌, ◌↔◌, ℕ, Option, Some, None, opt
 use Rattle.term_core.specs.Datum.{Datum, Items}
 use Rattle.term_core.specs.Datum.Datum.{tuple, cons}
 use Rattle.term_core.specs.Datum.Items.{no_items, item}
-use Rattle.mspec_syntax.specs.Pattern.{Pattern, Patterns, pattern_variables, patterns_variables}
+use Rattle.mspec_syntax.specs.Pattern.{Pattern, Patterns, pattern_variables, patterns_variables, own_cell, own_item, own_term, own_terms}
 use Rattle.mspec_syntax.specs.Pattern.Pattern.{variable, anything, literal, tuple_of, cell_of, map_of}
 use Rattle.mspec_syntax.specs.Pattern.Patterns.{no_patterns, pattern}
 use Rattle.mspec_syntax.specs.Rising.{rising}
-use Rattle.mspec_meaning.specs.Laws.{own_cell, own_item, own_term, own_terms}
 use Rattle.mspec_meaning.specs.Match.{Substitution, domain, lookup, Fits, AllFit, Matches}
 
 tuple-parts : (found : Option Items) (d : Datum) → option_map tuple found ≡ Some d → (ds : Items) × (found ≡ Some ds) × (tuple ds ≡ d)

@@ -9,7 +9,8 @@ use Rattle.term_core.specs.Datum.Datum.{integer, atom, tuple, map as table, nil,
 use Rattle.term_core.specs.Datum.Entries.{no_entries, entry}
 use Rattle.term_core.specs.MapPairs.{AreRising}
 use Rattle.term_core.specs.Order.{IsBelow, IsBelowFirst}
-use Rattle.mspec_syntax.specs.Expression.{Expression, Assignments, expressions_of, assignments_of, new_cells, expression_size, expressions_size, assignments_size, AreKeysRising, IsBelowNext, IsNoListExpression}
+use Rattle.mspec_syntax.specs.Expression.{Expression, Assignments, expressions_of, assignments_of, new_cells, expression_size, expressions_size, assignments_size, assignment_keys, IsNoListExpression}
+use Rattle.mspec_syntax.specs.Keys.{AreKeysRising, IsBelowNext}
 use Rattle.mspec_syntax.specs.Expression.Expression.{bound, object, bindings, constant, quoted, call, and_also, or_else, new_tuple, new_cell, new_map}
 use Rattle.mspec_syntax.specs.Expression.Assignments.{no_assignments, assignment}
 use Rattle.mspec_syntax.specs.ExpressionView.{tail_expression, IsTailExpression}
@@ -275,12 +276,12 @@ module _ (mode : Mode) (s : Substitution) (o : Datum) where
   list-value es tail some h =
       sym (cells-value es (tail_expression tail) some ∙ ap (made_of mode) (cells-tail es (tail_expression tail) (tail-value tail h)))
 
-  below-next : (k : Datum) (ms : Assignments) (es : Entries) → Some es ≡ entry_values mode ms s o → IsBelowNext k ms → IsBelowFirst k es
+  below-next : (k : Datum) (ms : Assignments) (es : Entries) → Some es ≡ entry_values mode ms s o → IsBelowNext k (assignment_keys ms) → IsBelowFirst k es
   below-next k no_assignments es is h = let same : no_entries ≡ es = cc in subst (IsBelowFirst k) same tt
   below-next k (assignment l e ms) es is h = below-at k l (value_of mode e s o) (entry_values mode ms s o) es is h
 
   -- a map's keys stay as they are
-  pub entries-rise : (ms : Assignments) (es : Entries) → Some es ≡ entry_values mode ms s o → AreKeysRising ms → AreRising es
+  pub entries-rise : (ms : Assignments) (es : Entries) → Some es ≡ entry_values mode ms s o → AreKeysRising (assignment_keys ms) → AreRising es
   entries-rise no_assignments es is h = let same : no_entries ≡ es = cc in subst AreRising same tt
   entries-rise (assignment k e ms) es is h =
       rises-at k (value_of mode e s o) (entry_values mode ms s o) es is

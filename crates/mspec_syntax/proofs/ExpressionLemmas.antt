@@ -1,11 +1,10 @@
 -- Expressions read from terms: what is read has no fault, and readings of lists from the readings of their elements.
-use Rattle.std.proofs.Common.{◌≡◌, ℕ, suc, ◌+◌, ◌<◌, ◌≤◌, ◌==◌, ◌&&◌, nat_lt, nat_eq, cond, Bool, true, false, inr, Option, Some, None, Result, IfOk, IfErr, List, [], ◌∷◌, ◌++◌, length, get_or, drop, refl, sym, ◌∙◌, ap, subst, arith}
+use Rattle.std.proofs.Common.{◌≡◌, ℕ, ◌+◌, ◌<◌, ◌≤◌, ◌==◌, ◌&&◌, nat_lt, nat_eq, cond, Bool, true, false, inr, Option, Some, None, Result, IfOk, IfErr, List, [], ◌∷◌, ◌++◌, length, get_or, drop, refl, sym, ◌∙◌, ap, subst, arith}
 use Rattle.std.specs.Prelude.{codes}
 use Rattle.std.specs.Cmp.Lexicographic.{pointwise}
-use Rattle.std.specs.Cmp.{first_so}
 use Rattle.std.proofs.lemmas.Bool.{eqb-true}
 use Rattle.std.proofs.lemmas.List.{append_assoc, drop_all}
-use Rattle.term_core.specs.Datum.{Datum, Items, Entries, items_of, entries_of, item_count, cells, IsNoList}
+use Rattle.term_core.specs.Datum.{Datum, Items, Entries, items_of, entries_of, entry_keys, item_count, cells, IsNoList}
 use Rattle.term_core.specs.Datum.Datum.{integer, atom, tuple, map, nil, cons, binary}
 use Rattle.term_core.specs.Datum.Items.{no_items, item}
 use Rattle.term_core.specs.Datum.Entries.{no_entries, entry}
@@ -14,7 +13,8 @@ use Rattle.term_core.specs.Limits.{depth, items_depth, IsTerm, IsSound, ArePairs
 use Rattle.term_core.specs.Order.{IsBelowFirst}
 use Rattle.term_core.proofs.LimitLemmas.{item_count-items_of}
 use Rattle.prims.specs.Names.{named}
-use Rattle.mspec_syntax.specs.Expression.{Expression, Expressions, Assignments, expressions_of, assignments_of, new_cells, IsNoListExpression, IsBelowNext, AreKeysRising}
+use Rattle.mspec_syntax.specs.Expression.{Expression, Expressions, Assignments, expressions_of, assignments_of, assignment_keys, new_cells, IsNoListExpression}
+use Rattle.mspec_syntax.specs.Keys.{IsBelowNext, AreKeysRising}
 use Rattle.mspec_syntax.specs.Expression.Expression.{constant, call, and_also, or_else, new_tuple, new_cell, new_map}
 use Rattle.mspec_syntax.specs.Expression.Expressions.{no_expressions, expression}
 use Rattle.mspec_syntax.specs.Expression.Assignments.{no_assignments, assignment}
@@ -431,19 +431,27 @@ pub crowded-refused : (i : ℕ) (vs : List ℕ) (ds : Items) (rest : List Datum)
 crowded-refused i vs ds [] b is some = absurd (cc)
 crowded-refused i vs ds (x ∷ xs) b is some = inr (record { others = []; first = refl })
 
-below-next : (vs : List ℕ) (k l : Datum) (es : Entries) (ms : Assignments) → l ≡ k → AreAssignments vs es ms → IsBelowFirst k es → IsBelowNext l ms
-below-next vs k l no_entries no_assignments same h below = tt
-below-next vs k l no_entries (assignment m e ms) same h below = absurd h
-below-next vs k l (entry n v es) no_assignments same h below = absurd h
-below-next vs k l (entry n v es) (assignment m e ms) same h below = rw (same, h.0) below
+below-next : (k : Datum) (es : Entries) → IsBelowFirst k es → IsBelowNext k (entry_keys es)
+below-next k no_entries below = tt
+below-next k (entry l v es) below = below
 
-rising-assignments : (vs : List ℕ) (es : Entries) (ms : Assignments) → AreAssignments vs es ms → ArePairsSound es → AreKeysRising ms
-rising-assignments vs no_entries no_assignments h sound = tt
-rising-assignments vs no_entries (assignment l e ms) h sound = absurd h
-rising-assignments vs (entry k v es) no_assignments h sound = absurd h
-rising-assignments vs (entry k v es) (assignment l e ms) h sound = (below-next vs k l es ms h.0 h.2 sound.2, rising-assignments vs es ms h.2 sound.3)
+-- the keys of a map rise
+pub entry_keys-rise : (es : Entries) → ArePairsSound es → AreKeysRising (entry_keys es)
+entry_keys-rise no_entries sound = tt
+entry_keys-rise (entry k v es) sound = (below-next k es sound.2, entry_keys-rise es sound.3)
 
--- the keys of a map that is read rise
-pub keys-rising : (vs : List ℕ) (es : Entries) (ms : Assignments) (d : Datum) → map es ≡ d → IsTerm d → AreAssignments vs es ms → AreKeysRising ms
+-- a map that is read keeps its keys
+pub assignment_keys-same : (vs : List ℕ) (es : Entries) (ms : Assignments) → AreAssignments vs es ms
+    → entry_keys es ≡ assignment_keys ms
+assignment_keys-same vs no_entries no_assignments h = refl
+assignment_keys-same vs no_entries (assignment l e ms) h = absurd h
+assignment_keys-same vs (entry k v es) no_assignments h = absurd h
+assignment_keys-same vs (entry k v es) (assignment l e ms) h =
+    let rest = assignment_keys-same vs es ms h.2 in let first = h.0 in cc
+
+-- so that they rise
+pub keys-rising : (vs : List ℕ) (es : Entries) (ms : Assignments) (d : Datum) → map es ≡ d → IsTerm d
+    → AreAssignments vs es ms → AreKeysRising (assignment_keys ms)
 keys-rising vs es ms d is term h =
-    let sound : IsSound (map es) = subst IsSound (sym is) term.sound in rising-assignments vs es ms h sound.1
+    let sound : IsSound (map es) = subst IsSound (sym is) term.sound in
+    subst AreKeysRising (assignment_keys-same vs es ms h) (entry_keys-rise es sound.1)

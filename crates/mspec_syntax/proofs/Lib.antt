@@ -5,3 +5,4 @@ pub mod RisingLemmas
 pub mod ExpressionLemmas
 pub mod SizeLemmas
 pub mod ReadingLemmas
+pub mod SoundLemmas

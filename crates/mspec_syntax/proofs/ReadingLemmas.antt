@@ -1,6 +1,6 @@
 -- Expressions, clauses and specifications read from terms: what is read has no fault, and readings of lists from the
 -- readings of their elements.
-use Rattle.std.proofs.Common.{◌≡◌, ℕ, suc, ◌+◌, ◌<◌, ◌≤◌, true, inl, inr, Option, Some, None, option_map, MatchResult, Result, Ok, Err, IfOk, IfErr, List, [], ◌∷◌, ◌++◌, length, get_or, drop, refl, sym, ◌∙◌, ap, subst, arith, drop-cons, add-one}
+use Rattle.std.proofs.Common.{◌≡◌, ℕ, suc, ◌+◌, ◌<◌, ◌≤◌, true, inl, inr, Option, Some, None, option_map, MatchResult, Result, Ok, Err, IfOk, IfErr, List, [], ◌∷◌, ◌++◌, length, get_or, drop, refl, sym, ◌∙◌, ap, subst, arith, add-one}
 use Rattle.std.proofs.lemmas.List.{append_assoc, append-nil, drop_all}
 use Rattle.term_core.specs.Datum.{Datum, Items, items_of, cells, IsNoList}
 use Rattle.term_core.specs.Datum.Datum.{integer, atom, tuple, map, nil, cons, binary}
@@ -12,12 +12,12 @@ use Rattle.mspec_syntax.specs.Expression.{Expression}
 use Rattle.mspec_syntax.specs.Rising.{rising}
 use Rattle.mspec_syntax.specs.Word.{word_of}
 use Rattle.mspec_syntax.specs.Specification.{Clause, Specification, clause_variables, IsWithinLimits}
-use Rattle.mspec_syntax.specs.Grammar.{is_hole, proper_elements, IsPattern, IsAtomPattern, IsHeadForm, IsAtomExpression, IsExpression, AreExpressions, AreConditions, AreBodyExpressions, triple, IsNoTriple, IsClause, AreClauses, AreElementsClauses, IsSpecification}
-use Rattle.mspec_syntax.specs.Faults.{named_variables, head_faults, word_faults, expression_faults, expressions_faults, conditions_faults, body_faults, clause_faults, clauses_faults, elements_faults, specification_faults, Refuses, IsRefusal, IsSizeRefusal}
+use Rattle.mspec_syntax.specs.Grammar.{is_hole, proper_elements, IsPattern, IsAtomPattern, IsHeadForm, IsExpression, AreExpressions, AreConditions, AreBodyExpressions, triple, IsNoTriple, IsClause, AreClauses, AreElementsClauses, IsSpecification}
+use Rattle.mspec_syntax.specs.Faults.{named_variables, head_faults, expression_faults, expressions_faults, conditions_faults, body_faults, clause_faults, clauses_faults, elements_faults, specification_faults, Refuses, IsRefusal, IsSizeRefusal}
 use Rattle.mspec_syntax.specs.declared.word.Word.{Word}
 use Rattle.mspec_syntax.specs.declared.word.Word.TheVariants as word
 use Rattle.mspec_syntax.specs.declared.fault.SpecFault.{SpecFault}
-use Rattle.mspec_syntax.specs.declared.fault.SpecFault.TheVariants.{Memory, NotAList, NotAClause, BadExpression}
+use Rattle.mspec_syntax.specs.declared.fault.SpecFault.TheVariants.{Memory, NotAList, NotAClause}
 use Rattle.mspec_syntax.proofs.PatternLemmas.{both_empty, split_at, IsPattern-variables, IsPattern-one, ArePatterns-faults, Refuses-before, Refuses-behind, Refuses-same}
 use Rattle.mspec_syntax.proofs.ExpressionLemmas.{IsExpression-faults, IsExpression-one}
 

@@ -3,7 +3,6 @@
 use Rattle.std.specs.Prelude.{ℕ, suc, ◌+◌, List, [], ◌∷◌}
 use Rattle.term_core.specs.Datum.{Datum}
 use Rattle.term_core.specs.Datum.Datum.{nil}
-use Rattle.term_core.specs.Order.{IsBelow}
 use Rattle.prims.specs.declared.prim.Primitive.{Primitive}
 use Rattle.mspec_syntax.specs.Pattern.{literal_tail_nodes}
 
@@ -48,15 +47,15 @@ abbrev pub new_cells : List Expression → Expression → Expression
 new_cells [] tail = tail
 new_cells (e ∷ es) tail = new_cell e (new_cells es tail)
 
--- a key stands before the first of these
-abbrev pub IsBelowNext : Datum → Assignments → Type 0
-IsBelowNext k no_assignments = Unit {0}
-IsBelowNext k (assignment l e ms) = IsBelow k l
+-- how many arguments or elements these are
+abbrev pub expression_count : Expressions → ℕ
+expression_count no_expressions = 0
+expression_count (expression e es) = suc (expression_count es)
 
--- each key stands before the next
-abbrev pub AreKeysRising : Assignments → Type 0
-AreKeysRising no_assignments = Unit {0}
-AreKeysRising (assignment k e ms) = IsBelowNext k ms × AreKeysRising ms
+-- the keys of a map, as they stand
+abbrev pub assignment_keys : Assignments → List Datum
+assignment_keys no_assignments = []
+assignment_keys (assignment k e ms) = k ∷ assignment_keys ms
 
 -- neither [] nor a cell
 abbrev pub IsNoListExpression : Expression → Type 0

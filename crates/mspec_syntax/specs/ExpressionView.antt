@@ -1,7 +1,8 @@
 -- The expression that a kind of the program stands for.
 use Rattle.std.specs.Prelude.{◌<◌, length, Option, Some, None, Box}
 use Rattle.term_core.specs.Datum.Datum.{nil}
-use Rattle.mspec_syntax.specs.Expression.{Expression, expressions_of, assignments_of, new_cells, IsNoListExpression, AreKeysRising}
+use Rattle.mspec_syntax.specs.Expression.{Expression, expressions_of, assignments_of, assignment_keys, new_cells, IsNoListExpression}
+use Rattle.mspec_syntax.specs.Keys.{AreKeysRising}
 use Rattle.mspec_syntax.specs.Expression.Expression.{bound, object, bindings, constant, quoted, call, and_also, or_else, new_tuple, new_map}
 use Rattle.mspec_syntax.specs.declared.expression.ExpressionKind.{ExpressionKind}
 use Rattle.mspec_syntax.specs.declared.expression.ExpressionKind.TheVariants as kind
@@ -32,5 +33,5 @@ IsTailExpression (Some b) = IsNoListExpression b.value
 -- A list has an element, and no list for a tail. A map's keys rise.
 abbrev pub IsKept : {A : Type 0} → ExpressionKind A → Type 0
 IsKept (kind.List es tail) = (0 < length es.items) × IsTailExpression tail
-IsKept (kind.Map ms) = AreKeysRising (assignments_of ms.items)
+IsKept (kind.Map ms) = AreKeysRising (assignment_keys (assignments_of ms.items))
 IsKept k = Unit {0}

@@ -5,6 +5,7 @@ use Rattle.term_core.specs.Datum.{Datum, Items, Entries, item_count}
 use Rattle.term_core.specs.Datum.Datum.{integer, atom, tuple, map, nil, cons, binary}
 use Rattle.term_core.specs.Datum.Items.{no_items, item}
 use Rattle.term_core.specs.Datum.Entries.{no_entries, entry}
+use Rattle.term_core.specs.Limits.{IsTerm}
 use Rattle.mspec_syntax.specs.Word.{word_of}
 use Rattle.mspec_syntax.specs.Callee.{callee_of}
 use Rattle.mspec_syntax.specs.Rising.{rising}
@@ -169,7 +170,8 @@ IsSizeRefusal f s = (f ≡ Memory) ⊎ ((f ≡ TooLarge) × ¬ IsWithinLimits s)
 abbrev pub IsRefusal : SpecFault → Datum → Type 0
 IsRefusal f d = Refuses f (specification_faults d) ⊎ ((f ≡ TooLarge) × IsTooLarge d)
 
--- a specification that the grammar allows
+-- a specification that the grammar allows, written as a term
 pub record IsReadable (s : Specification) : Type 0 where
   pub term : Datum
+  pub within : IsTerm term
   pub is : IsSpecification term s

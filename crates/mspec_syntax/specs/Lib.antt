@@ -1,3 +1,4 @@
+pub mod Keys
 pub mod Pattern
 pub mod PatternCode
 pub mod PatternView
@@ -14,4 +15,5 @@ pub mod Callee
 pub mod Sought
 pub mod Grammar
 pub mod Faults
+pub mod Sound
 pub mod FaultNumbers

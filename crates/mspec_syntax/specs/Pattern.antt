@@ -1,7 +1,8 @@
 -- The head of a clause: a term with holes. (ERTS User's Guide, "Match Specifications in Erlang", "Grammar": MatchHead.)
-use Rattle.std.specs.Prelude.{ℕ, suc, ◌+◌, List, [], ◌∷◌, ◌++◌}
-use Rattle.term_core.specs.Datum.{Datum}
-use Rattle.term_core.specs.Datum.Datum.{nil}
+use Rattle.std.specs.Prelude.{ℕ, suc, ◌+◌, Option, Some, None, option_map, List, [], ◌∷◌, ◌++◌}
+use Rattle.term_core.specs.Datum.{Datum, Items}
+use Rattle.term_core.specs.Datum.Datum.{tuple, nil, cons}
+use Rattle.term_core.specs.Datum.Items.{no_items, item}
 
 mutual
   -- A variable by its number, '_', a term without parts, or a tuple, a list of cells or a map of patterns.
@@ -32,6 +33,11 @@ patterns_of (p ∷ ps) = pattern p (patterns_of ps)
 abbrev pub fields_of : List (Datum × Pattern) → Fields
 fields_of [] = no_fields
 fields_of (f ∷ fs) = field f.0 f.1 (fields_of fs)
+
+-- the keys of a map, as they stand
+abbrev pub field_keys : Fields → List Datum
+field_keys no_fields = []
+field_keys (field k p fs) = k ∷ field_keys fs
 
 -- elements followed by a tail
 abbrev pub cells_of : List Pattern → Pattern → Pattern
@@ -65,6 +71,28 @@ abbrev mutual
   pub fields_variables : Fields → List ℕ
   fields_variables no_fields = []
   fields_variables (field k p fs) = pattern_variables p ++ fields_variables fs
+
+abbrev pub own_cell : Option Datum → Option Datum → Option Datum
+own_cell (Some head) (Some tail) = Some (cons head tail)
+own_cell head tail = None
+
+abbrev pub own_item : Option Datum → Option Items → Option Items
+own_item (Some d) (Some ds) = Some (item d ds)
+own_item d ds = None
+
+abbrev mutual
+  -- the term that a pattern spells, where neither a variable, '_' nor a map stands in it
+  pub own_term : Pattern → Option Datum
+  own_term (variable n) = None
+  own_term anything = None
+  own_term (literal d) = Some d
+  own_term (tuple_of ps) = option_map tuple (own_terms ps)
+  own_term (cell_of p q) = own_cell (own_term p) (own_term q)
+  own_term (map_of fs) = None
+
+  pub own_terms : Patterns → Option Items
+  own_terms no_patterns = Some no_items
+  own_terms (pattern p ps) = own_item (own_term p) (own_terms ps)
 
 -- [] at the end of a list is no pattern of its own
 abbrev pub literal_tail_nodes : Datum → ℕ

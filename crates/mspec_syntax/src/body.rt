@@ -5,6 +5,7 @@ ghost use Rattle.std.specs.Prelude.{length};
 ghost use Rattle.term_core.specs.Datum.{items_of, entries_of};
 ghost use Rattle.term_core.specs.Datum.Datum.{atom, tuple};
 ghost use Rattle.term_core.specs.Datum.Items.{item};
+ghost use Rattle.term_core.specs.Limits.{IsTerm};
 ghost use Rattle.mspec_syntax.specs.Word.{word_of};
 ghost use Rattle.mspec_syntax.specs.Expression.{expressions_of, assignments_of};
 ghost use Rattle.mspec_syntax.specs.Expression.Expression.{constant};
@@ -20,7 +21,8 @@ use term_core::{Term, View};
 
 /// The elements of a proper list.
 pub(crate) fn elements<A: Allocator>(term: &Term<A>) -> Option<&[Term<A>]>
-    ensures { option_copied result ≡ proper_elements term.now }
+    ensures value { option_copied result ≡ proper_elements term.now }
+    ensures within { IsTerm term.now }
 {
     match term.view() {
         View::Nil => Some(&[]),

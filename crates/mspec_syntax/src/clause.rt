@@ -113,8 +113,10 @@ impl<A: Allocator> Model for Spec<A> {
 
 impl<A: Allocator> Spec<A> {
     ghost use Rattle.std.specs.Prelude.{◌≡◌};
+    ghost use Rattle.std.specs.List.{All};
     ghost use Rattle.mspec_syntax.specs.Specification.{IsWithinLimits, specification_variables};
     ghost use Rattle.mspec_syntax.specs.Faults.{IsReadable};
+    ghost use Rattle.mspec_syntax.specs.Sound.{IsSoundClause};
 
     /// The specification of these clauses, of which the variables are the heads'.
     pub(crate) fn new(clauses: Vec<Clause<A>, A>, variables: Variables<A>) -> Self
@@ -130,6 +132,7 @@ impl<A: Allocator> Spec<A> {
     pub fn clauses(&self) -> &[Clause<A>]
         ensures value { result.now ≡ self.now }
         ensures readable { IsReadable self.now }
+        ensures sound { All IsSoundClause self.now }
         ensures limits { IsWithinLimits self.now }
     {
         self.clauses.as_slice()

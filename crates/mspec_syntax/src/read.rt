@@ -1,5 +1,6 @@
 //! Specifications read from terms.
 ghost use Rattle.std.specs.Prelude.{◌≡◌, IfOk, IfErr, IfSome, IfNone, MatchResult};
+ghost use Rattle.term_core.specs.Limits.{IsTerm};
 ghost use Rattle.mspec_syntax.specs.Specification.{Specification, IsWithinLimits};
 ghost use Rattle.mspec_syntax.specs.Grammar.{triple, IsNoTriple, IsClause, AreClauses, IsSpecification};
 ghost use Rattle.mspec_syntax.specs.Faults.{clause_faults, clauses_faults, specification_faults, Refuses, IsRefusal, IsReadable, IsSizeRefusal};
@@ -69,6 +70,7 @@ fn read_clauses<A: Allocator + Copy>(
 /// The clauses of a specification of any size.
 fn read_list<A: Allocator + Copy>(alloc: A, term: &Term<A>) -> Result<Vec<Clause<A>, A>, SpecFault>
     ensures ok { IfOk result (λ cs. IsSpecification term.now cs.items) }
+    ensures within { IsTerm term.now }
     ensures refused { IfErr result (λ f. Refuses f (specification_faults term.now)) }
 {
     match elements(term) {
