@@ -5,3 +5,4 @@ pub mod MatchLemmas
 pub mod HoldLemmas
 pub mod ValueLemmas
 pub mod OwnLemmas
+pub mod MeaningLemmas

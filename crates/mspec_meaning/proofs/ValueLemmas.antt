@@ -15,7 +15,8 @@ use Rattle.mspec_syntax.specs.Expression.Expression.{bound, object, bindings, co
 use Rattle.mspec_syntax.specs.Expression.Assignments.{no_assignments, assignment}
 use Rattle.mspec_syntax.specs.ExpressionView.{tail_expression, IsTailExpression}
 use Rattle.mspec_meaning.specs.Match.{Substitution}
-use Rattle.mspec_meaning.specs.Meaning.{true_term, made_of, before, at_key, joined, and_step, and_at, or_step, or_at, value_of, argument_values, entry_values, tail_value, all_true, any_true}
+use Rattle.mspec_meaning.specs.Meaning.{true_term, made_of, before, at_key, joined, and_step, and_at, or_step, or_at, value_at, value_of, argument_values, entry_values, all_true, any_true}
+use Rattle.mspec_meaning.specs.Meaning.Position.{as_tail}
 use Rattle.mspec_meaning.specs.Value.{joined_to}
 use Rattle.mspec_meaning.specs.declared.value.Mode.{Mode}
 
@@ -244,11 +245,13 @@ module _ (mode : Mode) (s : Substitution) (o : Datum) where
   pub AnyFront-all : (es : List Expression) (i : ℕ) → length es ≤ i → AnyFront es i → any_true mode (expressions_of []) s o ≡ any_true mode (expressions_of es) s o
   AnyFront-all es i end front = ap (λ l. any_true mode (expressions_of l) s o) (sym (drop_all i es end)) ∙ front
 
-  tail-value : {A : Type 0} (tail : Option (Box Expression A)) → IsTailExpression tail → tail_value mode (tail_expression tail) s o ≡ value_of mode (tail_expression tail) s o
+  -- by itself and as a tail what is no list has one value
+  tail-value : {A : Type 0} (tail : Option (Box Expression A)) → IsTailExpression tail
+      → value_at mode (tail_expression tail) as_tail s o ≡ value_of mode (tail_expression tail) s o
   tail-value None h = refl
   tail-value (Some b) h = at b.value h
     where
-      at : (t : Expression) → IsNoListExpression t → tail_value mode t s o ≡ value_of mode t s o
+      at : (t : Expression) → IsNoListExpression t → value_at mode t as_tail s o ≡ value_of mode t s o
       at (bound n) h = refl
       at object h = refl
       at bindings h = refl
@@ -261,18 +264,22 @@ module _ (mode : Mode) (s : Substitution) (o : Datum) where
       at (new_cell e f) h = absurd h
       at (new_map ms) h = refl
 
-  cells-tail : (es : List Expression) (t : Expression) → tail_value mode t s o ≡ value_of mode t s o → tail_value mode (new_cells es t) s o ≡ joined_to (argument_values mode (expressions_of es) s o) (value_of mode t s o)
+  cells-tail : (es : List Expression) (t : Expression) → value_at mode t as_tail s o ≡ value_of mode t s o
+      → value_at mode (new_cells es t) as_tail s o ≡ joined_to (argument_values mode (expressions_of es) s o) (value_of mode t s o)
   cells-tail [] t h = h ∙ joined-nothing (value_of mode t s o)
   cells-tail (e ∷ es) t h =
       ap (joined (value_of mode e s o)) (cells-tail es t h)
       ∙ joined-before (value_of mode e s o) (argument_values mode (expressions_of es) s o) (value_of mode t s o)
 
-  cells-value : (es : List Expression) (t : Expression) → 0 < length es → value_of mode (new_cells es t) s o ≡ made_of mode (tail_value mode (new_cells es t) s o)
+  cells-value : (es : List Expression) (t : Expression) → 0 < length es
+      → value_of mode (new_cells es t) s o ≡ made_of mode (value_at mode (new_cells es t) as_tail s o)
   cells-value [] t h = absurd (omega arith)
   cells-value (e ∷ es) t h = refl
 
   -- the value of a list of elements and a tail
-  pub list-value : {A : Type 0} (es : List Expression) (tail : Option (Box Expression A)) → 0 < length es → IsTailExpression tail → made_of mode (joined_to (argument_values mode (expressions_of es) s o) (value_of mode (tail_expression tail) s o)) ≡ value_of mode (new_cells es (tail_expression tail)) s o
+  pub list-value : {A : Type 0} (es : List Expression) (tail : Option (Box Expression A)) → 0 < length es
+      → IsTailExpression tail
+      → made_of mode (joined_to (argument_values mode (expressions_of es) s o) (value_of mode (tail_expression tail) s o)) ≡ value_of mode (new_cells es (tail_expression tail)) s o
   list-value es tail some h =
       sym (cells-value es (tail_expression tail) some ∙ ap (made_of mode) (cells-tail es (tail_expression tail) (tail-value tail h)))
 

@@ -1,10 +1,13 @@
 -- Laws of matching and meaning.
 use Rattle.std.specs.Prelude.{◌≡◌, ◌↔◌, Option, Some, None, [], ◌∷◌}
+use Rattle.std.specs.List.{All}
+use Rattle.std.specs.Option.{IsSome}
 use Rattle.term_core.specs.Datum.{Datum}
 use Rattle.mspec_syntax.specs.Pattern.{Pattern, own_term}
 use Rattle.mspec_syntax.specs.Specification.{Clause, Specification}
 use Rattle.mspec_meaning.specs.Match.{Substitution, Matches}
-use Rattle.mspec_meaning.specs.Meaning.{IsApplicable, Means}
+use Rattle.mspec_syntax.specs.Sound.{IsSoundClause}
+use Rattle.mspec_meaning.specs.Meaning.{Applies, IsApplicable, Means, body_value}
 
 -- at most one substitution makes a pattern match a term
 abbrev pub HasOneMatch : Type 0
@@ -31,3 +34,21 @@ abbrev pub OwnTermMatches : Type 0
 OwnTermMatches =
     (p : Pattern) (d : Datum) (s : Substitution) (t : Datum) → own_term p ≡ Some d
     → (Matches p s t ↔ ((s ≡ []) × (t ≡ d)))
+
+-- a specification means one answer on an object
+abbrev pub HasOneMeaning : Type 0
+HasOneMeaning =
+    (spec : Specification) (o : Datum) (a b : Option Datum) → Means spec o a → Means spec o b
+    → a ≡ b
+
+-- the body of a sound clause that applies has a value
+abbrev pub ApplicableHasValue : Type 0
+ApplicableHasValue =
+    (c : Clause) (s : Substitution) (o : Datum) → IsSoundClause c → Applies c s o
+    → IsSome (body_value c.body s o)
+
+-- so a specification of sound clauses answers nothing exactly where no clause applies
+abbrev pub NothingIsInapplicable : Type 0
+NothingIsInapplicable =
+    (spec : Specification) (o : Datum) → All IsSoundClause spec
+    → (Means spec o None ↔ All (λ c. ¬ IsApplicable c o) spec)

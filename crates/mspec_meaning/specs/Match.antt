@@ -1,4 +1,5 @@
--- When a pattern matches a term. (ERTS User's Guide, "Match Specifications in Erlang", "Semantics".)
+-- When a pattern matches a term. (ERTS User's Guide, "Match Specifications in Erlang",
+-- "Semantics".)
 use Rattle.std.specs.Prelude.{ℕ, ◌≡◌, ◌==◌, if◌then◌else◌, Option, Some, None, List, [], ◌∷◌, map}
 use Rattle.prims.specs.Maps.{value_at}
 use Rattle.term_core.specs.Datum.{Datum, Items, Entries}
@@ -28,8 +29,8 @@ lookup [] n = None
 lookup (e ∷ s) n = if e.0 == n then Some e.1 else lookup s n
 
 abbrev mutual
-  -- The term is the pattern with each variable replaced by its value, each '_' by any term, and each map by a map that
-  -- has at least its keys, whose values are its patterns in the same way.
+  -- The term is the pattern with each variable replaced by its value, each '_' by any term, and
+  -- each map by a map that has at least its keys, whose values are its patterns in the same way.
   pub Fits : Pattern → (ℕ → Option Datum) → Datum → Type 0
   Fits (variable n) s t = s n ≡ Some t
   Fits anything s t = Unit {0}
@@ -46,7 +47,8 @@ abbrev mutual
 
   pub FieldsFit : Fields → (ℕ → Option Datum) → Entries → Type 0
   FieldsFit no_fields s es = Unit {0}
-  FieldsFit (field k p fs) s es = ((v : Datum) × (value_at k es ≡ Some v) × Fits p s v) × FieldsFit fs s es
+  FieldsFit (field k p fs) s es =
+      ((v : Datum) × (value_at k es ≡ Some v) × Fits p s v) × FieldsFit fs s es
 
 -- Pattern p matches term t under s, a finite map whose keys are exactly the variables of p.
 pub record Matches (p : Pattern) (s : Substitution) (t : Datum) : Type 0 where

@@ -1,4 +1,5 @@
--- What a specification means on an object. (ERTS User's Guide, "Match Specifications in Erlang", "Semantics".)
+-- What a specification means on an object. (ERTS User's Guide, "Match Specifications in Erlang",
+-- "Semantics".)
 use Rattle.std.specs.Prelude.{◌≡◌, ◌⊎◌, Bool, true, false, Option, Some, None, option_map, List, [], ◌∷◌, codes}
 use Rattle.prims.specs.Booleans.{boolean_of}
 use Rattle.prims.specs.Calls.{function_of}
@@ -85,54 +86,62 @@ abbrev pub joined : Option Datum → Option Datum → Option Datum
 joined (Some head) (Some tail) = Some (cons head tail)
 joined head tail = None
 
+-- where an expression stands: by itself, or as the tail of a list that is made
+pub data Position : Type 0 where
+  by_itself : Position
+  as_tail : Position
+
+-- a list that is made, of which the limits are looked at as a whole, and so not in its tail
+abbrev pub list_made : Mode → Position → Option Datum → Option Datum
+list_made mode by_itself list = made_of mode list
+list_made mode as_tail list = list
+
 abbrev mutual
-  -- The value of an expression under a substitution and an object; none where it fails, which it does in conditions alone.
-  pub value_of : Mode → Expression → Substitution → Datum → Option Datum
-  value_of mode (bound n) s o = lookup s n
-  value_of mode object s o = Some o
-  value_of mode bindings s o = made mode (cells (values_of s) nil)
-  value_of mode (constant d) s o = Some d
-  value_of mode (quoted d) s o = Some d
-  value_of mode (call f es) s o = called mode f (argument_values mode es s o)
-  value_of mode (and_also es) s o = all_true mode es s o
-  value_of mode (or_else es) s o = any_true mode es s o
-  value_of mode (new_tuple es) s o = made_of mode (option_map (λ ds. tuple (items_of ds)) (argument_values mode es s o))
-  value_of mode (new_cell e f) s o = made_of mode (joined (value_of mode e s o) (tail_value mode f s o))
-  value_of mode (new_map ms) s o = made_of mode (option_map map (entry_values mode ms s o))
+  -- the value of an expression that stands at this position
+  pub value_at : Mode → Expression → Position → Substitution → Datum → Option Datum
+  value_at mode (bound n) position s o = lookup s n
+  value_at mode object position s o = Some o
+  value_at mode bindings position s o = made mode (cells (values_of s) nil)
+  value_at mode (constant d) position s o = Some d
+  value_at mode (quoted d) position s o = Some d
+  value_at mode (call f es) position s o = called mode f (argument_values mode es s o)
+  value_at mode (and_also es) position s o = all_true mode es s o
+  value_at mode (or_else es) position s o = any_true mode es s o
+  value_at mode (new_tuple es) position s o =
+      made_of mode (option_map (λ ds. tuple (items_of ds)) (argument_values mode es s o))
+  value_at mode (new_cell e f) position s o =
+      list_made mode position (joined (value_at mode e by_itself s o) (value_at mode f as_tail s o))
+  value_at mode (new_map ms) position s o =
+      made_of mode (option_map map (entry_values mode ms s o))
 
   -- the values of arguments or elements
   pub argument_values : Mode → Expressions → Substitution → Datum → Option (List Datum)
   argument_values mode no_expressions s o = Some []
-  argument_values mode (expression e es) s o = before (value_of mode e s o) (argument_values mode es s o)
+  argument_values mode (expression e es) s o =
+      before (value_at mode e by_itself s o) (argument_values mode es s o)
 
   -- the pairs of a map's keys and their expressions' values
   pub entry_values : Mode → Assignments → Substitution → Datum → Option Entries
   entry_values mode no_assignments s o = Some no_entries
-  entry_values mode (assignment k e ms) s o = at_key k (value_of mode e s o) (entry_values mode ms s o)
-
-  -- the tail of a list that is made, of which the limits are looked at as a whole
-  pub tail_value : Mode → Expression → Substitution → Datum → Option Datum
-  tail_value mode (bound n) s o = lookup s n
-  tail_value mode object s o = Some o
-  tail_value mode bindings s o = made mode (cells (values_of s) nil)
-  tail_value mode (constant d) s o = Some d
-  tail_value mode (quoted d) s o = Some d
-  tail_value mode (call f es) s o = called mode f (argument_values mode es s o)
-  tail_value mode (and_also es) s o = all_true mode es s o
-  tail_value mode (or_else es) s o = any_true mode es s o
-  tail_value mode (new_tuple es) s o = made_of mode (option_map (λ ds. tuple (items_of ds)) (argument_values mode es s o))
-  tail_value mode (new_cell e f) s o = joined (value_of mode e s o) (tail_value mode f s o)
-  tail_value mode (new_map ms) s o = made_of mode (option_map map (entry_values mode ms s o))
+  entry_values mode (assignment k e ms) s o =
+      at_key k (value_at mode e by_itself s o) (entry_values mode ms s o)
 
   -- whether all of these are true, looked at from the left up to the first that is false
   pub all_true : Mode → Expressions → Substitution → Datum → Option Datum
   all_true mode no_expressions s o = Some (boolean true)
-  all_true mode (expression e es) s o = and_step mode (value_of mode e s o) (all_true mode es s o)
+  all_true mode (expression e es) s o =
+      and_step mode (value_at mode e by_itself s o) (all_true mode es s o)
 
   -- whether one of these is true, looked at from the left up to the first that is
   pub any_true : Mode → Expressions → Substitution → Datum → Option Datum
   any_true mode no_expressions s o = Some (boolean false)
-  any_true mode (expression e es) s o = or_step mode (value_of mode e s o) (any_true mode es s o)
+  any_true mode (expression e es) s o =
+      or_step mode (value_at mode e by_itself s o) (any_true mode es s o)
+
+-- The value of an expression under a substitution and an object; none where it fails, which it does
+-- in conditions alone.
+abbrev pub value_of : Mode → Expression → Substitution → Datum → Option Datum
+value_of mode e s o = value_at mode e by_itself s o
 
 -- each condition has the value true
 abbrev pub AllHold : List Expression → Substitution → Datum → Type 0
@@ -155,8 +164,10 @@ pub record IsApplicable (c : Clause) (o : Datum) : Type 0 where
   pub substitution : Substitution
   pub applies : Applies c substitution o
 
--- The first clause that applies to the object answers, by the value of its body; where none does there is no answer.
+-- The first clause that applies to the object answers, by the value of its body; where none does
+-- there is no answer.
 abbrev pub Means : Specification → Datum → Option Datum → Type 0
 Means [] o answer = answer ≡ None
 Means (c ∷ cs) o answer =
-    ((s : Substitution) × Applies c s o × (answer ≡ body_value c.body s o)) ⊎ ((¬ IsApplicable c o) × Means cs o answer)
+    ((s : Substitution) × Applies c s o × (answer ≡ body_value c.body s o))
+    ⊎ ((¬ IsApplicable c o) × Means cs o answer)

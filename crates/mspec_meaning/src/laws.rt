@@ -1,5 +1,6 @@
 //! Laws of matching and meaning, each the contract of a function that does nothing.
 ghost use Rattle.mspec_meaning.specs.Laws.{HasOneMatch, EmptyAnswersNothing, FirstAnswers, OthersAnswer, OwnTermMatches};
+ghost use Rattle.mspec_meaning.specs.Laws.{HasOneMeaning, ApplicableHasValue, NothingIsInapplicable};
 
 /// At most one substitution makes a pattern match a term.
 pub fn one_substitution_matches()
@@ -11,13 +12,27 @@ pub fn empty_answers_nothing()
     ensures { EmptyAnswersNothing }
 {}
 
-/// A pattern in which neither a variable, `'_'` nor a map stands matches the term that it spells, and no other.
+/// A pattern in which neither a variable, `'_'` nor a map stands matches the term that it spells,
+/// and no other.
 pub fn own_term_matches()
     ensures { OwnTermMatches }
 {}
 
-/// A specification answers exactly what its first clause does where that applies, else exactly what the others do.
+/// A specification answers exactly what its first clause does where that applies, else exactly what
+/// the others do.
 pub fn first_clause_decides()
     ensures first { FirstAnswers }
     ensures others { OthersAnswer }
+{}
+
+/// A specification means at most one answer on an object.
+pub fn one_answer_is_meant()
+    ensures { HasOneMeaning }
+{}
+
+/// The body of a sound clause that applies has a value, so that a specification answers nothing
+/// only where no clause applies.
+pub fn applicable_clauses_answer()
+    ensures value { ApplicableHasValue }
+    ensures nothing { NothingIsInapplicable }
 {}

@@ -1,12 +1,12 @@
 //! What match specifications mean: a plain evaluator.
 //!
-//! The contract is that of `evaluate`: it answers on an object what the specification means there (`Means`, in
-//! `specs/Meaning.antt`), or that no memory was given.
+//! The contract is that of `evaluate`: it answers on an object what the specification means there
+//! (`Means`, in `specs/Meaning.antt`), or that no memory was given.
 //!
-//! - When a pattern matches: `specs/Match.antt`; `bind.rt`, over parts of terms (`part.rt`), by the slots of
-//!   `specs/Slots.antt`.
-//! - The values of expressions: `value.rt`; calls in `called.rt`, what is made in `made.rt`. A value is borrowed until
-//!   it is put into a term or is the answer (`prims::Value`).
+//! - When a pattern matches: `specs/Match.antt`; `bind.rt`, over parts of terms (`part.rt`), by the
+//!   slots of `specs/Slots.antt`.
+//! - The values of expressions: `value.rt`; calls in `called.rt`, what is made in `made.rt`. A
+//!   value is borrowed until it is put into a term or is the answer (`prims::Value`).
 //! - Clauses and specifications: `clauses.rt`.
 //! - Laws of the meaning: `laws.rt`, `specs/Laws.antt`.
 #![tactic(auto)]
@@ -21,6 +21,7 @@ mod value;
 
 pub use clauses::evaluate;
 pub use laws::{
-    empty_answers_nothing, first_clause_decides, one_substitution_matches, own_term_matches,
+    applicable_clauses_answer, empty_answers_nothing, first_clause_decides, one_answer_is_meant,
+    one_substitution_matches, own_term_matches,
 };
 pub use value::Mode;

@@ -1,5 +1,5 @@
--- What stands in conditions and bodies. (ERTS User's Guide, "Match Specifications in Erlang", "Grammar":
--- ConditionExpression, ExprMatchVariable, TermConstruct, BoolFunction, GuardFunction.)
+-- What stands in conditions and bodies. (ERTS User's Guide, "Match Specifications in Erlang",
+-- "Grammar": ConditionExpression, ExprMatchVariable, TermConstruct, BoolFunction, GuardFunction.)
 use Rattle.std.specs.Prelude.{ℕ, suc, ◌+◌, List, [], ◌∷◌}
 use Rattle.term_core.specs.Datum.{Datum}
 use Rattle.term_core.specs.Datum.Datum.{nil}
@@ -7,8 +7,9 @@ use Rattle.prims.specs.declared.prim.Primitive.{Primitive}
 use Rattle.mspec_syntax.specs.Pattern.{literal_tail_nodes}
 
 mutual
-  -- A variable's value, the object ('$_'), the list of all variables' values ('$$'), a term that stands for itself, or one
-  -- behind const; a call of a function, of andalso or of orelse; a tuple, a cell of a list or a map that is made of values.
+  -- A variable's value, the object ('$_'), the list of all variables' values ('$$'), a term that
+  -- stands for itself, or one behind const; a call of a function, of andalso or of orelse; a tuple,
+  -- a cell of a list or a map that is made of values.
   pub data Expression : Type 0 where
     bound : ℕ → Expression
     object : Expression
@@ -64,8 +65,8 @@ IsNoListExpression (new_cell e f) = ⊥
 IsNoListExpression e = Unit {0}
 
 abbrev mutual
-  -- how many expressions stand in an expression, itself among them, '$$' being one and one more for each variable of its
-  -- clause's head: a tail where it isn't [], and each key of a map as one
+  -- how many expressions stand in an expression, itself among them, '$$' being one and one more for
+  -- each variable of its clause's head: a tail where it isn't [], and each key of a map as one
   pub expression_nodes : ℕ → Expression → ℕ
   expression_nodes variables (bound n) = 1
   expression_nodes variables object = 1
@@ -76,16 +77,19 @@ abbrev mutual
   expression_nodes variables (and_also es) = suc (expressions_nodes variables es)
   expression_nodes variables (or_else es) = suc (expressions_nodes variables es)
   expression_nodes variables (new_tuple es) = suc (expressions_nodes variables es)
-  expression_nodes variables (new_cell e f) = suc (expression_nodes variables e + rest_nodes variables f)
+  expression_nodes variables (new_cell e f) =
+      suc (expression_nodes variables e + rest_nodes variables f)
   expression_nodes variables (new_map ms) = suc (assignments_nodes variables ms)
 
   pub expressions_nodes : ℕ → Expressions → ℕ
   expressions_nodes variables no_expressions = 0
-  expressions_nodes variables (expression e es) = expression_nodes variables e + expressions_nodes variables es
+  expressions_nodes variables (expression e es) =
+      expression_nodes variables e + expressions_nodes variables es
 
   pub assignments_nodes : ℕ → Assignments → ℕ
   assignments_nodes variables no_assignments = 0
-  assignments_nodes variables (assignment k e ms) = suc (expression_nodes variables e + assignments_nodes variables ms)
+  assignments_nodes variables (assignment k e ms) =
+      suc (expression_nodes variables e + assignments_nodes variables ms)
 
   -- the elements that go on in a tail, and the tail at their end
   pub rest_nodes : ℕ → Expression → ℕ

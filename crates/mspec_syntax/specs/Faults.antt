@@ -1,5 +1,5 @@
--- What is wrong with a term as a specification: its faults in reading order. An outer term's fault stands before those
--- inside it, these from the left, and a map's pairs by rising key.
+-- What is wrong with a term as a specification: its faults in reading order. An outer term's fault
+-- stands before those inside it, these from the left, and a map's pairs by rising key.
 use Rattle.std.specs.Prelude.{ℕ, suc, ◌≡◌, ◌⊎◌, Bool, true, false, if◌then◌else◌, Option, Some, None, List, [], ◌∷◌, ◌++◌}
 use Rattle.term_core.specs.Datum.{Datum, Items, Entries, item_count}
 use Rattle.term_core.specs.Datum.Datum.{integer, atom, tuple, map, nil, cons, binary}
@@ -25,7 +25,9 @@ fault_if false f = []
 
 -- the faults of a map's key in the head of clause i
 abbrev pub key_faults : ℕ → Datum → List SpecFault
-key_faults i k = fault_if (mentions is_hole k) (VariableInMapKey i) ++ fault_if (mentions is_misnumbered k) (BadVariableName i)
+key_faults i k =
+    fault_if (mentions is_hole k) (VariableInMapKey i)
+    ++ fault_if (mentions is_misnumbered k) (BadVariableName i)
 
 abbrev mutual
   -- the faults of a term inside the head of clause i
@@ -76,7 +78,8 @@ head_faults i (tuple ds) = items_faults i ds
 head_faults i d = BadHead i ∷ []
 
 abbrev pub word_faults : ℕ → List ℕ → Word → List SpecFault
-word_faults i variables (word.Variable n) = fault_if (if is_among variables n then false else true) (Unbound i n)
+word_faults i variables (word.Variable n) =
+    fault_if (if is_among variables n then false else true) (Unbound i n)
 word_faults i variables word.Misnumbered = BadVariableName i ∷ []
 word_faults i variables w = []
 
@@ -94,27 +97,32 @@ abbrev mutual
   expression_faults i variables (tuple ds) = tuple_faults i variables ds
   expression_faults i variables (map es) = values_faults i variables es
   expression_faults i variables nil = []
-  expression_faults i variables (cons head tail) = expression_faults i variables head ++ expression_faults i variables tail
+  expression_faults i variables (cons head tail) =
+      expression_faults i variables head ++ expression_faults i variables tail
   expression_faults i variables (binary bs) = []
 
   -- of a tuple: an atom first has to call something, and else the tuple holds one tuple
   pub tuple_faults : ℕ → List ℕ → Items → List SpecFault
-  tuple_faults i variables (item (atom cs) ds) = call_faults i (callee_of cs (item_count ds)) (parts_faults i variables ds)
+  tuple_faults i variables (item (atom cs) ds) =
+      call_faults i (callee_of cs (item_count ds)) (parts_faults i variables ds)
   tuple_faults i variables (item (tuple ds) no_items) = parts_faults i variables ds
   tuple_faults i variables ds = BadExpression i ∷ []
 
   pub parts_faults : ℕ → List ℕ → Items → List SpecFault
   parts_faults i variables no_items = []
-  parts_faults i variables (item d ds) = expression_faults i variables d ++ parts_faults i variables ds
+  parts_faults i variables (item d ds) =
+      expression_faults i variables d ++ parts_faults i variables ds
 
   -- of a map's values; its keys stand for themselves
   pub values_faults : ℕ → List ℕ → Entries → List SpecFault
   values_faults i variables no_entries = []
-  values_faults i variables (entry k v es) = expression_faults i variables v ++ values_faults i variables es
+  values_faults i variables (entry k v es) =
+      expression_faults i variables v ++ values_faults i variables es
 
 abbrev pub expressions_faults : ℕ → List ℕ → List Datum → List SpecFault
 expressions_faults i variables [] = []
-expressions_faults i variables (d ∷ ds) = expression_faults i variables d ++ expressions_faults i variables ds
+expressions_faults i variables (d ∷ ds) =
+    expression_faults i variables d ++ expressions_faults i variables ds
 
 -- a proper list
 abbrev pub conditions_faults : ℕ → List ℕ → Option (List Datum) → List SpecFault
@@ -131,7 +139,10 @@ body_faults i variables (Some (d ∷ ds)) = expressions_faults i variables (d �
 abbrev pub clause_faults : ℕ → Datum → List SpecFault
 clause_faults i (tuple (item head (item conditions (item body no_items)))) =
     head_faults i head
-    ++ (conditions_faults i (rising (named_variables head)) (proper_elements conditions) ++ body_faults i (rising (named_variables head)) (proper_elements body))
+    ++ (
+    conditions_faults i (rising (named_variables head)) (proper_elements conditions)
+    ++ body_faults i (rising (named_variables head)) (proper_elements body)
+    )
 clause_faults i d = NotAClause i ∷ []
 
 -- the faults of the clauses from number i on

@@ -17,3 +17,4 @@ pub mod Grammar
 pub mod Faults
 pub mod Sound
 pub mod FaultNumbers
+pub mod Laws

@@ -1,11 +1,13 @@
--- The head of a clause: a term with holes. (ERTS User's Guide, "Match Specifications in Erlang", "Grammar": MatchHead.)
+-- The head of a clause: a term with holes. (ERTS User's Guide, "Match Specifications in Erlang",
+-- "Grammar": MatchHead.)
 use Rattle.std.specs.Prelude.{ℕ, suc, ◌+◌, Option, Some, None, option_map, List, [], ◌∷◌, ◌++◌}
 use Rattle.term_core.specs.Datum.{Datum, Items}
 use Rattle.term_core.specs.Datum.Datum.{tuple, nil, cons}
 use Rattle.term_core.specs.Datum.Items.{no_items, item}
 
 mutual
-  -- A variable by its number, '_', a term without parts, or a tuple, a list of cells or a map of patterns.
+  -- A variable by its number, '_', a term without parts, or a tuple, a list of cells or a map of
+  -- patterns.
   pub data Pattern : Type 0 where
     variable : ℕ → Pattern
     anything : Pattern
@@ -100,7 +102,8 @@ literal_tail_nodes nil = 0
 literal_tail_nodes d = 1
 
 abbrev mutual
-  -- how many patterns stand in a pattern, itself among them: a tail where it isn't [], and each key of a map as one
+  -- how many patterns stand in a pattern, itself among them: a tail where it isn't [], and each key
+  -- of a map as one
   pub pattern_nodes : Pattern → ℕ
   pattern_nodes (variable n) = 1
   pattern_nodes anything = 1

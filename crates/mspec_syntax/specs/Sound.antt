@@ -46,8 +46,9 @@ abbrev mutual
   AreSoundFields (field k p fs) = IsTerm k × IsSoundPattern p × AreSoundFields fs
 
 abbrev mutual
-  -- Under a head with these variables each variable in it is one of them, each function takes as many arguments as it is
-  -- given, andalso and orelse have one at least, what stands for itself is a term, and the keys of its maps are sound.
+  -- Under a head with these variables each variable in it is one of them, each function takes as
+  -- many arguments as it is given, andalso and orelse have one at least, what stands for itself is
+  -- a term, and the keys of its maps are sound.
   pub IsSoundExpression : List ℕ → Expression → Type 0
   IsSoundExpression variables (bound n) = is_among variables n ≡ true
   IsSoundExpression variables object = Unit {0}
@@ -56,10 +57,13 @@ abbrev mutual
   IsSoundExpression variables (quoted d) = IsTerm d
   IsSoundExpression variables (call f es) =
       (takes f (expression_count es) ≡ true) × AreSoundExpressions variables es
-  IsSoundExpression variables (and_also es) = (0 < expression_count es) × AreSoundExpressions variables es
-  IsSoundExpression variables (or_else es) = (0 < expression_count es) × AreSoundExpressions variables es
+  IsSoundExpression variables (and_also es) =
+      (0 < expression_count es) × AreSoundExpressions variables es
+  IsSoundExpression variables (or_else es) =
+      (0 < expression_count es) × AreSoundExpressions variables es
   IsSoundExpression variables (new_tuple es) = AreSoundExpressions variables es
-  IsSoundExpression variables (new_cell e f) = IsSoundExpression variables e × IsSoundExpression variables f
+  IsSoundExpression variables (new_cell e f) =
+      IsSoundExpression variables e × IsSoundExpression variables f
   IsSoundExpression variables (new_map ms) =
       AreSoundKeys (assignment_keys ms) × AreSoundAssignments variables ms
 
@@ -74,7 +78,7 @@ abbrev mutual
   AreSoundAssignments variables (assignment k e ms) =
       IsTerm k × IsSoundExpression variables e × AreSoundAssignments variables ms
 
--- a head, conditions and a body of which all parts are sound, with an expression at least in the body
+-- a head, conditions and a body of which all parts are sound, with an expression in the body
 pub record IsSoundClause (c : Clause) : Type 0 where
   pub head : IsSoundPattern c.head
   pub conditions : All (IsSoundExpression (clause_variables c)) c.conditions

@@ -1,9 +1,9 @@
--- Match specifications as mathematical objects. (ERTS User's Guide, "Match Specifications in Erlang", "Grammar".)
+-- Match specifications as mathematical objects. (ERTS User's Guide, "Match Specifications in
+-- Erlang", "Grammar".)
 use Rattle.std.specs.Prelude.{ℕ, suc, ◌≡◌, ◌+◌, ◌<◌, ◌≤◌, Option, MatchOption, List, [], ◌∷◌, ◌++◌, length, sum_by}
 use Rattle.mspec_syntax.specs.Pattern.{Pattern, pattern_variables, pattern_nodes}
 use Rattle.mspec_syntax.specs.Expression.{Expression, expression_nodes}
 use Rattle.mspec_syntax.specs.Rising.{rising}
-use Rattle.mspec_syntax.specs.declared.TheConstants.{MAX_NODES, MAX_VARIABLES}
 
 -- a head, the conditions on what it binds, and the body that answers
 pub record Clause : Type 0 where
@@ -36,10 +36,17 @@ heads_variables (c ∷ cs) = pattern_variables c.head ++ heads_variables cs
 abbrev pub specification_variables : Specification → List ℕ
 specification_variables s = rising (heads_variables s)
 
+-- the limits of this engine
+abbrev pub most_nodes : ℕ
+most_nodes = 8000
+
+abbrev pub most_variables : ℕ
+most_variables = 256
+
 -- the size that is accepted
 pub record IsWithinLimits (s : Specification) : Type 0 where
-  pub nodes : specification_nodes s ≤ MAX_NODES
-  pub variables : length (specification_variables s) ≤ MAX_VARIABLES
+  pub nodes : specification_nodes s ≤ most_nodes
+  pub variables : length (specification_variables s) ≤ most_variables
 
 -- what is left of some room when so many nodes are taken away, none where there are more
 abbrev pub Leaves : Option ℕ → ℕ → ℕ → Type 0

@@ -32,7 +32,8 @@ pub(crate) fn elements<A: Allocator>(term: &Term<A>) -> Option<&[Term<A>]>
     }
 }
 
-/// The expression that an atom in a condition or the body of the clause is read as, which has these characters.
+/// The expression that an atom in a condition or the body of the clause is read as, which has these
+/// characters.
 fn read_atom<A: Allocator + Copy>(
     alloc: A,
     clause: usize,
@@ -41,8 +42,10 @@ fn read_atom<A: Allocator + Copy>(
     characters: &[char],
 ) -> Result<Expression<A>, SpecFault>
     requires { atom characters.now ≡ term.now }
-    ensures ok { IfOk result (λ e. IsAtomExpression variables.now characters.now (word_of characters.now) e) }
-    ensures refused { IfErr result (λ f. Refuses f (word_faults clause variables.now (word_of characters.now))) }
+    ensures ok { IfOk result (λ e.
+        IsAtomExpression variables.now characters.now (word_of characters.now) e) }
+    ensures refused { IfErr result (λ f.
+        Refuses f (word_faults clause variables.now (word_of characters.now))) }
 {
     match Word::new(characters) {
         Word::Variable(number) => {
@@ -75,7 +78,8 @@ fn read_expression<A: Allocator + Copy>(
     term: &Term<A>,
 ) -> Result<Expression<A>, SpecFault>
     ensures ok { IfOk result (λ e. IsExpression variables.now term.now e) }
-    ensures refused { IfErr result (λ f. Refuses f (expression_faults clause variables.now term.now)) }
+    ensures refused { IfErr result (λ f.
+        Refuses f (expression_faults clause variables.now term.now)) }
 {
     match term.view() {
         View::Integer(_) | View::Nil | View::Binary(_) => read_constant(alloc, term),
@@ -107,7 +111,8 @@ fn read_tuple<A: Allocator + Copy>(
     elements: &[Term<A>],
 ) -> Result<Expression<A>, SpecFault>
     ensures ok { IfOk result (λ e. IsTupleExpression variables.now (items_of elements.now) e) }
-    ensures refused { IfErr result (λ f. Refuses f (tuple_faults clause variables.now (items_of elements.now))) }
+    ensures refused { IfErr result (λ f.
+        Refuses f (tuple_faults clause variables.now (items_of elements.now))) }
 {
     let Some((first, rest)) = elements.split_first() else {
         return Err(SpecFault::BadExpression(clause));
@@ -126,7 +131,8 @@ fn read_tuple<A: Allocator + Copy>(
     }
 }
 
-/// The expression that a tuple is read as whose first element is a tuple of these parts, which has to be its only one.
+/// The expression that a tuple is read as whose first element is a tuple of these parts, which has
+/// to be its only one.
 #[cycle(expression)]
 fn read_construction<A: Allocator + Copy>(
     alloc: A,
@@ -135,8 +141,11 @@ fn read_construction<A: Allocator + Copy>(
     parts: &[Term<A>],
     rest: &[Term<A>],
 ) -> Result<Expression<A>, SpecFault>
-    ensures ok { IfOk result (λ e. IsTupleExpression variables.now (item (tuple (items_of parts.now)) (items_of rest.now)) e) }
-    ensures refused { IfErr result (λ f. Refuses f (tuple_faults clause variables.now (item (tuple (items_of parts.now)) (items_of rest.now)))) }
+    ensures ok { IfOk result (λ e.
+        IsTupleExpression variables.now (item (tuple (items_of parts.now)) (items_of rest.now)) e) }
+    ensures refused { IfErr result (λ f.
+        Refuses f (tuple_faults clause variables.now
+        (item (tuple (items_of parts.now)) (items_of rest.now)))) }
 {
     if !rest.is_empty() {
         return Err(SpecFault::BadExpression(clause));
@@ -155,8 +164,12 @@ fn read_call<A: Allocator + Copy>(
     arguments: &[Term<A>],
 ) -> Result<Expression<A>, SpecFault>
     requires { callee ≡ Callee.Quote → length arguments.now ≡ 1 }
-    ensures ok { IfOk result (λ e. IsCall callee (AreParts variables.now (items_of arguments.now)) (items_of arguments.now) e) }
-    ensures refused { IfErr result (λ f. Refuses f (call_faults clause callee (parts_faults clause variables.now (items_of arguments.now)))) }
+    ensures ok { IfOk result (λ e.
+        IsCall callee (AreParts variables.now (items_of arguments.now))
+        (items_of arguments.now) e) }
+    ensures refused { IfErr result (λ f.
+        Refuses f (call_faults clause callee
+        (parts_faults clause variables.now (items_of arguments.now)))) }
 {
     match callee {
         Callee::Quote => {
@@ -187,8 +200,10 @@ fn read_parts<A: Allocator + Copy>(
     variables: &Variables<A>,
     terms: &[Term<A>],
 ) -> Result<Vec<Expression<A>, A>, SpecFault>
-    ensures ok { IfOk result (λ es. AreParts variables.now (items_of terms.now) (expressions_of es.items)) }
-    ensures refused { IfErr result (λ f. Refuses f (parts_faults clause variables.now (items_of terms.now))) }
+    ensures ok { IfOk result (λ es.
+        AreParts variables.now (items_of terms.now) (expressions_of es.items)) }
+    ensures refused { IfErr result (λ f.
+        Refuses f (parts_faults clause variables.now (items_of terms.now))) }
 {
     let mut parts = Vec::new(alloc);
     for term in terms {
@@ -206,8 +221,10 @@ fn read_assignments<A: Allocator + Copy>(
     variables: &Variables<A>,
     pairs: &[(Term<A>, Term<A>)],
 ) -> Result<Vec<(Term<A>, Expression<A>), A>, SpecFault>
-    ensures ok { IfOk result (λ ms. AreAssignments variables.now (entries_of pairs.now) (assignments_of ms.items)) }
-    ensures refused { IfErr result (λ f. Refuses f (values_faults clause variables.now (entries_of pairs.now))) }
+    ensures ok { IfOk result (λ ms.
+        AreAssignments variables.now (entries_of pairs.now) (assignments_of ms.items)) }
+    ensures refused { IfErr result (λ f.
+        Refuses f (values_faults clause variables.now (entries_of pairs.now))) }
 {
     let mut assignments = Vec::new(alloc);
     for (key, value) in pairs {
@@ -226,7 +243,8 @@ fn read_expressions<A: Allocator + Copy>(
     terms: &[Term<A>],
 ) -> Result<Vec<Expression<A>, A>, SpecFault>
     ensures ok { IfOk result (λ es. AreExpressions variables.now terms.now es.items) }
-    ensures refused { IfErr result (λ f. Refuses f (expressions_faults clause variables.now terms.now)) }
+    ensures refused { IfErr result (λ f.
+        Refuses f (expressions_faults clause variables.now terms.now)) }
 {
     let mut expressions = Vec::new(alloc);
     for term in terms {
@@ -243,8 +261,10 @@ pub(crate) fn read_conditions<A: Allocator + Copy>(
     variables: &Variables<A>,
     term: &Term<A>,
 ) -> Result<Vec<Expression<A>, A>, SpecFault>
-    ensures ok { IfOk result (λ es. AreConditions variables.now (proper_elements term.now) es.items) }
-    ensures refused { IfErr result (λ f. Refuses f (conditions_faults clause variables.now (proper_elements term.now))) }
+    ensures ok { IfOk result (λ es.
+        AreConditions variables.now (proper_elements term.now) es.items) }
+    ensures refused { IfErr result (λ f.
+        Refuses f (conditions_faults clause variables.now (proper_elements term.now))) }
 {
     match elements(term) {
         Some(terms) => read_expressions(alloc, clause, variables, terms),
@@ -259,8 +279,10 @@ pub(crate) fn read_body<A: Allocator + Copy>(
     variables: &Variables<A>,
     term: &Term<A>,
 ) -> Result<Vec<Expression<A>, A>, SpecFault>
-    ensures ok { IfOk result (λ es. AreBodyExpressions variables.now (proper_elements term.now) es.items) }
-    ensures refused { IfErr result (λ f. Refuses f (body_faults clause variables.now (proper_elements term.now))) }
+    ensures ok { IfOk result (λ es.
+        AreBodyExpressions variables.now (proper_elements term.now) es.items) }
+    ensures refused { IfErr result (λ f.
+        Refuses f (body_faults clause variables.now (proper_elements term.now))) }
 {
     match elements(term) {
         Some(terms) if !terms.is_empty() => read_expressions(alloc, clause, variables, terms),

@@ -25,7 +25,11 @@ impl<A: Allocator> Model for Clause<A> {
 
     ghost coded = { clause_code };
 
-    ghost view = { λ c. record { head = c.head; conditions = c.conditions.items; body = c.body.items } };
+    ghost view = { λ c. record {
+      head = c.head;
+      conditions = c.conditions.items;
+      body = c.body.items;
+    } };
 
     ghost invariant = { λ c. c.variables ≡ rising (pattern_variables c.head) };
 }
@@ -85,7 +89,8 @@ impl<A: Allocator> Clause<A> {
     }
 }
 
-/// A specification, read and found to be one, of at most `MAX_NODES` nodes and `MAX_VARIABLES` variables.
+/// A specification, read and found to be one, of at most `MAX_NODES` nodes and `MAX_VARIABLES`
+/// variables.
 #[derive(Drop)]
 pub struct Spec<A: Allocator = Global> {
     clauses: Vec<Clause<A>, A>,

@@ -98,11 +98,12 @@ fn within_limits<A: Allocator + Copy>(
     Ok(Spec::new(clauses, variables))
 }
 
-/// The specification that a term is read as. (ERTS User's Guide, "Match Specifications in Erlang", "Grammar".)
+/// The specification that a term is read as. (ERTS User's Guide, "Match Specifications in Erlang",
+/// "Grammar".)
 ///
-/// The first fault in reading order is answered: an outer term's before those inside it, these from the left, a map's
-/// pairs by rising key. Only where there is no other fault is a specification of more than `MAX_NODES` nodes or
-/// `MAX_VARIABLES` distinct variables `TooLarge`.
+/// The first fault in reading order is answered: an outer term's before those inside it, these from
+/// the left, a map's pairs by rising key. Only where there is no other fault is a specification of
+/// more than `MAX_NODES` nodes or `MAX_VARIABLES` distinct variables `TooLarge`.
 pub fn read_spec<A: Allocator + Copy>(alloc: A, term: &Term<A>) -> Result<Spec<A>, SpecFault>
     ensures ok { IfOk result (λ s. IsSpecification term.now s × IsWithinLimits s) }
     ensures refused { IfErr result (λ f. IsRefusal f term.now) }
