@@ -2,7 +2,7 @@
 -- readings of their elements.
 use Rattle.std.proofs.Common.{◌≡◌, ℕ, suc, ◌+◌, ◌<◌, ◌≤◌, true, inl, inr, Option, Some, None, option_map, MatchResult, Result, Ok, Err, IfOk, IfErr, List, [], ◌∷◌, ◌++◌, length, get_or, drop, refl, sym, ◌∙◌, ap, subst, arith, add-one}
 use Rattle.std.proofs.lemmas.List.{append_assoc, append-nil, drop_all}
-use Rattle.term_core.specs.Datum.{Datum, Items, items_of, cells, IsNoList}
+use Rattle.term_core.specs.Datum.{Datum, Items, items_of, cells, IsNoList, proper_elements}
 use Rattle.term_core.specs.Datum.Datum.{integer, atom, tuple, map, nil, cons, binary}
 use Rattle.term_core.specs.Datum.Items.{no_items, item}
 use Rattle.term_core.specs.Term.{tail_of, IsTail}
@@ -12,7 +12,7 @@ use Rattle.mspec_syntax.specs.Expression.{Expression}
 use Rattle.mspec_syntax.specs.Rising.{rising}
 use Rattle.mspec_syntax.specs.Word.{word_of}
 use Rattle.mspec_syntax.specs.Specification.{Clause, Specification, clause_variables, IsWithinLimits}
-use Rattle.mspec_syntax.specs.Grammar.{is_hole, proper_elements, IsPattern, IsAtomPattern, IsHeadForm, IsExpression, AreExpressions, AreConditions, AreBodyExpressions, triple, IsNoTriple, IsClause, AreClauses, AreElementsClauses, IsSpecification}
+use Rattle.mspec_syntax.specs.Grammar.{is_hole, IsPattern, IsAtomPattern, IsHeadForm, IsExpression, AreExpressions, AreConditions, AreBodyExpressions, triple, IsNoTriple, IsClause, AreClauses, AreElementsClauses, IsSpecification}
 use Rattle.mspec_syntax.specs.Faults.{named_variables, head_faults, expression_faults, expressions_faults, conditions_faults, body_faults, clause_faults, clauses_faults, elements_faults, specification_faults, Refuses, IsRefusal, IsSizeRefusal}
 use Rattle.mspec_syntax.specs.declared.word.Word.{Word}
 use Rattle.mspec_syntax.specs.declared.word.Word.TheVariants as word
@@ -20,32 +20,6 @@ use Rattle.mspec_syntax.specs.declared.fault.SpecFault.{SpecFault}
 use Rattle.mspec_syntax.specs.declared.fault.SpecFault.TheVariants.{Memory, NotAList, NotAClause}
 use Rattle.mspec_syntax.proofs.PatternLemmas.{both_empty, split_at, IsPattern-variables, IsPattern-one, ArePatterns-faults, Refuses-before, Refuses-behind, Refuses-same}
 use Rattle.mspec_syntax.proofs.ExpressionLemmas.{IsExpression-faults, IsExpression-one}
-
-proper_elements-cells : (ds : List Datum) → proper_elements (cells ds nil) ≡ Some ds
-proper_elements-cells [] = refl
-proper_elements-cells (d ∷ ds) = ap (option_map (λ l. d ∷ l)) (proper_elements-cells ds)
-
-proper_elements-no_list : (d : Datum) → IsNoList d → proper_elements d ≡ None
-proper_elements-no_list (integer z) h = refl
-proper_elements-no_list (atom cs) h = refl
-proper_elements-no_list (tuple ds) h = refl
-proper_elements-no_list (map es) h = refl
-proper_elements-no_list nil h = absurd h
-proper_elements-no_list (cons head tail) h = absurd h
-proper_elements-no_list (binary bs) h = refl
-
-proper_elements-improper : (ds : List Datum) (t : Datum) → IsNoList t → proper_elements (cells ds t) ≡ None
-proper_elements-improper [] t h = proper_elements-no_list t h
-proper_elements-improper (d ∷ ds) t h = ap (option_map (λ l. d ∷ l)) (proper_elements-improper ds t h)
-
--- a list without a tail of its own has its elements
-pub proper-elements : (ds : List Datum) (t : Option Datum) (d : Datum) → t ≡ None → cells ds (tail_of t) ≡ d → Some ds ≡ proper_elements d
-proper-elements ds None d e is = sym (proper_elements-cells ds) ∙ ap proper_elements is
-proper-elements ds (Some x) d e is = absurd (cc)
-
-pub improper-elements : (ds : List Datum) (t : Option Datum) (tail d : Datum) → t ≡ Some tail → cells ds (tail_of t) ≡ d → IsTail t → None ≡ proper_elements d
-improper-elements ds None tail d e is h = absurd (cc)
-improper-elements ds (Some x) tail d e is h = sym (proper_elements-improper ds x h) ∙ ap proper_elements is
 
 -- a list is no clause
 pub list-clause : (clause : ℕ) (ds : List Datum) (t d : Datum) → cells ds t ≡ d → 0 < length ds → Refuses (NotAClause clause) (clause_faults clause d)

@@ -6,7 +6,7 @@ use Rattle.std.specs.Cmp.Lexicographic.{pointwise}
 use Rattle.std.proofs.lemmas.Bool.{ltb-true}
 use Rattle.std.proofs.lemmas.List.Elements.{All-nil, All-cons}
 use Rattle.std.proofs.lemmas.Option.{IfSome_then}
-use Rattle.term_core.specs.Datum.{Datum, Items, Entries, entry_keys, item_count, entry_count, cell_count, cells}
+use Rattle.term_core.specs.Datum.{Datum, Items, Entries, entry_keys, item_count, entry_count, cell_count, cells, proper_elements}
 use Rattle.term_core.specs.Datum.Datum.{integer, atom, tuple, map, nil, cons, binary}
 use Rattle.term_core.specs.Datum.Items.{no_items, item}
 use Rattle.term_core.specs.Datum.Entries.{no_entries, entry}
@@ -26,7 +26,7 @@ use Rattle.mspec_syntax.specs.Expression.Assignments.{no_assignments, assignment
 use Rattle.mspec_syntax.specs.Word.{word_of}
 use Rattle.mspec_syntax.specs.Callee.{callee_of, function_callee}
 use Rattle.mspec_syntax.specs.Specification.{Clause, Specification, clause_variables}
-use Rattle.mspec_syntax.specs.Grammar.{IsAtomPattern, IsPattern, ArePatterns, AreFields, IsAtomExpression, IsQuoted, IsCall, IsExpression, IsTupleExpression, AreParts, AreAssignments, proper_elements, AreExpressions, AreConditions, AreBodyExpressions, triple, IsClause, AreClauses, AreElementsClauses}
+use Rattle.mspec_syntax.specs.Grammar.{IsAtomPattern, IsPattern, ArePatterns, AreFields, IsAtomExpression, IsQuoted, IsCall, IsExpression, IsTupleExpression, AreParts, AreAssignments, AreExpressions, AreConditions, AreBodyExpressions, triple, IsClause, AreClauses, AreElementsClauses}
 use Rattle.mspec_syntax.specs.Faults.{IsReadable}
 use Rattle.mspec_syntax.specs.Sound.{AreSoundKeys, SpellsTerm, IsSoundPattern, AreSoundPatterns, AreSoundFields, IsSoundExpression, AreSoundExpressions, AreSoundAssignments, IsSoundClause}
 use Rattle.mspec_syntax.specs.declared.word.Callee.{Callee}

@@ -1,7 +1,7 @@
 -- What is wrong with a term as a specification: its faults in reading order. An outer term's fault
 -- stands before those inside it, these from the left, and a map's pairs by rising key.
 use Rattle.std.specs.Prelude.{ℕ, suc, ◌≡◌, ◌⊎◌, Bool, true, false, if◌then◌else◌, Option, Some, None, List, [], ◌∷◌, ◌++◌}
-use Rattle.term_core.specs.Datum.{Datum, Items, Entries, item_count}
+use Rattle.term_core.specs.Datum.{Datum, Items, Entries, item_count, proper_elements}
 use Rattle.term_core.specs.Datum.Datum.{integer, atom, tuple, map, nil, cons, binary}
 use Rattle.term_core.specs.Datum.Items.{no_items, item}
 use Rattle.term_core.specs.Datum.Entries.{no_entries, entry}
@@ -9,7 +9,7 @@ use Rattle.term_core.specs.Limits.{IsTerm}
 use Rattle.mspec_syntax.specs.Word.{word_of}
 use Rattle.mspec_syntax.specs.Callee.{callee_of}
 use Rattle.mspec_syntax.specs.Rising.{rising}
-use Rattle.mspec_syntax.specs.Grammar.{is_hole, is_misnumbered, mentions, is_among, proper_elements, IsSpecification}
+use Rattle.mspec_syntax.specs.Grammar.{is_hole, is_misnumbered, mentions, is_among, IsSpecification}
 use Rattle.mspec_syntax.specs.Specification.{Specification, IsWithinLimits}
 use Rattle.mspec_syntax.specs.declared.word.Callee.{Callee}
 use Rattle.mspec_syntax.specs.declared.word.Callee.TheVariants as callee

@@ -1,7 +1,7 @@
 -- Which term is read as which specification. (ERTS User's Guide, "Match Specifications in Erlang", "Grammar".)
 use Rattle.std.specs.Prelude.{ℕ, ◌≡◌, ◌==◌, Bool, true, false, ◌||◌, Option, Some, None, option_map, List, [], ◌∷◌}
 use Rattle.std.specs.List.{list_any}
-use Rattle.term_core.specs.Datum.{Datum, Items, Entries, item_count}
+use Rattle.term_core.specs.Datum.{Datum, Items, Entries, item_count, proper_elements}
 use Rattle.term_core.specs.Datum.Datum.{integer, atom, tuple, map, nil, cons, binary}
 use Rattle.term_core.specs.Datum.Items.{no_items, item}
 use Rattle.term_core.specs.Datum.Entries.{no_entries, entry}
@@ -146,12 +146,6 @@ abbrev mutual
   AreAssignments variables no_entries no_assignments = Unit {0}
   AreAssignments variables (entry k v es) (assignment l e ms) = (l ≡ k) × IsExpression variables v e × AreAssignments variables es ms
   AreAssignments variables es ms = ⊥
-
--- the elements of a proper list
-abbrev pub proper_elements : Datum → Option (List Datum)
-proper_elements nil = Some []
-proper_elements (cons head tail) = option_map (λ ds. head ∷ ds) (proper_elements tail)
-proper_elements d = None
 
 abbrev pub AreExpressions : List ℕ → List Datum → List Expression → Type 0
 AreExpressions variables [] [] = Unit {0}

@@ -2,14 +2,14 @@
 ghost use Rattle.std.specs.Prelude.{◌≡◌, IfOk, IfErr, Option};
 ghost use Rattle.std.specs.Option.{option_copied};
 ghost use Rattle.std.specs.Prelude.{length};
-ghost use Rattle.term_core.specs.Datum.{items_of, entries_of};
+ghost use Rattle.term_core.specs.Datum.{items_of, entries_of, proper_elements};
 ghost use Rattle.term_core.specs.Datum.Datum.{atom, tuple};
 ghost use Rattle.term_core.specs.Datum.Items.{item};
 ghost use Rattle.term_core.specs.Limits.{IsTerm};
 ghost use Rattle.mspec_syntax.specs.Word.{word_of};
 ghost use Rattle.mspec_syntax.specs.Expression.{expressions_of, assignments_of};
 ghost use Rattle.mspec_syntax.specs.Expression.Expression.{constant};
-ghost use Rattle.mspec_syntax.specs.Grammar.{IsAtomExpression, IsExpression, IsTupleExpression, IsCall, AreParts, AreAssignments, AreExpressions, AreConditions, AreBodyExpressions, proper_elements};
+ghost use Rattle.mspec_syntax.specs.Grammar.{IsAtomExpression, IsExpression, IsTupleExpression, IsCall, AreParts, AreAssignments, AreExpressions, AreConditions, AreBodyExpressions};
 ghost use Rattle.mspec_syntax.specs.Faults.{word_faults, expression_faults, tuple_faults, call_faults, parts_faults, values_faults, expressions_faults, conditions_faults, body_faults, Refuses};
 
 use crate::expression::{Expression, ExpressionKind};
@@ -18,19 +18,6 @@ use crate::variables::Variables;
 use crate::word::{Callee, Word};
 use std::alloc::Allocator;
 use term_core::{Term, View};
-
-/// The elements of a proper list.
-pub(crate) fn elements<A: Allocator>(term: &Term<A>) -> Option<&[Term<A>]>
-    ensures value { option_copied result ≡ proper_elements term.now }
-    ensures within { IsTerm term.now }
-{
-    match term.view() {
-        View::Nil => Some(&[]),
-        View::List(elements, None) => Some(elements),
-        View::List(_, Some(_)) => None,
-        View::Integer(_) | View::Atom(_) | View::Tuple(_) | View::Map(_) | View::Binary(_) => None,
-    }
-}
 
 /// The expression that an atom in a condition or the body of the clause is read as, which has these
 /// characters.
@@ -266,7 +253,7 @@ pub(crate) fn read_conditions<A: Allocator + Copy>(
     ensures refused { IfErr result (λ f.
         Refuses f (conditions_faults clause variables.now (proper_elements term.now))) }
 {
-    match elements(term) {
+    match term.proper_elements() {
         Some(terms) => read_expressions(alloc, clause, variables, terms),
         None => Err(SpecFault::BadConditions(clause)),
     }
@@ -284,7 +271,7 @@ pub(crate) fn read_body<A: Allocator + Copy>(
     ensures refused { IfErr result (λ f.
         Refuses f (body_faults clause variables.now (proper_elements term.now))) }
 {
-    match elements(term) {
+    match term.proper_elements() {
         Some(terms) if !terms.is_empty() => read_expressions(alloc, clause, variables, terms),
         _ => Err(SpecFault::BadBody(clause)),
     }

@@ -5,7 +5,7 @@ ghost use Rattle.mspec_syntax.specs.Specification.{Specification, IsWithinLimits
 ghost use Rattle.mspec_syntax.specs.Grammar.{triple, IsNoTriple, IsClause, AreClauses, IsSpecification};
 ghost use Rattle.mspec_syntax.specs.Faults.{clause_faults, clauses_faults, specification_faults, Refuses, IsRefusal, IsReadable, IsSizeRefusal};
 
-use crate::body::{elements, read_body, read_conditions};
+use crate::body::{read_body, read_conditions};
 use crate::clause::{Clause, Spec};
 use crate::fault::SpecFault;
 use crate::head::read_head;
@@ -73,7 +73,7 @@ fn read_list<A: Allocator + Copy>(alloc: A, term: &Term<A>) -> Result<Vec<Clause
     ensures within { IsTerm term.now }
     ensures refused { IfErr result (λ f. Refuses f (specification_faults term.now)) }
 {
-    match elements(term) {
+    match term.proper_elements() {
         Some(terms) => read_clauses(alloc, terms),
         None => Err(SpecFault::NotAList),
     }

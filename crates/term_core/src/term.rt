@@ -472,7 +472,8 @@ impl<A: Allocator> Term<A> {
 
     /// The elements of a list that has no tail but `[]`, none of any other term.
     pub fn proper_elements(&self) -> Option<&[Term<A>]>
-        ensures { option_copied result ≡ proper_elements self.now }
+        ensures value { option_copied result ≡ proper_elements self.now }
+        ensures within { IsTerm self.now }
     {
         match self.view() {
             View::Nil => Some(&[]),

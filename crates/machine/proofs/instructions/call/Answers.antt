@@ -5,8 +5,6 @@ use Rattle.machine.proofs.instructions.call.Goals as goal
 
 pub returns-clause-flow : goal.returns-clause-flow
 returns-clause-flow g c =
-    let value = c.in_ok-value.ensures.value in
-    let value = rw c.primitive.ensures at value in
     IfOk-weaker c.push_or_jump.result _ _
-    (λ flow leads p object pc slots. leads p pc slots ∙ called_is c.args.function c.args.arguments c.args.otherwise c.args.stack.now.terms c.requires _ _ c.in_ok-value.ensures.rest value p object pc slots)
+    (λ flow leads p object pc slots. leads p pc slots ∙ called_is c.args.function c.args.arguments c.args.otherwise c.args.stack.now.terms c.requires _ _ c.in_ok-value.ensures.rest c.in_ok-value.ensures.value p object pc slots)
     c.push_or_jump.ensures.flow
