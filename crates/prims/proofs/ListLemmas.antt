@@ -1,19 +1,14 @@
 -- Lists, tuples and maps by their elements.
-use Rattle.std.proofs.Common.{◌≡◌, ℕ, zero, suc, ◌+◌, ◌-◌, ◌^◌, ◌<◌, ◌≤◌, min, pos, ℤ, List, [], ◌∷◌, length, refl, ◌∙◌, ap, arith, Option, Some, None, Bor}
+use Rattle.std.proofs.Common.{◌≡◌, ℕ, zero, suc, ◌+◌, ◌<◌, ◌≤◌, pos, List, [], ◌∷◌, length, refl, sym, ◌∙◌, ap, arith, Option, Some, None, Bor}
 use Rattle.std.specs.Prelude.{MatchOption}
 use Rattle.std.specs.List.{HoldsAt}
 use Rattle.std.specs.Option.{option_map, option_and_then, option_copied}
-use Rattle.std.proofs.lemmas.Bool.Decides.{nat_tests}
-use Rattle.term_core.specs.Datum.{Datum, items_of, cells, cell_count}
-use Rattle.term_core.specs.Datum.Datum.{cons}
+use Rattle.term_core.specs.Datum.{Datum, items_of, cells, IsNoList}
+use Rattle.term_core.specs.Datum.Datum.{integer, atom, tuple, map, nil, cons, binary}
+use Rattle.term_core.specs.Term.{tail_of}
 use Rattle.prims.specs.Fitting.{fitting}
 use Rattle.prims.specs.Tuples.{item_at}
-use Rattle.prims.specs.Lists.{element_count}
-
--- the tail has no more cells than the list
-pub cell_count-cells : (ds : List Datum) (tail : Datum) → cell_count tail ≤ cell_count (cells ds tail)
-cell_count-cells [] tail = omega arith
-cell_count-cells (d ∷ ds) tail = omega (arith, cell_count-cells ds tail)
+use Rattle.prims.specs.Lists.{element_count, length_of}
 
 -- the elements of a list whose first elements stand together
 pub element_count-cells : (ds : List Datum) (tail : Datum) → element_count (cells ds tail) ≡ option_map (λ n. length ds + n) (element_count tail)
@@ -28,24 +23,27 @@ element_count-cells (d ∷ ds) tail = ap (option_map suc) (element_count-cells d
     one_more None = refl
     one_more (Some n) = ap Some (omega arith)
 
--- a length with so many elements counted already
-abbrev pub length_from : ℕ → Datum → Option ℤ
-length_from k d = option_and_then (λ n. fitting (pos (k + n))) (element_count d)
+-- how many elements a list has behind its first, and that there is no number where it goes on in a tail
+pub length_of-proper : (head : Datum) (ds : List Datum) (t : Option Datum) (d : Datum) → t ≡ None → cons head (cells ds (tail_of t)) ≡ d → length_of d ≡ fitting (pos (length ds + 1))
+length_of-proper head ds None d none is =
+    ap length_of (sym is)
+    ∙ ap (λ o. option_and_then (λ n. fitting (pos n)) (option_map suc o)) (element_count-cells ds nil)
+    ∙ ap (λ n. fitting (pos n)) (omega arith)
+length_of-proper head ds (Some x) d some is = absurd (cc)
 
--- two counts that are one, or are both too large
-same_fitting : (a b : ℕ) → ¬ (a ≡ b) → 2 ^ 63 ≤ a → 2 ^ 63 ≤ b → fitting (pos a) ≡ fitting (pos b)
-same_fitting a b other large large' = grind (arith, nat_tests)
+no_count : (d : Datum) → IsNoList d → element_count d ≡ None
+no_count (integer z) h = refl
+no_count (atom cs) h = refl
+no_count (tuple ds) h = refl
+no_count (map es) h = refl
+no_count nil h = absurd h
+no_count (cons head tail) h = absurd h
+no_count (binary bs) h = refl
 
-saturated : (k m n : ℕ) → fitting (pos (min (min (k + m) (2 ^ 64 - 1) + 1) (2 ^ 64 - 1) + n)) ≡ fitting (pos (k + suc (m + n)))
-saturated k m n = grind (arith, nat_tests)
-
--- the elements before a tail are counted
-pub length_from-cells : (k : ℕ) (head : Datum) (ds : List Datum) (tail : Datum) → length_from (min (min (k + length ds) (2 ^ 64 - 1) + 1) (2 ^ 64 - 1)) tail ≡ length_from k (cons head (cells ds tail))
-length_from-cells k head ds tail = rw (element_count-cells ds tail) (counted (element_count tail))
-  where
-    counted : (o : Option ℕ) → option_and_then (λ n. fitting (pos (min (min (k + length ds) (2 ^ 64 - 1) + 1) (2 ^ 64 - 1) + n))) o ≡ option_and_then (λ n. fitting (pos (k + n))) (option_map suc (option_map (λ n. length ds + n) o))
-    counted None = refl
-    counted (Some n) = saturated k (length ds) n
+pub length_of-improper : (head : Datum) (ds : List Datum) (tail d : Datum) → IsNoList tail → cons head (cells ds tail) ≡ d → None ≡ length_of d
+length_of-improper head ds tail d h is =
+    sym (ap (λ o. option_and_then (λ n. fitting (pos n)) (option_map suc o)) (element_count-cells ds tail ∙ ap (option_map (λ n. length ds + n)) (no_count tail h)))
+    ∙ ap length_of is
 
 -- what `get` gives is the element with so many before it
 pub item_found : (o : Option (Bor Datum)) (ds : List Datum) (n : ℕ) → MatchOption o (length ds ≤ n) (λ x. (n < length ds) × HoldsAt (λ y. x.now ≡ y) ds n) → option_copied o ≡ item_at (items_of ds) n

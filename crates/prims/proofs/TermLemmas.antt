@@ -1,11 +1,13 @@
 -- The order of terms, one step at a time.
-use Rattle.std.proofs.Common.{◌≡◌, ℕ, ℤ, ◌<◌, List, [], ◌∷◌, length, arith, Bor, refl}
+use Rattle.std.proofs.Common.{◌≡◌, ℕ, ℤ, ◌<◌, List, [], ◌∷◌, length, drop, length-drop, subst, arith, Bor, Option, Some, None, MatchOption, refl}
 use Rattle.std.specs.declared.cmp.Ordering.{Ordering}
 use Rattle.std.specs.declared.cmp.Ordering.TheVariants.{Less, Equal, Greater}
 use Rattle.std.specs.Ordering.{nat_cmp, int_cmp, ordering_then}
 use Rattle.std.specs.Cmp.Lexicographic.{slice_cmp}
 use Rattle.term_core.specs.Datum.{Datum, cells}
 use Rattle.term_core.specs.Datum.Datum.{integer, atom, tuple, map, cons, binary}
+use Rattle.std.specs.Option.{option_copied}
+use Rattle.term_core.specs.Term.{tail_of}
 use Rattle.term_core.specs.Order.{rank, datum_cmp}
 use Rattle.prims.specs.View.{shown}
 use Rattle.prims.specs.Order.{AreDecided, IsSimple}
@@ -73,3 +75,12 @@ datum_cmp-cons_other a b d e l r o l_is r_is o_is other =
 pub IsSimple-cells : (ds : List Datum) (tail : Datum) → 0 < length ds → IsSimple (cells ds tail)
 IsSimple-cells [] tail some = absurd (omega arith)
 IsSimple-cells (d ∷ ds) tail some = tt
+
+-- what is left behind fewer elements than there are
+pub IsSimple-within : (n : ℕ) (ds : List Datum) (tail d : Datum) → n < length ds → cells (drop n ds) tail ≡ d → IsSimple d
+IsSimple-within n ds tail d within is = subst IsSimple is (IsSimple-cells (drop n ds) tail (omega (arith, length-drop n ds)))
+
+-- a tail, or [] where there is none
+pub whole_tail : (o : Option (Bor Datum)) (d : Datum) → tail_of (option_copied o) ≡ d → MatchOption o (IsSimple d) (λ t. t.now ≡ d)
+whole_tail None d is = subst IsSimple is tt
+whole_tail (Some t) d is = is

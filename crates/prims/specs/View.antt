@@ -2,8 +2,7 @@
 use Rattle.std.specs.Option.{option_copied}
 use Rattle.term_core.specs.Datum.{Datum, items_of, entries_of, cells}
 use Rattle.term_core.specs.Datum.Datum.{integer, atom, tuple, map, nil, cons, binary}
-use Rattle.term_core.specs.Limits.{IsSound}
-use Rattle.term_core.specs.Term.{tail_of}
+use Rattle.term_core.specs.Term.{tail_of, IsTail}
 use Rattle.prims.specs.declared.view.View.{View}
 use Rattle.prims.specs.declared.view.View.TheVariants as view
 
@@ -17,7 +16,7 @@ shown (view.List head rest tail) = cons head.now (cells rest.now (tail_of (optio
 shown (view.Map es) = map (entries_of es.now)
 shown (view.Binary bs) = binary bs.now
 
--- a term, but that a list may pass its limit
-abbrev pub IsWithin : Datum → Type 0
-IsWithin (cons head tail) = Unit {0}
-IsWithin d = IsSound d
+-- what ends a list is no list
+abbrev pub IsEnded : {A : Type 0} → View A → Type 0
+IsEnded (view.List head rest tail) = IsTail (option_copied tail)
+IsEnded v = Unit {0}

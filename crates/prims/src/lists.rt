@@ -23,27 +23,20 @@ pub(crate) fn head<'a, A: Allocator>(list: Operand<'a, A>) -> Option<&'a Term<A>
 pub(crate) fn tail<'a, A: Allocator>(list: Operand<'a, A>) -> Option<Operand<'a, A>>
     ensures { option_map operand_datum result ≡ tail_behind (operand_datum list.entry) }
 {
-    match list.view() {
-        View::List(_, rest, tail) => Some(Operand::Rest(rest, tail)),
-        _ => None,
+    match list.split() {
+        Some((_, rest)) => Some(rest),
+        None => None,
     }
 }
 
-/// `length`, by the stretches of elements that stand together, of which a term has at most one.
+/// `length`
 pub(crate) fn length<A: Allocator>(list: Operand<'_, A>) -> Option<i64>
     ensures { result ≡ length_of (operand_datum list.entry) }
 {
-    let mut count: usize = 0;
-    let mut left = list;
-    loop {
-        match left.view() {
-            View::List(_, rest, tail) => {
-                // What passes `usize` passes 64 bits too.
-                count = count.saturating_add(rest.len()).saturating_add(1);
-                left = Operand::Rest(&[], tail);
-            }
-            View::Nil => return i64::try_from(count).ok(),
-            _ => return None,
-        }
+    match list.view() {
+        View::Nil => Some(0),
+        View::List(_, rest, None) => i64::try_from(rest.len() + 1).ok(),
+        View::List(_, _, Some(_)) => None,
+        _ => None,
     }
 }

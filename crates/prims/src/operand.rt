@@ -1,19 +1,19 @@
 //! What a function is given and what it gives.
-ghost use Rattle.std.specs.Prelude.{◌≡◌, ⊤, false, MatchOption, IfOk, IfErr};
-ghost use Rattle.std.specs.Option.{option_copied};
-ghost use Rattle.term_core.specs.Datum.{cells};
+ghost use Rattle.std.specs.Prelude.{◌≡◌, ⊤, false, MatchOption, IfOk};
 ghost use Rattle.std.specs.Str.{chars};
 ghost use Rattle.term_core.specs.Datum.Datum.{atom, cons};
-ghost use Rattle.term_core.specs.Term.{tail_of};
-ghost use Rattle.prims.specs.View.{shown, IsWithin};
-ghost use Rattle.prims.specs.Operand.{operand_datum, boolean as boolean_atom, IsNoCell, IsRefusal};
+ghost use Rattle.term_core.specs.Limits.{IsSound};
+ghost use Rattle.term_core.specs.Rest.{rest_of};
+ghost use Rattle.term_core.specs.declared.fault.Fault.TheVariants.{Memory};
+ghost use Rattle.prims.specs.View.{shown, IsEnded};
+ghost use Rattle.prims.specs.Operand.{operand_datum, boolean as boolean_atom, IsNoCell};
 ghost use Rattle.prims.specs.Order.{IsSimple};
 ghost use Rattle.prims.specs.Booleans.{boolean_of};
 ghost use Rattle.prims.specs.Integers.{integer_of};
 
 use crate::view::View;
 use std::alloc::{AllocError, Allocator, Global};
-use term_core::{Fault, Term, copy_all, copy_tail};
+use term_core::{Fault, Term, View as TermView};
 
 /// The characters of the atom `true`.
 const TRUE: [char; 4] = ['t', 'r', 'u', 'e'];
@@ -24,9 +24,8 @@ const FALSE: [char; 5] = ['f', 'a', 'l', 's', 'e'];
 pub enum Operand<'a, A: Allocator = Global> {
     /// The term that this is.
     Term(&'a Term<A>),
-    /// The list of these elements followed by the tail, or by `[]` where there is none. Without elements it is the
-    /// tail alone.
-    Rest(&'a [Term<A>], Option<&'a Term<A>>),
+    /// What is left of this list behind so many of its elements. Another term is left as it is.
+    Rest(&'a Term<A>, usize),
     /// An integer.
     Int(i64),
     /// The atom `true` or `false`.
@@ -61,35 +60,51 @@ fn boolean_text(value: bool) -> &'static str
     if value { "true" } else { "false" }
 }
 
-/// The atom `true` or `false`.
-fn boolean_term<A: Allocator + Copy>(alloc: A, value: bool) -> Result<Term<A>, Fault>
-    ensures ok { IfOk result (λ t. t ≡ boolean_atom value) }
-    ensures refused { IfErr result (λ fault. IsRefusal fault (boolean_atom value)) }
+/// The error for want of memory.
+fn alloc_error(fault: Fault) -> AllocError
+    requires { fault ≡ Memory }
 {
-    match Term::atom(alloc, boolean_text(value)) {
-        Ok(atom) => Ok(atom),
-        Err(fault) => Err(fault),
+    match fault {
+        Fault::Memory => AllocError,
+        Fault::TooDeep | Fault::TooLong | Fault::DuplicateKey => unreachable!(),
     }
 }
 
-/// A list of copies of these elements and of this tail.
-fn list_term<A: Allocator + Copy>(
-    alloc: A,
-    elements: &[Term<A>],
-    tail: Option<&Term<A>>,
-) -> Result<Term<A>, Fault>
-    ensures ok { IfOk result (λ t. t ≡ cells elements.now (tail_of (option_copied tail.entry))) }
-    ensures refused { IfErr result (λ fault. IsRefusal fault (cells elements.now (tail_of (option_copied tail.entry)))) }
+/// The atom `true` or `false`.
+fn boolean_term<A: Allocator + Copy>(alloc: A, value: bool) -> Result<Term<A>, AllocError>
+    ensures { IfOk result (λ t. t ≡ boolean_atom value) }
 {
-    let Ok(copies) = copy_all(alloc, elements) else {
-        return Err(Fault::Memory);
-    };
-    let Ok(tail) = copy_tail(alloc, tail) else {
-        return Err(Fault::Memory);
-    };
-    match Term::list(alloc, copies, tail) {
-        Ok(list) => Ok(list),
-        Err(refused) => Err(refused.fault),
+    match Term::atom(alloc, boolean_text(value)) {
+        Ok(atom) => Ok(atom),
+        Err(fault) => Err(alloc_error(fault)),
+    }
+}
+
+/// The first element of what is left of a list and what follows it, none where that is no list with elements.
+fn split_behind<'a, A: Allocator>(
+    list: &'a Term<A>,
+    count: usize,
+) -> Option<(&'a Term<A>, Operand<'a, A>)>
+    ensures { MatchOption result (IsNoCell (rest_of count list.now)) (λ p. cons p.0.now (operand_datum p.1) ≡ rest_of count list.now) }
+{
+    match View::behind(list, count) {
+        View::List(head, _, _) => Some((head, Operand::Rest(list, count + 1))),
+        _ => None,
+    }
+}
+
+/// What is left of a list, where that stands whole.
+fn whole_behind<A: Allocator>(list: &Term<A>, count: usize) -> Option<&Term<A>>
+    ensures { MatchOption result (IsSimple (rest_of count list.now)) (λ t. t.now ≡ rest_of count list.now) }
+{
+    match list.view() {
+        TermView::List(elements, tail) => {
+            if count < elements.len() {
+                return None;
+            }
+            tail
+        }
+        _ => Some(list),
     }
 }
 
@@ -97,13 +112,12 @@ impl<'a, A: Allocator> Operand<'a, A> {
     /// The operand taken apart one level down.
     pub(crate) fn view(self) -> View<'a, A>
         ensures value { shown result ≡ operand_datum self.entry }
-        ensures within { IsWithin (shown result) }
+        ensures ended { IsEnded result }
+        ensures within { IsSound (shown result) }
     {
         match self {
-            Operand::Term(term) => View::of(term),
-            Operand::Rest([], None) => View::Nil,
-            Operand::Rest([], Some(tail)) => View::of(tail),
-            Operand::Rest([head, rest @ ..], tail) => View::List(head, rest, tail),
+            Operand::Term(term) => View::behind(term, 0),
+            Operand::Rest(list, count) => View::behind(list, count),
             Operand::Int(value) => View::Integer(value),
             Operand::Bool(true) => View::Atom(&TRUE),
             Operand::Bool(false) => View::Atom(&FALSE),
@@ -135,9 +149,10 @@ impl<'a, A: Allocator> Operand<'a, A> {
     pub fn split(self) -> Option<(&'a Term<A>, Operand<'a, A>)>
         ensures { MatchOption result (IsNoCell (operand_datum self.entry)) (λ p. cons p.0.now (operand_datum p.1) ≡ operand_datum self.entry) }
     {
-        match self.view() {
-            View::List(head, rest, tail) => Some((head, Operand::Rest(rest, tail))),
-            _ => None,
+        match self {
+            Operand::Term(list) => split_behind(list, 0),
+            Operand::Rest(list, count) => split_behind(list, count),
+            Operand::Int(_) | Operand::Bool(_) => None,
         }
     }
 
@@ -146,24 +161,21 @@ impl<'a, A: Allocator> Operand<'a, A> {
         ensures { MatchOption result (IsSimple (operand_datum self.entry)) (λ t. t.now ≡ operand_datum self.entry) }
     {
         match self {
-            Operand::Term(term) | Operand::Rest([], Some(term)) => Some(term),
-            Operand::Rest([], None) => None,
-            Operand::Rest([_, ..], _) => None,
+            Operand::Term(term) => Some(term),
+            Operand::Rest(list, count) => whole_behind(list, count),
             Operand::Int(_) | Operand::Bool(_) => None,
         }
     }
 
-    /// The term that the operand stands for, in memory of its own. A list that is past the limits of terms, as the
-    /// rest of a list may be, is refused.
-    pub fn to_term(self, alloc: A) -> Result<Term<A>, Fault>
+    /// The term that the operand stands for, in memory of its own.
+    pub fn to_term(self, alloc: A) -> Result<Term<A>, AllocError>
     where
         A: Copy,
-        ensures ok { IfOk result (λ t. t ≡ operand_datum self.entry) }
-        ensures refused { IfErr result (λ fault. IsRefusal fault (operand_datum self.entry)) }
+        ensures { IfOk result (λ t. t ≡ operand_datum self.entry) }
     {
         match self {
-            Operand::Term(term) => term.copy(alloc).map_err(|_| Fault::Memory),
-            Operand::Rest(elements, tail) => list_term(alloc, elements, tail),
+            Operand::Term(term) => term.copy(alloc),
+            Operand::Rest(list, count) => list.copy_behind(alloc, count),
             Operand::Int(value) => Ok(Term::int(value)),
             Operand::Bool(value) => boolean_term(alloc, value),
         }

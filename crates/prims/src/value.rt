@@ -25,17 +25,6 @@ pub enum Value<'a, A: Allocator = Global> {
     Made(Term<A>),
 }
 
-/// A copy of the term that an operand stands for. Where the operand stands in a term, that is refused for want of
-/// memory alone.
-fn copied<A: Allocator + Copy>(alloc: A, operand: Operand<'_, A>) -> Result<Term<A>, AllocError>
-    ensures { IfOk result (λ term. term ≡ operand_datum operand.entry) }
-{
-    match operand.to_term(alloc) {
-        Ok(term) => Ok(term),
-        Err(_) => Err(AllocError),
-    }
-}
-
 impl<'a, A: Allocator + Copy> Value<'a, A> {
     ghost use Rattle.std.specs.Prelude.{◌≡◌, IfOk, IsOkAnd};
     ghost use Rattle.prims.specs.Booleans.{boolean_of};
@@ -67,13 +56,12 @@ impl<'a, A: Allocator + Copy> Value<'a, A> {
         self.operand().integer()
     }
 
-    /// The value as a term in memory of its own, copied where it is borrowed. A borrowed list that is past the limits of
-    /// terms, as the rest of a list may be, is refused too.
+    /// The value as a term in memory of its own, copied where it is borrowed.
     pub fn into_term(self, alloc: A) -> Result<Term<A>, AllocError>
         ensures { IfOk result (λ term. term ≡ value_datum self.entry) }
     {
         match self {
-            Value::Borrowed(operand) => copied(alloc, operand),
+            Value::Borrowed(operand) => operand.to_term(alloc),
             Value::Made(term) => Ok(term),
         }
     }
@@ -132,7 +120,7 @@ fn unborrowed<'a, A: Allocator + Copy>(
     match operand {
         Operand::Int(value) => Ok(Value::Borrowed(Operand::Int(value))),
         Operand::Bool(value) => Ok(Value::Borrowed(Operand::Bool(value))),
-        Operand::Term(_) | Operand::Rest(_, _) => Ok(Value::Made(copied(alloc, operand)?)),
+        Operand::Term(_) | Operand::Rest(_, _) => Ok(Value::Made(operand.to_term(alloc)?)),
     }
 }
 

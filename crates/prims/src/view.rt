@@ -1,7 +1,9 @@
 //! An operand taken apart.
 ghost use Rattle.std.specs.Prelude.{◌≡◌, ⊤};
 ghost use Rattle.term_core.specs.Order.{rank};
-ghost use Rattle.prims.specs.View.{shown, IsWithin};
+ghost use Rattle.term_core.specs.Limits.{IsSound, IsTerm};
+ghost use Rattle.term_core.specs.Rest.{rest_of};
+ghost use Rattle.prims.specs.View.{shown, IsEnded};
 
 use std::alloc::{AllocError, Allocator};
 use term_core::{Term, View as TermView};
@@ -16,8 +18,8 @@ pub(crate) enum View<'a, A: Allocator> {
     Tuple(&'a [Term<A>]),
     /// `[]`.
     Nil,
-    /// A list's first element, the elements that follow, and the tail behind them where that is not `[]`. The tail
-    /// may be a list.
+    /// A list's first element, the elements that follow, and the tail behind them where that is not `[]`, which is no
+    /// list.
     List(&'a Term<A>, &'a [Term<A>], Option<&'a Term<A>>),
     /// A map's pairs, by rising key.
     Map(&'a [(Term<A>, Term<A>)]),
@@ -38,12 +40,14 @@ impl<'a, A: Allocator> Clone for View<'a, A> {
 }
 
 impl<'a, A: Allocator> View<'a, A> {
-    /// The term taken apart.
-    pub(crate) fn of(term: &'a Term<A>) -> Self
-        ensures value { shown result ≡ term.now }
-        ensures within { IsWithin (shown result) }
+    /// What is left of a list behind so many of its elements, or another term, taken apart.
+    pub(crate) fn behind(list: &'a Term<A>, count: usize) -> Self
+        ensures value { shown result ≡ rest_of count list.now }
+        ensures ended { IsEnded result }
+        ensures within { IsSound (shown result) }
+        ensures whole { IsTerm list.now }
     {
-        match term.view() {
+        match list.view_behind(count) {
             TermView::Integer(value) => View::Integer(value),
             TermView::Atom(characters) => View::Atom(characters),
             TermView::Tuple(elements) => View::Tuple(elements),

@@ -7,3 +7,4 @@ pub mod DepthLemmas
 pub mod ByKeyLemmas
 pub mod MadeLemmas
 pub mod ProperLemmas
+pub mod RestLemmas

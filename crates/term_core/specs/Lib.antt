@@ -9,6 +9,7 @@ pub mod Term
 pub mod TermFalls
 pub mod ListParts
 pub mod View
+pub mod Rest
 pub mod Fault
 pub mod MapPairs
 pub mod FaultNumbers

@@ -16,6 +16,7 @@ mod apart;
 mod copy;
 mod made;
 mod map;
+mod rest;
 
 pub use apart::are_apart;
 pub use copy::{copy_all, copy_tail};

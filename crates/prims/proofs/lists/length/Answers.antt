@@ -1,16 +1,28 @@
-use Rattle.std.proofs.Common.{◌∙◌, ap, arith}
+use Rattle.std.proofs.Common.{ap, arith, rules, ◌∙◌, sym}
 use Rattle.std.specs.Option.{option_copied}
 use Rattle.term_core.specs.Term.{tail_of}
-use Rattle.prims.proofs.ListLemmas.{cell_count-cells, length_from, length_from-cells}
+use Rattle.term_core.proofs.LimitLemmas.{cell_count-cells}
+use Rattle.prims.specs.Operand.{operand_datum}
+use Rattle.prims.proofs.ListLemmas.{length_of-proper, length_of-improper}
 use Rattle.prims.proofs.lists.length.Goals as goal
 
-pub loop-rest-smaller : goal.loop-rest-smaller
-loop-rest-smaller g c =
-    rw (← c.in-List.ensures.value) (omega (arith, cell_count-cells c.in-List.rest.now (tail_of (option_copied c.in-List.tail))))
+pub overflow_add-rest : goal.overflow_add-rest
+overflow_add-rest g c =
+    let list = c.in-List-default-default-None in
+    let few = list.ensures.within.0 in
+    omega (arith, cell_count-cells list.rest.now (tail_of (option_copied list.field-2)), few)
 
-pub loop-rest-preserved : goal.loop-rest-preserved
-loop-rest-preserved g c =
-    rw (c.saturating_add-count.ensures, c.saturating_add.ensures)
-    (length_from-cells c.loop-rest.count c.in-List.field-0.now c.in-List.rest.now (tail_of (option_copied c.in-List.tail))
-    ∙ ap (length_from c.loop-rest.count) c.in-List.ensures.value
-    ∙ c.loop-rest.invariant)
+pub returns-in-List-default-default-None : goal.returns-in-List-default-default-None
+returns-in-List-default-default-None g c =
+    let list = c.in-List-default-default-None in
+    rw (length_of-proper list.field-0.now list.rest.now (option_copied list.field-2) (operand_datum c.args.list) (ap option_copied list.field-2-is) list.ensures.value)
+    (search rules)
+
+pub returns-in-List-default-default-Some : goal.returns-in-List-default-default-Some
+returns-in-List-default-default-Some g c =
+    let list = c.in-List-default-default-Some in
+    let ended = list.ensures.ended in
+    let ended = rw list.field-2-is at ended in
+    let value = list.ensures.value in
+    let value = rw list.field-2-is at value in
+    length_of-improper list.field-0.now list.field-1.now list.field-2-0.now (operand_datum c.args.list) ended value

@@ -1,0 +1,91 @@
+//! What is left of a list behind some of its elements.
+ghost use Rattle.std.specs.Prelude.{◌≡◌, IfOk};
+ghost use Rattle.std.specs.Option.{option_copied};
+ghost use Rattle.term_core.specs.Datum.{cells};
+ghost use Rattle.term_core.specs.Limits.{IsTerm};
+ghost use Rattle.term_core.specs.Term.{tail_of};
+ghost use Rattle.term_core.specs.declared.fault.Fault.TheVariants.{Memory};
+
+use crate::fault::Fault;
+use crate::term::{Term, copy_all, copy_tail};
+use crate::view::View;
+use std::alloc::{AllocError, Allocator};
+
+/// The error for want of memory.
+fn alloc_error(fault: Fault) -> AllocError
+    requires { fault ≡ Memory }
+{
+    match fault {
+        Fault::Memory => AllocError,
+        Fault::TooDeep | Fault::TooLong | Fault::DuplicateKey => unreachable!(),
+    }
+}
+
+/// A list of copies of these elements and this tail.
+fn copy_list<A: Allocator + Copy>(
+    alloc: A,
+    elements: &[Term<A>],
+    tail: Option<&Term<A>>,
+) -> Result<Term<A>, AllocError>
+    requires { IsTerm (cells elements.now (tail_of (option_copied tail))) }
+    ensures { IfOk result (λ t. t ≡ cells elements.now (tail_of (option_copied tail.entry))) }
+{
+    let copies = copy_all(alloc, elements)?;
+    let tail = copy_tail(alloc, tail)?;
+    match Term::list(alloc, copies, tail) {
+        Ok(list) => Ok(list),
+        Err(refused) => Err(alloc_error(refused.fault)),
+    }
+}
+
+impl<A: Allocator> Term<A> {
+    ghost use Rattle.std.specs.Prelude.{◌≡◌, IfOk};
+    ghost use Rattle.term_core.specs.Limits.{IsTerm};
+    ghost use Rattle.term_core.specs.Rest.{rest_of};
+    ghost use Rattle.term_core.specs.View.{shown, IsSplit};
+
+    /// What is left of a list behind so many of its elements, taken apart one level down. Another term is taken apart
+    /// as it is.
+    pub fn view_behind(&self, count: usize) -> View<'_, A>
+        ensures value { shown result ≡ rest_of count self.now }
+        ensures split { IsSplit result }
+        ensures term { IsTerm (rest_of count self.now) }
+        ensures within { IsTerm self.now }
+    {
+        match self.view() {
+            View::List(elements, tail) => {
+                if count < elements.len() {
+                    return View::List(&elements[count..], tail);
+                }
+                match tail {
+                    Some(tail) => tail.view(),
+                    None => View::Nil,
+                }
+            }
+            View::Integer(value) => View::Integer(value),
+            View::Atom(characters) => View::Atom(characters),
+            View::Tuple(elements) => View::Tuple(elements),
+            View::Nil => View::Nil,
+            View::Map(pairs) => View::Map(pairs),
+            View::Binary(bytes) => View::Binary(bytes),
+        }
+    }
+
+    /// What is left of a list behind so many of its elements, in memory of its own. Another term is copied as it is.
+    pub fn copy_behind(&self, alloc: A, count: usize) -> Result<Self, AllocError>
+    where
+        A: Copy,
+        ensures { IfOk result (λ t. t ≡ rest_of count self.now) }
+    {
+        let View::List(elements, tail) = self.view() else {
+            return self.copy(alloc);
+        };
+        if count < elements.len() {
+            return copy_list(alloc, &elements[count..], tail);
+        }
+        match tail {
+            Some(tail) => tail.copy(alloc),
+            None => Ok(Term::nil()),
+        }
+    }
+}
