@@ -17,7 +17,7 @@ use Rattle.mspec_syntax.specs.Expression.Assignments.{no_assignments, assignment
 use Rattle.mspec_syntax.specs.Specification.{Clause, Specification, clause_variables}
 use Rattle.mspec_syntax.specs.Sound.{IsSoundExpression, AreSoundExpressions, AreSoundAssignments, IsSoundClause}
 use Rattle.mspec_meaning.specs.Match.{Substitution, domain, values_of, lookup}
-use Rattle.mspec_meaning.specs.Meaning.{or_failed, made_of, called, and_at, and_step, or_at, or_step, before, at_key, joined, Position, list_made, value_at, argument_values, entry_values, all_true, any_true, body_value, Applies, IsApplicable, Means}
+use Rattle.mspec_meaning.specs.Meaning.{or_failed, made_of, called, and_at, and_step, or_at, or_step, before, at_key, joined, Position, made_list, value_at, argument_values, entry_values, all_true, any_true, body_value, Applies, IsApplicable, Means}
 use Rattle.mspec_meaning.specs.Meaning.Position.{by_itself, as_tail}
 use Rattle.mspec_meaning.specs.declared.value.Mode.TheVariants.{Body}
 use Rattle.mspec_meaning.proofs.MatchLemmas.{one-match}
@@ -53,9 +53,9 @@ joined-some None b h k = absurd (cc)
 joined-some (Some x) None h k = absurd (cc)
 joined-some (Some x) (Some y) h k = refl
 
-list_made-some : (position : Position) (o : Option Datum) → IsSome o → IsSome (list_made Body position o)
-list_made-some by_itself o h = made_of-some o h
-list_made-some as_tail o h = h
+made_list-some : (position : Position) (o : Option Datum) → IsSome o → IsSome (made_list Body position o)
+made_list-some by_itself o h = made_of-some o h
+made_list-some as_tail o h = h
 
 before-some : (a : Option Datum) (b : Option (List Datum)) → IsSome a → IsSome b → IsSome (before a b)
 before-some None b h k = absurd (cc)
@@ -100,7 +100,7 @@ module _ (vs : List ℕ) (s : Substitution) (o : Datum) (known : (n : ℕ) → i
     value-some (new_tuple es) position h =
         made_of-some _ (option_map-some (λ ds. tuple (items_of ds)) (argument_values Body es s o) (arguments-some es h))
     value-some (new_cell e f) position h =
-        list_made-some position _
+        made_list-some position _
         (joined-some (value_at Body e by_itself s o) (value_at Body f as_tail s o) (value-some e by_itself h.0) (value-some f as_tail h.1))
     value-some (new_map ms) position h =
         made_of-some _ (option_map-some table (entry_values Body ms s o) (entries-some ms h.1))
@@ -148,22 +148,22 @@ applicable-value c s o sound applies =
     let known : P (clause_variables c) = subst P applies.head.domain (λ n h. lookup-some s n h) in
     body-some (clause_variables c) s o known c.body sound.body sound.answers
 
-pub nothing-inapplicable : (spec : Specification) (o : Datum) → All IsSoundClause spec → Means spec o None
+pub none-applies : (spec : Specification) (o : Datum) → All IsSoundClause spec → Means spec o None
     → All (λ c. ¬ IsApplicable c o) spec
-nothing-inapplicable [] o sound h = All-nil (λ c. ¬ IsApplicable c o)
-nothing-inapplicable (c ∷ cs) o sound (inl h) =
+none-applies [] o sound h = All-nil (λ c. ¬ IsApplicable c o)
+none-applies (c ∷ cs) o sound (inl h) =
     let some : IsSome {T = Datum} None =
     subst IsSome (sym h.2) (applicable-value c h.0 o (All-head IsSoundClause c cs sound) h.1) in
     absurd (cc)
-nothing-inapplicable (c ∷ cs) o sound (inr h) =
+none-applies (c ∷ cs) o sound (inr h) =
     All-cons (λ c. ¬ IsApplicable c o) c cs h.0
-    (nothing-inapplicable cs o (All-tail IsSoundClause c cs sound) h.1)
+    (none-applies cs o (All-tail IsSoundClause c cs sound) h.1)
 
-pub inapplicable-nothing : (spec : Specification) (o : Datum) → All (λ c. ¬ IsApplicable c o) spec
+pub nothing-answered : (spec : Specification) (o : Datum) → All (λ c. ¬ IsApplicable c o) spec
     → Means spec o None
-inapplicable-nothing [] o none = refl
-inapplicable-nothing (c ∷ cs) o none =
+nothing-answered [] o none = refl
+nothing-answered (c ∷ cs) o none =
     inr (
       All-head (λ c. ¬ IsApplicable c o) c cs none,
-      inapplicable-nothing cs o (All-tail (λ c. ¬ IsApplicable c o) c cs none),
+      nothing-answered cs o (All-tail (λ c. ¬ IsApplicable c o) c cs none),
     )

@@ -48,7 +48,7 @@ ApplicableHasValue =
     → IsSome (body_value c.body s o)
 
 -- so a specification of sound clauses answers nothing exactly where no clause applies
-abbrev pub NothingIsInapplicable : Type 0
-NothingIsInapplicable =
+abbrev pub NothingWhereNoneApplies : Type 0
+NothingWhereNoneApplies =
     (spec : Specification) (o : Datum) → All IsSoundClause spec
     → (Means spec o None ↔ All (λ c. ¬ IsApplicable c o) spec)

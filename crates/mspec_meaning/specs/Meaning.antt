@@ -92,9 +92,9 @@ pub data Position : Type 0 where
   as_tail : Position
 
 -- a list that is made, of which the limits are looked at as a whole, and so not in its tail
-abbrev pub list_made : Mode → Position → Option Datum → Option Datum
-list_made mode by_itself list = made_of mode list
-list_made mode as_tail list = list
+abbrev pub made_list : Mode → Position → Option Datum → Option Datum
+made_list mode by_itself list = made_of mode list
+made_list mode as_tail list = list
 
 abbrev mutual
   -- the value of an expression that stands at this position
@@ -110,7 +110,7 @@ abbrev mutual
   value_at mode (new_tuple es) position s o =
       made_of mode (option_map (λ ds. tuple (items_of ds)) (argument_values mode es s o))
   value_at mode (new_cell e f) position s o =
-      list_made mode position (joined (value_at mode e by_itself s o) (value_at mode f as_tail s o))
+      made_list mode position (joined (value_at mode e by_itself s o) (value_at mode f as_tail s o))
   value_at mode (new_map ms) position s o =
       made_of mode (option_map map (entry_values mode ms s o))
 

@@ -1,6 +1,6 @@
 //! Laws of matching and meaning, each the contract of a function that does nothing.
 ghost use Rattle.mspec_meaning.specs.Laws.{HasOneMatch, EmptyAnswersNothing, FirstAnswers, OthersAnswer, OwnTermMatches};
-ghost use Rattle.mspec_meaning.specs.Laws.{HasOneMeaning, ApplicableHasValue, NothingIsInapplicable};
+ghost use Rattle.mspec_meaning.specs.Laws.{HasOneMeaning, ApplicableHasValue, NothingWhereNoneApplies};
 
 /// At most one substitution makes a pattern match a term.
 pub fn one_substitution_matches()
@@ -34,5 +34,5 @@ pub fn one_answer_is_meant()
 /// only where no clause applies.
 pub fn applicable_clauses_answer()
     ensures value { ApplicableHasValue }
-    ensures nothing { NothingIsInapplicable }
+    ensures nothing { NothingWhereNoneApplies }
 {}

@@ -1,4 +1,4 @@
-use Rattle.mspec_meaning.proofs.MeaningLemmas.{applicable-value, nothing-inapplicable, inapplicable-nothing}
+use Rattle.mspec_meaning.proofs.MeaningLemmas.{applicable-value, none-applies, nothing-answered}
 use Rattle.mspec_meaning.proofs.laws.applicable_clauses_answer.Goals as goal
 
 pub returns-clause-value : goal.returns-clause-value
@@ -6,4 +6,4 @@ returns-clause-value c = λ b s o sound applies. applicable-value b s o sound ap
 
 pub returns-clause-nothing : goal.returns-clause-nothing
 returns-clause-nothing c = λ spec o sound.
-    (λ means. nothing-inapplicable spec o sound means, λ none. inapplicable-nothing spec o none)
+    (λ means. none-applies spec o sound means, λ none. nothing-answered spec o none)
