@@ -10,7 +10,9 @@ use Rattle.term_core.specs.OrderLaws.{datum_cmp-same, datum_eq-same}
 use Rattle.term_core.specs.Limits.{IsTerm}
 use Rattle.term_core.specs.declared.TheConstants.{MAX_LIST}
 use Rattle.term_core.proofs.LimitLemmas.{cell_count-sound}
-use Rattle.mspec_meaning.specs.Part.{rest_of, IsListSplit, IsNoTuple, IsNoMap}
+use Rattle.term_core.proofs.RestLemmas.{rest_of-slice, rest_of-past}
+use Rattle.term_core.specs.Rest.{rest_of}
+use Rattle.mspec_meaning.specs.Part.{IsListSplit, IsNoTuple, IsNoMap}
 
 -- a test of equality
 pub eq-says : (r : Bool) (a b : Datum) → r ≡ eq_by_cmp datum_cmp a b → MatchBool r (a ≡ b) (a ≡ b → ⊥)
@@ -34,45 +36,16 @@ pub same-more : (xs ys : List Datum) (i : ℕ) (x y : Datum) → i < length xs �
 same-more xs ys i x y h k e f same rest =
     let front = split_at xs i x h e in let back = split_at ys i y k f in front ∙ ap (λ l. x ∷ l) rest ∙ ap (λ z. z ∷ drop (i + 1) ys) same ∙ sym back
 
-rest_of-no_list : (n : ℕ) (t : Option Datum) → IsTail t → rest_of n (tail_of t) ≡ tail_of t
-rest_of-no_list zero t h = refl
-rest_of-no_list (suc n) None h = refl
-rest_of-no_list (suc n) (Some (integer z)) h = refl
-rest_of-no_list (suc n) (Some (atom cs)) h = refl
-rest_of-no_list (suc n) (Some (tuple ds)) h = refl
-rest_of-no_list (suc n) (Some (map es)) h = refl
-rest_of-no_list (suc n) (Some nil) h = refl
-rest_of-no_list (suc n) (Some (cons head tail)) h = absurd h
-rest_of-no_list (suc n) (Some (binary bs)) h = refl
-
-rest_of-tail : (n : ℕ) (ds : List Datum) (t : Option Datum) → IsTail t → rest_of n (cells ds (tail_of t)) ≡ cells (drop n ds) (tail_of t)
-rest_of-tail n [] t h = rest_of-no_list n t h ∙ ap (λ l. cells l (tail_of t)) (sym (drop_all n [] (omega arith)))
-rest_of-tail zero (d ∷ ds) t h = refl
-rest_of-tail (suc n) (d ∷ ds) t h = rest_of-tail n ds t h
-
 IsListSplit-tail : (ds : List Datum) (t : Option Datum) → IsListSplit ds t → IsTail t
 IsListSplit-tail [] t h = let P : Option Datum → Type 0 = λ o. IsTail o in subst P (sym h) tt
 IsListSplit-tail (d ∷ ds) t h = h
 
-take-all : (xs : List Datum) (n : ℕ) → n ≡ length xs → take n xs ≡ xs
-take-all [] zero e = refl
-take-all [] (suc n) e = refl
-take-all (x ∷ xs) zero e = absurd (omega arith)
-take-all (x ∷ xs) (suc n) e = ap (λ l. x ∷ l) (take-all xs n (omega arith))
-
-take-rest : (xs : List Datum) (n : ℕ) → take (length xs - n) (drop n xs) ≡ drop n xs
-take-rest xs n = take-all (drop n xs) (length xs - n) (omega (arith, length-drop n xs))
-
--- what is left of a list
-pub rest_of-cells : (n : ℕ) (ds : List Datum) (t : Option Datum) → IsListSplit ds t → rest_of n (cells ds (tail_of t)) ≡ cells (drop n ds) (tail_of t)
-rest_of-cells n ds t h = rest_of-tail n ds t (IsListSplit-tail ds t h)
-
 -- the rest of the slice that is passed on
 pub rest-slice : (n : ℕ) (ds : List Datum) (t : Option Datum) → n < length ds → IsListSplit ds t → cells (take (length ds - n) (drop n ds)) (tail_of t) ≡ rest_of n (cells ds (tail_of t))
-rest-slice n ds t below h = ap (λ l. cells l (tail_of t)) (take-rest ds n) ∙ sym (rest_of-cells n ds t h)
+rest-slice n ds t below h = rest_of-slice n ds t (cells ds (tail_of t)) (IsListSplit-tail ds t h) refl
 
 pub rest-past : (n : ℕ) (ds : List Datum) (t : Option Datum) → length ds ≤ n → IsListSplit ds t → tail_of t ≡ rest_of n (cells ds (tail_of t))
-rest-past n ds t past h = sym (rest_of-cells n ds t h ∙ ap (λ l. cells l (tail_of t)) (drop_all n ds past))
+rest-past n ds t past h = rest_of-past n ds t (cells ds (tail_of t)) past (IsListSplit-tail ds t h) refl
 
 tail-same : (t u : Option Datum) → IsTail t → IsTail u → tail_of t ≡ tail_of u → t ≡ u
 tail-same None None h k e = refl

@@ -1,19 +1,14 @@
 -- Parts of an object, which are terms.
-use Rattle.std.specs.Prelude.{ℕ, zero, suc, ◌≡◌, Option, None, List, [], ◌∷◌}
+use Rattle.std.specs.Prelude.{◌≡◌, Option, None, List, [], ◌∷◌}
 use Rattle.std.specs.Option.{option_copied}
 use Rattle.term_core.specs.Datum.{Datum, cells, IsNoList}
-use Rattle.term_core.specs.Datum.Datum.{tuple, cons, map as table}
+use Rattle.term_core.specs.Datum.Datum.{tuple, map as table}
+use Rattle.term_core.specs.Rest.{rest_of}
 use Rattle.term_core.specs.Term.{tail_of, IsTail}
 use Rattle.mspec_meaning.specs.declared.part.Part.{Part}
 use Rattle.mspec_meaning.specs.declared.part.Part.TheVariants.{Whole, Rest}
 use Rattle.mspec_meaning.specs.declared.part.Split.{Split}
 use Rattle.mspec_meaning.specs.declared.part.Split.TheVariants as split
-
--- what is left of a list behind its first n elements
-abbrev pub rest_of : ℕ → Datum → Datum
-rest_of zero d = d
-rest_of (suc n) (cons head tail) = rest_of n tail
-rest_of (suc n) d = d
 
 -- the term that a part is
 abbrev pub part_of : {A : Type 0} → Part A → Datum

@@ -1,7 +1,8 @@
 //! Parts of an object.
 ghost use Rattle.std.specs.Prelude.{◌≡◌, MatchBool};
 ghost use Rattle.std.specs.Option.{option_copied};
-ghost use Rattle.mspec_meaning.specs.Part.{part_of, rest_of, joined, IsListSplit, IsWellSplit};
+ghost use Rattle.term_core.specs.Rest.{rest_of};
+ghost use Rattle.mspec_meaning.specs.Part.{part_of, joined, IsListSplit, IsWellSplit};
 ghost use Rattle.term_core.specs.Datum.{cells};
 ghost use Rattle.term_core.specs.Term.{tail_of};
 
@@ -110,7 +111,8 @@ impl<'a, A: Allocator + Copy> Part<'a, A> {
     ghost use Rattle.term_core.specs.Datum.Datum.{nil, tuple, map as table};
     ghost use Rattle.term_core.specs.Limits.{ArePairsSound};
     ghost use Rattle.prims.specs.Operand.{operand_datum};
-    ghost use Rattle.mspec_meaning.specs.Part.{part_of, rest_of, joined, IsWellSplit, IsNoTuple, IsNoMap};
+    ghost use Rattle.term_core.specs.Rest.{rest_of};
+    ghost use Rattle.mspec_meaning.specs.Part.{part_of, joined, IsWellSplit, IsNoTuple, IsNoMap};
 
     /// The part taken apart where it is a list.
     pub(crate) fn split(self) -> Split<'a, A>
@@ -205,9 +207,9 @@ impl<'a, A: Allocator + Copy> Part<'a, A> {
     pub(crate) fn operand(self) -> Operand<'a, A>
         ensures { operand_datum result ≡ part_of self.entry }
     {
-        match self.split() {
-            Split::List(elements, tail) => Operand::Rest(elements, tail),
-            Split::Other(term) => Operand::Term(term),
+        match self {
+            Part::Whole(term) => Operand::Term(term),
+            Part::Rest(term, count) => Operand::Rest(term, count),
         }
     }
 }

@@ -8,7 +8,8 @@ use Rattle.mspec_syntax.specs.Pattern.{pattern_size, patterns_size, patterns_of}
 use Rattle.mspec_syntax.specs.PatternView.{tail_pattern}
 use Rattle.mspec_syntax.proofs.SizeLemmas.{patterns_size-at, fields_size-at, cells-fall}
 use Rattle.mspec_meaning.specs.Slots.{seen}
-use Rattle.mspec_meaning.specs.Part.{part_of, rest_of}
+use Rattle.term_core.specs.Rest.{rest_of}
+use Rattle.mspec_meaning.specs.Part.{part_of}
 use Rattle.mspec_meaning.proofs.FitLemmas.{AllFront-more, AllFront-never, AllFront-all, FieldsFront-more, FieldsFront-never, FieldsFront-missing, FieldsFront-all, lengths-never, variable-Answers, tuple-Answers, map-Answers, list-never, list-Answers, list-short, front-ListFront, front-count, Answers-fact}
 use Rattle.mspec_meaning.proofs.bind.+bind.Goals as goal
 

@@ -1,5 +1,6 @@
 use Rattle.std.proofs.Common.{◌∙◌, ap, sym, arith}
-use Rattle.mspec_meaning.specs.Part.{part_of, rest_of}
+use Rattle.term_core.specs.Rest.{rest_of}
+use Rattle.mspec_meaning.specs.Part.{part_of}
 use Rattle.mspec_meaning.proofs.PartLemmas.{behind-twice, behind-fits}
 use Rattle.mspec_meaning.proofs.part.Part.behind.Goals as goal
 
