@@ -1,31 +1,16 @@
 //! `ets_tool`: match specifications of ets over terms, from standard input to standard output.
 //!
-//! The one contract is that of `tool_run` and `tool_test`: what is written is the output for what was read, by the text
-//! of terms, the grammar of specifications and their meaning; a refused input writes nothing.
-//!
-//! - `words`: what the words of the command line ask for.
-//! - `input`: the input, read whole.
-//! - `run`: a specification answered on objects.
-//! - `fault`: why a command ends early, and the line that says so.
+//! The commands are those of `ets_commands`; here the streams of the process and its status are put to them.
 #![tactic(auto)]
 
 ghost use Rattle.std.specs.Prelude.{IfOk};
 ghost use Rattle.std.specs.Process.{exit_status};
-ghost use Rattle.ets_tool.specs.Fault.{EndsWith};
+ghost use Rattle.ets_commands.specs.Fault.{EndsWith};
 
-mod fault;
-mod input;
-mod run;
-#[cfg(test)]
-mod tests;
-mod words;
-
-use fault::{ToolFault, fault_line};
-use run::{tool_run, tool_test};
+use ets_commands::{Request, ToolFault, fault_line, read_words, tool_run, tool_test};
 use std::alloc::AllocError;
 use std::io::{self, Write};
 use std::process::ExitCode;
-use words::{Request, read_words};
 
 /// The status where the words were not understood.
 const BAD_WORDS: u8 = 64;

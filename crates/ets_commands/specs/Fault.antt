@@ -5,8 +5,8 @@ use Rattle.std.specs.Option.{option_to_list}
 use Rattle.std.specs.Fmt.{decimal}
 use Rattle.term_text.specs.FaultNumbers as text
 use Rattle.mspec_syntax.specs.FaultNumbers as specification
-use Rattle.ets_tool.specs.declared.fault.ToolFault.{ToolFault}
-use Rattle.ets_tool.specs.declared.fault.ToolFault.TheVariants as fault
+use Rattle.ets_commands.specs.declared.fault.ToolFault.{ToolFault}
+use Rattle.ets_commands.specs.declared.fault.ToolFault.TheVariants as fault
 
 -- the number of a refusal
 abbrev pub number_of : ToolFault → ℕ

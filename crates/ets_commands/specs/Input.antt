@@ -1,10 +1,10 @@
 -- What one read adds to an input.
 use Rattle.std.specs.Prelude.{ℕ, ◌≡◌, List, ◌++◌, Option}
 use Rattle.std.specs.Io.KnownBytes.{Consumes, IsAtEnd}
-use Rattle.ets_tool.specs.declared.fault.ToolFault.{ToolFault}
-use Rattle.ets_tool.specs.declared.fault.ToolFault.TheVariants as fault
-use Rattle.ets_tool.specs.declared.input.Progress.{Progress}
-use Rattle.ets_tool.specs.declared.input.Progress.TheVariants as progress
+use Rattle.ets_commands.specs.declared.fault.ToolFault.{ToolFault}
+use Rattle.ets_commands.specs.declared.fault.ToolFault.TheVariants as fault
+use Rattle.ets_commands.specs.declared.input.Progress.{Progress}
+use Rattle.ets_commands.specs.declared.input.Progress.TheVariants as progress
 
 -- nothing is left at the end
 abbrev pub IsRead : Option (List ℕ) → Progress → Type 0

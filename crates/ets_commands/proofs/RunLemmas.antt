@@ -14,13 +14,13 @@ use Rattle.mspec_syntax.specs.Faults.{IsRefusal}
 use Rattle.mspec_syntax.specs.declared.fault.SpecFault.{SpecFault}
 use Rattle.mspec_syntax.specs.declared.fault.SpecFault.TheVariants as specification
 use Rattle.mspec_meaning.specs.Meaning.{Means}
-use Rattle.ets_tool.specs.declared.run.Report.{Report}
-use Rattle.ets_tool.specs.declared.fault.ToolFault.{ToolFault}
-use Rattle.ets_tool.specs.declared.fault.ToolFault.TheVariants as fault
-use Rattle.ets_tool.specs.Run.{IsQuery, WritesOutput, StopsRun, EndsBy, StopsLines, IsNoSpecification, IsTextFault, IsInputFault, of_specification, of_text, AreLines, Puts, Passes, report_line, WritesLines}
+use Rattle.ets_commands.specs.declared.words.Request.{Request}
+use Rattle.ets_commands.specs.declared.fault.ToolFault.{ToolFault}
+use Rattle.ets_commands.specs.declared.fault.ToolFault.TheVariants as fault
+use Rattle.ets_commands.specs.Run.{IsQuery, WritesOutput, StopsRun, EndsBy, StopsLines, IsNoSpecification, IsTextFault, IsInputFault, of_specification, of_text, AreLines, Puts, Passes, report_line, WritesLines}
 
 -- the line of one more object
-lines-more : (r : Report) (s : Specification) (ds : List Datum) (d : Datum) (answer : Option Datum) (out : List ℕ) → AreLines r s ds out → Means s d answer → AreLines r s (ds ++ d ∷ []) (out ++ report_line r answer)
+lines-more : (r : Request) (s : Specification) (ds : List Datum) (d : Datum) (answer : Option Datum) (out : List ℕ) → AreLines r s ds out → Means s d answer → AreLines r s (ds ++ d ∷ []) (out ++ report_line r answer)
 lines-more r s [] d answer out h m = (answer, [], m, refl, rw (h, append-nil))
 lines-more r s (e ∷ ds) d answer out h m =
     (h.0, h.1 ++ report_line r answer, h.2, lines-more r s ds d answer h.1 h.3 m, rw h.4 (append_assoc (report_line r h.0) h.1 (report_line r answer)))
@@ -32,7 +32,7 @@ appends-join (Some u) (Some v) None x y p q = absurd q
 appends-join (Some u) (Some v) (Some w) x y p q = rw (q, p) (append_assoc u x y)
 
 -- lines gathered after what was written are those of the objects so far
-pub record Gathered (r : Report) (s : Specification) (objects : List Datum) (old now : Option (List ℕ)) (lines : List ℕ) : Type 0 where
+pub record Gathered (r : Request) (s : Specification) (objects : List Datum) (old now : Option (List ℕ)) (lines : List ℕ) : Type 0 where
   pub done : List ℕ
   pub gained : Appends old now done
   pub answers : AreLines r s objects (done ++ lines)
@@ -41,11 +41,11 @@ appends-none : (a : Option (List ℕ)) → Appends a a []
 appends-none None = tt
 appends-none (Some xs) = sym (append-nil xs)
 
-pub gathered-none : (r : Report) (s : Specification) (objects : List Datum) (old : Option (List ℕ)) → Gathered r s (take 0 objects) old old []
+pub gathered-none : (r : Request) (s : Specification) (objects : List Datum) (old : Option (List ℕ)) → Gathered r s (take 0 objects) old old []
 gathered-none r s objects old = record { done = []; gained = appends-none old; answers = refl }
 
 -- one more line
-pub gathered-more : (r : Report) (s : Specification) (objects : List Datum) (i : ℕ) (d : Datum) (old now : Option (List ℕ)) (lines more : List ℕ) → i < length objects → d ≡ get_or objects i d → Gathered r s (take i objects) old now lines → Puts r s d lines more → Gathered r s (take (i + 1) objects) old now more
+pub gathered-more : (r : Request) (s : Specification) (objects : List Datum) (i : ℕ) (d : Datum) (old now : Option (List ℕ)) (lines more : List ℕ) → i < length objects → d ≡ get_or objects i d → Gathered r s (take i objects) old now lines → Puts r s d lines more → Gathered r s (take (i + 1) objects) old now more
 gathered-more r s objects i d old now lines more there is g p =
     record {
       done = g.done;
@@ -54,7 +54,7 @@ gathered-more r s objects i d old now lines more there is g p =
     }
 
 -- lines are passed on
-pub gathered-passed : (r : Report) (s : Specification) (objects : List Datum) (old now later : Option (List ℕ)) (lines rest : List ℕ) → Gathered r s objects old now lines → Passes now later lines rest → Gathered r s objects old later rest
+pub gathered-passed : (r : Request) (s : Specification) (objects : List Datum) (old now later : Option (List ℕ)) (lines rest : List ℕ) → Gathered r s objects old now lines → Passes now later lines rest → Gathered r s objects old later rest
 gathered-passed r s objects old now later lines rest g p =
     record {
       done = g.done ++ p.part;
@@ -63,12 +63,12 @@ gathered-passed r s objects old now later lines rest g p =
     }
 
 -- all lines are written
-pub gathered-written : (r : Report) (s : Specification) (objects : List Datum) (old now later : Option (List ℕ)) (lines : List ℕ) → Gathered r s objects old now lines → Appends now later lines → WritesLines r s objects old later
+pub gathered-written : (r : Request) (s : Specification) (objects : List Datum) (old now later : Option (List ℕ)) (lines : List ℕ) → Gathered r s objects old now lines → Appends now later lines → WritesLines r s objects old later
 gathered-written r s objects old now later lines g p =
     record { out = g.done ++ lines; lines = g.answers; gained = appends-join old now later g.done lines g.gained p }
 
 -- where memory runs out, the lines so far are written
-pub stops-early : (r : Report) (s : Specification) (objects : List Datum) (i : ℕ) (old now later : Option (List ℕ)) (lines : List ℕ) (f : ToolFault) → Gathered r s (take i objects) old now lines → EndsBy now later lines f → StopsLines r s objects old later f
+pub stops-early : (r : Request) (s : Specification) (objects : List Datum) (i : ℕ) (old now later : Option (List ℕ)) (lines : List ℕ) (f : ToolFault) → Gathered r s (take i objects) old now lines → EndsBy now later lines f → StopsLines r s objects old later f
 stops-early r s objects i old now later lines fault.Memory g e =
     record { front = take i objects; rest = drop i objects; whole = sym (take-append-drop i objects); written = gathered-written r s (take i objects) old now later lines g e }
 stops-early r s objects i old now later lines fault.WriteFailed g e = tt
@@ -81,12 +81,12 @@ behind-first : (terms : List Datum) (first : Datum) (objects : List Datum) → t
 behind-first terms first objects e = rw e (take_all (length (first ∷ objects) - 1) objects (omega arith))
 
 -- lines on the terms behind the first are the output
-pub output-written : (r : Report) (input : List ℕ) (terms : List Datum) (s : Specification) (old new : Option (List ℕ)) → IsQuery input terms s → WritesLines r s (take (length terms - 1) (drop 1 terms)) old new → WritesOutput r input old new
+pub output-written : (r : Request) (input : List ℕ) (terms : List Datum) (s : Specification) (old new : Option (List ℕ)) → IsQuery input terms s → WritesLines r s (take (length terms - 1) (drop 1 terms)) old new → WritesOutput r input old new
 output-written r input terms s old new q w =
     record { specification = s; terms = terms; query = q; answered = rw (behind-first terms q.first q.objects q.whole) at w }
 
 -- how answering ends is how the run does
-pub run-stopped : (r : Report) (input : List ℕ) (terms : List Datum) (s : Specification) (old new : Option (List ℕ)) (f : ToolFault) → IsQuery input terms s → StopsLines r s (take (length terms - 1) (drop 1 terms)) old new f → StopsRun r input old new f
+pub run-stopped : (r : Request) (input : List ℕ) (terms : List Datum) (s : Specification) (old new : Option (List ℕ)) (f : ToolFault) → IsQuery input terms s → StopsLines r s (take (length terms - 1) (drop 1 terms)) old new f → StopsRun r input old new f
 run-stopped r input terms s old new fault.Memory q h = inr (s, terms, q, rw (behind-first terms q.first q.objects q.whole) at h)
 run-stopped r input terms s old new fault.WriteFailed q h = tt
 run-stopped r input terms s old new (fault.Text f) q h = absurd h

@@ -16,10 +16,10 @@ use Rattle.mspec_syntax.specs.Specification.{Specification, IsWithinLimits}
 use Rattle.mspec_syntax.specs.declared.fault.SpecFault.{SpecFault}
 use Rattle.mspec_syntax.specs.declared.fault.SpecFault.TheVariants as specification
 use Rattle.mspec_meaning.specs.Meaning.{Means}
-use Rattle.ets_tool.specs.declared.run.Report.{Report}
-use Rattle.ets_tool.specs.declared.run.Report.TheVariants.{Answers, Outcomes}
-use Rattle.ets_tool.specs.declared.fault.ToolFault.{ToolFault}
-use Rattle.ets_tool.specs.declared.fault.ToolFault.TheVariants as fault
+use Rattle.ets_commands.specs.declared.words.Request.{Request}
+use Rattle.ets_commands.specs.declared.words.Request.TheVariants.{Run, Test}
+use Rattle.ets_commands.specs.declared.fault.ToolFault.{ToolFault}
+use Rattle.ets_commands.specs.declared.fault.ToolFault.TheVariants as fault
 
 -- the canonical text of a term in UTF-8, a dot and a line feed
 abbrev pub line : Datum → List ℕ
@@ -42,13 +42,13 @@ abbrev pub outcome_of : Option Datum → Datum
 outcome_of None = false_term
 outcome_of (Some d) = tuple (item ok_term (item d no_items))
 
--- what a report says of an object by its answer: the answers alone, or how each object came out
-abbrev pub report_line : Report → Option Datum → List ℕ
-report_line Answers answer = answer_line answer
-report_line Outcomes answer = line (outcome_of answer)
+-- what a command writes of an object by its answer: the answer alone, or how the object comes out
+abbrev pub report_line : Request → Option Datum → List ℕ
+report_line Run answer = answer_line answer
+report_line Test answer = line (outcome_of answer)
 
 -- the line on an object is put at the end
-pub record Puts (r : Report) (s : Specification) (object : Datum) (old new : List ℕ) : Type 0 where
+pub record Puts (r : Request) (s : Specification) (object : Datum) (old new : List ℕ) : Type 0 where
   pub answer : Option Datum
   pub means : Means s object answer
   pub grown : new ≡ old ++ report_line r answer
@@ -60,26 +60,26 @@ pub record Passes (before after : Option (List ℕ)) (old new : List ℕ) : Type
   pub kept : part ++ new ≡ old
 
 -- the lines on these objects, in their order
-abbrev pub AreLines : Report → Specification → List Datum → List ℕ → Type 0
+abbrev pub AreLines : Request → Specification → List Datum → List ℕ → Type 0
 AreLines r s [] out = out ≡ []
 AreLines r s (d ∷ ds) out =
     (answer : Option Datum) × (rest : List ℕ) × Means s d answer × AreLines r s ds rest × (out ≡ report_line r answer ++ rest)
 
 -- the writer gains the lines on all objects
-pub record WritesLines (r : Report) (s : Specification) (objects : List Datum) (old new : Option (List ℕ)) : Type 0 where
+pub record WritesLines (r : Request) (s : Specification) (objects : List Datum) (old new : Option (List ℕ)) : Type 0 where
   pub out : List ℕ
   pub lines : AreLines r s objects out
   pub gained : Appends old new out
 
 -- the writer gains the lines on a beginning of the objects
-pub record WritesBeginning (r : Report) (s : Specification) (objects : List Datum) (old new : Option (List ℕ)) : Type 0 where
+pub record WritesBeginning (r : Request) (s : Specification) (objects : List Datum) (old new : Option (List ℕ)) : Type 0 where
   pub front : List Datum
   pub rest : List Datum
   pub whole : objects ≡ front ++ rest
   pub written : WritesLines r s front old new
 
 -- how answering ends early: for want of memory, or where the writer failed, and then nothing is said of what it got
-abbrev pub StopsLines : Report → Specification → List Datum → Option (List ℕ) → Option (List ℕ) → ToolFault → Type 0
+abbrev pub StopsLines : Request → Specification → List Datum → Option (List ℕ) → Option (List ℕ) → ToolFault → Type 0
 StopsLines r s objects old new fault.Memory = WritesBeginning r s objects old new
 StopsLines r s objects old new fault.WriteFailed = Unit {0}
 StopsLines r s objects old new f = ⊥
@@ -100,7 +100,7 @@ pub record IsQuery (input : List ℕ) (terms : List Datum) (s : Specification) :
   pub within : IsWithinLimits s
 
 -- the writer gains the lines of the specification that the input begins with, on the objects that follow it
-pub record WritesOutput (r : Report) (input : List ℕ) (old new : Option (List ℕ)) : Type 0 where
+pub record WritesOutput (r : Request) (input : List ℕ) (old new : Option (List ℕ)) : Type 0 where
   pub specification : Specification
   pub terms : List Datum
   pub query : IsQuery input terms specification
@@ -148,7 +148,7 @@ IsInputFault input f = ⊥
 
 -- How a run ends early. Nothing is written but where memory runs out over the objects, and then the lines on a
 -- beginning of them; where the writer failed nothing is said of what it got.
-abbrev pub StopsRun : Report → List ℕ → Option (List ℕ) → Option (List ℕ) → ToolFault → Type 0
+abbrev pub StopsRun : Request → List ℕ → Option (List ℕ) → Option (List ℕ) → ToolFault → Type 0
 StopsRun r input old new fault.Memory =
     Keeps old new ⊎ ((s : Specification) × (terms : List Datum) × (q : IsQuery input terms s) × WritesBeginning r s q.objects old new)
 StopsRun r input old new (fault.Text f) = IsTextFault input f × Keeps old new

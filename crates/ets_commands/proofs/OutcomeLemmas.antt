@@ -9,7 +9,7 @@ use Rattle.term_core.specs.Datum.Items.{no_items, item}
 use Rattle.term_text.specs.Character.{open_brace, close_brace, comma}
 use Rattle.term_text.specs.Canonical.{canonical, items_text, more_items_text, is_reserved}
 use Rattle.term_text.proofs.Bytes.{tuple_bytes, items_bytes, more_items_bytes, no_more_items}
-use Rattle.ets_tool.specs.Run.{line, outcome_of, ok_term}
+use Rattle.ets_commands.specs.Run.{line, outcome_of, ok_term}
 
 ok_bytes : encode_utf8_all (canonical ok_term) ≡ codes "ok"
 unfolding canonical is_reserved encode

@@ -4,10 +4,11 @@ ghost use Rattle.std.specs.Io.KnownBytes.{Appends};
 ghost use Rattle.std.specs.Str.{encode_utf8_all};
 ghost use Rattle.term_text.specs.Canonical.{canonical};
 ghost use Rattle.std.specs.Option.{option_copied};
-ghost use Rattle.ets_tool.specs.Run.{IsQuery, IsInputFault, answer_line, Puts, Passes, EndsBy, line, outcome_of, of_text, of_specification, WritesOutput, StopsRun, WritesLines, StopsLines};
+ghost use Rattle.ets_commands.specs.Run.{IsQuery, IsInputFault, answer_line, Puts, Passes, EndsBy, line, outcome_of, of_text, of_specification, WritesOutput, StopsRun, WritesLines, StopsLines};
 
 use crate::fault::ToolFault;
 use crate::input::read_whole;
+use crate::words::Request;
 use mspec_meaning::evaluate;
 use mspec_syntax::{Spec, SpecFault, read_spec};
 use std::alloc::{AllocError, Allocator};
@@ -25,15 +26,6 @@ struct Query<A: Allocator> {
     terms: Vec<Term<A>, A>,
 }
 
-/// What is written of an object.
-#[derive(Clone, Copy, Debug, PartialEq, Eq)]
-pub(crate) enum Report {
-    /// The answer, where there is one.
-    Answers,
-    /// `{ok,A}` for an answer `A`, and `false` where there is none.
-    Outcomes,
-}
-
 /// Reads a specification and objects, to the reader's end, and writes each answer: its canonical text, a dot and a line
 /// feed, in the order of the objects. An input that is refused writes nothing; where memory runs out while the objects
 /// are answered, the lines of a beginning of the objects are written.
@@ -42,11 +34,11 @@ pub fn tool_run<A: Allocator + Copy, R: Read, W: Write>(
     reader: &mut R,
     writer: &mut W,
 ) -> Result<(), ToolFault>
-    ensures ok { OnOk result (IfSome (R.remaining reader.old) (λ input. WritesOutput Report.Answers input (W.contents writer.old) (W.contents writer.new))) }
-    ensures refused { IfErr result (λ fault. IfSome (R.remaining reader.old) (λ input. StopsRun Report.Answers input (W.contents writer.old) (W.contents writer.new) fault)) }
+    ensures ok { OnOk result (IfSome (R.remaining reader.old) (λ input. WritesOutput Request.Run input (W.contents writer.old) (W.contents writer.new))) }
+    ensures refused { IfErr result (λ fault. IfSome (R.remaining reader.old) (λ input. StopsRun Request.Run input (W.contents writer.old) (W.contents writer.new) fault)) }
 {
     let input = read_whole(alloc, reader)?;
-    run_on(alloc, Report::Answers, input.as_slice(), writer)
+    run_on(alloc, Request::Run, input.as_slice(), writer)
 }
 
 /// As `tool_run`, but a line is written of each object: `{ok,A}.` where the specification answers `A`, and `false.`
@@ -56,27 +48,27 @@ pub fn tool_test<A: Allocator + Copy, R: Read, W: Write>(
     reader: &mut R,
     writer: &mut W,
 ) -> Result<(), ToolFault>
-    ensures ok { OnOk result (IfSome (R.remaining reader.old) (λ input. WritesOutput Report.Outcomes input (W.contents writer.old) (W.contents writer.new))) }
-    ensures refused { IfErr result (λ fault. IfSome (R.remaining reader.old) (λ input. StopsRun Report.Outcomes input (W.contents writer.old) (W.contents writer.new) fault)) }
+    ensures ok { OnOk result (IfSome (R.remaining reader.old) (λ input. WritesOutput Request.Test input (W.contents writer.old) (W.contents writer.new))) }
+    ensures refused { IfErr result (λ fault. IfSome (R.remaining reader.old) (λ input. StopsRun Request.Test input (W.contents writer.old) (W.contents writer.new) fault)) }
 {
     let whole = read_whole(alloc, reader)?;
-    run_on(alloc, Report::Outcomes, whole.as_slice(), writer)
+    run_on(alloc, Request::Test, whole.as_slice(), writer)
 }
 
 /// Writes the lines that an input asks for.
 fn run_on<A: Allocator + Copy, W: Write>(
     alloc: A,
-    report: Report,
+    request: Request,
     input: &[u8],
     writer: &mut W,
 ) -> Result<(), ToolFault>
-    ensures ok { OnOk result (WritesOutput report input.now (W.contents writer.old) (W.contents writer.new)) }
-    ensures refused { IfErr result (StopsRun report input.now (W.contents writer.old) (W.contents writer.new)) }
+    ensures ok { OnOk result (WritesOutput request input.now (W.contents writer.old) (W.contents writer.new)) }
+    ensures refused { IfErr result (StopsRun request input.now (W.contents writer.old) (W.contents writer.new)) }
 {
     let query = query_of(alloc, input)?;
     write_answers(
         alloc,
-        report,
+        request,
         &query.specification,
         &query.terms[1..],
         writer,
@@ -127,17 +119,17 @@ fn specification_fault(fault: SpecFault) -> ToolFault
 /// Writes the lines on these objects.
 fn write_answers<A: Allocator + Copy, W: Write>(
     alloc: A,
-    report: Report,
+    request: Request,
     specification: &Spec<A>,
     objects: &[Term<A>],
     writer: &mut W,
 ) -> Result<(), ToolFault>
-    ensures ok { OnOk result (WritesLines report specification.now objects.now (W.contents writer.old) (W.contents writer.new)) }
-    ensures stopped { IfErr result (StopsLines report specification.now objects.now (W.contents writer.old) (W.contents writer.new)) }
+    ensures ok { OnOk result (WritesLines request specification.now objects.now (W.contents writer.old) (W.contents writer.new)) }
+    ensures stopped { IfErr result (StopsLines request specification.now objects.now (W.contents writer.old) (W.contents writer.new)) }
 {
     let mut lines = Vec::new(alloc);
     for object in objects {
-        match put_report(alloc, report, specification, object, &mut lines) {
+        match put_report(alloc, request, specification, object, &mut lines) {
             Ok(()) => write_if_many(writer, &mut lines)?,
             Err(AllocError) => return Err(out_of_memory(writer, &mut lines)),
         }
@@ -148,18 +140,18 @@ fn write_answers<A: Allocator + Copy, W: Write>(
 /// Puts the line on an object at the end, where there is one.
 fn put_report<A: Allocator + Copy>(
     alloc: A,
-    report: Report,
+    request: Request,
     specification: &Spec<A>,
     object: &Term<A>,
     lines: &mut Vec<u8, A>,
 ) -> Result<(), AllocError>
-    ensures ok { OnOk result (Puts report specification.now object.now lines.old.items lines.new.items) }
+    ensures ok { OnOk result (Puts request specification.now object.now lines.old.items lines.new.items) }
     ensures err { OnErr result (lines.new.items ≡ lines.old.items) }
 {
     let answer = evaluate(alloc, specification, object)?;
-    match report {
-        Report::Answers => put_answer(answer.as_ref(), lines),
-        Report::Outcomes => put_outcome(answer.as_ref(), lines),
+    match request {
+        Request::Run => put_answer(answer.as_ref(), lines),
+        Request::Test => put_outcome(answer.as_ref(), lines),
     }
 }
 

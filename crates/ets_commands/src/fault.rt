@@ -3,7 +3,7 @@ ghost use Rattle.std.specs.Prelude.{◌≡◌, ◌++◌, IfOk, OnOk, OnErr, opti
 ghost use Rattle.std.specs.Fmt.{decimal};
 ghost use Rattle.std.specs.List.{flat_map};
 ghost use Rattle.std.specs.Option.{option_to_list};
-ghost use Rattle.ets_tool.specs.Fault.{number_of, arguments_of, status_by, status_of, argument_text, line_of};
+ghost use Rattle.ets_commands.specs.Fault.{number_of, arguments_of, status_by, status_of, argument_text, line_of};
 
 use mspec_syntax::SpecFault;
 use std::alloc::{AllocError, Allocator};

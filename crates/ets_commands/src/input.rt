@@ -1,6 +1,6 @@
 //! Input, read whole.
 ghost use Rattle.std.specs.Prelude.{◌≡◌, ◌<◌, length, IfOk, IfErr, IfSome};
-ghost use Rattle.ets_tool.specs.Input.{Continues, IsReadFault};
+ghost use Rattle.ets_commands.specs.Input.{Continues, IsReadFault};
 
 use crate::fault::ToolFault;
 use std::alloc::{AllocError, Allocator};

@@ -1,5 +1,5 @@
-use Rattle.ets_tool.proofs.RunLemmas.{query-read, query-refused, text-refused, input-empty}
-use Rattle.ets_tool.proofs.run.query_of.Goals as goal
+use Rattle.ets_commands.proofs.RunLemmas.{query-read, query-refused, text-refused, input-empty}
+use Rattle.ets_commands.proofs.run.query_of.Goals as goal
 
 pub returns-in-Ok-read_spec-clause-ok : goal.returns-in-Ok-read_spec-clause-ok
 returns-in-Ok-read_spec-clause-ok g c =

@@ -1,8 +1,8 @@
 use Rattle.std.proofs.Common.{◌<◌, length, arith}
 use Rattle.std.proofs.lemmas.List.{take_all}
 use Rattle.std.proofs.lemmas.Result.{on_ok_weaker, MatchResult-weaker}
-use Rattle.ets_tool.proofs.RunLemmas.{gathered-more, gathered-passed, gathered-written, stops-early}
-use Rattle.ets_tool.proofs.run.write_answers.Goals as goal
+use Rattle.ets_commands.proofs.RunLemmas.{gathered-more, gathered-passed, gathered-written, stops-early}
+use Rattle.ets_commands.proofs.run.write_answers.Goals as goal
 
 pub loop-object-preserved : goal.loop-object-preserved
 loop-object-preserved g c =
