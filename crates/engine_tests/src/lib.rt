@@ -13,6 +13,8 @@ mod budgets;
 #[cfg(test)]
 mod code;
 #[cfg(test)]
+mod commands;
+#[cfg(test)]
 mod functions;
 #[cfg(test)]
 mod meaning;

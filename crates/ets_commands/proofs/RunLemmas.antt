@@ -1,7 +1,7 @@
 -- Lines that are gathered, and then written.
 use Rattle.std.proofs.Common.{◌≡◌, ◌≢◌, ◌↔◌, ℕ, ◌+◌, ◌-◌, ◌<◌, inl, inr, Option, Some, None, List, [], ◌∷◌, ◌++◌, take, drop, get_or, slice_get, length, refl, ap, sym, append_assoc, arith}
 use Rattle.std.proofs.lemmas.List.{take_more, append-nil, take-append-drop, take_all}
-use Rattle.std.specs.Io.KnownBytes.{Appends}
+use Rattle.std.specs.Io.KnownBytes.{Appends, Keeps}
 use Rattle.std.specs.Str.{IsValidUpTo}
 use Rattle.term_core.specs.Datum.{Datum}
 use Rattle.term_text.specs.Text.{Spells}
@@ -17,7 +17,8 @@ use Rattle.mspec_meaning.specs.Meaning.{Means}
 use Rattle.ets_commands.specs.declared.words.Request.{Request}
 use Rattle.ets_commands.specs.declared.fault.ToolFault.{ToolFault}
 use Rattle.ets_commands.specs.declared.fault.ToolFault.TheVariants as fault
-use Rattle.ets_commands.specs.Run.{IsQuery, WritesOutput, StopsRun, EndsBy, StopsLines, IsNoSpecification, IsTextFault, IsInputFault, of_specification, of_text, AreLines, Puts, Passes, report_line, WritesLines}
+use Rattle.ets_commands.specs.Input.{IsReadFault}
+use Rattle.ets_commands.specs.Run.{IsQuery, WritesOutput, StopsRun, EndsBy, StopsLines, IsNoSpecification, IsTextFault, IsInputFault, of_specification, of_text, AreLines, Puts, Passes, report_line, WritesLines, OfInput}
 
 -- the line of one more object
 lines-more : (r : Request) (s : Specification) (ds : List Datum) (d : Datum) (answer : Option Datum) (out : List ℕ) → AreLines r s ds out → Means s d answer → AreLines r s (ds ++ d ∷ []) (out ++ report_line r answer)
@@ -139,3 +140,20 @@ text-refused input (text.UnsupportedEscape at) only cause bad = no-text input (t
 pub input-empty : (input : List ℕ) (terms : List Datum) → None ≡ slice_get terms 0 → Spells input terms → IsInputFault input (fault.Text (text.Syntax (length input)))
 input-empty input [] none spelled = inr (record { spelled = spelled; place = refl })
 input-empty input (d ∷ ds) none spelled = absurd (cc)
+
+-- what is known of a writer that isn't called stays
+pub kept : (known : Option (List ℕ)) → Keeps known known
+kept None = tt
+kept (Some bytes) = refl
+
+stopped-reading : (r : Request) (input : List ℕ) (old : Option (List ℕ)) (f : ToolFault) → IsReadFault f → StopsRun r input old old f
+stopped-reading r input old fault.Memory h = inl (kept old)
+stopped-reading r input old fault.ReadFailed h = kept old
+stopped-reading r input old (fault.Text f) h = absurd h
+stopped-reading r input old (fault.Specification f) h = absurd h
+stopped-reading r input old fault.WriteFailed h = absurd h
+
+-- where reading fails, nothing is written
+pub unread : (r : Request) (known old : Option (List ℕ)) (f : ToolFault) → IsReadFault f → OfInput known (λ input. StopsRun r input old old f)
+unread r None old f h = ([], tt, stopped-reading r [] old f h)
+unread r (Some bytes) old f h = (bytes, refl, stopped-reading r bytes old f h)

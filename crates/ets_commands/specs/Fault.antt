@@ -1,5 +1,5 @@
 -- The status and the line of a refusal.
-use Rattle.std.specs.Prelude.{ℕ, ◌≡◌, ◌⊎◌, Result, Ok, Err, List, [], ◌∷◌, ◌++◌, codes, ◌==◌, nat_le, if◌then◌else◌}
+use Rattle.std.specs.Prelude.{ℕ, List, [], ◌∷◌, ◌++◌, codes, ◌==◌, nat_le, if◌then◌else◌}
 use Rattle.std.specs.List.{flat_map}
 use Rattle.std.specs.Option.{option_to_list}
 use Rattle.std.specs.Fmt.{decimal}
@@ -19,7 +19,8 @@ number_of fault.WriteFailed = 71
 -- what stands behind its number: a place in the text; a clause, and a variable
 abbrev pub arguments_of : ToolFault → List ℕ
 arguments_of (fault.Text f) = option_to_list (text.place_of f)
-arguments_of (fault.Specification f) = option_to_list (specification.clause_of f) ++ option_to_list (specification.variable_of f)
+arguments_of (fault.Specification f) =
+    option_to_list (specification.clause_of f) ++ option_to_list (specification.variable_of f)
 arguments_of f = []
 
 -- the status with which the program ends: 3 for want of memory, 4 where reading or writing failed, else 2
@@ -29,15 +30,11 @@ status_by number = if number == 1 then 3 else if nat_le 70 number then 4 else 2
 abbrev pub status_of : ToolFault → ℕ
 status_of f = status_by (number_of f)
 
--- the status that a command's outcome ends the program with: that of its refusal, or 3 where there is no memory for the line
-abbrev pub EndsWith : {X : Type 0} → Result X ToolFault → ℕ → Type 0
-EndsWith (Ok x) status = status ≡ 0
-EndsWith (Err f) status = (status ≡ status_of f) ⊎ (status ≡ 3)
-
 -- a blank and a number
 abbrev pub argument_text : ℕ → List ℕ
 argument_text n = 32 ∷ decimal n
 
 -- "error E", the number, the arguments, and a line feed
 abbrev pub line_of : ToolFault → List ℕ
-line_of f = (codes "error E" ++ decimal (number_of f)) ++ flat_map argument_text (arguments_of f) ++ 10 ∷ []
+line_of f =
+    (codes "error E" ++ decimal (number_of f)) ++ flat_map argument_text (arguments_of f) ++ 10 ∷ []

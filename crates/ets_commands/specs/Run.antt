@@ -1,5 +1,6 @@
 -- What the program writes for what it reads.
-use Rattle.std.specs.Prelude.{ℕ, ◌≡◌, ◌≢◌, ◌⊎◌, ◌↔◌, Option, Some, None, List, [], ◌∷◌, ◌++◌, length, codes}
+use Rattle.std.specs.Prelude.{ℕ, ◌≡◌, ◌≢◌, ◌⊎◌, ◌↔◌, Option, Some, None, IfSome}
+use Rattle.std.specs.Prelude.{List, [], ◌∷◌, ◌++◌, length, codes}
 use Rattle.std.specs.Io.KnownBytes.{Appends, Keeps}
 use Rattle.std.specs.Str.{encode_utf8_all, IsValidUpTo}
 use Rattle.term_core.specs.Datum.{Datum}
@@ -63,23 +64,28 @@ pub record Passes (before after : Option (List ℕ)) (old new : List ℕ) : Type
 abbrev pub AreLines : Request → Specification → List Datum → List ℕ → Type 0
 AreLines r s [] out = out ≡ []
 AreLines r s (d ∷ ds) out =
-    (answer : Option Datum) × (rest : List ℕ) × Means s d answer × AreLines r s ds rest × (out ≡ report_line r answer ++ rest)
+    (answer : Option Datum) × (rest : List ℕ) × Means s d answer × AreLines r s ds rest
+    × (out ≡ report_line r answer ++ rest)
 
 -- the writer gains the lines on all objects
-pub record WritesLines (r : Request) (s : Specification) (objects : List Datum) (old new : Option (List ℕ)) : Type 0 where
+pub record WritesLines (r : Request) (s : Specification) (objects : List Datum)
+    (old new : Option (List ℕ)) : Type 0 where
   pub out : List ℕ
   pub lines : AreLines r s objects out
   pub gained : Appends old new out
 
 -- the writer gains the lines on a beginning of the objects
-pub record WritesBeginning (r : Request) (s : Specification) (objects : List Datum) (old new : Option (List ℕ)) : Type 0 where
+pub record WritesBeginning (r : Request) (s : Specification) (objects : List Datum)
+    (old new : Option (List ℕ)) : Type 0 where
   pub front : List Datum
   pub rest : List Datum
   pub whole : objects ≡ front ++ rest
   pub written : WritesLines r s front old new
 
--- how answering ends early: for want of memory, or where the writer failed, and then nothing is said of what it got
-abbrev pub StopsLines : Request → Specification → List Datum → Option (List ℕ) → Option (List ℕ) → ToolFault → Type 0
+-- how answering ends early: for want of memory, or where the writer failed, and then nothing is said of what it
+-- got
+abbrev pub StopsLines : Request → Specification → List Datum → (old new : Option (List ℕ)) → ToolFault
+    → Type 0
 StopsLines r s objects old new fault.Memory = WritesBeginning r s objects old new
 StopsLines r s objects old new fault.WriteFailed = Unit {0}
 StopsLines r s objects old new f = ⊥
@@ -115,7 +121,8 @@ abbrev pub of_specification : SpecFault → ToolFault
 of_specification specification.Memory = fault.Memory
 of_specification f = fault.Specification f
 
--- why an input spells no terms: what the refusal names stands at its byte, and bytes that begin no UTF-8 are named as such
+-- why an input spells no terms: what the refusal names stands at its byte, and bytes that begin no UTF-8 are named
+-- as such
 pub record IsNoText (input : List ℕ) (f : TextFault) : Type 0 where
   pub unspelled : (ds : List Datum) → ¬ Spells input ds
   pub other : f ≢ text.Memory
@@ -150,8 +157,13 @@ IsInputFault input f = ⊥
 -- beginning of them; where the writer failed nothing is said of what it got.
 abbrev pub StopsRun : Request → List ℕ → Option (List ℕ) → Option (List ℕ) → ToolFault → Type 0
 StopsRun r input old new fault.Memory =
-    Keeps old new ⊎ ((s : Specification) × (terms : List Datum) × (q : IsQuery input terms s) × WritesBeginning r s q.objects old new)
+    Keeps old new ⊎ ((s : Specification) × (terms : List Datum) × (q : IsQuery input terms s)
+    × WritesBeginning r s q.objects old new)
 StopsRun r input old new (fault.Text f) = IsTextFault input f × Keeps old new
 StopsRun r input old new (fault.Specification f) = IsNoSpecification input f × Keeps old new
 StopsRun r input old new fault.ReadFailed = Keeps old new
 StopsRun r input old new fault.WriteFailed = Unit {0}
+
+-- this holds of what a reader gave: of just what it has left where that is known, else of some input
+abbrev pub OfInput : Option (List ℕ) → (List ℕ → Type 0) → Type 0
+OfInput known P = (input : List ℕ) × IfSome known (λ bytes. input ≡ bytes) × P input

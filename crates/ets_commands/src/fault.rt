@@ -3,7 +3,8 @@ ghost use Rattle.std.specs.Prelude.{◌≡◌, ◌++◌, IfOk, OnOk, OnErr, opti
 ghost use Rattle.std.specs.Fmt.{decimal};
 ghost use Rattle.std.specs.List.{flat_map};
 ghost use Rattle.std.specs.Option.{option_to_list};
-ghost use Rattle.ets_commands.specs.Fault.{number_of, arguments_of, status_by, status_of, argument_text, line_of};
+ghost use Rattle.ets_commands.specs.Fault.{number_of, arguments_of, status_by, status_of};
+ghost use Rattle.ets_commands.specs.Fault.{argument_text, line_of};
 
 use mspec_syntax::SpecFault;
 use std::alloc::{AllocError, Allocator};
@@ -111,7 +112,8 @@ fn push_argument<A: Allocator + Copy>(
     line: &mut Vec<u8, A>,
     argument: Option<u64>,
 ) -> Result<(), AllocError>
-    ensures { OnOk result (line.new.items ≡ line.old.items ++ flat_map argument_text (option_to_list argument)) }
+    ensures { OnOk result (line.new.items
+        ≡ line.old.items ++ flat_map argument_text (option_to_list argument)) }
 {
     if let Some(number) = argument {
         line.push(b' ')?;

@@ -1,10 +1,12 @@
 //! A specification answered on objects, from bytes to bytes.
-ghost use Rattle.std.specs.Prelude.{◌≡◌, ◌++◌, [], IfOk, IfErr, IfSome, OnOk, OnErr};
+ghost use Rattle.std.specs.Prelude.{◌≡◌, ◌++◌, [], IfOk, IfErr, OnOk, OnErr};
 ghost use Rattle.std.specs.Io.KnownBytes.{Appends};
 ghost use Rattle.std.specs.Str.{encode_utf8_all};
 ghost use Rattle.term_text.specs.Canonical.{canonical};
 ghost use Rattle.std.specs.Option.{option_copied};
-ghost use Rattle.ets_commands.specs.Run.{IsQuery, IsInputFault, answer_line, Puts, Passes, EndsBy, line, outcome_of, of_text, of_specification, WritesOutput, StopsRun, WritesLines, StopsLines};
+ghost use Rattle.ets_commands.specs.Run.{IsQuery, IsInputFault, answer_line, Puts, Passes, EndsBy};
+ghost use Rattle.ets_commands.specs.Run.{line, outcome_of, of_text, of_specification, OfInput};
+ghost use Rattle.ets_commands.specs.Run.{WritesOutput, StopsRun, WritesLines, StopsLines};
 
 use crate::fault::ToolFault;
 use crate::input::read_whole;
@@ -29,13 +31,16 @@ struct Query<A: Allocator> {
 /// Reads a specification and objects, to the reader's end, and writes each answer: its canonical text, a dot and a line
 /// feed, in the order of the objects. An input that is refused writes nothing; where memory runs out while the objects
 /// are answered, the lines of a beginning of the objects are written.
+#[tactic(auto, using(crate::proofs::RunLemmas::unread))]
 pub fn tool_run<A: Allocator + Copy, R: Read, W: Write>(
     alloc: A,
     reader: &mut R,
     writer: &mut W,
 ) -> Result<(), ToolFault>
-    ensures ok { OnOk result (IfSome (R.remaining reader.old) (λ input. WritesOutput Request.Run input (W.contents writer.old) (W.contents writer.new))) }
-    ensures refused { IfErr result (λ fault. IfSome (R.remaining reader.old) (λ input. StopsRun Request.Run input (W.contents writer.old) (W.contents writer.new) fault)) }
+    ensures ok { OnOk result (OfInput (R.remaining reader.old) (λ input.
+        WritesOutput Request.Run input (W.contents writer.old) (W.contents writer.new))) }
+    ensures refused { IfErr result (λ fault. OfInput (R.remaining reader.old) (λ input.
+        StopsRun Request.Run input (W.contents writer.old) (W.contents writer.new) fault)) }
 {
     let input = read_whole(alloc, reader)?;
     run_on(alloc, Request::Run, input.as_slice(), writer)
@@ -43,13 +48,16 @@ pub fn tool_run<A: Allocator + Copy, R: Read, W: Write>(
 
 /// As `tool_run`, but a line is written of each object: `{ok,A}.` where the specification answers `A`, and `false.`
 /// where it answers nothing.
+#[tactic(auto, using(crate::proofs::RunLemmas::unread))]
 pub fn tool_test<A: Allocator + Copy, R: Read, W: Write>(
     alloc: A,
     reader: &mut R,
     writer: &mut W,
 ) -> Result<(), ToolFault>
-    ensures ok { OnOk result (IfSome (R.remaining reader.old) (λ input. WritesOutput Request.Test input (W.contents writer.old) (W.contents writer.new))) }
-    ensures refused { IfErr result (λ fault. IfSome (R.remaining reader.old) (λ input. StopsRun Request.Test input (W.contents writer.old) (W.contents writer.new) fault)) }
+    ensures ok { OnOk result (OfInput (R.remaining reader.old) (λ input.
+        WritesOutput Request.Test input (W.contents writer.old) (W.contents writer.new))) }
+    ensures refused { IfErr result (λ fault. OfInput (R.remaining reader.old) (λ input.
+        StopsRun Request.Test input (W.contents writer.old) (W.contents writer.new) fault)) }
 {
     let whole = read_whole(alloc, reader)?;
     run_on(alloc, Request::Test, whole.as_slice(), writer)
@@ -62,8 +70,10 @@ fn run_on<A: Allocator + Copy, W: Write>(
     input: &[u8],
     writer: &mut W,
 ) -> Result<(), ToolFault>
-    ensures ok { OnOk result (WritesOutput request input.now (W.contents writer.old) (W.contents writer.new)) }
-    ensures refused { IfErr result (StopsRun request input.now (W.contents writer.old) (W.contents writer.new)) }
+    ensures ok { OnOk result
+        (WritesOutput request input.now (W.contents writer.old) (W.contents writer.new)) }
+    ensures refused { IfErr result
+        (StopsRun request input.now (W.contents writer.old) (W.contents writer.new)) }
 {
     let query = query_of(alloc, input)?;
     write_answers(
@@ -124,8 +134,10 @@ fn write_answers<A: Allocator + Copy, W: Write>(
     objects: &[Term<A>],
     writer: &mut W,
 ) -> Result<(), ToolFault>
-    ensures ok { OnOk result (WritesLines request specification.now objects.now (W.contents writer.old) (W.contents writer.new)) }
-    ensures stopped { IfErr result (StopsLines request specification.now objects.now (W.contents writer.old) (W.contents writer.new)) }
+    ensures ok { OnOk result (WritesLines request specification.now objects.now
+        (W.contents writer.old) (W.contents writer.new)) }
+    ensures stopped { IfErr result (StopsLines request specification.now objects.now
+        (W.contents writer.old) (W.contents writer.new)) }
 {
     let mut lines = Vec::new(alloc);
     for object in objects {
@@ -145,7 +157,8 @@ fn put_report<A: Allocator + Copy>(
     object: &Term<A>,
     lines: &mut Vec<u8, A>,
 ) -> Result<(), AllocError>
-    ensures ok { OnOk result (Puts request specification.now object.now lines.old.items lines.new.items) }
+    ensures ok { OnOk result
+        (Puts request specification.now object.now lines.old.items lines.new.items) }
     ensures err { OnErr result (lines.new.items ≡ lines.old.items) }
 {
     let answer = evaluate(alloc, specification, object)?;
@@ -160,7 +173,8 @@ fn put_answer<A: Allocator + Copy>(
     answer: Option<&Term<A>>,
     lines: &mut Vec<u8, A>,
 ) -> Result<(), AllocError>
-    ensures ok { OnOk result (lines.new.items ≡ lines.old.items ++ answer_line (option_copied answer.entry)) }
+    ensures ok { OnOk result
+        (lines.new.items ≡ lines.old.items ++ answer_line (option_copied answer.entry)) }
     ensures err { OnErr result (lines.new.items ≡ lines.old.items) }
 {
     match answer {
@@ -175,7 +189,8 @@ fn put_outcome<A: Allocator + Copy>(
     answer: Option<&Term<A>>,
     lines: &mut Vec<u8, A>,
 ) -> Result<(), AllocError>
-    ensures ok { OnOk result (lines.new.items ≡ lines.old.items ++ line (outcome_of (option_copied answer.entry))) }
+    ensures ok { OnOk result
+        (lines.new.items ≡ lines.old.items ++ line (outcome_of (option_copied answer.entry))) }
     ensures err { OnErr result (lines.new.items ≡ lines.old.items) }
 {
     match answer {
@@ -191,7 +206,8 @@ fn put_line<A: Allocator + Copy>(
     after: &[u8],
     lines: &mut Vec<u8, A>,
 ) -> Result<(), AllocError>
-    ensures ok { OnOk result (lines.new.items ≡ lines.old.items ++ (before.now ++ (encode_utf8_all (canonical term.now) ++ after.now))) }
+    ensures ok { OnOk result (lines.new.items ≡ lines.old.items
+        ++ (before.now ++ (encode_utf8_all (canonical term.now) ++ after.now))) }
     ensures err { OnErr result (lines.new.items ≡ lines.old.items) }
 {
     let start = lines.len();
@@ -224,7 +240,8 @@ fn write_if_many<A: Allocator, W: Write>(
     writer: &mut W,
     lines: &mut Vec<u8, A>,
 ) -> Result<(), ToolFault>
-    ensures ok { OnOk result (Passes (W.contents writer.old) (W.contents writer.new) lines.old.items lines.new.items) }
+    ensures ok { OnOk result (Passes (W.contents writer.old) (W.contents writer.new)
+        lines.old.items lines.new.items) }
     ensures failed { IfErr result (λ fault. fault ≡ ToolFault.WriteFailed) }
 {
     if lines.len() < WRITE_SIZE {
@@ -238,7 +255,8 @@ fn write_lines<A: Allocator, W: Write>(
     writer: &mut W,
     lines: &mut Vec<u8, A>,
 ) -> Result<(), ToolFault>
-    ensures ok { OnOk result (Appends (W.contents writer.old) (W.contents writer.new) lines.old.items) }
+    ensures ok { OnOk result
+        (Appends (W.contents writer.old) (W.contents writer.new) lines.old.items) }
     ensures empty { OnOk result (lines.new.items ≡ []) }
     ensures failed { IfErr result (λ fault. fault ≡ ToolFault.WriteFailed) }
 {

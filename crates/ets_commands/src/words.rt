@@ -1,6 +1,7 @@
 //! The words of the command line.
 use clap::{Command, Error};
 use std::alloc::{AllocError, Global};
+use std::convert::AsStr;
 
 /// What the program is asked to do.
 #[derive(Clone, Copy, Debug, PartialEq, Eq)]
@@ -77,7 +78,7 @@ fn program<'a>(alloc: Global) -> Result<Command<'a>, AllocError> {
 
 /// What the words ask for; the first word is the program's name. Words that `clap` does not take, and words that ask
 /// for help, are its error.
-pub fn read_words<'a>(alloc: Global, words: &'a [&'a str]) -> Result<Request, Error> {
+pub fn read_words<'a, S: AsStr>(alloc: Global, words: &'a [S]) -> Result<Request, Error> {
     let matches = program(alloc)?.try_get_matches_from(words)?;
     match matches.subcommand_name() {
         Some("test") => Ok(Request::Test),
