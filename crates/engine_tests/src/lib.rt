@@ -5,6 +5,7 @@
 //! - `terms`: terms made, looked at, copied and refused; `order`: how they stand to each other; `text`: terms read and written.
 //! - `functions`: what calls of functions give, operands and values.
 //! - `syntax`: specifications that are read or refused; `meaning`: what they answer.
+//! - `commands`: inputs of the program and what comes of them, on its streams and as its status.
 //! - `code`: code built part by part; `budgets`: its longest way; `verification`: which code is accepted; `runs`: what it answers.
 #![tactic(auto)]
 
@@ -12,6 +13,8 @@
 mod budgets;
 #[cfg(test)]
 mod code;
+#[cfg(test)]
+mod commands;
 #[cfg(test)]
 mod functions;
 #[cfg(test)]

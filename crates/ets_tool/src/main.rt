@@ -1,73 +1,15 @@
 //! `ets_tool`: match specifications of ets over terms, from standard input to standard output.
 //!
-//! The one contract is that of `tool_run` and `tool_test`: what is written is the output for what was read, by the text
-//! of terms, the grammar of specifications and their meaning; a refused input writes nothing.
-//!
-//! - `words`: what the words of the command line ask for.
-//! - `input`: the input, read whole.
-//! - `run`: a specification answered on objects.
-//! - `fault`: why a command ends early, and the line that says so.
+//! It is `run_program` of `ets_commands` on the words and the three streams that the process has.
 #![tactic(auto)]
 
-ghost use Rattle.std.specs.Prelude.{IfOk};
-ghost use Rattle.std.specs.Process.{exit_status};
-ghost use Rattle.ets_tool.specs.Fault.{EndsWith};
-
-mod fault;
-mod input;
-mod run;
-#[cfg(test)]
-mod tests;
-mod words;
-
-use fault::{ToolFault, fault_line};
-use run::{tool_run, tool_test};
-use std::alloc::AllocError;
-use std::io::{self, Write};
+use ets_commands::run_program;
+use std::io;
 use std::process::ExitCode;
-use words::{Request, read_words};
 
-/// The status where the words were not understood.
-const BAD_WORDS: u8 = 64;
-/// The status where there is no memory for a fault's line.
-const NO_MEMORY: u8 = 3;
-
-fn main(rt: HostRuntime) -> anyhow::Result<ExitCode> {
-    let alloc = rt.alloc();
-    let arguments: Vec<String> = std::env::args(&rt)?.collect(alloc)?;
-    let mut words: Vec<&str> = Vec::new(alloc);
-    for argument in &arguments {
-        words.push(argument.as_str())?;
-    }
-    match read_words(alloc, words.as_slice()) {
-        Ok(Request::Run) => {
-            let outcome = tool_run(alloc, &mut rt.stdin(), &mut io::writer(&rt));
-            end(&rt, outcome)
-        }
-        Ok(Request::Test) => {
-            let outcome = tool_test(alloc, &mut rt.stdin(), &mut io::writer(&rt));
-            end(&rt, outcome)
-        }
-        Err(error) => {
-            error.print(&rt)?;
-            Ok(ExitCode::from(if error.use_stderr() { BAD_WORDS } else { 0 }))
-        }
-    }
-}
-
-/// Ends the program: where the command was refused, with its line on standard error and its status.
-fn end(rt: &HostRuntime, outcome: Result<(), ToolFault>) -> anyhow::Result<ExitCode>
-    ensures { IfOk result (λ code. EndsWith outcome (exit_status code)) }
-{
-    let Err(fault) = outcome else {
-        return Ok(ExitCode::SUCCESS);
-    };
-    let mut line = Vec::new(rt.alloc());
-    match fault_line(rt.alloc(), &fault, &mut line) {
-        Ok(status) => {
-            rt.stderr().write_all(line.as_slice())?;
-            Ok(ExitCode::from(status))
-        }
-        Err(AllocError) => Ok(ExitCode::from(NO_MEMORY)),
-    }
+fn main(rt: HostRuntime) -> ExitCode {
+    let mut reader = rt.stdin();
+    let mut out = io::writer(&rt);
+    let mut err = rt.stderr();
+    ExitCode::from(run_program(&rt, &mut reader, &mut out, &mut err))
 }

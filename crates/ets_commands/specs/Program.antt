@@ -1,0 +1,48 @@
+-- How the program ends: what its two streams gain, and its status.
+use Rattle.std.specs.Prelude.{ℕ, ◌≡◌, ◌⊎◌, Option, Result, Ok, Err, List}
+use Rattle.std.specs.Io.KnownBytes.{Keeps}
+use Rattle.ets_commands.specs.Fault.{status_of}
+use Rattle.ets_commands.specs.Run.{OfInput, WritesOutput, StopsRun}
+use Rattle.ets_commands.specs.declared.words.Request.{Request}
+use Rattle.ets_commands.specs.declared.fault.ToolFault.{ToolFault}
+use Rattle.ets_commands.specs.declared.fault.ToolFault.TheVariants as fault
+
+-- The program ends for this refusal: with its status; or with 3 where there was no memory for its line, and then with
+-- nothing on standard error.
+abbrev pub EndsBy : ToolFault → (err err' : Option (List ℕ)) → ℕ → Type 0
+EndsBy f err err' status = (status ≡ status_of f) ⊎ ((status ≡ 3) × Keeps err err')
+
+-- a command's outcome ends the program: with 0 and nothing on standard error, or for its refusal
+abbrev pub EndsWith : Result (Unit {0}) ToolFault → (err err' : Option (List ℕ)) → ℕ → Type 0
+EndsWith (Ok x) err err' status = (status ≡ 0) × Keeps err err'
+EndsWith (Err f) err err' status = EndsBy f err err' status
+
+-- what a command's outcome says of standard output
+abbrev pub HasOutcome : Request → (known old new : Option (List ℕ)) → Result (Unit {0}) ToolFault
+    → Type 0
+HasOutcome r known old new (Ok x) = OfInput known (λ input. WritesOutput r input old new)
+HasOutcome r known old new (Err f) = OfInput known (λ input. StopsRun r input old new f)
+
+-- a command ran, and its outcome ends the program
+pub record EndsRequest (r : Request) (known out out' err err' : Option (List ℕ))
+    (status : ℕ) : Type 0 where
+  pub outcome : Result (Unit {0}) ToolFault
+  pub written : HasOutcome r known out out' outcome
+  pub ended : EndsWith outcome err err' status
+
+-- help went to standard output and nothing to standard error, or the help could not be written
+abbrev pub EndsHelp : (err err' : Option (List ℕ)) → ℕ → Type 0
+EndsHelp err err' status =
+    ((status ≡ 0) × Keeps err err') ⊎ EndsBy fault.WriteFailed err err' status
+
+-- no command ran: help was shown; or standard output gained nothing, as there was no memory, or the words were not
+-- understood
+abbrev pub EndsUnasked : (out out' err err' : Option (List ℕ)) → ℕ → Type 0
+EndsUnasked out out' err err' status =
+    EndsHelp err err' status ⊎ (((status ≡ 3) ⊎ (status ≡ 64)) × Keeps out out')
+
+-- the program ran a command, or none
+abbrev pub EndsProgram : (known out out' err err' : Option (List ℕ)) → ℕ → Type 0
+EndsProgram known out out' err err' status =
+    ((r : Request) × EndsRequest r known out out' err err' status)
+    ⊎ EndsUnasked out out' err err' status
