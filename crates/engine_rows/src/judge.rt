@@ -1,6 +1,6 @@
 //! A row, and what comes of it.
 use crate::outcome::canonical;
-use crate::{calls, constructors, operands, texts, values};
+use crate::{calls, codes, constructors, operands, runs, specifications, texts, values};
 use row_terms::{fields, name, text};
 use std::alloc::Global;
 use term_core::Term;
@@ -52,7 +52,16 @@ fn came(alloc: Global, kind: &str, parts: &[Term], forms: usize) -> Option<Vec<u
     if let Some(out) = operands::came(alloc, kind, parts, forms) {
         return Some(out);
     }
-    values::came(alloc, kind, parts, forms)
+    if let Some(out) = values::came(alloc, kind, parts, forms) {
+        return Some(out);
+    }
+    if let Some(out) = specifications::came(alloc, kind, parts) {
+        return Some(out);
+    }
+    if let Some(out) = codes::came(alloc, kind, parts) {
+        return Some(out);
+    }
+    runs::came(alloc, kind, parts)
 }
 
 /// What is wrong about a row in any of its forms.

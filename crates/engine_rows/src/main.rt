@@ -12,10 +12,13 @@
 #![tactic(auto)]
 
 mod calls;
+mod codes;
 mod constructors;
 mod judge;
 mod operands;
 mod outcome;
+mod runs;
+mod specifications;
 mod tally;
 mod texts;
 mod values;
