@@ -2,9 +2,8 @@
 //!
 //! An operand is tried as the term that it is; as a plain integer or truth value, where it is one; and as the rest of a list that is
 //! all of it, where it is a list. A number says the forms of up to three operands.
-use crate::outcome::{canonical, tagged, word};
 use prims::{Gives, Operand, Primitive, call};
-use row_terms::{elements, fields, is_atom, number, primitive};
+use row_terms::{canonical, elements, fields, is_atom, number, primitive, tagged, word};
 use std::alloc::Global;
 use std::cmp::Ordering;
 use term_core::{Term, View};

@@ -3,9 +3,8 @@ ghost use Rattle.std.specs.Prelude.{◌≡◌, [], ◌∷◌, pos, IfSome};
 ghost use Rattle.term_core.specs.Datum.Datum.{integer};
 ghost use Rattle.term_core.specs.MapPairs.{keys_of};
 
-use crate::outcome::{canonical, word, written};
 use failing_alloc::{Failing, sweep};
-use row_terms::{name, text};
+use row_terms::{canonical, name, text, word, written};
 use std::alloc::{Allocator, Global};
 use term_core::{
     Fault, ListParts, Refused, Term, View, are_apart, copy_all, copy_tail, make_list, make_map,

@@ -1,9 +1,8 @@
 //! Operands: the term that each is, its values, a list taken apart, the limits of a rest.
 use crate::calls::operand;
 use crate::constructors::size_of;
-use crate::outcome::{canonical, word};
 use prims::{Comparison, Operand, Primitive, call};
-use row_terms::{elements, text};
+use row_terms::{canonical, elements, text, word};
 use std::alloc::Global;
 use term_core::Term;
 use term_text::{read_terms, write_term};

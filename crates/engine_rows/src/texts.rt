@@ -1,6 +1,5 @@
 //! Texts read and written, the order of terms, their hashes.
-use crate::outcome::{word, written};
-use row_terms::text;
+use row_terms::{text, word, written};
 use std::alloc::Global;
 use std::cmp::Ordering;
 use term_core::Term;

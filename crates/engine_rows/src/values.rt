@@ -1,9 +1,8 @@
 //! Values: what calls over them give, borrowed or made, and what is read of their copies.
 use crate::calls::{is_in_form, operand, operands};
 use crate::operands::{number_text, truth_name};
-use crate::outcome::{tagged, word};
 use prims::{Operand, Primitive, Value, call_values};
-use row_terms::{elements, primitive};
+use row_terms::{elements, primitive, tagged, word};
 use std::alloc::Global;
 use term_core::Term;
 use term_text::write_term;

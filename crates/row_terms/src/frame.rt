@@ -136,7 +136,7 @@ pub(crate) fn frames<A: Allocator + Copy>(heap: A, list: &Term<A>) -> Option<Vec
 }
 
 /// Whether two frames are the same.
-pub fn same_frame<A: Allocator>(left: &Frame<A>, right: &Frame<A>) -> bool {
+pub(crate) fn same_frame<A: Allocator>(left: &Frame<A>, right: &Frame<A>) -> bool {
     left.pc == right.pc
         && left.depth == right.depth
         && left.places.as_slice() == right.places.as_slice()

@@ -3,7 +3,7 @@ use std::alloc::Allocator;
 use term_core::{Term, View};
 
 /// The characters of a term that is an atom.
-pub fn characters<A: Allocator>(term: &Term<A>) -> Option<&[char]> {
+pub(crate) fn characters<A: Allocator>(term: &Term<A>) -> Option<&[char]> {
     match term.view() {
         View::Atom(characters) => Some(characters),
         _ => None,

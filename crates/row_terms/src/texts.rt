@@ -22,7 +22,7 @@ fn string<A: Allocator + Copy>(heap: A, numbers: &[Term<A>]) -> Option<String<A>
 }
 
 /// The bytes of a string or a binary.
-pub fn plain_text<A: Allocator + Copy>(heap: A, text: &Term<A>) -> Option<Vec<u8, A>> {
+fn plain_text<A: Allocator + Copy>(heap: A, text: &Term<A>) -> Option<Vec<u8, A>> {
     match text.view() {
         View::Binary(bytes) => Vec::from_slice(heap, bytes).ok(),
         _ => Some(string(heap, elements(text)?)?.into_bytes()),

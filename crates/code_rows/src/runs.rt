@@ -1,7 +1,6 @@
 //! What code answers on objects.
-use crate::outcome::{canonical, word};
 use machine::{run, run_true};
-use row_terms::{code_of, text};
+use row_terms::{canonical, code_of, text, word};
 use std::alloc::Global;
 use term_core::Term;
 use term_text::read_terms;

@@ -4,19 +4,19 @@ use term_core::Term;
 use term_text::write_term;
 
 /// A word.
-pub(crate) fn word(alloc: Global, text: &str) -> Option<Vec<u8>> {
+pub fn word(alloc: Global, text: &str) -> Option<Vec<u8>> {
     Vec::from_slice(alloc, text.as_bytes()).ok()
 }
 
 /// The canonical text of a term.
-pub(crate) fn canonical<A: Allocator>(alloc: Global, term: &Term<A>) -> Option<Vec<u8>> {
+pub fn canonical<A: Allocator>(alloc: Global, term: &Term<A>) -> Option<Vec<u8>> {
     let mut out = Vec::new(alloc);
     write_term(term, &mut out).ok()?;
     Some(out)
 }
 
 /// The text of a pair of a word and a term.
-pub(crate) fn tagged<A: Allocator>(alloc: Global, tag: &str, term: &Term<A>) -> Option<Vec<u8>> {
+pub fn tagged<A: Allocator>(alloc: Global, tag: &str, term: &Term<A>) -> Option<Vec<u8>> {
     let mut out = word(alloc, "{")?;
     out.extend_from_slice(tag.as_bytes()).ok()?;
     out.push(b',').ok()?;
@@ -26,7 +26,7 @@ pub(crate) fn tagged<A: Allocator>(alloc: Global, tag: &str, term: &Term<A>) -> 
 }
 
 /// The canonical texts of terms, a dot behind each and a space between.
-pub(crate) fn written<A: Allocator>(alloc: Global, terms: &[Term<A>]) -> Option<Vec<u8>> {
+pub fn written<A: Allocator>(alloc: Global, terms: &[Term<A>]) -> Option<Vec<u8>> {
     let mut out = Vec::new(alloc);
     for term in terms {
         write_term(term, &mut out).ok()?;
@@ -37,7 +37,7 @@ pub(crate) fn written<A: Allocator>(alloc: Global, terms: &[Term<A>]) -> Option<
 }
 
 /// The canonical texts of terms with commas between, in brackets: so the text of their list.
-pub(crate) fn listed<A: Allocator>(alloc: Global, terms: &[Term<A>]) -> Option<Vec<u8>> {
+pub fn listed<A: Allocator>(alloc: Global, terms: &[Term<A>]) -> Option<Vec<u8>> {
     let mut out = word(alloc, "[")?;
     for place in 0..terms.len() {
         if place > 0 {

@@ -1,6 +1,5 @@
 //! How many rows there were of each kind.
 use std::alloc::{AllocError, Global};
-use std::io::{self, Write};
 
 /// The rows of one kind.
 #[derive(Drop)]
@@ -13,6 +12,7 @@ struct Count {
 #[derive(Drop)]
 pub(crate) struct Tally {
     counts: Vec<Count>,
+    rows: u64,
     failed: u64,
 }
 
@@ -20,18 +20,21 @@ impl Tally {
     pub(crate) fn new(alloc: Global) -> Self {
         Tally {
             counts: Vec::new(alloc),
+            rows: 0,
             failed: 0,
         }
     }
 
-    /// Counts a row of a kind, which is right or not.
-    pub(crate) fn count(&mut self, kind: Option<String>, is_right: bool) -> Result<(), AllocError> {
+    /// Counts a row, which is right or not.
+    pub(crate) fn count(&mut self, is_right: bool) {
+        self.rows = self.rows.saturating_add(1);
         if !is_right {
             self.failed = self.failed.saturating_add(1);
         }
-        let Some(kind) = kind else {
-            return Ok(());
-        };
+    }
+
+    /// Counts a row of a kind.
+    pub(crate) fn count_kind(&mut self, kind: String) -> Result<(), AllocError> {
         for count in &mut self.counts {
             if count.kind.as_str() == kind.as_str() {
                 count.rows = count.rows.saturating_add(1);
@@ -47,13 +50,14 @@ impl Tally {
         self.failed
     }
 
-    /// Writes a line for each kind, and one for all.
-    pub(crate) fn write<W: Write>(&self, out: &mut W) -> io::Result<()> {
-        let mut rows: u64 = 0;
+    /// Appends a line for each kind, and one for all.
+    pub(crate) fn write(&self, alloc: Global, out: &mut Vec<u8>) -> Result<(), AllocError> {
         for count in &self.counts {
-            rows = rows.saturating_add(count.rows);
-            writeln!(out, "{}: {} rows", count.kind, count.rows)?;
+            out.extend_from_slice(count.kind.as_bytes())?;
+            let rows = format!(in alloc; ": {} rows\n", count.rows)?;
+            out.extend_from_slice(rows.as_bytes())?;
         }
-        writeln!(out, "in all: {rows} rows, {} failed", self.failed)
+        let line = format!(in alloc; "in all: {} rows, {} failed\n", self.rows, self.failed)?;
+        out.extend_from_slice(line.as_bytes())
     }
 }

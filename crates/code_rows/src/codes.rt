@@ -1,9 +1,9 @@
 //! Code that is built, its budget, and what the verifier says of it.
-use crate::outcome::word;
 use budget::{all_forward, longest};
 use mcode::Code;
 use row_terms::{
     Built, Part, Parts, build, code_of, function, instruction, is_code, parts_of, primitive, short,
+    word,
 };
 use std::alloc::Global;
 use term_core::Term;

@@ -1,8 +1,7 @@
 //! Terms that are read as specifications, and what these answer.
-use crate::outcome::listed;
 use mspec_meaning::evaluate;
 use mspec_syntax::{Spec, SpecFault, read_spec};
-use row_terms::{elements, text};
+use row_terms::{elements, listed, text};
 use std::alloc::Global;
 use term_core::Term;
 use term_text::read_terms;
