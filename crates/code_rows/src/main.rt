@@ -1,0 +1,54 @@
+//! Rows of specifications and of code, read from standard input and tried on the public calls of the crates: what comes of each
+//! is compared with what it wants, and each row that fails is printed, with how many rows there were of each kind.
+//!
+//! `stdin` has the rows, and at its head the form of each kind. The judge is proved once, and rows cost nothing but their run.
+//!
+//! - `specifications`: terms that are read as specifications, and what these answer.
+//! - `codes`: code that is built and verified; `runs`: what it answers.
+#![tactic(auto)]
+
+mod codes;
+mod runs;
+mod specifications;
+
+use row_terms::{Kinds, judge};
+use std::alloc::Global;
+use std::io::{self, Read, Write};
+use std::process::ExitCode;
+use term_core::Term;
+
+/// The kinds of rows of specifications and of code.
+struct CodeKinds;
+
+impl Kinds for CodeKinds {
+    fn came(alloc: Global, kind: &str, parts: &[Term], _forms: usize) -> Option<Vec<u8>> {
+        if let Some(out) = specifications::came(alloc, kind, parts) {
+            return Some(out);
+        }
+        if let Some(out) = codes::came(alloc, kind, parts) {
+            return Some(out);
+        }
+        runs::came(alloc, kind, parts)
+    }
+
+    fn forms(_kind: &str) -> usize {
+        1
+    }
+
+    fn wants_text(_kind: &str) -> bool {
+        false
+    }
+}
+
+fn main(rt: HostRuntime) -> io::Result<ExitCode> {
+    let alloc = rt.alloc();
+    let mut rows = Vec::new(alloc);
+    rt.stdin().read_to_end(&mut rows)?;
+    let report = judge::<CodeKinds>(alloc, rows.as_slice())?;
+    rt.stdout().write_all(report.text.as_slice())?;
+    Ok(if report.is_right {
+        ExitCode::SUCCESS
+    } else {
+        ExitCode::FAILURE
+    })
+}

@@ -1,0 +1,71 @@
+//! Terms that are read as specifications, and what these answer.
+use mspec_meaning::evaluate;
+use mspec_syntax::{Spec, SpecFault, read_spec};
+use row_terms::{elements, listed, text};
+use std::alloc::Global;
+use term_core::Term;
+use term_text::read_terms;
+
+/// The number of a fault, and the clause and the variable that it names.
+fn fault_text(alloc: Global, fault: SpecFault) -> Option<Vec<u8>> {
+    let number = fault.number();
+    let text = match (fault.clause(), fault.variable()) {
+        (Some(clause), Some(variable)) => {
+            format!(in alloc; "{{refused,{number},{clause},{variable}}}")
+        }
+        (Some(clause), None) => format!(in alloc; "{{refused,{number},{clause}}}"),
+        (None, _) => format!(in alloc; "{{refused,{number}}}"),
+    };
+    Some(text.ok()?.into_bytes())
+}
+
+/// How many clauses the specification has that a term is read as, or its fault.
+fn read(alloc: Global, term: &Term) -> Option<Vec<u8>> {
+    match read_spec(alloc, term) {
+        Ok(spec) => {
+            let count = spec.clauses().len();
+            Some(format!(in alloc; "{{ok,{count}}}").ok()?.into_bytes())
+        }
+        Err(fault) => fault_text(alloc, fault),
+    }
+}
+
+/// The same of the first term of a text.
+fn read_text(alloc: Global, given: &Term) -> Option<Vec<u8>> {
+    let terms = read_terms(alloc, text(alloc, given)?.as_slice()).ok()?;
+    read(alloc, terms.first()?)
+}
+
+/// The answers of a specification on objects.
+fn answers(alloc: Global, spec: &Spec, objects: &[Term]) -> Option<Vec<u8>> {
+    let mut answers = Vec::new(alloc);
+    for object in objects {
+        if let Some(answer) = evaluate(alloc, spec, object).ok()? {
+            answers.push(answer).ok()?;
+        }
+    }
+    listed(alloc, answers.as_slice())
+}
+
+/// The answers of the specification that a term is read as.
+fn answers_of(alloc: Global, term: &Term, objects: &[Term]) -> Option<Vec<u8>> {
+    answers(alloc, &read_spec(alloc, term).ok()?, objects)
+}
+
+/// The answers of the first term of a text on those behind it.
+fn answers_of_text(alloc: Global, given: &Term) -> Option<Vec<u8>> {
+    let terms = read_terms(alloc, text(alloc, given)?.as_slice()).ok()?;
+    let (spec, objects) = terms.as_slice().split_first()?;
+    answers_of(alloc, spec, objects)
+}
+
+/// What comes of a row of specifications.
+pub(crate) fn came(alloc: Global, kind: &str, parts: &[Term]) -> Option<Vec<u8>> {
+    match (kind, parts) {
+        ("spec", [term, _]) => read(alloc, term),
+        ("spec_text", [given, _]) => read_text(alloc, given),
+        ("answers", [term, objects, _]) => answers_of(alloc, term, elements(objects)?),
+        ("answers_text", [given, _]) => answers_of_text(alloc, given),
+        _ => None,
+    }
+}

@@ -1,0 +1,327 @@
+//! Terms that are made of terms, of characters or of bytes, with memory and with each request refused in turn.
+ghost use Rattle.std.specs.Prelude.{◌≡◌, [], ◌∷◌, pos, IfSome};
+ghost use Rattle.term_core.specs.Datum.Datum.{integer};
+ghost use Rattle.term_core.specs.MapPairs.{keys_of};
+
+use failing_alloc::{Failing, sweep};
+use row_terms::{canonical, name, text, word, written};
+use std::alloc::{Allocator, Global};
+use term_core::{
+    Fault, ListParts, Refused, Term, View, are_apart, copy_all, copy_tail, make_list, make_map,
+    make_tuple,
+};
+use term_text::read_terms;
+
+/// The most requests of memory that a call of a row makes.
+const MOST_REQUESTS: u64 = 200;
+
+/// What a call makes of terms, or the refusal with all of them.
+type Made<A> = Result<Term<A>, Refused<Vec<Term<A>, A>>>;
+
+/// These terms by twos, `None` for want of memory.
+fn paired<A: Allocator + Copy>(
+    heap: A,
+    terms: Vec<Term<A>, A>,
+) -> Option<Vec<(Term<A>, Term<A>), A>> {
+    let mut pairs = Vec::new(heap);
+    let count = terms.len() / 2;
+    let mut terms = terms.into_iter();
+    for _ in 0..count {
+        let key = terms.next()?;
+        pairs.push((key, terms.next()?)).ok()?;
+    }
+    Some(pairs)
+}
+
+/// The keys and values of these pairs by turns, `None` for want of memory.
+fn unpaired<A: Allocator + Copy>(
+    heap: A,
+    pairs: Vec<(Term<A>, Term<A>), A>,
+) -> Option<Vec<Term<A>, A>> {
+    let mut terms = Vec::new(heap);
+    for (key, value) in pairs {
+        terms.push(key).ok()?;
+        terms.push(value).ok()?;
+    }
+    Some(terms)
+}
+
+/// A list's elements with its tail behind them, `None` for want of memory.
+fn with_tail<A: Allocator + Copy>(parts: ListParts<A>) -> Option<Vec<Term<A>, A>> {
+    let ListParts { mut elements, tail } = parts;
+    if let Some(tail) = tail {
+        elements.push(tail).ok()?;
+    }
+    Some(elements)
+}
+
+fn list<A: Allocator + Copy>(
+    heap: A,
+    elements: Vec<Term<A>, A>,
+    tail: Option<Term<A>>,
+) -> Option<Made<A>> {
+    match Term::list(heap, elements, tail) {
+        Ok(list) => Some(Ok(list)),
+        Err(refused) => Some(Err(Refused {
+            value: with_tail(refused.value)?,
+            fault: refused.fault,
+        })),
+    }
+}
+
+fn map<A: Allocator + Copy>(heap: A, pairs: Vec<(Term<A>, Term<A>), A>) -> Option<Made<A>> {
+    match Term::map(heap, pairs) {
+        Ok(map) => Some(Ok(map)),
+        Err(refused) => Some(Err(Refused {
+            value: unpaired(heap, refused.value)?,
+            fault: refused.fault,
+        })),
+    }
+}
+
+/// What a constructor makes of these terms, `None` for want of memory before or behind the call.
+fn constructed<A: Allocator + Copy>(
+    heap: A,
+    constructor: &str,
+    mut terms: Vec<Term<A>, A>,
+) -> Option<Made<A>> {
+    match constructor {
+        "tuple" => Some(Term::tuple(heap, terms)),
+        "list" => list(heap, terms, None),
+        "list_with_tail" => {
+            let tail = terms.pop();
+            list(heap, terms, tail)
+        }
+        "map" => map(heap, paired(heap, terms)?),
+        _ => None,
+    }
+}
+
+/// Pairs of these three values, the last first, whose keys are 3, 1 and 2.
+fn keyed<A: Allocator + Copy>(
+    heap: A,
+    mut terms: Vec<Term<A>, A>,
+) -> Option<Vec<(Term<A>, Term<A>), A>>
+    ensures { IfSome result (λ pairs. keys_of pairs.items ≡ integer (pos 3) ∷ integer (pos 1) ∷ integer (pos 2) ∷ []) }
+{
+    let mut pairs = Vec::new(heap);
+    pairs.push((Term::int(3), terms.pop()?)).ok()?;
+    pairs.push((Term::int(1), terms.pop()?)).ok()?;
+    pairs.push((Term::int(2), terms.pop()?)).ok()?;
+    Some(pairs)
+}
+
+fn mapped<A: Allocator + Copy>(heap: A, terms: Vec<Term<A>, A>) -> Option<Option<Term<A>>> {
+    let pairs = keyed(heap, terms)?;
+    make_map(heap, pairs).ok()
+}
+
+fn copied_tail<A: Allocator + Copy>(heap: A, list: &Term<A>) -> Option<Option<Term<A>>> {
+    match list.view() {
+        View::List(_, tail) => copy_tail(heap, tail).ok(),
+        _ => None,
+    }
+}
+
+/// What a call that hands nothing back makes of these terms, if anything; `None` for want of memory.
+fn made<A: Allocator + Copy>(
+    heap: A,
+    maker: &str,
+    mut terms: Vec<Term<A>, A>,
+) -> Option<Option<Term<A>>> {
+    match maker {
+        "copy" => Some(Some(terms.first()?.copy(heap).ok()?)),
+        "copy_all" => {
+            let copies = copy_all(heap, terms.as_slice()).ok()?;
+            make_tuple(heap, copies).ok()
+        }
+        "copy_tail" => copied_tail(heap, terms.first()?),
+        "make_tuple" => make_tuple(heap, terms).ok(),
+        "make_list" => {
+            let tail = terms.pop()?;
+            make_list(heap, terms, tail).ok()
+        }
+        "make_map" => mapped(heap, terms),
+        _ => None,
+    }
+}
+
+/// The text of a refusal; `None` where it is for want of memory. What was given has to come back whole.
+fn refusal(alloc: Global, fault: Fault, is_whole: bool) -> Option<Vec<u8>> {
+    if !is_whole {
+        return word(alloc, "not_handed_back");
+    }
+    if fault == Fault::Memory {
+        return None;
+    }
+    let number = fault.number();
+    Some(format!(in alloc; "{{refused,{number}}}").ok()?.into_bytes())
+}
+
+/// What is made of the terms of a text, or the refusal.
+fn constructs<A: Allocator + Copy>(
+    alloc: Global,
+    heap: A,
+    constructor: &str,
+    given: &[u8],
+) -> Option<Vec<u8>> {
+    let terms = read_terms(heap, given).ok()?;
+    match constructed(heap, constructor, terms)? {
+        Ok(term) => canonical(alloc, &term),
+        Err(refused) => {
+            let whole = written(alloc, refused.value.as_slice())?;
+            refusal(alloc, refused.fault, whole.as_slice() == given)
+        }
+    }
+}
+
+fn makes<A: Allocator + Copy>(
+    alloc: Global,
+    heap: A,
+    maker: &str,
+    given: &[u8],
+) -> Option<Vec<u8>> {
+    match made(heap, maker, read_terms(heap, given).ok()?)? {
+        Some(term) => canonical(alloc, &term),
+        None => word(alloc, "none"),
+    }
+}
+
+fn atom<A: Allocator + Copy>(alloc: Global, heap: A, given: &[u8]) -> Option<Vec<u8>> {
+    match Term::atom(heap, str::from_utf8(given).ok()?) {
+        Ok(term) => canonical(alloc, &term),
+        Err(fault) => refusal(alloc, fault, true),
+    }
+}
+
+fn from_characters<A: Allocator + Copy>(alloc: Global, heap: A, given: &[u8]) -> Option<Vec<u8>> {
+    let given = str::from_utf8(given).ok()?;
+    let characters = given.chars().collect(heap).ok()?;
+    match Term::from_characters(heap, characters) {
+        Ok(term) => canonical(alloc, &term),
+        Err(refused) => {
+            let is_whole = refused.value.iter().copied().eq(given.chars());
+            refusal(alloc, refused.fault, is_whole)
+        }
+    }
+}
+
+fn binary<A: Allocator + Copy>(alloc: Global, heap: A, given: &[u8]) -> Option<Vec<u8>> {
+    match Term::binary(heap, Vec::from_slice(heap, given).ok()?) {
+        Ok(term) => canonical(alloc, &term),
+        Err(refused) => refusal(alloc, refused.fault, refused.value.as_slice() == given),
+    }
+}
+
+fn tells_apart<A: Allocator + Copy>(alloc: Global, heap: A, given: &[u8]) -> Option<Vec<u8>> {
+    let terms = read_terms(heap, given).ok()?;
+    let are_apart = are_apart(heap, terms.as_slice()).ok()?;
+    word(alloc, if are_apart { "true" } else { "false" })
+}
+
+/// What comes of a call; `None` where it wants memory and hands back what it was given.
+fn outcome<A: Allocator + Copy>(
+    alloc: Global,
+    heap: A,
+    call: &str,
+    given: &[u8],
+) -> Option<Vec<u8>> {
+    match call {
+        "atom" => atom(alloc, heap, given),
+        "from_characters" => from_characters(alloc, heap, given),
+        "binary" => binary(alloc, heap, given),
+        "are_apart" => tells_apart(alloc, heap, given),
+        "tuple" | "list" | "list_with_tail" | "map" => constructs(alloc, heap, call, given),
+        _ => makes(alloc, heap, call, given),
+    }
+}
+
+/// Whether the same comes of a call or memory is wanted, whichever request is refused.
+fn is_swept(alloc: Global, call: &str, given: &[u8], wanted: &[u8]) -> bool {
+    sweep(alloc, MOST_REQUESTS, |heap: &Failing<Global>| {
+        match outcome(alloc, heap, call, given) {
+            Some(out) => out.as_slice() == wanted,
+            None => heap.was_refused(),
+        }
+    })
+    .is_complete()
+}
+
+/// What comes of a call, with memory and with each request refused in turn.
+fn swept(alloc: Global, call: &str, given: &[u8]) -> Option<Vec<u8>> {
+    let out = outcome(alloc, alloc, call, given)?;
+    if is_swept(alloc, call, given, out.as_slice()) {
+        Some(out)
+    } else {
+        word(alloc, "another_without_memory")
+    }
+}
+
+/// How many elements, pairs, characters or bytes a term has.
+fn length(term: &Term) -> usize {
+    match term.view() {
+        View::Integer(_) => 0,
+        View::Nil => 0,
+        View::Atom(characters) => characters.len(),
+        View::Tuple(elements) => elements.len(),
+        View::List(elements, _) => elements.len(),
+        View::Map(pairs) => pairs.len(),
+        View::Binary(bytes) => bytes.len(),
+    }
+}
+
+/// The depth and the length of a term.
+pub(crate) fn size_of(alloc: Global, term: &Term) -> Option<Vec<u8>> {
+    let (depth, length) = (term.depth(), length(term));
+    Some(format!(in alloc; "{{{depth},{length}}}").ok()?.into_bytes())
+}
+
+/// The refusal of a constructor, how many terms came back, and how long the last of them is.
+fn sized_refusal(alloc: Global, fault: Fault, terms: &[Term]) -> Option<Vec<u8>> {
+    let (number, count, last) = (fault.number(), terms.len(), length(terms.last()?));
+    let text = format!(in alloc; "{{refused,{number},{count},{last}}}").ok()?;
+    Some(text.into_bytes())
+}
+
+/// The size of what a call makes of the terms of a text.
+fn sized(alloc: Global, call: &str, given: &[u8]) -> Option<Vec<u8>> {
+    let terms = read_terms(alloc, given).ok()?;
+    if call.starts_with("make_") || call == "copy" {
+        return match made(alloc, call, terms)? {
+            Some(term) => size_of(alloc, &term),
+            None => word(alloc, "none"),
+        };
+    }
+    match constructed(alloc, call, terms)? {
+        Ok(term) => size_of(alloc, &term),
+        Err(refused) => sized_refusal(alloc, refused.fault, refused.value.as_slice()),
+    }
+}
+
+/// The size of the atom or binary of so many characters or bytes, or the refusal and how many came back.
+fn sized_leaf(alloc: Global, call: &str, given: &[u8]) -> Option<Vec<u8>> {
+    if call == "atom" {
+        return match Term::atom(alloc, str::from_utf8(given).ok()?) {
+            Ok(term) => size_of(alloc, &term),
+            Err(fault) => refusal(alloc, fault, true),
+        };
+    }
+    match Term::binary(alloc, Vec::from_slice(alloc, given).ok()?) {
+        Ok(term) => size_of(alloc, &term),
+        Err(refused) => refusal(alloc, refused.fault, refused.value.as_slice() == given),
+    }
+}
+
+/// What comes of a row of constructors.
+pub(crate) fn came(alloc: Global, kind: &str, parts: &[Term]) -> Option<Vec<u8>> {
+    let [call, given, _] = parts else {
+        return None;
+    };
+    let (call, given) = (name(alloc, call)?, text(alloc, given)?);
+    match kind {
+        "made" => swept(alloc, call.as_str(), given.as_slice()),
+        "sized" => sized(alloc, call.as_str(), given.as_slice()),
+        "sized_leaf" => sized_leaf(alloc, call.as_str(), given.as_slice()),
+        _ => None,
+    }
+}

@@ -1,0 +1,67 @@
+//! Rows of texts, of terms and of functions, read from standard input and tried on the public calls of the crates: what comes of
+//! each is compared with what it wants, and each row that fails is printed, with how many rows there were of each kind.
+//!
+//! `stdin` has the rows, and at its head the form of each kind. The judge is proved once, and rows cost nothing but their run.
+//!
+//! - `texts`: terms read, written, ordered and hashed; `constructors`: terms made and refused.
+//! - `calls`, `operands`, `values`: functions, what they are given and what they give.
+#![tactic(auto)]
+
+mod calls;
+mod constructors;
+mod operands;
+mod texts;
+mod values;
+
+use row_terms::{Kinds, judge};
+use std::alloc::Global;
+use std::io::{self, Read, Write};
+use std::process::ExitCode;
+use term_core::Term;
+
+/// The kinds of rows of terms and of functions.
+struct TermKinds;
+
+impl Kinds for TermKinds {
+    fn came(alloc: Global, kind: &str, parts: &[Term], forms: usize) -> Option<Vec<u8>> {
+        if let Some(out) = texts::came(alloc, kind, parts) {
+            return Some(out);
+        }
+        if let Some(out) = constructors::came(alloc, kind, parts) {
+            return Some(out);
+        }
+        if let Some(out) = calls::came(alloc, kind, parts, forms) {
+            return Some(out);
+        }
+        if let Some(out) = operands::came(alloc, kind, parts, forms) {
+            return Some(out);
+        }
+        values::came(alloc, kind, parts, forms)
+    }
+
+    fn forms(kind: &str) -> usize {
+        match kind {
+            "call" | "borrowed_call" | "made_call" => calls::FORMS,
+            "comparison" => calls::FORMS_OF_TWO,
+            "holding" | "values" | "operand" | "borrowed_copy" | "made_copy" => calls::FORMS_OF_ONE,
+            _ => 1,
+        }
+    }
+
+    fn wants_text(kind: &str) -> bool {
+        matches!(kind, "text" | "canonical" | "hash")
+    }
+}
+
+fn main(rt: HostRuntime) -> io::Result<ExitCode> {
+    let alloc = rt.alloc();
+    let mut rows = Vec::new(alloc);
+    rt.stdin().read_to_end(&mut rows)?;
+    let report = judge::<TermKinds>(alloc, rows.as_slice())?;
+    rt.stdout().write_all(report.text.as_slice())?;
+    Ok(if report.is_right {
+        ExitCode::SUCCESS
+    } else {
+        ExitCode::FAILURE
+    })
+}

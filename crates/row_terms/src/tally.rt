@@ -1,0 +1,63 @@
+//! How many rows there were of each kind.
+use std::alloc::{AllocError, Global};
+
+/// The rows of one kind.
+#[derive(Drop)]
+struct Count {
+    kind: String,
+    rows: u64,
+}
+
+/// The rows of each kind, by their first row.
+#[derive(Drop)]
+pub(crate) struct Tally {
+    counts: Vec<Count>,
+    rows: u64,
+    failed: u64,
+}
+
+impl Tally {
+    pub(crate) fn new(alloc: Global) -> Self {
+        Tally {
+            counts: Vec::new(alloc),
+            rows: 0,
+            failed: 0,
+        }
+    }
+
+    /// Counts a row, which is right or not.
+    pub(crate) fn count(&mut self, is_right: bool) {
+        self.rows = self.rows.saturating_add(1);
+        if !is_right {
+            self.failed = self.failed.saturating_add(1);
+        }
+    }
+
+    /// Counts a row of a kind.
+    pub(crate) fn count_kind(&mut self, kind: String) -> Result<(), AllocError> {
+        for count in &mut self.counts {
+            if count.kind.as_str() == kind.as_str() {
+                count.rows = count.rows.saturating_add(1);
+                return Ok(());
+            }
+        }
+        self.counts.push(Count { kind, rows: 1 })?;
+        Ok(())
+    }
+
+    /// How many rows were not right.
+    pub(crate) fn failed(&self) -> u64 {
+        self.failed
+    }
+
+    /// Appends a line for each kind, and one for all.
+    pub(crate) fn write(&self, alloc: Global, out: &mut Vec<u8>) -> Result<(), AllocError> {
+        for count in &self.counts {
+            out.extend_from_slice(count.kind.as_bytes())?;
+            let rows = format!(in alloc; ": {} rows\n", count.rows)?;
+            out.extend_from_slice(rows.as_bytes())?;
+        }
+        let line = format!(in alloc; "in all: {} rows, {} failed\n", self.rows, self.failed)?;
+        out.extend_from_slice(line.as_bytes())
+    }
+}

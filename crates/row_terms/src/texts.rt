@@ -1,0 +1,112 @@
+//! A text, in pieces that may be repeated, so that long texts are short rows.
+//!
+//! A text is a list of pieces: a character's number, a string, a binary of bytes, `{Count,Piece}` for so many of one string
+//! or binary, and `{First,Count,Before,After}` for so many numbers that rise from the first, each between two strings. So a
+//! string is a text too.
+use crate::parts::{elements, fields, number};
+use std::alloc::Allocator;
+use term_core::{Term, View};
+
+/// The character whose number a term is.
+fn character<A: Allocator>(term: &Term<A>) -> Option<char> {
+    char::from_u32(number(term)?)
+}
+
+/// The text whose characters have these numbers.
+fn string<A: Allocator + Copy>(heap: A, numbers: &[Term<A>]) -> Option<String<A>> {
+    let mut text = String::new(heap);
+    for number in numbers {
+        text.push(character(number)?).ok()?;
+    }
+    Some(text)
+}
+
+/// The bytes of a string or a binary.
+fn plain_text<A: Allocator + Copy>(heap: A, text: &Term<A>) -> Option<Vec<u8, A>> {
+    match text.view() {
+        View::Binary(bytes) => Vec::from_slice(heap, bytes).ok(),
+        _ => Some(string(heap, elements(text)?)?.into_bytes()),
+    }
+}
+
+/// Appends a text so many times.
+fn push_repeated<A: Allocator>(out: &mut Vec<u8, A>, count: u32, unit: &[u8]) -> Option<()> {
+    for _ in 0..count {
+        out.extend_from_slice(unit).ok()?;
+    }
+    Some(())
+}
+
+/// Appends so many numbers that rise from the first, each between these texts.
+fn push_numbers<A: Allocator + Copy>(
+    heap: A,
+    out: &mut Vec<u8, A>,
+    first: u32,
+    count: u32,
+    before: &[u8],
+    after: &[u8],
+) -> Option<()> {
+    for number in first..first.saturating_add(count) {
+        out.extend_from_slice(before).ok()?;
+        out.extend_from_slice(number.to_string(heap).ok()?.as_bytes())
+            .ok()?;
+        out.extend_from_slice(after).ok()?;
+    }
+    Some(())
+}
+
+/// Appends a character.
+fn push_character<A: Allocator + Copy>(
+    heap: A,
+    out: &mut Vec<u8, A>,
+    character: char,
+) -> Option<()> {
+    let mut text = String::new(heap);
+    text.push(character).ok()?;
+    out.extend_from_slice(text.as_bytes()).ok()
+}
+
+/// Appends a piece of a text that is a tuple.
+fn push_many<A: Allocator + Copy>(heap: A, out: &mut Vec<u8, A>, piece: &[Term<A>]) -> Option<()> {
+    match piece {
+        [count, unit] => {
+            let unit = plain_text(heap, unit)?;
+            push_repeated(out, number(count)?, unit.as_slice())
+        }
+        [first, count, before, after] => {
+            let before = plain_text(heap, before)?;
+            let after = plain_text(heap, after)?;
+            push_numbers(
+                heap,
+                out,
+                number(first)?,
+                number(count)?,
+                before.as_slice(),
+                after.as_slice(),
+            )
+        }
+        _ => None,
+    }
+}
+
+/// Appends a piece of a text.
+fn push_piece<A: Allocator + Copy>(heap: A, out: &mut Vec<u8, A>, piece: &Term<A>) -> Option<()> {
+    if let Some(character) = character(piece) {
+        return push_character(heap, out, character);
+    }
+    match fields(piece) {
+        Some(piece) => push_many(heap, out, piece),
+        None => out
+            .extend_from_slice(plain_text(heap, piece)?.as_slice())
+            .ok(),
+    }
+}
+
+/// The bytes of a text in pieces.
+pub fn text<A: Allocator + Copy>(heap: A, pieces: &Term<A>) -> Option<Vec<u8, A>> {
+    let mut out = Vec::new(heap);
+    for piece in elements(pieces)? {
+        push_piece(heap, &mut out, piece)?;
+    }
+    Some(out)
+}
