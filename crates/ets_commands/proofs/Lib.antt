@@ -1,3 +1,4 @@
 pub mod RunLemmas
 pub mod OutcomeLemmas
 pub mod InputLemmas
+pub mod OutputLemmas

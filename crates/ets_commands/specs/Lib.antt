@@ -2,3 +2,4 @@ pub mod Fault
 pub mod Input
 pub mod Run
 pub mod Program
+pub mod Laws

@@ -8,17 +8,20 @@
 //! - `words`: what the words of the command line ask for.
 //! - `input`: the input, read whole, `specs/Input.antt`.
 //! - `run`: a specification answered on objects, `specs/Run.antt`.
+//! - `laws`: that what is written is a function of what was read, `specs/Laws.antt`.
 //! - `fault`: why a command ends early, and the line that says so, `specs/Fault.antt`.
 #![tactic(auto)]
 
 mod fault;
 mod input;
+mod laws;
 mod program;
 mod run;
 mod words;
 
 pub use fault::{ToolFault, fault_line};
 pub use input::{most_reads, read_whole, read_within};
+pub use laws::output_is_one;
 pub use program::{run_program, run_request, run_words};
 pub use run::{tool_run, tool_test};
 pub use words::{Request, read_words};
