@@ -4,7 +4,7 @@ ghost use Rattle.std.specs.Option.{option_map, option_and_then};
 ghost use Rattle.term_core.specs.Datum.{Datum};
 ghost use Rattle.prims.specs.Calls.{function_of};
 ghost use Rattle.prims.specs.Value.{value_datum, IsBorrowed};
-ghost use Rattle.mcode.specs.Machine.{Bindings, does, given, next, tested};
+ghost use Rattle.mcode.specs.Machine.{Bindings, does, push_or_jump, next, test_outcome};
 ghost use Rattle.mcode.specs.Machine.Outcome.{Stuck};
 ghost use Rattle.mcode.specs.Program.{Program};
 ghost use Rattle.mcode.specs.declared.instr.Instr.TheVariants as instr;
@@ -40,7 +40,7 @@ fn push_or_jump<'a, A: Allocator + Copy>(
     value: Option<Value<'a, A>>,
     otherwise: u16,
 ) -> Result<Flow<'a, A>, AllocError>
-    ensures flow { IfOk result (λ flow. Leads flow stack.new.terms (λ p pc slots. given p pc otherwise stack.old.terms slots (option_map value_datum value.entry))) }
+    ensures flow { IfOk result (λ flow. Leads flow stack.new.terms (λ p pc slots. push_or_jump p pc otherwise stack.old.terms slots (option_map value_datum value.entry))) }
     ensures memory { IsTrue stack.old.borrowed → IfSome value.entry IsBorrowed → length stack.old.terms < INLINE_PLACES → IsOk result × IsTrue stack.new.borrowed }
 {
     match value {
@@ -51,7 +51,7 @@ fn push_or_jump<'a, A: Allocator + Copy>(
 
 /// Goes on where a test holds, else jumps.
 fn jump_unless<'a, A: Allocator>(holds: bool, otherwise: u16) -> Flow<'a, A>
-    ensures { (stack : List Datum) → Leads result stack (λ p pc slots. tested p pc otherwise stack slots holds) }
+    ensures { (stack : List Datum) → Leads result stack (λ p pc slots. test_outcome p pc otherwise stack slots holds) }
 {
     if holds {
         Flow::Next
@@ -105,7 +105,7 @@ fn test<'a, A: Allocator + Copy>(
     otherwise: u16,
 ) -> Flow<'a, A>
     requires { 0 < length stack.now.terms }
-    ensures { Leads result stack.now.terms (λ p pc slots. tested p pc otherwise stack.now.terms slots (top_holds kind stack.now.terms)) }
+    ensures { Leads result stack.now.terms (λ p pc slots. test_outcome p pc otherwise stack.now.terms slots (top_holds kind stack.now.terms)) }
 {
     jump_unless(values::holds(kind, stack.top()), otherwise)
 }

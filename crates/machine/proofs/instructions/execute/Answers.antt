@@ -1,6 +1,6 @@
 use Rattle.std.proofs.Common.{refl, sym, ap, ◌∙◌, rules}
 use Rattle.std.proofs.lemmas.Result.{IfOk-weaker}
-use Rattle.mcode.specs.Machine.{pushed}
+use Rattle.mcode.specs.Machine.{push_outcome}
 use Rattle.mcode.specs.declared.instr.Instr.TheVariants as instr
 use Rattle.machine.proofs.ReadyLemmas.{top_there, got_there, slot_there, tuple_tested, read_there, constant_inside}
 use Rattle.machine.proofs.instructions.execute.Goals as goal
@@ -145,13 +145,13 @@ returns-in-Const-clause-flow g c =
     let there = read_there c.args.code.now.constants c.in-Const.constant c.index-constants-from.result inside read in
     rw c.in-Const.is
     (IfOk-weaker c.push-in-Const.result _ _
-    (λ flow leads pc. leads c.args.code.now pc c.args.slots.now.bindings ∙ ap (pushed pc c.args.stack.now.terms c.args.slots.now.bindings) (sym there)) c.push-in-Const.ensures.flow)
+    (λ flow leads pc. leads c.args.code.now pc c.args.slots.now.bindings ∙ ap (push_outcome pc c.args.stack.now.terms c.args.slots.now.bindings) (sym there)) c.push-in-Const.ensures.flow)
 
 pub returns-in_ok-get-in-Get-clause-flow : goal.returns-in_ok-get-in-Get-clause-flow
 returns-in_ok-get-in-Get-clause-flow g c =
     rw c.in-Get.is
     (IfOk-weaker c.push-in-Get.result _ _
-    (λ flow leads pc. leads c.args.code.now pc c.args.slots.now.bindings ∙ ap (pushed pc c.args.stack.now.terms c.args.slots.now.bindings) (sym c.in_ok-get-in-Get.ensures.value)) c.push-in-Get.ensures.flow)
+    (λ flow leads pc. leads c.args.code.now pc c.args.slots.now.bindings ∙ ap (push_outcome pc c.args.stack.now.terms c.args.slots.now.bindings) (sym c.in_ok-get-in-Get.ensures.value)) c.push-in-Get.ensures.flow)
 
 pub returns-in-Bind-clause-flow : goal.returns-in-Bind-clause-flow
 returns-in-Bind-clause-flow g c =
