@@ -18,7 +18,8 @@ pub record IsLongestFrom (p : Program) (a n : ℕ) : Type 0 where
 -- from a place on, the number at each is the greatest number of instructions on a path from there
 pub record AreLongest (p : Program) (numbers : List ℕ) (from : ℕ) : Type 0 where
   pub count : length numbers ≡ length p.instructions
-  pub each : (a : ℕ) → from ≤ a → a < length p.instructions → IsLongestFrom p a (slice_index numbers a)
+  pub each : (a : ℕ) → from ≤ a → a < length p.instructions
+      → IsLongestFrom p a (slice_index numbers a)
 
 -- the number at the place after a where instruction i goes on, else 0
 abbrev pub next_number : Instr → ℕ → List ℕ → ℕ

@@ -19,10 +19,12 @@ pub record HasEdge (p : Program) (a b : ℕ) : Type 0 where
   pub leads : LeadsTo instr a b
   pub inside : b < length p.instructions
 
--- a path from a, as the numbers of its instructions: a alone, which is inside the code, or a and then a path from b, where there is an edge from a to b
+-- a path from a, as the numbers of its instructions: a alone, which is inside the code, or a and then a path
+-- from b, where there is an edge from a to b
 pub data IsPathFrom (p : Program) : ℕ → List ℕ → Type 0 where
   alone : {a : ℕ} → a < length p.instructions → IsPathFrom p a (a ∷ [])
-  onward : {a b : ℕ} {path : List ℕ} → HasEdge p a b → IsPathFrom p b path → IsPathFrom p a (a ∷ path)
+  onward : {a b : ℕ} {path : List ℕ} → HasEdge p a b → IsPathFrom p b path
+      → IsPathFrom p a (a ∷ path)
 
 -- some path from a has n instructions
 abbrev pub HasPath : Program → ℕ → ℕ → Type 0
@@ -39,4 +41,6 @@ pub record IsBudget (p : Program) (n : ℕ) : Type 0 where
 
 -- wherever the instruction at a may jump is after a and inside the code
 abbrev pub AllForward : Program → Type 0
-AllForward p = (a b : ℕ) (i : Instr) → IsAt p a i → target_of i ≡ Some b → (a < b) × (b < length p.instructions)
+AllForward p =
+    (a b : ℕ) (i : Instr) → IsAt p a i → target_of i ≡ Some b → (a < b)
+    × (b < length p.instructions)

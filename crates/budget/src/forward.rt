@@ -28,7 +28,8 @@ pub(crate) fn are_forward(instructions: &[Instr]) -> bool
 
 /// Whether the instruction, which stands at `pc` among `count`, jumps to a later one, if at all.
 fn is_forward(instr: Instr, pc: usize, count: usize) -> bool
-    ensures { IsTrue result ↔ IfSome (target_of instr) (λ target. (pc < target) × (target < count)) }
+    ensures { IsTrue result ↔ IfSome (target_of instr)
+        (λ target. (pc < target) × (target < count)) }
 {
     match instr.target() {
         Some(target) => is_between(usize::from(target), pc, count),

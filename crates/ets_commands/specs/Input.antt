@@ -12,7 +12,8 @@ IsRead left progress.More = Unit {0}
 IsRead left progress.End = IsAtEnd left
 
 -- what the reader lost is what the input gained
-pub record Continues (before after : Option (List ℕ)) (old new : List ℕ) (p : Progress) : Type 0 where
+pub record Continues (before after : Option (List ℕ)) (old new : List ℕ) (p : Progress) : Type 0
+    where
   pub part : List ℕ
   pub lost : Consumes before after part
   pub gained : new ≡ old ++ part

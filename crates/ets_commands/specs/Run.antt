@@ -84,7 +84,8 @@ pub record WritesBeginning (r : Request) (s : Specification) (objects : List Dat
 
 -- how answering ends early: for want of memory, or where the writer failed, and then nothing is said of what it
 -- got
-abbrev pub StopsLines : Request → Specification → List Datum → (old new : Option (List ℕ)) → ToolFault
+abbrev pub StopsLines : Request → Specification → List Datum → (old new : Option (List ℕ))
+    → ToolFault
     → Type 0
 StopsLines r s objects old new fault.Memory = WritesBeginning r s objects old new
 StopsLines r s objects old new fault.WriteFailed = Unit {0}

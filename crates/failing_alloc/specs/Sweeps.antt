@@ -25,11 +25,13 @@ module _ {F B : Type 0} (g : Mut F (Bor (Failing B) × Unit {0}) Bool) (inner : 
   -- the runs with request 1, 2, .. up to a last one refused behave well, and leave f'
   pub data RunWell (f : F) : ℕ → F → Type 0 where
     none : RunWell f 0 f
-    another : (last : ℕ) (mid f' : F) → RunWell f last mid → Runs mid (last + 1) true f' → RunWell f (last + 1) f'
+    another : (last : ℕ) (mid f' : F) → RunWell f last mid → Runs mid (last + 1) true f'
+        → RunWell f (last + 1) f'
 
   -- what a sweep of at most so many runs answers
   abbrev pub SweepsTo : F → ℕ → SweepOutcome → Type 0
   SweepsTo f most (Complete runs) = (0 < runs) × (runs ≤ most) × ((f' : F) × RunWell f runs f')
   SweepsTo f most OutOfRuns = (f' : F) × RunWell f most f'
   SweepsTo f most (Misbehaved request) =
-      (last : ℕ) × (mid : F) × (f' : F) × (request ≡ last + 1) × (request ≤ most) × RunWell f last mid × Runs mid request false f'
+      (last : ℕ) × (mid : F) × (f' : F) × (request ≡ last + 1) × (request ≤ most)
+          × RunWell f last mid × Runs mid request false f'

@@ -27,8 +27,10 @@ fn push<'a, A: Allocator + Copy>(
     stack: &mut Stack<'a, '_, A>,
     value: Value<'a, A>,
 ) -> Result<Flow<'a, A>, AllocError>
-    ensures flow { IfOk result (λ flow. Leads flow stack.new.terms (λ p pc slots. next pc (value_datum value.entry ∷ stack.old.terms) slots)) }
-    ensures memory { IsTrue stack.old.borrowed → IsBorrowed value.entry → length stack.old.terms < INLINE_PLACES → IsOk result × IsTrue stack.new.borrowed }
+    ensures flow { IfOk result (λ flow. Leads flow stack.new.terms
+        (λ p pc slots. next pc (value_datum value.entry ∷ stack.old.terms) slots)) }
+    ensures memory { IsTrue stack.old.borrowed → IsBorrowed value.entry
+        → length stack.old.terms < INLINE_PLACES → IsOk result × IsTrue stack.new.borrowed }
 {
     stack.push(value)?;
     Ok(Flow::Next)
@@ -40,8 +42,11 @@ fn push_or_jump<'a, A: Allocator + Copy>(
     value: Option<Value<'a, A>>,
     otherwise: u16,
 ) -> Result<Flow<'a, A>, AllocError>
-    ensures flow { IfOk result (λ flow. Leads flow stack.new.terms (λ p pc slots. push_or_jump p pc otherwise stack.old.terms slots (option_map value_datum value.entry))) }
-    ensures memory { IsTrue stack.old.borrowed → IfSome value.entry IsBorrowed → length stack.old.terms < INLINE_PLACES → IsOk result × IsTrue stack.new.borrowed }
+    ensures flow { IfOk result (λ flow. Leads flow stack.new.terms
+        (λ p pc slots. push_or_jump p pc otherwise stack.old.terms slots
+        (option_map value_datum value.entry))) }
+    ensures memory { IsTrue stack.old.borrowed → IfSome value.entry IsBorrowed
+        → length stack.old.terms < INLINE_PLACES → IsOk result × IsTrue stack.new.borrowed }
 {
     match value {
         Some(value) => push(stack, value),
@@ -51,7 +56,8 @@ fn push_or_jump<'a, A: Allocator + Copy>(
 
 /// Goes on where a test holds, else jumps.
 fn jump_unless<'a, A: Allocator>(holds: bool, otherwise: u16) -> Flow<'a, A>
-    ensures { (stack : List Datum) → Leads result stack (λ p pc slots. test_outcome p pc otherwise stack slots holds) }
+    ensures { (stack : List Datum) → Leads result stack
+        (λ p pc slots. test_outcome p pc otherwise stack slots holds) }
 {
     if holds {
         Flow::Next
@@ -68,8 +74,11 @@ fn bind<'a, A: Allocator + Copy>(
 ) -> Result<Flow<'a, A>, AllocError>
     requires some { 0 < length stack.old.terms }
     requires slot { slot < length slots.old.bindings }
-    ensures flow { IfOk result (λ flow. (p : Program) (object : Datum) (pc : ℕ) → flow_outcome p pc flow stack.new.terms slots.new.bindings ≡ does p object (instr.Bind slot) pc stack.old.terms slots.old.bindings) }
-    ensures memory { AreBorrowed stack.old slots.old → IsOk result × AreBorrowed stack.new slots.new }
+    ensures flow { IfOk result (λ flow. (p : Program) (object : Datum) (pc : ℕ)
+        → flow_outcome p pc flow stack.new.terms slots.new.bindings
+        ≡ does p object (instr.Bind slot) pc stack.old.terms slots.old.bindings) }
+    ensures memory { AreBorrowed stack.old slots.old → IsOk result
+        × AreBorrowed stack.new slots.new }
 {
     slots.bind(slot, stack.pop())?;
     Ok(Flow::Next)
@@ -81,8 +90,10 @@ fn duplicate<'a, A: Allocator + Copy>(
     stack: &mut Stack<'a, '_, A>,
 ) -> Result<Flow<'a, A>, AllocError>
     requires { 0 < length stack.old.terms }
-    ensures flow { IfOk result (λ flow. DoesAnywhere instr.Dup stack.old.terms flow stack.new.terms) }
-    ensures memory { IsTrue stack.old.borrowed → length stack.old.terms < INLINE_PLACES → IsOk result × IsTrue stack.new.borrowed }
+    ensures flow { IfOk result (λ flow. DoesAnywhere instr.Dup stack.old.terms flow
+        stack.new.terms) }
+    ensures memory { IsTrue stack.old.borrowed → length stack.old.terms < INLINE_PLACES
+        → IsOk result × IsTrue stack.new.borrowed }
 {
     let top = stack.copy_top(alloc)?;
     push(stack, top)
@@ -105,7 +116,8 @@ fn test<'a, A: Allocator + Copy>(
     otherwise: u16,
 ) -> Flow<'a, A>
     requires { 0 < length stack.now.terms }
-    ensures { Leads result stack.now.terms (λ p pc slots. test_outcome p pc otherwise stack.now.terms slots (top_holds kind stack.now.terms)) }
+    ensures { Leads result stack.now.terms (λ p pc slots. test_outcome p pc otherwise
+        stack.now.terms slots (top_holds kind stack.now.terms)) }
 {
     jump_unless(values::holds(kind, stack.top()), otherwise)
 }
@@ -117,8 +129,10 @@ fn field<'a, A: Allocator + Copy>(
     index: u16,
 ) -> Result<Flow<'a, A>, AllocError>
     requires { IsReadyAnywhere (instr.Field index) stack.old.terms }
-    ensures flow { IfOk result (λ flow. DoesAnywhere (instr.Field index) stack.old.terms flow stack.new.terms) }
-    ensures memory { IsTrue stack.old.borrowed → length stack.old.terms ≤ INLINE_PLACES → IsOk result × IsTrue stack.new.borrowed }
+    ensures flow { IfOk result (λ flow. DoesAnywhere (instr.Field index) stack.old.terms flow
+        stack.new.terms) }
+    ensures memory { IsTrue stack.old.borrowed → length stack.old.terms ≤ INLINE_PLACES
+        → IsOk result × IsTrue stack.new.borrowed }
 {
     let tuple = stack.pop();
     push(stack, values::field(alloc, index, tuple)?)
@@ -130,8 +144,10 @@ fn head<'a, A: Allocator + Copy>(
     stack: &mut Stack<'a, '_, A>,
 ) -> Result<Flow<'a, A>, AllocError>
     requires { IsReadyAnywhere instr.Head stack.old.terms }
-    ensures flow { IfOk result (λ flow. DoesAnywhere instr.Head stack.old.terms flow stack.new.terms) }
-    ensures memory { IsTrue stack.old.borrowed → length stack.old.terms ≤ INLINE_PLACES → IsOk result × IsTrue stack.new.borrowed }
+    ensures flow { IfOk result (λ flow. DoesAnywhere instr.Head stack.old.terms flow
+        stack.new.terms) }
+    ensures memory { IsTrue stack.old.borrowed → length stack.old.terms ≤ INLINE_PLACES
+        → IsOk result × IsTrue stack.new.borrowed }
 {
     let list = stack.pop();
     push(stack, values::head(alloc, list)?)
@@ -143,8 +159,10 @@ fn tail<'a, A: Allocator + Copy>(
     stack: &mut Stack<'a, '_, A>,
 ) -> Result<Flow<'a, A>, AllocError>
     requires { IsReadyAnywhere instr.Tail stack.old.terms }
-    ensures flow { IfOk result (λ flow. DoesAnywhere instr.Tail stack.old.terms flow stack.new.terms) }
-    ensures memory { IsTrue stack.old.borrowed → length stack.old.terms ≤ INLINE_PLACES → IsOk result × IsTrue stack.new.borrowed }
+    ensures flow { IfOk result (λ flow. DoesAnywhere instr.Tail stack.old.terms flow
+        stack.new.terms) }
+    ensures memory { IsTrue stack.old.borrowed → length stack.old.terms ≤ INLINE_PLACES
+        → IsOk result × IsTrue stack.new.borrowed }
 {
     let list = stack.pop();
     push(stack, values::tail(alloc, list)?)
@@ -159,8 +177,10 @@ fn value<'a, A: Allocator + Copy>(
     otherwise: u16,
 ) -> Result<Flow<'a, A>, AllocError>
     requires { IsReady code.now (instr.Value key otherwise) stack.old.terms }
-    ensures flow { IfOk result (λ flow. Does code.now (instr.Value key otherwise) stack.old.terms flow stack.new.terms) }
-    ensures memory { IsTrue stack.old.borrowed → length stack.old.terms ≤ INLINE_PLACES → IsOk result × IsTrue stack.new.borrowed }
+    ensures flow { IfOk result (λ flow. Does code.now (instr.Value key otherwise) stack.old.terms
+        flow stack.new.terms) }
+    ensures memory { IsTrue stack.old.borrowed → length stack.old.terms ≤ INLINE_PLACES
+        → IsOk result × IsTrue stack.new.borrowed }
 {
     let map = stack.pop();
     let key = &code.constants()[usize::from(key)];
@@ -187,9 +207,11 @@ fn call_top<'a, A: Allocator + Copy>(
     count: u16,
 ) -> Result<Option<Value<'a, A>>, AllocError>
     requires { count ≤ length stack.old.terms }
-    ensures value { IfOk result (λ value. option_map value_datum value ≡ function_of function (reverse (take count stack.old.terms))) }
+    ensures value { IfOk result (λ value. option_map value_datum value
+        ≡ function_of function (reverse (take count stack.old.terms))) }
     ensures rest { OnOk result (stack.new.terms ≡ drop count stack.old.terms) }
-    ensures memory { IsTrue stack.old.borrowed → count ≤ INLINE_PLACES → IsOkAnd result (λ value. IfSome value IsBorrowed) × IsTrue stack.new.borrowed }
+    ensures memory { IsTrue stack.old.borrowed → count ≤ INLINE_PLACES
+        → IsOkAnd result (λ value. IfSome value IsBorrowed) × IsTrue stack.new.borrowed }
 {
     match stack.operands(count)? {
         Some(operands) => {
@@ -212,8 +234,11 @@ fn call<'a, A: Allocator + Copy>(
     otherwise: u16,
 ) -> Result<Flow<'a, A>, AllocError>
     requires { IsReadyAnywhere (instr.Call function arguments otherwise) stack.old.terms }
-    ensures flow { IfOk result (λ flow. DoesAnywhere (instr.Call function arguments otherwise) stack.old.terms flow stack.new.terms) }
-    ensures memory { IsTrue stack.old.borrowed → length stack.old.terms ≤ INLINE_PLACES → length stack.old.terms - arguments < INLINE_PLACES → IsOk result × IsTrue stack.new.borrowed }
+    ensures flow { IfOk result (λ flow. DoesAnywhere (instr.Call function arguments otherwise)
+        stack.old.terms flow stack.new.terms) }
+    ensures memory { IsTrue stack.old.borrowed → length stack.old.terms ≤ INLINE_PLACES
+        → length stack.old.terms - arguments < INLINE_PLACES → IsOk result
+        × IsTrue stack.new.borrowed }
 {
     let value = call_top(alloc, stack, Primitive::Function(function), arguments)?;
     push_or_jump(stack, value, otherwise)
@@ -227,8 +252,10 @@ fn arithmetic<'a, A: Allocator + Copy>(
     otherwise: u16,
 ) -> Result<Flow<'a, A>, AllocError>
     requires { IsReadyAnywhere (instr.Arith function otherwise) stack.old.terms }
-    ensures flow { IfOk result (λ flow. DoesAnywhere (instr.Arith function otherwise) stack.old.terms flow stack.new.terms) }
-    ensures memory { IsTrue stack.old.borrowed → length stack.old.terms ≤ INLINE_PLACES → IsOk result × IsTrue stack.new.borrowed }
+    ensures flow { IfOk result (λ flow. DoesAnywhere (instr.Arith function otherwise)
+        stack.old.terms flow stack.new.terms) }
+    ensures memory { IsTrue stack.old.borrowed → length stack.old.terms ≤ INLINE_PLACES
+        → IsOk result × IsTrue stack.new.borrowed }
 {
     let right = stack.pop();
     let left = stack.pop();
@@ -256,7 +283,8 @@ fn make_tuple<'a, A: Allocator + Copy>(
     otherwise: u16,
 ) -> Result<Flow<'a, A>, AllocError>
     requires { IsReadyAnywhere (instr.MakeTuple size otherwise) stack.old.terms }
-    ensures { IfOk result (λ flow. DoesAnywhere (instr.MakeTuple size otherwise) stack.old.terms flow stack.new.terms) }
+    ensures { IfOk result (λ flow. DoesAnywhere (instr.MakeTuple size otherwise) stack.old.terms
+        flow stack.new.terms) }
 {
     let elements = stack.take(alloc, size)?;
     let tuple = values::tuple_of(alloc, elements)?;
@@ -270,7 +298,8 @@ fn make_list<'a, A: Allocator + Copy>(
     otherwise: u16,
 ) -> Result<Flow<'a, A>, AllocError>
     requires { IsReadyAnywhere (instr.MakeCons otherwise) stack.old.terms }
-    ensures { IfOk result (λ flow. DoesAnywhere (instr.MakeCons otherwise) stack.old.terms flow stack.new.terms) }
+    ensures { IfOk result (λ flow. DoesAnywhere (instr.MakeCons otherwise) stack.old.terms flow
+        stack.new.terms) }
 {
     let tail = stack.pop();
     let head = stack.pop();
@@ -287,7 +316,8 @@ fn make_map<'a, A: Allocator + Copy>(
     otherwise: u16,
 ) -> Result<Flow<'a, A>, AllocError>
     requires { IsReady code.now (instr.MakeMap keys otherwise) stack.old.terms }
-    ensures { IfOk result (λ flow. Does code.now (instr.MakeMap keys otherwise) stack.old.terms flow stack.new.terms) }
+    ensures { IfOk result (λ flow. Does code.now (instr.MakeMap keys otherwise) stack.old.terms flow
+        stack.new.terms) }
 {
     let map = map_of(alloc, &code.constants()[usize::from(keys)], stack)?;
     push_or_jump(stack, map, otherwise)
@@ -311,9 +341,13 @@ pub(crate) fn execute<'a, A: Allocator + Copy>(
     stack: &mut Stack<'a, '_, A>,
     slots: &mut Slots<'a, '_, A>,
 ) -> Result<Flow<'a, A>, AllocError>
-    requires { (pc : ℕ) × (does code.now object.now instr pc stack.old.terms slots.old.bindings ≢ Stuck) }
-    ensures flow { IfOk result (λ flow. (pc : ℕ) → flow_outcome code.now pc flow stack.new.terms slots.new.bindings ≡ does code.now object.now instr pc stack.old.terms slots.old.bindings) }
-    ensures memory { MakesNone instr → HasRoom code.now instr (length stack.old.terms) → AreBorrowed stack.old slots.old → IsOk result × AreBorrowed stack.new slots.new }
+    requires { (pc : ℕ) × (does code.now object.now instr pc stack.old.terms slots.old.bindings
+        ≢ Stuck) }
+    ensures flow { IfOk result (λ flow. (pc : ℕ)
+        → flow_outcome code.now pc flow stack.new.terms slots.new.bindings
+        ≡ does code.now object.now instr pc stack.old.terms slots.old.bindings) }
+    ensures memory { MakesNone instr → HasRoom code.now instr (length stack.old.terms)
+        → AreBorrowed stack.old slots.old → IsOk result × AreBorrowed stack.new slots.new }
 {
     match instr {
         Instr::Load => push(stack, Value::Borrowed(Operand::Term(object))),

@@ -29,7 +29,8 @@ fn pairs_of<'a, A: Allocator + Copy>(
     stack: &mut Stack<'a, '_, A>,
 ) -> Result<Vec<(Term<A>, Term<A>), A>, AllocError>
     requires { length keys.items ≤ length stack.old.terms }
-    ensures pairs { IfOk result (λ pairs. pairs.items ≡ zip keys.items (reverse (take (length keys.items) stack.old.terms))) }
+    ensures pairs { IfOk result (λ pairs. pairs.items
+        ≡ zip keys.items (reverse (take (length keys.items) stack.old.terms))) }
     ensures rest { OnOk result (stack.new.terms ≡ drop (length keys.items) stack.old.terms) }
 {
     let mut keys = keys;
@@ -49,8 +50,11 @@ pub(crate) fn map_of<'a, A: Allocator + Copy>(
 ) -> Result<Option<Value<'a, A>>, AllocError>
     requires keys { IsSome (map_keys keys.now) }
     requires deep { IfSome (map_keys keys.now) (λ keys. length keys ≤ length stack.old.terms) }
-    ensures map { IfOk result (λ map. IfSome (map_keys keys.now) (λ keys. option_map value_datum map ≡ map_made keys (reverse (take (length keys) stack.old.terms)))) }
-    ensures rest { OnOk result (IfSome (map_keys keys.now) (λ keys. stack.new.terms ≡ drop (length keys) stack.old.terms)) }
+    ensures map { IfOk result (λ map. IfSome (map_keys keys.now)
+        (λ keys. option_map value_datum map ≡ map_made keys
+        (reverse (take (length keys) stack.old.terms)))) }
+    ensures rest { OnOk result (IfSome (map_keys keys.now)
+        (λ keys. stack.new.terms ≡ drop (length keys) stack.old.terms)) }
 {
     let keys = elements_of(alloc, keys)?;
     let pairs = pairs_of(alloc, keys, stack)?;

@@ -34,7 +34,8 @@ impl<'a, 'h, A: Allocator + Copy> Place<'a, 'h, A> {
     /// A place for a value. A borrowed one takes no memory.
     pub(crate) fn new(heap: &'h A, value: Value<'a, A>) -> Result<Self, AllocError>
         ensures value { IfOk result (λ place. place_datum place ≡ value_datum value.entry) }
-        ensures memory { IsBorrowed value.entry → IsOkAnd result (λ place. IsTrue (is_borrowed place)) }
+        ensures memory { IsBorrowed value.entry
+            → IsOkAnd result (λ place. IsTrue (is_borrowed place)) }
     {
         match value {
             Value::Borrowed(operand) => Ok(Place::Borrowed(operand)),

@@ -68,7 +68,8 @@ impl<'a, 'h, A: Allocator + Copy> Slots<'a, 'h, A> {
     /// What a slot is bound to. A borrowed value takes no memory.
     pub(crate) fn get(&self, alloc: A, slot: u8) -> Result<Value<'a, A>, AllocError>
         requires { IsSome (binding self.now.bindings slot) }
-        ensures value { IfOk result (λ value. binding self.now.bindings slot ≡ Some (value_datum value)) }
+        ensures value { IfOk result (λ value. binding self.now.bindings slot
+            ≡ Some (value_datum value)) }
         ensures memory { IsTrue self.now.borrowed → IsOkAnd result IsBorrowed }
     {
         let bindings = self.bindings.as_slice();
@@ -81,8 +82,10 @@ impl<'a, 'h, A: Allocator + Copy> Slots<'a, 'h, A> {
     /// Binds a slot. A borrowed value takes no memory.
     pub(crate) fn bind(&mut self, slot: u8, value: Value<'a, A>) -> Result<(), AllocError>
         requires { slot < length self.old.bindings }
-        ensures bindings { OnOk result (self.new.bindings ≡ set self.old.bindings slot (Some (value_datum value.entry))) }
-        ensures memory { IsTrue self.old.borrowed → IsBorrowed value.entry → IsOk result × IsTrue self.new.borrowed }
+        ensures bindings { OnOk result (self.new.bindings
+            ≡ set self.old.bindings slot (Some (value_datum value.entry))) }
+        ensures memory { IsTrue self.old.borrowed → IsBorrowed value.entry → IsOk result
+            × IsTrue self.new.borrowed }
     {
         let place = Place::new(*self.bindings.allocator(), value)?;
         match self.bindings.get_mut(usize::from(slot)) {

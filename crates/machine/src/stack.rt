@@ -47,7 +47,8 @@ impl<'a, 'h, A: Allocator + Copy> Stack<'a, 'h, A> {
     /// Puts a value on the top. A borrowed one takes no memory while there are few places.
     pub(crate) fn push(&mut self, value: Value<'a, A>) -> Result<(), AllocError>
         ensures terms { OnOk result (self.new.terms ≡ value_datum value.entry ∷ self.old.terms) }
-        ensures memory { IsTrue self.old.borrowed → IsBorrowed value.entry → length self.old.terms < INLINE_PLACES → IsOk result × IsTrue self.new.borrowed }
+        ensures memory { IsTrue self.old.borrowed → IsBorrowed value.entry
+            → length self.old.terms < INLINE_PLACES → IsOk result × IsTrue self.new.borrowed }
     {
         let place = Place::new(*self.places.allocator(), value)?;
         self.places.push(place)?;
@@ -87,7 +88,8 @@ impl<'a, 'h, A: Allocator + Copy> Stack<'a, 'h, A> {
     /// The top once more. A borrowed one takes no memory.
     pub(crate) fn copy_top(&self, alloc: A) -> Result<Value<'a, A>, AllocError>
         requires { 0 < length self.now.terms }
-        ensures terms { IfOk result (λ value. self.now.terms ≡ value_datum value ∷ drop 1 self.now.terms) }
+        ensures terms { IfOk result (λ value. self.now.terms
+            ≡ value_datum value ∷ drop 1 self.now.terms) }
         ensures memory { IsTrue self.now.borrowed → IsOkAnd result IsBorrowed }
     {
         self.top_place().copy(alloc)
@@ -110,7 +112,8 @@ impl<'a, 'h, A: Allocator + Copy> Stack<'a, 'h, A> {
         count: u16,
     ) -> Result<Option<SmallVec<Operand<'a, A>, INLINE_PLACES, &'h A>>, AllocError>
         requires { count ≤ length self.now.terms }
-        ensures terms { IfOk result (λ found. IfSome found (λ operands. map operand_datum operands.items ≡ reverse (take count self.now.terms))) }
+        ensures terms { IfOk result (λ found. IfSome found
+            (λ operands. map operand_datum operands.items ≡ reverse (take count self.now.terms))) }
         ensures memory { IsTrue self.now.borrowed → count ≤ INLINE_PLACES → IsOkAnd result IsSome }
     {
         let mut operands = SmallVec::new(*self.places.allocator());
@@ -126,7 +129,8 @@ impl<'a, 'h, A: Allocator + Copy> Stack<'a, 'h, A> {
     /// Takes so many values from the top, and gives them from the lowest.
     pub(crate) fn take(&mut self, alloc: A, count: u16) -> Result<Vec<Value<'a, A>, A>, AllocError>
         requires { count ≤ length self.old.terms }
-        ensures values { IfOk result (λ values. map value_datum values.items ≡ reverse (take count self.old.terms)) }
+        ensures values { IfOk result (λ values. map value_datum values.items
+            ≡ reverse (take count self.old.terms)) }
         ensures rest { OnOk result (self.new.terms ≡ drop count self.old.terms) }
     {
         let mut values = Vec::with_capacity(alloc, usize::from(count))?;

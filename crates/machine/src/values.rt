@@ -37,7 +37,8 @@ pub(crate) fn call_borrowed<'a, A: Allocator>(
     function: Primitive,
     operands: &[Operand<'a, A>],
 ) -> Option<Value<'a, A>>
-    ensures value { option_map value_datum result ≡ function_of function (map operand_datum operands.now) }
+    ensures value { option_map value_datum result
+        ≡ function_of function (map operand_datum operands.now) }
     ensures borrowed { IfSome result IsBorrowed }
 {
     match call(function, operands) {
@@ -52,7 +53,8 @@ pub(crate) fn call_one<'a, A: Allocator + Copy>(
     function: Primitive,
     value: Value<'a, A>,
 ) -> Result<Option<Value<'a, A>>, AllocError>
-    ensures value { IfOk result (λ given. option_map value_datum given ≡ function_of function (value_datum value.entry ∷ [])) }
+    ensures value { IfOk result (λ given. option_map value_datum given
+        ≡ function_of function (value_datum value.entry ∷ [])) }
     ensures memory { IsBorrowed value.entry → IsOkAnd result (λ given. IfSome given IsBorrowed) }
 {
     match borrowed(&value) {
@@ -72,8 +74,10 @@ pub(crate) fn call_two<'a, A: Allocator + Copy>(
     left: Value<'a, A>,
     right: Value<'a, A>,
 ) -> Result<Option<Value<'a, A>>, AllocError>
-    ensures value { IfOk result (λ given. option_map value_datum given ≡ function_of function (value_datum left.entry ∷ value_datum right.entry ∷ [])) }
-    ensures memory { IsBorrowed left.entry → IsBorrowed right.entry → IsOkAnd result (λ given. IfSome given IsBorrowed) }
+    ensures value { IfOk result (λ given. option_map value_datum given
+        ≡ function_of function (value_datum left.entry ∷ value_datum right.entry ∷ [])) }
+    ensures memory { IsBorrowed left.entry → IsBorrowed right.entry
+        → IsOkAnd result (λ given. IfSome given IsBorrowed) }
 {
     if let Some(first) = borrowed(&left) {
         if let Some(second) = borrowed(&right) {
@@ -93,7 +97,8 @@ pub(crate) fn field<'a, A: Allocator + Copy>(
     tuple: Value<'a, A>,
 ) -> Result<Value<'a, A>, AllocError>
     requires { IsSome (field_of index (value_datum tuple)) }
-    ensures value { IfOk result (λ value. field_of index (value_datum tuple.entry) ≡ Some (value_datum value)) }
+    ensures value { IfOk result (λ value. field_of index (value_datum tuple.entry)
+        ≡ Some (value_datum value)) }
     ensures memory { IsBorrowed tuple.entry → IsOkAnd result IsBorrowed }
 {
     let place = Value::Borrowed(Operand::Int(i64::from(index)));
@@ -114,7 +119,8 @@ pub(crate) fn head<'a, A: Allocator + Copy>(
     list: Value<'a, A>,
 ) -> Result<Value<'a, A>, AllocError>
     requires { IsSome (head_of (value_datum list)) }
-    ensures value { IfOk result (λ value. head_of (value_datum list.entry) ≡ Some (value_datum value)) }
+    ensures value { IfOk result (λ value. head_of (value_datum list.entry)
+        ≡ Some (value_datum value)) }
     ensures memory { IsBorrowed list.entry → IsOkAnd result IsBorrowed }
 {
     match call_one(
@@ -133,7 +139,8 @@ pub(crate) fn tail<'a, A: Allocator + Copy>(
     list: Value<'a, A>,
 ) -> Result<Value<'a, A>, AllocError>
     requires { IsSome (tail_behind (value_datum list)) }
-    ensures value { IfOk result (λ value. tail_behind (value_datum list.entry) ≡ Some (value_datum value)) }
+    ensures value { IfOk result (λ value. tail_behind (value_datum list.entry)
+        ≡ Some (value_datum value)) }
     ensures memory { IsBorrowed list.entry → IsOkAnd result IsBorrowed }
 {
     match call_one(
@@ -152,7 +159,8 @@ pub(crate) fn value_of_key<'a, A: Allocator + Copy>(
     key: &'a Term<A>,
     map: Value<'a, A>,
 ) -> Result<Option<Value<'a, A>>, AllocError>
-    ensures value { IfOk result (λ value. option_map value_datum value ≡ map_get_of key.now (value_datum map.entry)) }
+    ensures value { IfOk result (λ value. option_map value_datum value
+        ≡ map_get_of key.now (value_datum map.entry)) }
     ensures memory { IsBorrowed map.entry → IsOkAnd result (λ value. IfSome value IsBorrowed) }
 {
     let key = Value::Borrowed(Operand::Term(key));
@@ -248,7 +256,8 @@ pub(crate) fn tuple_of<'a, A: Allocator + Copy>(
     alloc: A,
     values: Vec<Value<'a, A>, A>,
 ) -> Result<Option<Value<'a, A>>, AllocError>
-    ensures { IfOk result (λ tuple. option_map value_datum tuple ≡ tuple_made (map value_datum values.entry.items)) }
+    ensures { IfOk result (λ tuple. option_map value_datum tuple
+        ≡ tuple_made (map value_datum values.entry.items)) }
 {
     let elements = terms_of(alloc, values)?;
     Ok(made(make_tuple(alloc, elements)?))
@@ -260,7 +269,8 @@ pub(crate) fn list_of<'a, A: Allocator + Copy>(
     head: Value<'a, A>,
     tail: Value<'a, A>,
 ) -> Result<Option<Value<'a, A>>, AllocError>
-    ensures { IfOk result (λ list. option_map value_datum list ≡ within_limits (cons (value_datum head.entry) (value_datum tail.entry))) }
+    ensures { IfOk result (λ list. option_map value_datum list
+        ≡ within_limits (cons (value_datum head.entry) (value_datum tail.entry))) }
 {
     let mut elements = Vec::with_capacity(alloc, 1)?;
     elements.push(head.into_term(alloc)?)?;

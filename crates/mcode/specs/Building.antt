@@ -13,17 +13,38 @@ empty_program slots = record { slots = slots; constants = []; instructions = [];
 -- the code with one more constant
 abbrev pub with_constant : Program → Datum → Program
 with_constant p d =
-    record { slots = p.slots; constants = p.constants ++ d ∷ []; instructions = p.instructions; frames = p.frames }
+    record {
+      slots =
+          p.slots;
+      constants = p.constants ++ d ∷ [];
+      instructions = p.instructions;
+      frames =
+          p.frames;
+    }
 
 -- the code with one more instruction
 abbrev pub with_instruction : Program → Instr → Program
 with_instruction p i =
-    record { slots = p.slots; constants = p.constants; instructions = p.instructions ++ i ∷ []; frames = p.frames }
+    record {
+      slots =
+          p.slots;
+      constants = p.constants;
+      instructions = p.instructions
+          ++ i ∷ [];
+      frames = p.frames;
+    }
 
 -- the code with one more frame
 abbrev pub with_frame : Program → Frame → Program
 with_frame p f =
-    record { slots = p.slots; constants = p.constants; instructions = p.instructions; frames = p.frames ++ f ∷ [] }
+    record {
+      slots =
+          p.slots;
+      constants = p.constants;
+      instructions = p.instructions;
+      frames = p.frames
+          ++ f ∷ [];
+    }
 
 -- what a refusal says where there were so many of the parts: memory only where one more would do
 abbrev pub IsPartRefused : ℕ → Fault → Type 0

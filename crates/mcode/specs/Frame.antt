@@ -10,6 +10,13 @@ abbrev pub frame_of : {A : Type 0} → Frame A → program.Frame
 frame_of f = record { pc = f.pc; depth = f.depth; places = f.places; slots = f.slots }
 
 -- the code of these parts
-abbrev pub program_of : {A : Type 0} → ℕ → List Datum → List Instr → List (Frame A) → program.Program
+abbrev pub program_of : {A : Type 0} → ℕ → List Datum → List Instr → List (Frame A)
+    → program.Program
 program_of slots constants instructions frames =
-    record { slots = slots; constants = constants; instructions = instructions; frames = map frame_of frames }
+    record {
+      slots =
+          slots;
+      constants = constants;
+      instructions = instructions;
+      frames = map frame_of frames;
+    }

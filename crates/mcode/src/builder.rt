@@ -57,7 +57,8 @@ fn is_ordered<A: Allocator>(frame: &Frame<A>) -> bool
 /// Whether a frame stands above the last of these, which rise.
 fn is_above<A: Allocator>(frames: &[Frame<A>], frame: &Frame<A>) -> bool
     requires { Rise frame_number (map frame_of frames.now) }
-    ensures { IsTrue result ↔ Rise frame_number (map frame_of frames.now ++ frame_of frame.now ∷ []) }
+    ensures { IsTrue result ↔ Rise frame_number
+        (map frame_of frames.now ++ frame_of frame.now ∷ []) }
 {
     match frames.last() {
         Some(last) => last.pc < frame.pc,
@@ -71,7 +72,8 @@ fn frame_fault<A: Allocator>(frames: &[Frame<A>], frame: &Frame<A>) -> Option<Fa
     requires { Rise frame_number (map frame_of frames.now) }
     ensures fits { IfNone result (¬ IsFrameTooMany (map frame_of frames.now) (frame_of frame.now)) }
     ensures next { IfNone result (IsNextFrame (map frame_of frames.now) (frame_of frame.now)) }
-    ensures refused { IfSome result (λ fault. IsFrameRefused (map frame_of frames.now) (frame_of frame.now) fault) }
+    ensures refused { IfSome result (λ fault. IsFrameRefused (map frame_of frames.now)
+        (frame_of frame.now) fault) }
 {
     if frames.len() >= MAX_COUNT {
         return Some(Fault::Limit);
@@ -132,9 +134,11 @@ impl<A: Allocator> Builder<A> {
 
     /// Adds a constant and answers its number, from 0. More than `MAX_COUNT` are refused.
     pub fn constant(&mut self, term: Term<A>) -> Result<u16, Refused<Term<A>, Fault>>
-        ensures ok { IfOk result (λ number. (self.new ≡ with_constant self.old term) × (number ≡ length self.old.constants)) }
+        ensures ok { IfOk result (λ number. (self.new ≡ with_constant self.old term)
+            × (number ≡ length self.old.constants)) }
         ensures kept { OnErr result (self.new ≡ self.old) }
-        ensures refused { IfErr result (λ r. (r.value ≡ term) × IsPartRefused (length self.old.constants) r.fault) }
+        ensures refused { IfErr result (λ r. (r.value ≡ term)
+            × IsPartRefused (length self.old.constants) r.fault) }
     {
         let number = self.code.constants().len();
         if number >= MAX_COUNT {
@@ -154,9 +158,11 @@ impl<A: Allocator> Builder<A> {
 
     /// Adds an instruction and answers its number, from 0. More than `MAX_COUNT` are refused.
     pub fn instr(&mut self, instr: Instr) -> Result<u16, Fault>
-        ensures ok { IfOk result (λ number. (self.new ≡ with_instruction self.old instr) × (number ≡ length self.old.instructions)) }
+        ensures ok { IfOk result (λ number. (self.new ≡ with_instruction self.old instr)
+            × (number ≡ length self.old.instructions)) }
         ensures kept { OnErr result (self.new ≡ self.old) }
-        ensures refused { IfErr result (λ fault. IsPartRefused (length self.old.instructions) fault) }
+        ensures refused { IfErr result (λ fault. IsPartRefused (length self.old.instructions)
+            fault) }
     {
         let number = self.code.instructions().len();
         if number >= MAX_COUNT {
@@ -172,9 +178,11 @@ impl<A: Allocator> Builder<A> {
     /// `MAX_COUNT` frames, or places of one, are refused.
     pub fn frame(&mut self, frame: Frame<A>) -> Result<(), Refused<Frame<A>, Fault>>
         ensures ok { OnOk result (self.new ≡ with_frame self.old (frame_of frame)) }
-        ensures next { OnOk result ((¬ IsFrameTooMany self.old.frames (frame_of frame)) × IsNextFrame self.old.frames (frame_of frame)) }
+        ensures next { OnOk result ((¬ IsFrameTooMany self.old.frames (frame_of frame))
+            × IsNextFrame self.old.frames (frame_of frame)) }
         ensures kept { OnErr result (self.new ≡ self.old) }
-        ensures refused { IfErr result (λ r. (frame_of r.value ≡ frame_of frame) × IsFrameRefused self.old.frames (frame_of frame) r.fault) }
+        ensures refused { IfErr result (λ r. (frame_of r.value ≡ frame_of frame)
+            × IsFrameRefused self.old.frames (frame_of frame) r.fault) }
     {
         if let Some(fault) = frame_fault(self.code.frames(), &frame) {
             return Err(Refused {

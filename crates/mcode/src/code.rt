@@ -30,7 +30,8 @@ fn add_frame<A: Allocator>(
     requires frames { AreFrames (map frame_of frames.old.items) }
     requires fits { ¬ IsFrameTooMany (map frame_of frames.old.items) (frame_of frame) }
     requires next { IsNextFrame (map frame_of frames.old.items) (frame_of frame) }
-    ensures items { OnOk result (map frame_of frames.new.items ≡ map frame_of frames.old.items ++ frame_of frame ∷ []) }
+    ensures items { OnOk result (map frame_of frames.new.items ≡ map frame_of frames.old.items
+        ++ frame_of frame ∷ []) }
     ensures frames { AreFrames (map frame_of frames.new.items) }
     ensures count { length (map frame_of frames.new.items) ≤ most_parts }
     ensures kept { OnErr result (frames.new.items ≡ frames.old.items) }

@@ -27,18 +27,23 @@ abbrev pub IsOver : List ℕ → (ℕ → Option Datum) → Type 0
 IsOver vs s = (n : ℕ) → is_among vs n ≡ false → s n ≡ None
 
 -- the new slots are the old ones with what the claim asks for, and no more
-pub record Binds (vs : List ℕ) (old new : List (Option Datum)) (Claim : (ℕ → Option Datum) → Type 0) : Type 0 where
+pub record Binds (vs : List ℕ) (old new : List (Option Datum)) (Claim : (ℕ → Option Datum) → Type 0)
+    : Type 0 where
   pub grown : Extends (assigned vs old) (assigned vs new)
   pub holds : Claim (assigned vs new)
-  pub least : (s : ℕ → Option Datum) → IsOver vs s → Extends (assigned vs old) s → Claim s → Extends (assigned vs new) s
+  pub least : (s : ℕ → Option Datum) → IsOver vs s → Extends (assigned vs old) s → Claim s
+      → Extends (assigned vs new) s
 
 -- whatever values the free variables get, the claim doesn't hold
 abbrev pub NeverHolds : List ℕ → List (Option Datum) → ((ℕ → Option Datum) → Type 0) → Type 0
-NeverHolds vs old Claim = (s : ℕ → Option Datum) → IsOver vs s → Extends (assigned vs old) s → Claim s → ⊥
+NeverHolds vs old Claim =
+    (s : ℕ → Option Datum) → IsOver vs s → Extends (assigned vs old) s → Claim s → ⊥
 
 -- an answer whether the slots could be bound as the claim asks
-abbrev pub Answers : Bool → List ℕ → List (Option Datum) → List (Option Datum) → ((ℕ → Option Datum) → Type 0) → Type 0
-Answers answer vs old new Claim = MatchBool answer (Binds vs old new Claim) (NeverHolds vs old Claim)
+abbrev pub Answers : Bool → List ℕ → List (Option Datum) → List (Option Datum)
+    → ((ℕ → Option Datum) → Type 0) → Type 0
+Answers answer vs old new Claim =
+    MatchBool answer (Binds vs old new Claim) (NeverHolds vs old Claim)
 
 -- every slot is free
 abbrev pub AreFree : List (Option Datum) → Type 0
@@ -65,4 +70,5 @@ NeverMatches p t = (s : Substitution) → Matches p s t → ⊥
 -- each variable of the clause's head has a slot, and what the slots hold makes the head match
 abbrev pub MatchesBy : {A : Type 0} → Clause → Vec (Option (Part A)) A → Datum → Type 0
 MatchesBy c slots t =
-    (length slots.items ≡ length (clause_variables c)) × Matches c.head (substitution_of (clause_variables c) (seen slots.items)) t
+    (length slots.items ≡ length (clause_variables c))
+    × Matches c.head (substitution_of (clause_variables c) (seen slots.items)) t

@@ -25,7 +25,8 @@ fn bind_variable<'a, A: Allocator + Copy>(
     part: Part<'a, A>,
 ) -> bool
     requires { length slots.old ≡ length variables.now }
-    ensures { Answers result variables.now (seen slots.old) (seen slots.new) (λ s. s number ≡ Some (part_of part.entry)) }
+    ensures { Answers result variables.now (seen slots.old) (seen slots.new)
+        (λ s. s number ≡ Some (part_of part.entry)) }
 {
     let Some(rank) = variables.rank(number) else {
         return false;
@@ -48,7 +49,8 @@ pub(crate) fn bind<'a, A: Allocator + Copy>(
     part: Part<'a, A>,
 ) -> bool
     requires { length slots.old ≡ length variables.now }
-    ensures { Answers result variables.now (seen slots.old) (seen slots.new) (λ s. Fits pattern.now s (part_of part.entry)) }
+    ensures { Answers result variables.now (seen slots.old) (seen slots.new)
+        (λ s. Fits pattern.now s (part_of part.entry)) }
 {
     match pattern.kind() {
         PatternKind::Anything => true,
@@ -88,7 +90,8 @@ fn bind_all<'a, A: Allocator + Copy>(
     terms: &'a [Term<A>],
 ) -> bool
     requires { length slots.old ≡ length variables.now }
-    ensures { Answers result variables.now (seen slots.old) (seen slots.new) (λ s. AllFit (patterns_of patterns.now) s (items_of terms.entry.now)) }
+    ensures { Answers result variables.now (seen slots.old) (seen slots.new)
+        (λ s. AllFit (patterns_of patterns.now) s (items_of terms.entry.now)) }
 {
     if patterns.len() != terms.len() {
         return false;
@@ -111,7 +114,8 @@ fn bind_fields<'a, A: Allocator + Copy>(
 ) -> bool
     requires slots { length slots.old ≡ length variables.now }
     requires sound { ArePairsSound (entries_of pairs.now) }
-    ensures { Answers result variables.now (seen slots.old) (seen slots.new) (λ s. FieldsFit (fields_of fields.now) s (entries_of pairs.entry.now)) }
+    ensures { Answers result variables.now (seen slots.old) (seen slots.new)
+        (λ s. FieldsFit (fields_of fields.now) s (entries_of pairs.entry.now)) }
 {
     for (key, pattern) in fields {
         let Some(value) = find(pairs, key) else {

@@ -17,7 +17,8 @@ pub(crate) fn called<'a, A: Allocator + Copy>(
     function: Primitive,
     values: &[Value<'a, A>],
 ) -> Result<Option<Value<'a, A>>, AllocError>
-    ensures { IfOk result (λ value. option_map value_datum value ≡ or_failed mode (function_of function (map value_datum values.now))) }
+    ensures { IfOk result (λ value. option_map value_datum value
+        ≡ or_failed mode (function_of function (map value_datum values.now))) }
 {
     match call_values(alloc, function, values)? {
         Some(value) => Ok(Some(value)),

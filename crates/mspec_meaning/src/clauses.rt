@@ -15,7 +15,8 @@ use term_core::Term;
 
 /// Whether a value is the atom `true`.
 fn is_true<A: Allocator + Copy>(value: Value<'_, A>) -> bool
-    ensures { MatchBool result (value_datum value.entry ≡ true_term) (value_datum value.entry ≡ true_term → ⊥) }
+    ensures { MatchBool result (value_datum value.entry ≡ true_term)
+        (value_datum value.entry ≡ true_term → ⊥) }
 {
     match value.into_boolean() {
         Some(true) => true,
@@ -95,7 +96,8 @@ fn body_answer<'a, A: Allocator + Copy>(
     object: &'a Term<A>,
 ) -> Result<Option<Term<A>>, AllocError>
     requires { length slots.now ≡ length variables.now }
-    ensures { IfOk result (λ answer. answer ≡ body_value body.now (substitution_of variables.now (seen slots.now)) object.now) }
+    ensures { IfOk result (λ answer. answer ≡ body_value body.now
+        (substitution_of variables.now (seen slots.now)) object.now) }
 {
     let Some(last) = body.last() else {
         return Ok(None);

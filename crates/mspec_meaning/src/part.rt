@@ -52,7 +52,8 @@ fn same_terms<A: Allocator>(a: &[Term<A>], b: &[Term<A>]) -> bool
 
 /// Whether two tails are the same.
 fn same_tail<A: Allocator>(a: Option<&Term<A>>, b: Option<&Term<A>>) -> bool
-    ensures { MatchBool result (option_copied a.entry ≡ option_copied b.entry) (option_copied a.entry ≡ option_copied b.entry → ⊥) }
+    ensures { MatchBool result (option_copied a.entry ≡ option_copied b.entry)
+        (option_copied a.entry ≡ option_copied b.entry → ⊥) }
 {
     match (a, b) {
         (None, None) => true,
@@ -81,7 +82,8 @@ fn split_behind<'a, A: Allocator>(
     count: usize,
 ) -> Split<'a, A>
     requires { IsListSplit elements.now (option_copied tail) }
-    ensures value { joined result ≡ rest_of count (cells elements.now (tail_of (option_copied tail.entry))) }
+    ensures value { joined result ≡ rest_of count
+        (cells elements.now (tail_of (option_copied tail.entry))) }
     ensures well { IsWellSplit result }
 {
     if count < elements.len() {
@@ -95,7 +97,8 @@ fn split_behind<'a, A: Allocator>(
 
 /// Whether two parts are the same term.
 pub(crate) fn same_part<A: Allocator + Copy>(a: Part<'_, A>, b: Part<'_, A>) -> bool
-    ensures { MatchBool result (part_of a.entry ≡ part_of b.entry) (part_of a.entry ≡ part_of b.entry → ⊥) }
+    ensures { MatchBool result (part_of a.entry ≡ part_of b.entry)
+        (part_of a.entry ≡ part_of b.entry → ⊥) }
 {
     match (a.split(), b.split()) {
         (Split::List(xs, t), Split::List(ys, u)) => same_terms(xs, ys) && same_tail(t, u),
@@ -130,7 +133,8 @@ impl<'a, A: Allocator + Copy> Part<'a, A> {
 
     /// The elements, where the part is a tuple.
     pub(crate) fn elements(self) -> Option<&'a [Term<A>]>
-        ensures found { IfSome result (λ elements. tuple (items_of elements.now) ≡ part_of self.entry) }
+        ensures found { IfSome result (λ elements. tuple (items_of elements.now)
+            ≡ part_of self.entry) }
         ensures missing { IfNone result (IsNoTuple (part_of self.entry)) }
     {
         match self.split() {
@@ -164,7 +168,8 @@ impl<'a, A: Allocator + Copy> Part<'a, A> {
     /// So many elements from the front of a list, where there are as many.
     pub(crate) fn front(self, count: usize) -> Option<&'a [Term<A>]>
         requires { 0 < count }
-        ensures found { IfSome result (λ front. (length front.now ≡ count) × (cells front.now (rest_of count (part_of self.entry)) ≡ part_of self.entry)) }
+        ensures found { IfSome result (λ front. (length front.now ≡ count)
+            × (cells front.now (rest_of count (part_of self.entry)) ≡ part_of self.entry)) }
         ensures missing { IfNone result (cell_count (part_of self.entry) < count) }
     {
         match self.split() {

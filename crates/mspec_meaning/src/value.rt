@@ -35,7 +35,8 @@ fn bound<'a, A: Allocator + Copy>(
     number: u32,
 ) -> Option<Value<'a, A>>
     requires { length slots.now ≡ length variables.now }
-    ensures { option_map value_datum result ≡ lookup (substitution_of variables.now (seen slots.now)) number }
+    ensures { option_map value_datum result ≡ lookup
+        (substitution_of variables.now (seen slots.now)) number }
 {
     match variables.rank(number) {
         Some(rank) => match slots[rank] {
@@ -53,7 +54,8 @@ fn push_entry<A: Allocator + Copy>(
     key: &Term<A>,
     value: Value<'_, A>,
 ) -> Result<(), AllocError>
-    ensures { OnOk result (pairs.new.items ≡ pairs.old.items ++ (key.now, value_datum value.entry) ∷ []) }
+    ensures { OnOk result (pairs.new.items ≡ pairs.old.items
+        ++ (key.now, value_datum value.entry) ∷ []) }
 {
     let name = key.copy(alloc)?;
     let term = value.into_term(alloc)?;
@@ -72,7 +74,9 @@ pub(crate) fn value_of<'a, A: Allocator + Copy>(
     object: &'a Term<A>,
 ) -> Result<Option<Value<'a, A>>, AllocError>
     requires { length slots.now ≡ length variables.now }
-    ensures { IfOk result (λ value. option_map value_datum value ≡ value_under mode expression.now (substitution_of variables.now (seen slots.now)) object.now) }
+    ensures { IfOk result (λ value. option_map value_datum value
+        ≡ value_under mode expression.now (substitution_of variables.now (seen slots.now))
+        object.now) }
 {
     match expression.kind() {
         ExpressionKind::Variable(number) => Ok(bound(variables, slots, *number)),
@@ -129,7 +133,9 @@ fn argument_values<'a, A: Allocator + Copy>(
     object: &'a Term<A>,
 ) -> Result<Option<Vec<Value<'a, A>, A>>, AllocError>
     requires { length slots.now ≡ length variables.now }
-    ensures { IfOk result (λ found. option_map (λ values. map value_datum values.items) found ≡ values_under mode (expressions_of arguments.now) (substitution_of variables.now (seen slots.now)) object.now) }
+    ensures { IfOk result (λ found. option_map (λ values. map value_datum values.items) found
+        ≡ values_under mode (expressions_of arguments.now)
+        (substitution_of variables.now (seen slots.now)) object.now) }
 {
     let mut values = Vec::with_capacity(alloc, arguments.len())?;
     for argument in arguments {
@@ -152,7 +158,9 @@ fn element_values<'a, A: Allocator + Copy>(
     object: &'a Term<A>,
 ) -> Result<Option<Vec<Term<A>, A>>, AllocError>
     requires { length slots.now ≡ length variables.now }
-    ensures { IfOk result (λ found. option_map (λ terms. terms.items) found ≡ values_under mode (expressions_of elements.now) (substitution_of variables.now (seen slots.now)) object.now) }
+    ensures { IfOk result (λ found. option_map (λ terms. terms.items) found
+        ≡ values_under mode (expressions_of elements.now)
+        (substitution_of variables.now (seen slots.now)) object.now) }
 {
     let mut terms = Vec::with_capacity(alloc, elements.len())?;
     for element in elements {
@@ -175,7 +183,8 @@ fn tail_value<'a, A: Allocator + Copy>(
     object: &'a Term<A>,
 ) -> Result<Option<Term<A>>, AllocError>
     requires { length slots.now ≡ length variables.now }
-    ensures { IfOk result (λ value. value ≡ value_under mode (tail_expression tail.now) (substitution_of variables.now (seen slots.now)) object.now) }
+    ensures { IfOk result (λ value. value ≡ value_under mode (tail_expression tail.now)
+        (substitution_of variables.now (seen slots.now)) object.now) }
 {
     let Some(tail) = tail else {
         return Ok(Some(Term::nil()));
@@ -198,7 +207,11 @@ fn list_value<'a, A: Allocator + Copy>(
     object: &'a Term<A>,
 ) -> Result<Option<Value<'a, A>>, AllocError>
     requires { length slots.now ≡ length variables.now }
-    ensures { IfOk result (λ value. option_map value_datum value ≡ made_of mode (joined_to (values_under mode (expressions_of elements.now) (substitution_of variables.now (seen slots.now)) object.now) (value_under mode (tail_expression tail.now) (substitution_of variables.now (seen slots.now)) object.now))) }
+    ensures { IfOk result (λ value. option_map value_datum value
+        ≡ made_of mode (joined_to (values_under mode (expressions_of elements.now)
+        (substitution_of variables.now (seen slots.now)) object.now)
+        (value_under mode (tail_expression tail.now)
+        (substitution_of variables.now (seen slots.now)) object.now))) }
 {
     let Some(elements) = element_values(alloc, mode, elements, variables, slots, object)? else {
         return Ok(None);
@@ -220,7 +233,9 @@ fn entry_values<'a, A: Allocator + Copy>(
     object: &'a Term<A>,
 ) -> Result<Option<Vec<(Term<A>, Term<A>), A>>, AllocError>
     requires { length slots.now ≡ length variables.now }
-    ensures { IfOk result (λ found. option_map (λ pairs. entries_of pairs.items) found ≡ entries_under mode (assignments_of assignments.now) (substitution_of variables.now (seen slots.now)) object.now) }
+    ensures { IfOk result (λ found. option_map (λ pairs. entries_of pairs.items) found
+        ≡ entries_under mode (assignments_of assignments.now)
+        (substitution_of variables.now (seen slots.now)) object.now) }
 {
     let mut pairs = Vec::with_capacity(alloc, assignments.len())?;
     for (key, expression) in assignments {
@@ -243,7 +258,9 @@ fn all_true<'a, A: Allocator + Copy>(
     object: &'a Term<A>,
 ) -> Result<Option<Value<'a, A>>, AllocError>
     requires { length slots.now ≡ length variables.now }
-    ensures { IfOk result (λ value. option_map value_datum value ≡ all_true_under mode (expressions_of arguments.now) (substitution_of variables.now (seen slots.now)) object.now) }
+    ensures { IfOk result (λ value. option_map value_datum value
+        ≡ all_true_under mode (expressions_of arguments.now)
+        (substitution_of variables.now (seen slots.now)) object.now) }
 {
     for argument in arguments {
         let Some(value) = value_of(alloc, mode, argument, variables, slots, object)? else {
@@ -269,7 +286,9 @@ fn any_true<'a, A: Allocator + Copy>(
     object: &'a Term<A>,
 ) -> Result<Option<Value<'a, A>>, AllocError>
     requires { length slots.now ≡ length variables.now }
-    ensures { IfOk result (λ value. option_map value_datum value ≡ any_true_under mode (expressions_of arguments.now) (substitution_of variables.now (seen slots.now)) object.now) }
+    ensures { IfOk result (λ value. option_map value_datum value
+        ≡ any_true_under mode (expressions_of arguments.now)
+        (substitution_of variables.now (seen slots.now)) object.now) }
 {
     for argument in arguments {
         let Some(value) = value_of(alloc, mode, argument, variables, slots, object)? else {

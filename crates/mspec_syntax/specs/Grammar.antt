@@ -49,7 +49,8 @@ abbrev mutual
 
   pub entries_mention : (Word → Bool) → Entries → Bool
   entries_mention test no_entries = false
-  entries_mention test (entry k v es) = mentions test k || (mentions test v || entries_mention test es)
+  entries_mention test (entry k v es) =
+      mentions test k || (mentions test v || entries_mention test es)
 
 -- a key that stands for itself
 pub record IsKey (k : Datum) : Type 0 where
@@ -125,31 +126,36 @@ abbrev mutual
   IsExpression variables (tuple ds) e = IsTupleExpression variables ds e
   IsExpression variables (map es) (new_map ms) = AreAssignments variables es ms
   IsExpression variables nil e = e ≡ constant nil
-  IsExpression variables (cons head tail) (new_cell e f) = IsExpression variables head e × IsExpression variables tail f
+  IsExpression variables (cons head tail) (new_cell e f) =
+      IsExpression variables head e × IsExpression variables tail f
   IsExpression variables (binary bs) e = e ≡ constant (binary bs)
   IsExpression variables d e = ⊥
 
   -- the elements of a tuple: an atom that calls something and its arguments, or one tuple, whose elements are to be made
   pub IsTupleExpression : List ℕ → Items → Expression → Type 0
-  IsTupleExpression variables (item (atom cs) ds) e = IsCall (callee_of cs (item_count ds)) (AreParts variables ds) ds e
+  IsTupleExpression variables (item (atom cs) ds) e =
+      IsCall (callee_of cs (item_count ds)) (AreParts variables ds) ds e
   IsTupleExpression variables (item (tuple ds) no_items) (new_tuple es) = AreParts variables ds es
   IsTupleExpression variables ds e = ⊥
 
   -- arguments or elements, each an expression
   pub AreParts : List ℕ → Items → Expressions → Type 0
   AreParts variables no_items no_expressions = Unit {0}
-  AreParts variables (item d ds) (expression e es) = IsExpression variables d e × AreParts variables ds es
+  AreParts variables (item d ds) (expression e es) =
+      IsExpression variables d e × AreParts variables ds es
   AreParts variables ds es = ⊥
 
   -- the pairs of a map, whose keys stand for themselves, each value an expression
   pub AreAssignments : List ℕ → Entries → Assignments → Type 0
   AreAssignments variables no_entries no_assignments = Unit {0}
-  AreAssignments variables (entry k v es) (assignment l e ms) = (l ≡ k) × IsExpression variables v e × AreAssignments variables es ms
+  AreAssignments variables (entry k v es) (assignment l e ms) =
+      (l ≡ k) × IsExpression variables v e × AreAssignments variables es ms
   AreAssignments variables es ms = ⊥
 
 abbrev pub AreExpressions : List ℕ → List Datum → List Expression → Type 0
 AreExpressions variables [] [] = Unit {0}
-AreExpressions variables (d ∷ ds) (e ∷ es) = IsExpression variables d e × AreExpressions variables ds es
+AreExpressions variables (d ∷ ds) (e ∷ es) =
+    IsExpression variables d e × AreExpressions variables ds es
 AreExpressions variables ds es = ⊥
 
 -- the elements of a list of conditions

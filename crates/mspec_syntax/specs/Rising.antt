@@ -3,7 +3,8 @@ use Rattle.std.specs.Prelude.{ℕ, ◌==◌, nat_lt, if◌then◌else◌, List, 
 
 abbrev pub insert_rising : ℕ → List ℕ → List ℕ
 insert_rising n [] = n ∷ []
-insert_rising n (m ∷ ms) = if nat_lt n m then n ∷ m ∷ ms else if n == m then m ∷ ms else m ∷ insert_rising n ms
+insert_rising n (m ∷ ms) =
+    if nat_lt n m then n ∷ m ∷ ms else if n == m then m ∷ ms else m ∷ insert_rising n ms
 
 abbrev pub rising : List ℕ → List ℕ
 rising [] = []

@@ -134,7 +134,8 @@ fn collect_all<A: Allocator>(
     patterns: &[Pattern<A>],
     numbers: &mut Vec<u32, A>,
 ) -> Result<(), AllocError>
-    ensures { OnOk result (numbers.new.items ≡ numbers.old.items ++ patterns_variables (patterns_of patterns.now)) }
+    ensures { OnOk result (numbers.new.items ≡ numbers.old.items
+        ++ patterns_variables (patterns_of patterns.now)) }
 {
     for pattern in patterns {
         collect(pattern, numbers)?;
@@ -148,7 +149,8 @@ fn collect_fields<A: Allocator>(
     fields: &[(Term<A>, Pattern<A>)],
     numbers: &mut Vec<u32, A>,
 ) -> Result<(), AllocError>
-    ensures { OnOk result (numbers.new.items ≡ numbers.old.items ++ fields_variables (fields_of fields.now)) }
+    ensures { OnOk result (numbers.new.items ≡ numbers.old.items
+        ++ fields_variables (fields_of fields.now)) }
 {
     for (_, pattern) in fields {
         collect(pattern, numbers)?;

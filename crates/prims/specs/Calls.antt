@@ -1,4 +1,5 @@
--- What each function gives: a partial function on lists of terms, none where the call fails (ERTS User's Guide, "Match Specifications in Erlang"; Erlang Reference Manual, module erlang).
+-- What each function gives: a partial function on lists of terms, none where the call fails (ERTS User's
+-- Guide, "Match Specifications in Erlang"; Erlang Reference Manual, module erlang).
 use Rattle.std.specs.Prelude.{ℤ, List, [], ◌∷◌, Option, Some, None}
 use Rattle.std.specs.Option.{option_map, option_and_then}
 use Rattle.term_core.specs.Datum.{Datum}
@@ -24,7 +25,8 @@ use Rattle.prims.specs.declared.prim.MapFunction.TheVariants.{IsMapKey, MapGet, 
 -- what a function gives of one term
 abbrev pub unary_of : Function → Datum → Option Datum
 unary_of (function.Test test) d = Some (boolean (test_of test d))
-unary_of (function.Integer of_integer) d = option_map integer (option_and_then (integer_function_of of_integer) (integer_of d))
+unary_of (function.Integer of_integer) d =
+    option_map integer (option_and_then (integer_function_of of_integer) (integer_of d))
 unary_of (function.List Hd) d = head_of d
 unary_of (function.List Tl) d = tail_behind d
 unary_of (function.List Length) d = option_map integer (length_of d)
@@ -53,7 +55,8 @@ ternary_of f d e g = None
 
 -- what a function but those of two integers gives of a list of terms, none where it takes another number of them
 abbrev pub value_of_function : Function → List Datum → Option Datum
-value_of_function (function.Boolean boolean_function) ds = option_map boolean (boolean_function_of boolean_function ds)
+value_of_function (function.Boolean boolean_function) ds =
+    option_map boolean (boolean_function_of boolean_function ds)
 value_of_function f (d ∷ []) = unary_of f d
 value_of_function f (d ∷ e ∷ []) = binary_of f d e
 value_of_function f (d ∷ e ∷ g ∷ []) = ternary_of f d e g
@@ -61,7 +64,8 @@ value_of_function f ds = None
 
 -- what a function of two integers gives of a list of terms
 abbrev pub value_of_arithmetic : Arithmetic → List Datum → Option Datum
-value_of_arithmetic arithmetic (d ∷ e ∷ []) = option_map integer (at_integers (arithmetic_of arithmetic) (integer_of d) (integer_of e))
+value_of_arithmetic arithmetic (d ∷ e ∷ []) =
+    option_map integer (at_integers (arithmetic_of arithmetic) (integer_of d) (integer_of e))
 value_of_arithmetic arithmetic ds = None
 
 -- what a function gives of a list of terms

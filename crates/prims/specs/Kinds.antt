@@ -6,7 +6,8 @@ use Rattle.prims.specs.Booleans.{boolean_of}
 use Rattle.prims.specs.declared.prim.Test.{Test}
 use Rattle.prims.specs.declared.prim.Test.TheVariants.{IsAtom, IsInteger, IsList, IsNumber, IsTuple, IsMap, IsBinary, IsBitstring, IsBoolean}
 
--- Whether the term is of the kind. Integers are the only numbers, binaries the only bit strings, and there are no floats, pids, ports, references and functions.
+-- Whether the term is of the kind. Integers are the only numbers, binaries the only bit strings, and there
+-- are no floats, pids, ports, references and functions.
 abbrev pub test_of : Test → Datum → Bool
 test_of IsAtom (atom cs) = true
 test_of IsInteger (integer z) = true

@@ -37,7 +37,8 @@ fn at_integers<A: Allocator>(
     left: Operand<'_, A>,
     right: Operand<'_, A>,
 ) -> Option<i64>
-    ensures { result ≡ at_integers (arithmetic_of function) (integer_of (operand_datum left.entry)) (integer_of (operand_datum right.entry)) }
+    ensures { result ≡ at_integers (arithmetic_of function) (integer_of (operand_datum left.entry))
+        (integer_of (operand_datum right.entry)) }
 {
     integers::of_two(function, left.integer()?, right.integer()?)
 }
@@ -48,7 +49,8 @@ fn of_two<'a, A: Allocator>(
     left: Operand<'a, A>,
     right: Operand<'a, A>,
 ) -> Option<Operand<'a, A>>
-    ensures { option_map operand_datum result ≡ binary_of function (operand_datum left.entry) (operand_datum right.entry) }
+    ensures { option_map operand_datum result
+        ≡ binary_of function (operand_datum left.entry) (operand_datum right.entry) }
 {
     match function {
         Function::Comparison(comparison) => {
@@ -73,7 +75,9 @@ fn of_three<'a, A: Allocator>(
     second: Operand<'a, A>,
     third: Operand<'a, A>,
 ) -> Option<Operand<'a, A>>
-    ensures { option_map operand_datum result ≡ ternary_of function (operand_datum first.entry) (operand_datum second.entry) (operand_datum third.entry) }
+    ensures { option_map operand_datum result
+        ≡ ternary_of function (operand_datum first.entry) (operand_datum second.entry)
+        (operand_datum third.entry) }
 {
     match function {
         Function::Tuple(TupleFunction::IsRecord) => {
@@ -88,7 +92,8 @@ fn of_any<'a, A: Allocator>(
     function: Function,
     operands: &[Operand<'a, A>],
 ) -> Option<Operand<'a, A>>
-    ensures { option_map operand_datum result ≡ value_of_function function (map operand_datum operands.now) }
+    ensures { option_map operand_datum result
+        ≡ value_of_function function (map operand_datum operands.now) }
 {
     if let Function::Boolean(function) = function {
         return Some(Operand::Bool(booleans::call(function, operands)?));
@@ -106,7 +111,8 @@ fn of_integers<'a, A: Allocator>(
     function: Arithmetic,
     operands: &[Operand<'a, A>],
 ) -> Option<Operand<'a, A>>
-    ensures { option_map operand_datum result ≡ value_of_arithmetic function (map operand_datum operands.now) }
+    ensures { option_map operand_datum result
+        ≡ value_of_arithmetic function (map operand_datum operands.now) }
 {
     match operands {
         [left, right] => Some(Operand::Int(at_integers(function, *left, *right)?)),
@@ -122,7 +128,8 @@ pub fn call<'a, A: Allocator>(
     prim: Primitive,
     operands: &[Operand<'a, A>],
 ) -> Option<Operand<'a, A>>
-    ensures value { option_map operand_datum result ≡ function_of prim (map operand_datum operands.now) }
+    ensures value { option_map operand_datum result
+        ≡ function_of prim (map operand_datum operands.now) }
     ensures kind { IfSome result (λ v. IsGiven (gives_of prim) (operand_datum v)) }
 {
     match prim {

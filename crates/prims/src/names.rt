@@ -303,7 +303,8 @@ impl Primitive {
     /// The function of that name that takes so many arguments, none where there is none.
     pub fn named(name: &[char], arguments: usize) -> Option<Primitive>
         ensures value { result ≡ spec.named name.now arguments }
-        ensures table { (p : AnyPrimitive) → (result ≡ Some p) ↔ ((spec.name_of p ≡ name.now) × IsTrue (spec.takes p arguments)) }
+        ensures table { (p : AnyPrimitive) → (result ≡ Some p)
+            ↔ ((spec.name_of p ≡ name.now) × IsTrue (spec.takes p arguments)) }
     {
         find(&ALL, name, arguments)
     }

@@ -85,7 +85,8 @@ fn split_behind<'a, A: Allocator>(
     list: &'a Term<A>,
     count: usize,
 ) -> Option<(&'a Term<A>, Operand<'a, A>)>
-    ensures { MatchOption result (IsNoCell (rest_of count list.now)) (λ p. cons p.0.now (operand_datum p.1) ≡ rest_of count list.now) }
+    ensures { MatchOption result (IsNoCell (rest_of count list.now))
+        (λ p. cons p.0.now (operand_datum p.1) ≡ rest_of count list.now) }
 {
     match View::behind(list, count) {
         View::List(head, _, _) => Some((head, Operand::Rest(list, count + 1))),
@@ -95,7 +96,8 @@ fn split_behind<'a, A: Allocator>(
 
 /// What is left of a list, where that stands whole.
 fn whole_behind<A: Allocator>(list: &Term<A>, count: usize) -> Option<&Term<A>>
-    ensures { MatchOption result (IsSimple (rest_of count list.now)) (λ t. t.now ≡ rest_of count list.now) }
+    ensures { MatchOption result (IsSimple (rest_of count list.now))
+        (λ t. t.now ≡ rest_of count list.now) }
 {
     match list.view() {
         TermView::List(elements, tail) => {
@@ -147,7 +149,8 @@ impl<'a, A: Allocator> Operand<'a, A> {
 
     /// The first element of a list and what follows it, none where the operand is no list with elements.
     pub fn split(self) -> Option<(&'a Term<A>, Operand<'a, A>)>
-        ensures { MatchOption result (IsNoCell (operand_datum self.entry)) (λ p. cons p.0.now (operand_datum p.1) ≡ operand_datum self.entry) }
+        ensures { MatchOption result (IsNoCell (operand_datum self.entry))
+            (λ p. cons p.0.now (operand_datum p.1) ≡ operand_datum self.entry) }
     {
         match self {
             Operand::Term(list) => split_behind(list, 0),
@@ -158,7 +161,8 @@ impl<'a, A: Allocator> Operand<'a, A> {
 
     /// The term that the operand is, where it stands whole.
     pub(crate) fn term(self) -> Option<&'a Term<A>>
-        ensures { MatchOption result (IsSimple (operand_datum self.entry)) (λ t. t.now ≡ operand_datum self.entry) }
+        ensures { MatchOption result (IsSimple (operand_datum self.entry))
+            (λ t. t.now ≡ operand_datum self.entry) }
     {
         match self {
             Operand::Term(term) => Some(term),

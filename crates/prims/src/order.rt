@@ -87,7 +87,8 @@ pub(crate) fn holds<A: Allocator>(
     left: Operand<'_, A>,
     right: Operand<'_, A>,
 ) -> bool
-    ensures { result ≡ spec.comparison_of comparison (operand_datum left.entry) (operand_datum right.entry) }
+    ensures { result ≡ spec.comparison_of comparison (operand_datum left.entry)
+        (operand_datum right.entry) }
 {
     allows(comparison, compare(left, right))
 }
@@ -98,7 +99,8 @@ pub(crate) fn extreme<'a, A: Allocator>(
     left: Operand<'a, A>,
     right: Operand<'a, A>,
 ) -> Operand<'a, A>
-    ensures { operand_datum result ≡ spec.extreme_of extreme (operand_datum left.entry) (operand_datum right.entry) }
+    ensures { operand_datum result ≡ spec.extreme_of extreme (operand_datum left.entry)
+        (operand_datum right.entry) }
 {
     let order = compare(left, right);
     let is_right = match extreme {

@@ -31,7 +31,8 @@ pub(crate) fn element<'a, A: Allocator>(
     place: Operand<'a, A>,
     tuple: Operand<'a, A>,
 ) -> Option<&'a Term<A>>
-    ensures { option_copied result ≡ element_of (operand_datum place.entry) (operand_datum tuple.entry) }
+    ensures { option_copied result ≡ element_of (operand_datum place.entry)
+        (operand_datum tuple.entry) }
 {
     match (place.view(), tuple.view()) {
         (View::Integer(place), View::Tuple(elements)) => elements.get(index(place)?),
@@ -68,7 +69,8 @@ pub(crate) fn is_record<A: Allocator>(
     name: Operand<'_, A>,
     size: Operand<'_, A>,
 ) -> Option<bool>
-    ensures { result ≡ is_record_of (operand_datum operand.entry) (operand_datum name.entry) (operand_datum size.entry) }
+    ensures { result ≡ is_record_of (operand_datum operand.entry) (operand_datum name.entry)
+        (operand_datum size.entry) }
 {
     match (name.view(), size.view()) {
         (View::Atom(name), View::Integer(size)) => Some(is_named(operand, name, size)),

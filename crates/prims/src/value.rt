@@ -83,7 +83,8 @@ fn operands_of<'a, A: Allocator + Copy>(
     alloc: A,
     values: &'a [Value<'_, A>],
 ) -> Result<Vec<Operand<'a, A>, A>, AllocError>
-    ensures { IfOk result (λ operands. map operand_datum operands.items ≡ map value_datum values.now) }
+    ensures { IfOk result (λ operands. map operand_datum operands.items
+        ≡ map value_datum values.now) }
 {
     let mut operands = Vec::with_capacity(alloc, values.len())?;
     for value in values {
@@ -97,8 +98,10 @@ fn borrowed<'h, 'a, A: Allocator + Copy>(
     heap: &'h A,
     values: &[Value<'a, A>],
 ) -> Result<Option<SmallVec<Operand<'a, A>, MAX_INLINE, &'h A>>, AllocError>
-    ensures value { IfOk result (λ found. IfSome found (λ operands. map operand_datum operands.items ≡ map value_datum values.now)) }
-    ensures all { All IsBorrowed values.now → length values.now ≤ inline_values → IsOkAnd result IsSome }
+    ensures value { IfOk result (λ found. IfSome found
+        (λ operands. map operand_datum operands.items ≡ map value_datum values.now)) }
+    ensures all { All IsBorrowed values.now → length values.now ≤ inline_values
+        → IsOkAnd result IsSome }
 {
     let mut operands = SmallVec::new(heap);
     for value in values {
@@ -130,7 +133,8 @@ fn call_made<'a, A: Allocator + Copy>(
     function: Primitive,
     values: &[Value<'_, A>],
 ) -> Result<Option<Value<'a, A>>, AllocError>
-    ensures { IfOk result (λ value. option_map value_datum value ≡ function_of function (map value_datum values.now)) }
+    ensures { IfOk result (λ value. option_map value_datum value
+        ≡ function_of function (map value_datum values.now)) }
 {
     let operands = operands_of(alloc, values)?;
     match call(function, operands.as_slice()) {
@@ -146,8 +150,10 @@ pub fn call_values<'a, A: Allocator + Copy>(
     function: Primitive,
     values: &[Value<'a, A>],
 ) -> Result<Option<Value<'a, A>>, AllocError>
-    ensures value { IfOk result (λ value. option_map value_datum value ≡ function_of function (map value_datum values.now)) }
-    ensures borrowed { All IsBorrowed values.now → length values.now ≤ inline_values → IsOkAnd result (λ value. IfSome value IsBorrowed) }
+    ensures value { IfOk result (λ value. option_map value_datum value
+        ≡ function_of function (map value_datum values.now)) }
+    ensures borrowed { All IsBorrowed values.now → length values.now ≤ inline_values
+        → IsOkAnd result (λ value. IfSome value IsBorrowed) }
 {
     let heap = &alloc;
     let Some(operands) = borrowed(heap, values)? else {

@@ -56,7 +56,8 @@ abbrev mutual
   IsSound (tuple ds) = (item_count ds ≤ tuple_limit) × AreSound ds
   IsSound (map es) = (entry_count es ≤ map_limit) × ArePairsSound es
   IsSound nil = Unit {0}
-  IsSound (cons head tail) = (cell_count (cons head tail) ≤ list_limit) × IsSound head × IsSound tail
+  IsSound (cons head tail) =
+      (cell_count (cons head tail) ≤ list_limit) × IsSound head × IsSound tail
   IsSound (binary bs) = (length bs ≤ binary_limit) × AreBytes bs
 
   pub AreSound : Items → Type 0

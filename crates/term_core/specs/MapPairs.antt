@@ -43,7 +43,8 @@ pub record HasTwice (pairs : List (Datum × Datum)) : Type 0 where
   pub second : ℕ
   pub order : first < second
   pub within : second < length pairs
-  pub same : (d : Datum × Datum) → (slice_index_or pairs first d).0 ≡ (slice_index_or pairs second d).0
+  pub same : (d : Datum × Datum) → (slice_index_or pairs first d).0
+      ≡ (slice_index_or pairs second d).0
 
 -- the finite map of exactly these pairs: they stand in it by rising key
 pub record IsMapOf (pairs : List (Datum × Datum)) (d : Datum) : Type 0 where
@@ -56,7 +57,8 @@ pub record IsMapOf (pairs : List (Datum × Datum)) (d : Datum) : Type 0 where
 -- want of memory last.
 abbrev pub IsMapFault : Fault → List (Datum × Datum) → Type 0
 IsMapFault DuplicateKey pairs =
-    (depth (map (entries_of pairs)) ≤ depth_limit) × (¬ IsTooLong (map (entries_of pairs))) × HasTwice pairs
+    (depth (map (entries_of pairs)) ≤ depth_limit) × (¬ IsTooLong (map (entries_of pairs)))
+    × HasTwice pairs
 IsMapFault Memory pairs = IsFault Memory (map (entries_of pairs))
 IsMapFault TooDeep pairs = IsFault TooDeep (map (entries_of pairs))
 IsMapFault TooLong pairs = IsFault TooLong (map (entries_of pairs))

@@ -32,10 +32,12 @@ unfoldable mutual
   pub IsBelow : Datum → Datum → Type 0
   IsBelow (integer a) (integer b) = a <ℤ b
   IsBelow (atom a) (atom b) = AreBelow a b
-  IsBelow (tuple a) (tuple b) = (item_count a < item_count b) ⊎ ((item_count a ≡ item_count b) × ItemsBelow a b)
+  IsBelow (tuple a) (tuple b) =
+      (item_count a < item_count b) ⊎ ((item_count a ≡ item_count b) × ItemsBelow a b)
   IsBelow (map a) (map b) =
       (entry_count a < entry_count b)
-      ⊎ ((entry_count a ≡ entry_count b) × (KeysBelow a b ⊎ ((entry_keys a ≡ entry_keys b) × ValuesBelow a b)))
+      ⊎ ((entry_count a ≡ entry_count b) × (KeysBelow a b
+      ⊎ ((entry_keys a ≡ entry_keys b) × ValuesBelow a b)))
   IsBelow (cons a ds) (cons b es) = IsBelow a b ⊎ ((a ≡ b) × IsBelow ds es)
   IsBelow (binary a) (binary b) = AreBelow a b
   IsBelow a b = rank a < rank b
@@ -63,9 +65,11 @@ unfoldable mutual
   pub datum_cmp : Datum → Datum → Ordering
   datum_cmp (integer a) (integer b) = int_cmp a b
   datum_cmp (atom a) (atom b) = slice_cmp nat_cmp a b
-  datum_cmp (tuple a) (tuple b) = ordering_then (nat_cmp (item_count a) (item_count b)) (items_cmp a b)
+  datum_cmp (tuple a) (tuple b) =
+      ordering_then (nat_cmp (item_count a) (item_count b)) (items_cmp a b)
   datum_cmp (map a) (map b) =
-      ordering_then (nat_cmp (entry_count a) (entry_count b)) (ordering_then (keys_cmp a b) (values_cmp a b))
+      ordering_then (nat_cmp (entry_count a) (entry_count b))
+      (ordering_then (keys_cmp a b) (values_cmp a b))
   datum_cmp (cons a ds) (cons b es) = ordering_then (datum_cmp a b) (datum_cmp ds es)
   datum_cmp (binary a) (binary b) = slice_cmp nat_cmp a b
   datum_cmp a b = nat_cmp (rank a) (rank b)

@@ -28,7 +28,8 @@ IsTail (Some d) = IsNoList d
 
 -- what is kept of a list that is not empty
 abbrev pub IsList : ℕ → List Datum → Option Datum → Type 0
-IsList kept elements tail = (kept ≡ depth (cells elements (tail_of tail))) × (0 < length elements) × IsTail tail
+IsList kept elements tail =
+    (kept ≡ depth (cells elements (tail_of tail))) × (0 < length elements) × IsTail tail
 
 -- A list has an element and no list for a tail, and each depth that is kept is right.
 abbrev pub IsKept : {A : Type 0} → Shape A → Type 0

@@ -166,7 +166,8 @@ fn compare_lists<A: Allocator>(
 ) -> Ordering
     requires a_tail { IsTail (option_copied a_tail) }
     requires b_tail { IsTail (option_copied b_tail) }
-    ensures { result ≡ datum_cmp (cells a.now (tail_of (option_copied a_tail.entry))) (cells b.now (tail_of (option_copied b_tail.entry))) }
+    ensures { result ≡ datum_cmp (cells a.now (tail_of (option_copied a_tail.entry)))
+        (cells b.now (tail_of (option_copied b_tail.entry))) }
 {
     let shared = a.len().min(b.len());
     for i in 0..shared {
@@ -189,7 +190,8 @@ fn compare_lists<A: Allocator>(
 fn compare_tails<A: Allocator>(a: Option<&Term<A>>, b: Option<&Term<A>>) -> Ordering
     requires a { IsTail (option_copied a) }
     requires b { IsTail (option_copied b) }
-    ensures { result ≡ datum_cmp (tail_of (option_copied a.entry)) (tail_of (option_copied b.entry)) }
+    ensures { result ≡ datum_cmp (tail_of (option_copied a.entry))
+        (tail_of (option_copied b.entry)) }
 {
     match (a, b) {
         (None, b) => NIL_RANK.cmp(&tail_rank(b)),

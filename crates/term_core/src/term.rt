@@ -176,7 +176,8 @@ fn length_of_tail<A: Allocator>(tail: &Option<Term<A>>) -> usize
 fn list_depth<A: Allocator>(elements: &[Term<A>], tail: &Option<Term<A>>) -> Result<u8, Fault>
     requires { 0 < length elements.now }
     ensures ok { IfOk result (λ d. IsDepthOf d (cells_of elements.now (tail_of tail.now))) }
-    ensures refused { IfErr result (λ fault. IsFault fault (cells_of elements.now (tail_of tail.now))) }
+    ensures refused { IfErr result (λ fault. IsFault fault
+        (cells_of elements.now (tail_of tail.now))) }
 {
     let deepest = deepest(elements).max(levels_of_tail(tail));
     if deepest >= MAX_DEPTH {
@@ -200,7 +201,8 @@ fn with_tail<A: Allocator>(
     requires within { IsTerm (cells_of elements.items (tail_of tail)) }
     requires depth { depth ≡ depth_of (cells_of elements.items (tail_of tail)) }
     ensures ok { IfOk result (λ t. t ≡ cells_of elements.items (tail_of tail)) }
-    ensures refused { IfErr result (λ r. HandsBack r.value elements.items tail × (r.fault ≡ Fault.Memory)) }
+    ensures refused { IfErr result (λ r. HandsBack r.value elements.items tail
+        × (r.fault ≡ Fault.Memory)) }
 {
     match boxed(alloc, Cells { elements, tail }) {
         Ok(cells) => Ok(Term {
@@ -226,10 +228,15 @@ fn prepended<A: Allocator>(
     requires some { 0 < length elements.items }
     requires list { IsList kept cells.value.elements.items cells.value.tail }
     requires list_within { IsTerm (cells_of cells.value.elements.items (tail_of cells.value.tail)) }
-    requires within { IsTerm (cells_of elements.items (cells_of cells.value.elements.items (tail_of cells.value.tail))) }
-    requires depth { depth ≡ depth_of (cells_of elements.items (cells_of cells.value.elements.items (tail_of cells.value.tail))) }
-    ensures ok { IfOk result (λ t. t ≡ cells_of elements.items (cells_of cells.value.elements.items (tail_of cells.value.tail))) }
-    ensures refused { IfErr result (λ r. HandsBack r.value elements.items (Some (cells_of cells.value.elements.items (tail_of cells.value.tail))) × (r.fault ≡ Fault.Memory)) }
+    requires within { IsTerm (cells_of elements.items
+        (cells_of cells.value.elements.items (tail_of cells.value.tail))) }
+    requires depth { depth ≡ depth_of (cells_of elements.items
+        (cells_of cells.value.elements.items (tail_of cells.value.tail))) }
+    ensures ok { IfOk result (λ t. t ≡ cells_of elements.items
+        (cells_of cells.value.elements.items (tail_of cells.value.tail))) }
+    ensures refused { IfErr result (λ r. HandsBack r.value elements.items
+        (Some (cells_of cells.value.elements.items (tail_of cells.value.tail)))
+        × (r.fault ≡ Fault.Memory)) }
 {
     let held = &mut *cells;
     match elements.append(&mut held.elements) {
@@ -264,7 +271,8 @@ fn joined<A: Allocator>(
     requires within { IsTerm (cells_of elements.items (datum_of tail)) }
     requires depth { depth ≡ depth_of (cells_of elements.items (datum_of tail)) }
     ensures ok { IfOk result (λ t. t ≡ cells_of elements.items (datum_of tail)) }
-    ensures refused { IfErr result (λ r. HandsBack r.value elements.items (Some (datum_of tail)) × (r.fault ≡ Fault.Memory)) }
+    ensures refused { IfErr result (λ r. HandsBack r.value elements.items (Some (datum_of tail))
+        × (r.fault ≡ Fault.Memory)) }
 {
     match tail {
         Shape::Nil => with_nil(alloc, depth, elements),
@@ -283,7 +291,8 @@ fn joined_to<A: Allocator>(
     requires some { 0 < length elements.items }
     requires depth { IsDepthOf depth (cells_of elements.items (tail_of tail)) }
     ensures ok { IfOk result (λ t. t ≡ cells_of elements.items (tail_of tail)) }
-    ensures refused { IfErr result (λ r. HandsBack r.value elements.items tail × (r.fault ≡ Fault.Memory)) }
+    ensures refused { IfErr result (λ r. HandsBack r.value elements.items tail
+        × (r.fault ≡ Fault.Memory)) }
 {
     match tail {
         Some(tail) => joined(alloc, depth, elements, tail.shape),
@@ -301,7 +310,8 @@ fn with_nil<A: Allocator>(
     requires within { IsTerm (cells_of elements.items nil) }
     requires depth { depth ≡ depth_of (cells_of elements.items nil) }
     ensures ok { IfOk result (λ t. t ≡ cells_of elements.items nil) }
-    ensures refused { IfErr result (λ r. HandsBack r.value elements.items (Some nil) × (r.fault ≡ Fault.Memory)) }
+    ensures refused { IfErr result (λ r. HandsBack r.value elements.items (Some nil)
+        × (r.fault ≡ Fault.Memory)) }
 {
     match with_tail(alloc, depth, elements, None) {
         Ok(list) => Ok(list),
@@ -366,7 +376,8 @@ impl<A: Allocator> Term<A> {
         characters: Vec<char, A>,
     ) -> Result<Self, Refused<Vec<char, A>>>
         ensures ok { IfOk result (λ t. t ≡ atom characters.items) }
-        ensures refused { IfErr result (λ r. (r.value.items ≡ characters.items) × IsFault r.fault (atom characters.items)) }
+        ensures refused { IfErr result (λ r. (r.value.items ≡ characters.items)
+            × IsFault r.fault (atom characters.items)) }
     {
         if character_count(characters.as_slice()) > MAX_CHARACTERS {
             return Err(Refused {
@@ -383,7 +394,8 @@ impl<A: Allocator> Term<A> {
     /// A binary. More than `MAX_BINARY` bytes are refused.
     pub fn binary(alloc: A, bytes: Vec<u8, A>) -> Result<Self, Refused<Vec<u8, A>>>
         ensures ok { IfOk result (λ t. t ≡ binary bytes.items) }
-        ensures refused { IfErr result (λ r. (r.value.items ≡ bytes.items) × IsFault r.fault (binary bytes.items)) }
+        ensures refused { IfErr result (λ r. (r.value.items ≡ bytes.items)
+            × IsFault r.fault (binary bytes.items)) }
     {
         if byte_count(bytes.as_slice()) > MAX_BINARY {
             return Err(Refused {
@@ -400,7 +412,8 @@ impl<A: Allocator> Term<A> {
     /// A tuple of these elements. More than `MAX_TUPLE` are refused, and a tuple deeper than `MAX_DEPTH`.
     pub fn tuple(alloc: A, elements: Vec<Term<A>, A>) -> Result<Self, Refused<Vec<Term<A>, A>>>
         ensures ok { IfOk result (λ t. t ≡ tuple (items_of elements.items)) }
-        ensures refused { IfErr result (λ r. (r.value.items ≡ elements.items) × IsFault r.fault (tuple (items_of elements.items))) }
+        ensures refused { IfErr result (λ r. (r.value.items ≡ elements.items)
+            × IsFault r.fault (tuple (items_of elements.items))) }
     {
         let deepest = deepest(elements.as_slice());
         if deepest >= MAX_DEPTH {
@@ -429,7 +442,8 @@ impl<A: Allocator> Term<A> {
         tail: Option<Term<A>>,
     ) -> Result<Self, Refused<ListParts<A>>>
         ensures ok { IfOk result (λ t. t ≡ cells_of elements.items (tail_of tail)) }
-        ensures refused { IfErr result (λ r. HandsBack r.value elements.items tail × IsFault r.fault (cells_of elements.items (tail_of tail))) }
+        ensures refused { IfErr result (λ r. HandsBack r.value elements.items tail
+            × IsFault r.fault (cells_of elements.items (tail_of tail))) }
     {
         if elements.is_empty() {
             return Ok(tail.unwrap_or(Term::nil()));

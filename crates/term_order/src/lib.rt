@@ -18,7 +18,8 @@ use term_core::Term;
 /// one kind by value, characters, size and elements, size, keys and values, head and tail, and bytes. (Erlang Reference
 /// Manual, "Term Comparisons".) Takes no memory, and time linear in the smaller term.
 pub fn compare<A: Allocator>(a: &Term<A>, b: &Term<A>) -> Ordering
-    ensures order { MatchOrdering result (IsBelow a.now b.now) (a.now ≡ b.now) (IsBelow b.now a.now) }
+    ensures order { MatchOrdering result (IsBelow a.now b.now) (a.now ≡ b.now)
+        (IsBelow b.now a.now) }
     ensures value { result ≡ datum_cmp a.now b.now }
 {
     a.cmp(b)

@@ -81,11 +81,13 @@ unfoldable mutual
 
   pub entries_text : Entries → List ℕ
   entries_text no_entries = []
-  entries_text (entry k v es) = canonical k ++ (equals ∷ greater ∷ canonical v) ++ more_entries_text es
+  entries_text (entry k v es) =
+      canonical k ++ (equals ∷ greater ∷ canonical v) ++ more_entries_text es
 
   pub more_entries_text : Entries → List ℕ
   more_entries_text no_entries = []
-  more_entries_text (entry k v es) = (comma ∷ canonical k) ++ (equals ∷ greater ∷ canonical v) ++ more_entries_text es
+  more_entries_text (entry k v es) =
+      (comma ∷ canonical k) ++ (equals ∷ greater ∷ canonical v) ++ more_entries_text es
 
   -- behind a list's element: more elements behind commas, the tail behind a bar, and the end
   pub tail_text : Datum → List ℕ
@@ -93,12 +95,16 @@ unfoldable mutual
   tail_text (cons head tail) = (comma ∷ canonical head) ++ tail_text tail
   tail_text (integer z) = (bar ∷ signed_decimal z) ++ close_bracket ∷ []
   tail_text (atom cs) = (bar ∷ atom_text cs) ++ close_bracket ∷ []
-  tail_text (tuple ds) = (bar ∷ (open_brace ∷ items_text ds) ++ close_brace ∷ []) ++ close_bracket ∷ []
-  tail_text (map es) = (bar ∷ (number_sign ∷ open_brace ∷ entries_text es) ++ close_brace ∷ []) ++ close_bracket ∷ []
-  tail_text (binary bs) = (bar ∷ (less ∷ less ∷ bytes_text bs) ++ greater ∷ greater ∷ []) ++ close_bracket ∷ []
+  tail_text (tuple ds) =
+      (bar ∷ (open_brace ∷ items_text ds) ++ close_brace ∷ []) ++ close_bracket ∷ []
+  tail_text (map es) =
+      (bar ∷ (number_sign ∷ open_brace ∷ entries_text es) ++ close_brace ∷ []) ++ close_bracket ∷ []
+  tail_text (binary bs) =
+      (bar ∷ (less ∷ less ∷ bytes_text bs) ++ greater ∷ greater ∷ []) ++ close_bracket ∷ []
 
 -- The canonical text of a term, a dot and a line feed spell that term, and what follows them spells what it spells alone.
 abbrev pub IsReadBack : Datum → Type 0
 IsReadBack d =
     (more : List ℕ) (ds : List Datum) →
-    Spells (encode_utf8_all (canonical d) ++ dot ∷ line_feed ∷ more) ds ↔ ((es : List Datum) × (ds ≡ d ∷ es) × Spells more es)
+    Spells (encode_utf8_all (canonical d) ++ dot ∷ line_feed ∷ more) ds
+    ↔ ((es : List Datum) × (ds ≡ d ∷ es) × Spells more es)

@@ -89,31 +89,59 @@ pub data WholeGap : List ℕ → List ℕ → Type 0 where
 -- it. Behind an opening something is due where it is not closed at once.
 pub data Due (text : List ℕ) : Place → List ℕ → Type 0 where
   first : {t : List ℕ} → WholeGap text t → Due text a_sentence t
-  behind_dot : {t u v w : List ℕ} {d : Datum} → Due text a_sentence t → Spelled depth_limit t d u → Gap u (dot ∷ v) → BeginsGap v → WholeGap v w → Due text a_sentence w
-  outermost : {c : ℕ} {t : List ℕ} → Due text a_sentence (c ∷ t) → Due text (a_term depth_limit 0) (c ∷ t)
-  in_braces : {n k : ℕ} {t u : List ℕ} → Due text (a_term (suc n) k) (open_brace ∷ t) → WholeGap t u → ¬ BeginsWith close_brace u → Due text (an_element in_tuple n 0) u
-  in_brackets : {n k : ℕ} {t u : List ℕ} → Due text (a_term (suc n) k) (open_bracket ∷ t) → WholeGap t u → ¬ BeginsWith close_bracket u → Due text (an_element in_list n k) u
-  next_element : {r : Row} {n k : ℕ} {t u v w : List ℕ} {d : Datum} → Due text (an_element r n k) t → k < most_elements r → Spelled n t d u → Gap u (comma ∷ v) → WholeGap v w → Due text (an_element r n (suc k)) w
-  element : {r : Row} {n k : ℕ} {t : List ℕ} → Due text (an_element r n k) t → k < most_elements r → Due text (a_term n 0) t
-  tail : {n k : ℕ} {t u v w : List ℕ} {d : Datum} → Due text (an_element in_list n k) t → k < list_limit → Spelled n t d u → Gap u (bar ∷ v) → WholeGap v w → Due text (a_term n (suc k)) w
-  in_map : {n k : ℕ} {t u : List ℕ} → Due text (a_term (suc n) k) (number_sign ∷ open_brace ∷ t) → WholeGap t u → ¬ BeginsWith close_brace u → Due text (a_pair n []) u
-  next_pair : {n : ℕ} {es : List (Datum × Datum)} {t u v w : List ℕ} {key value : Datum} → Due text (a_pair n es) t → length es < map_limit → IsNew key es → Pair n t key value u → Gap u (comma ∷ v) → WholeGap v w → Due text (a_pair n ((key, value) ∷ es)) w
-  key : {n : ℕ} {es : List (Datum × Datum)} {t : List ℕ} → Due text (a_pair n es) t → length es < map_limit → Due text (a_term n 0) t
-  value : {n : ℕ} {es : List (Datum × Datum)} {t u v w : List ℕ} {k : Datum} → Due text (a_pair n es) t → length es < map_limit → IsNew k es → Spelled n t k u → Gap u (equals ∷ greater ∷ v) → WholeGap v w → Due text (a_term n 0) w
-  in_binary : {n k : ℕ} {t u : List ℕ} → Due text (a_term (suc n) k) (less ∷ less ∷ t) → WholeGap t u → ¬ BeginsWithBoth greater greater u → Due text (a_segment 0) u
-  next_segment : {k : ℕ} {t u v w bytes : List ℕ} → Due text (a_segment k) t → Segment t bytes u → k + length bytes ≤ binary_limit → Gap u (comma ∷ v) → WholeGap v w → Due text (a_segment (k + length bytes)) w
-  in_atom : {n k : ℕ} {t : List ℕ} → Due text (a_term (suc n) k) (single_quote ∷ t) → Due text (a_character of_atom 0) t
-  in_string : {n k : ℕ} {t : List ℕ} → Due text (a_term (suc n) k) (double_quote ∷ t) → Due text (a_character (of_string n) k) t
-  in_bytes : {k : ℕ} {t : List ℕ} → Due text (a_segment k) (double_quote ∷ t) → Due text (a_character of_bytes k) t
-  behind_plain : {q : Quotes} {k c : ℕ} {t : List ℕ} → Due text (a_character q k) (c ∷ t) → c ≢ mark_of q → c ≢ backslash → k < most_characters q → MayStand q c → Due text (a_character q (suc k)) t
-  behind_escape : {q : Quotes} {k e c : ℕ} {t : List ℕ} → Due text (a_character q k) (backslash ∷ e ∷ t) → escaped e ≡ Some c → k < most_characters q → MayStand q c → Due text (a_character q (suc k)) t
-  in_word : {n k c : ℕ} {t : List ℕ} → Due text (a_term (suc n) k) (c ∷ t) → IsTrue (is_ascii_lowercase c) → Due text (a_letter 0) (c ∷ t)
-  next_letter : {k c : ℕ} {t : List ℕ} → Due text (a_letter k) (c ∷ t) → k < atom_limit → IsTrue (is_word c) → Due text (a_letter (suc k)) t
+  behind_dot : {t u v w : List ℕ} {d : Datum} → Due text a_sentence t → Spelled depth_limit t d u
+      → Gap u (dot ∷ v) → BeginsGap v → WholeGap v w → Due text a_sentence w
+  outermost : {c : ℕ} {t : List ℕ} → Due text a_sentence (c ∷ t)
+      → Due text (a_term depth_limit 0) (c ∷ t)
+  in_braces : {n k : ℕ} {t u : List ℕ} → Due text (a_term (suc n) k) (open_brace ∷ t) → WholeGap t u
+      → ¬ BeginsWith close_brace u → Due text (an_element in_tuple n 0) u
+  in_brackets : {n k : ℕ} {t u : List ℕ} → Due text (a_term (suc n) k) (open_bracket ∷ t)
+      → WholeGap t u → ¬ BeginsWith close_bracket u → Due text (an_element in_list n k) u
+  next_element : {r : Row} {n k : ℕ} {t u v w : List ℕ} {d : Datum} → Due text (an_element r n k) t
+      → k < most_elements r → Spelled n t d u → Gap u (comma ∷ v) → WholeGap v w
+      → Due text (an_element r n (suc k)) w
+  element : {r : Row} {n k : ℕ} {t : List ℕ} → Due text (an_element r n k) t → k < most_elements r
+      → Due text (a_term n 0) t
+  tail : {n k : ℕ} {t u v w : List ℕ} {d : Datum} → Due text (an_element in_list n k) t
+      → k < list_limit → Spelled n t d u → Gap u (bar ∷ v) → WholeGap v w
+      → Due text (a_term n (suc k)) w
+  in_map : {n k : ℕ} {t u : List ℕ} → Due text (a_term (suc n) k) (number_sign ∷ open_brace ∷ t)
+      → WholeGap t u → ¬ BeginsWith close_brace u → Due text (a_pair n []) u
+  next_pair : {n : ℕ} {es : List (Datum × Datum)} {t u v w : List ℕ} {key value : Datum}
+      → Due text (a_pair n es) t → length es < map_limit → IsNew key es → Pair n t key value u
+      → Gap u (comma ∷ v) → WholeGap v w → Due text (a_pair n ((key, value) ∷ es)) w
+  key : {n : ℕ} {es : List (Datum × Datum)} {t : List ℕ} → Due text (a_pair n es) t
+      → length es < map_limit → Due text (a_term n 0) t
+  value : {n : ℕ} {es : List (Datum × Datum)} {t u v w : List ℕ} {k : Datum}
+      → Due text (a_pair n es) t → length es < map_limit → IsNew k es → Spelled n t k u
+      → Gap u (equals ∷ greater ∷ v) → WholeGap v w → Due text (a_term n 0) w
+  in_binary : {n k : ℕ} {t u : List ℕ} → Due text (a_term (suc n) k) (less ∷ less ∷ t)
+      → WholeGap t u → ¬ BeginsWithBoth greater greater u → Due text (a_segment 0) u
+  next_segment : {k : ℕ} {t u v w bytes : List ℕ} → Due text (a_segment k) t → Segment t bytes u
+      → k + length bytes ≤ binary_limit → Gap u (comma ∷ v) → WholeGap v w
+      → Due text (a_segment (k + length bytes)) w
+  in_atom : {n k : ℕ} {t : List ℕ} → Due text (a_term (suc n) k) (single_quote ∷ t)
+      → Due text (a_character of_atom 0) t
+  in_string : {n k : ℕ} {t : List ℕ} → Due text (a_term (suc n) k) (double_quote ∷ t)
+      → Due text (a_character (of_string n) k) t
+  in_bytes : {k : ℕ} {t : List ℕ} → Due text (a_segment k) (double_quote ∷ t)
+      → Due text (a_character of_bytes k) t
+  behind_plain : {q : Quotes} {k c : ℕ} {t : List ℕ} → Due text (a_character q k) (c ∷ t)
+      → c ≢ mark_of q → c ≢ backslash → k < most_characters q → MayStand q c
+      → Due text (a_character q (suc k)) t
+  behind_escape : {q : Quotes} {k e c : ℕ} {t : List ℕ}
+      → Due text (a_character q k) (backslash ∷ e ∷ t) → escaped e ≡ Some c → k < most_characters q
+      → MayStand q c → Due text (a_character q (suc k)) t
+  in_word : {n k c : ℕ} {t : List ℕ} → Due text (a_term (suc n) k) (c ∷ t)
+      → IsTrue (is_ascii_lowercase c) → Due text (a_letter 0) (c ∷ t)
+  next_letter : {k c : ℕ} {t : List ℕ} → Due text (a_letter k) (c ∷ t) → k < atom_limit
+      → IsTrue (is_word c) → Due text (a_letter (suc k)) t
 
 -- an integer begins: a digit, or a sign directly in front of one
 pub data BeginsInteger : List ℕ → Type 0 where
   digit : {c : ℕ} {text : List ℕ} → IsTrue (is_ascii_digit c) → BeginsInteger (c ∷ text)
-  sign : {s c : ℕ} {text : List ℕ} → (s ≡ plus) ⊎ (s ≡ minus) → IsTrue (is_ascii_digit c) → BeginsInteger (s ∷ c ∷ text)
+  sign : {s c : ℕ} {text : List ℕ} → (s ≡ plus) ⊎ (s ≡ minus) → IsTrue (is_ascii_digit c)
+      → BeginsInteger (s ∷ c ∷ text)
 
 -- a term begins, whether it ends well or not
 pub data BeginsTerm : List ℕ → Type 0 where
@@ -128,28 +156,40 @@ pub data BeginsTerm : List ℕ → Type 0 where
 
 -- a term, an element, a key or a string's character where no level is left
 pub data IsTooDeep (text : List ℕ) : List ℕ → Type 0 where
-  deep_term : {k : ℕ} {rest : List ℕ} → Due text (a_term 0 k) rest → BeginsTerm rest → IsTooDeep text rest
-  deep_element : {r : Row} {k : ℕ} {rest : List ℕ} → Due text (an_element r 0 k) rest → BeginsTerm rest → IsTooDeep text rest
-  deep_key : {es : List (Datum × Datum)} {rest : List ℕ} → Due text (a_pair 0 es) rest → BeginsTerm rest → IsTooDeep text rest
-  deep_character : {k c : ℕ} {rest : List ℕ} → Due text (a_character (of_string 0) k) (c ∷ rest) → c ≢ double_quote → IsTooDeep text (c ∷ rest)
+  deep_term : {k : ℕ} {rest : List ℕ} → Due text (a_term 0 k) rest → BeginsTerm rest
+      → IsTooDeep text rest
+  deep_element : {r : Row} {k : ℕ} {rest : List ℕ} → Due text (an_element r 0 k) rest
+      → BeginsTerm rest → IsTooDeep text rest
+  deep_key : {es : List (Datum × Datum)} {rest : List ℕ} → Due text (a_pair 0 es) rest
+      → BeginsTerm rest → IsTooDeep text rest
+  deep_character : {k c : ℕ} {rest : List ℕ} → Due text (a_character (of_string 0) k) (c ∷ rest)
+      → c ≢ double_quote → IsTooDeep text (c ∷ rest)
 
 -- one more than may stand there
 pub data IsTooLong (text : List ℕ) : List ℕ → Type 0 where
-  one_element : {r : Row} {n k : ℕ} {rest : List ℕ} → Due text (an_element r n k) rest → k ≡ most_elements r → BeginsTerm rest → IsTooLong text rest
-  one_pair : {n : ℕ} {es : List (Datum × Datum)} {rest : List ℕ} → Due text (a_pair n es) rest → length es ≡ map_limit → BeginsTerm rest → IsTooLong text rest
-  one_byte : {k : ℕ} {rest : List ℕ} → Due text (a_segment k) rest → k ≡ binary_limit → BeginsInteger rest → IsTooLong text rest
-  one_character : {q : Quotes} {k c : ℕ} {rest : List ℕ} → Due text (a_character q k) (c ∷ rest) → k ≡ most_characters q → c ≢ mark_of q → IsTooLong text (c ∷ rest)
-  one_letter : {k c : ℕ} {rest : List ℕ} → Due text (a_letter k) (c ∷ rest) → k ≡ atom_limit → IsTrue (is_word c) → IsTooLong text (c ∷ rest)
+  one_element : {r : Row} {n k : ℕ} {rest : List ℕ} → Due text (an_element r n k) rest
+      → k ≡ most_elements r → BeginsTerm rest → IsTooLong text rest
+  one_pair : {n : ℕ} {es : List (Datum × Datum)} {rest : List ℕ} → Due text (a_pair n es) rest
+      → length es ≡ map_limit → BeginsTerm rest → IsTooLong text rest
+  one_byte : {k : ℕ} {rest : List ℕ} → Due text (a_segment k) rest → k ≡ binary_limit
+      → BeginsInteger rest → IsTooLong text rest
+  one_character : {q : Quotes} {k c : ℕ} {rest : List ℕ} → Due text (a_character q k) (c ∷ rest)
+      → k ≡ most_characters q → c ≢ mark_of q → IsTooLong text (c ∷ rest)
+  one_letter : {k c : ℕ} {rest : List ℕ} → Due text (a_letter k) (c ∷ rest) → k ≡ atom_limit
+      → IsTrue (is_word c) → IsTooLong text (c ∷ rest)
 
 -- a key that one of the pairs before it has
 pub data IsKeyTwice (text : List ℕ) : List ℕ → Type 0 where
-  key_twice : {n : ℕ} {es : List (Datum × Datum)} {t rest : List ℕ} {k v : Datum} → Due text (a_pair n es) t → Spelled n t k rest → Contains es (k, v) → IsKeyTwice text t
+  key_twice : {n : ℕ} {es : List (Datum × Datum)} {t rest : List ℕ} {k v : Datum}
+      → Due text (a_pair n es) t → Spelled n t k rest → Contains es (k, v) → IsKeyTwice text t
 
 -- an integer that has more than 64 bits
 pub data IsWide : List ℕ → Type 0 where
   wide : {text rest : List ℕ} {n : ℕ} → Number text n rest → 9223372036854775807 < n → IsWide text
-  wide_positive : {text rest : List ℕ} {n : ℕ} → Number text n rest → 9223372036854775807 < n → IsWide (plus ∷ text)
-  wide_negative : {text rest : List ℕ} {n : ℕ} → Number text n rest → 9223372036854775808 < n → IsWide (minus ∷ text)
+  wide_positive : {text rest : List ℕ} {n : ℕ} → Number text n rest → 9223372036854775807 < n
+      → IsWide (plus ∷ text)
+  wide_negative : {text rest : List ℕ} {n : ℕ} → Number text n rest → 9223372036854775808 < n
+      → IsWide (minus ∷ text)
 
 -- no byte: below 0, or past 255
 abbrev pub IsNoByte : ℤ → Type 0
@@ -158,14 +198,20 @@ IsNoByte (negsuc n) = Unit {0}
 
 -- an integer of more than 64 bits, or what is no byte where a byte is due
 pub data IsOutOfRange (text : List ℕ) : List ℕ → Type 0 where
-  wide_term : {n k : ℕ} {rest : List ℕ} → Due text (a_term n k) rest → IsWide rest → IsOutOfRange text rest
-  wide_segment : {k : ℕ} {rest : List ℕ} → Due text (a_segment k) rest → IsWide rest → IsOutOfRange text rest
-  no_byte : {k : ℕ} {z : ℤ} {rest t : List ℕ} → Due text (a_segment k) rest → Integer rest z t → IsNoByte z → IsOutOfRange text rest
-  no_byte_character : {k c : ℕ} {rest : List ℕ} → Due text (a_character of_bytes k) (c ∷ rest) → 255 < c → IsOutOfRange text (c ∷ rest)
+  wide_term : {n k : ℕ} {rest : List ℕ} → Due text (a_term n k) rest → IsWide rest
+      → IsOutOfRange text rest
+  wide_segment : {k : ℕ} {rest : List ℕ} → Due text (a_segment k) rest → IsWide rest
+      → IsOutOfRange text rest
+  no_byte : {k : ℕ} {z : ℤ} {rest t : List ℕ} → Due text (a_segment k) rest → Integer rest z t
+      → IsNoByte z → IsOutOfRange text rest
+  no_byte_character : {k c : ℕ} {rest : List ℕ} → Due text (a_character of_bytes k) (c ∷ rest)
+      → 255 < c → IsOutOfRange text (c ∷ rest)
 
 -- a backslash in quotes, in front of a character that makes no escape
 pub data IsNoEscape (text : List ℕ) : List ℕ → Type 0 where
-  no_escape : {q : Quotes} {k e : ℕ} {rest : List ℕ} → Due text (a_character q k) (backslash ∷ e ∷ rest) → escaped e ≡ None → IsNoEscape text (backslash ∷ e ∷ rest)
+  no_escape : {q : Quotes} {k e : ℕ} {rest : List ℕ}
+      → Due text (a_character q k) (backslash ∷ e ∷ rest) → escaped e ≡ None
+      → IsNoEscape text (backslash ∷ e ∷ rest)
 
 -- a dot stands first, and what may follow it
 abbrev pub BeginsDot : List ℕ → Type 0
@@ -175,22 +221,40 @@ BeginsDot (x ∷ text) = (x ≡ dot) × BeginsGap text
 -- what may stand behind an element
 abbrev pub FollowsElement : Row → List ℕ → Type 0
 FollowsElement in_tuple text = BeginsWith comma text ⊎ BeginsWith close_brace text
-FollowsElement in_list text = BeginsWith comma text ⊎ (BeginsWith bar text ⊎ BeginsWith close_bracket text)
+FollowsElement in_list text =
+    BeginsWith comma text ⊎ (BeginsWith bar text ⊎ BeginsWith close_bracket text)
 
 -- what can't stand where it does, be it the end of the text
 pub data IsUnexpected (text : List ℕ) : List ℕ → Type 0 where
   no_character : {q : Quotes} {k : ℕ} → Due text (a_character q k) [] → IsUnexpected text []
-  no_escaped : {q : Quotes} {k : ℕ} → Due text (a_character q k) (backslash ∷ []) → k < most_characters q → MayStand q backslash → IsUnexpected text []
-  no_term : {n k : ℕ} {rest : List ℕ} → Due text (a_term n k) rest → ¬ BeginsTerm rest → IsUnexpected text rest
-  no_element : {r : Row} {n k : ℕ} {rest : List ℕ} → Due text (an_element r n k) rest → ¬ BeginsTerm rest → IsUnexpected text rest
-  no_key : {n : ℕ} {es : List (Datum × Datum)} {rest : List ℕ} → Due text (a_pair n es) rest → ¬ BeginsTerm rest → IsUnexpected text rest
-  no_segment : {k : ℕ} {rest : List ℕ} → Due text (a_segment k) rest → ¬ BeginsInteger rest → ¬ BeginsWith double_quote rest → IsUnexpected text rest
-  behind_element : {r : Row} {n k : ℕ} {t u rest : List ℕ} {d : Datum} → Due text (an_element r n k) t → k < most_elements r → Spelled n t d u → WholeGap u rest → ¬ FollowsElement r rest → IsUnexpected text rest
-  behind_tail : {n k : ℕ} {t u rest : List ℕ} {d : Datum} → Due text (a_term n (suc k)) t → Spelled n t d u → suc k + cell_count d ≤ list_limit → WholeGap u rest → ¬ BeginsWith close_bracket rest → IsUnexpected text rest
-  behind_key : {n : ℕ} {es : List (Datum × Datum)} {t u rest : List ℕ} {d : Datum} → Due text (a_pair n es) t → length es < map_limit → IsNew d es → Spelled n t d u → WholeGap u rest → ¬ BeginsWithBoth equals greater rest → IsUnexpected text rest
-  behind_pair : {n : ℕ} {es : List (Datum × Datum)} {t u rest : List ℕ} {key value : Datum} → Due text (a_pair n es) t → length es < map_limit → IsNew key es → Pair n t key value u → WholeGap u rest → ¬ BeginsWith comma rest → ¬ BeginsWith close_brace rest → IsUnexpected text rest
-  behind_segment : {k : ℕ} {t u rest bytes : List ℕ} → Due text (a_segment k) t → Segment t bytes u → k + length bytes ≤ binary_limit → WholeGap u rest → ¬ BeginsWith comma rest → ¬ BeginsWithBoth greater greater rest → IsUnexpected text rest
-  no_dot : {t u rest : List ℕ} {d : Datum} → Due text a_sentence t → Spelled depth_limit t d u → WholeGap u rest → ¬ BeginsDot rest → IsUnexpected text rest
+  no_escaped : {q : Quotes} {k : ℕ} → Due text (a_character q k) (backslash ∷ [])
+      → k < most_characters q → MayStand q backslash → IsUnexpected text []
+  no_term : {n k : ℕ} {rest : List ℕ} → Due text (a_term n k) rest → ¬ BeginsTerm rest
+      → IsUnexpected text rest
+  no_element : {r : Row} {n k : ℕ} {rest : List ℕ} → Due text (an_element r n k) rest
+      → ¬ BeginsTerm rest → IsUnexpected text rest
+  no_key : {n : ℕ} {es : List (Datum × Datum)} {rest : List ℕ} → Due text (a_pair n es) rest
+      → ¬ BeginsTerm rest → IsUnexpected text rest
+  no_segment : {k : ℕ} {rest : List ℕ} → Due text (a_segment k) rest → ¬ BeginsInteger rest
+      → ¬ BeginsWith double_quote rest → IsUnexpected text rest
+  behind_element : {r : Row} {n k : ℕ} {t u rest : List ℕ} {d : Datum}
+      → Due text (an_element r n k) t → k < most_elements r → Spelled n t d u → WholeGap u rest
+      → ¬ FollowsElement r rest → IsUnexpected text rest
+  behind_tail : {n k : ℕ} {t u rest : List ℕ} {d : Datum} → Due text (a_term n (suc k)) t
+      → Spelled n t d u → suc k + cell_count d ≤ list_limit → WholeGap u rest
+      → ¬ BeginsWith close_bracket rest → IsUnexpected text rest
+  behind_key : {n : ℕ} {es : List (Datum × Datum)} {t u rest : List ℕ} {d : Datum}
+      → Due text (a_pair n es) t → length es < map_limit → IsNew d es → Spelled n t d u
+      → WholeGap u rest → ¬ BeginsWithBoth equals greater rest → IsUnexpected text rest
+  behind_pair : {n : ℕ} {es : List (Datum × Datum)} {t u rest : List ℕ} {key value : Datum}
+      → Due text (a_pair n es) t → length es < map_limit → IsNew key es → Pair n t key value u
+      → WholeGap u rest → ¬ BeginsWith comma rest → ¬ BeginsWith close_brace rest
+      → IsUnexpected text rest
+  behind_segment : {k : ℕ} {t u rest bytes : List ℕ} → Due text (a_segment k) t → Segment t bytes u
+      → k + length bytes ≤ binary_limit → WholeGap u rest → ¬ BeginsWith comma rest
+      → ¬ BeginsWithBoth greater greater rest → IsUnexpected text rest
+  no_dot : {t u rest : List ℕ} {d : Datum} → Due text a_sentence t → Spelled depth_limit t d u
+      → WholeGap u rest → ¬ BeginsDot rest → IsUnexpected text rest
 
 -- at this byte of the characters, in UTF-8, begins what is such
 pub record StandsAt (at : ℕ) (text : List ℕ) (IsSuch : List ℕ → Type 0) : Type 0 where

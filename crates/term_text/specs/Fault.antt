@@ -19,4 +19,5 @@ at_byte causes.UnsupportedEscape at = faults.UnsupportedEscape at
 -- a stop in a text of these characters
 abbrev pub fault_of : Stop → List ℕ → TextFault
 fault_of stops.Memory text = faults.Memory
-fault_of (stops.At cause left) text = at_byte cause (length (encode_utf8_all (take (length text - left) text)))
+fault_of (stops.At cause left) text =
+    at_byte cause (length (encode_utf8_all (take (length text - left) text)))

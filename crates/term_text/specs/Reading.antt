@@ -53,7 +53,9 @@ stop cause text = Err (cause, length text)
 abbrev pub after_gap : Bool → List ℕ → List ℕ
 after_gap in_comment [] = []
 after_gap true (c ∷ cs) = after_gap (not (c == line_feed)) cs
-after_gap false (c ∷ cs) = if c == percent then after_gap true cs else if is_white_space c then after_gap false cs else c ∷ cs
+after_gap false (c ∷ cs) =
+    if c == percent then after_gap true cs else if is_white_space c then after_gap false cs else c ∷
+    cs
 
 -- Taking one step after another. A step gives whether to go on, what was made so far, and the text that follows.
 abbrev pub Step : Type 0 → Type 0
@@ -120,7 +122,8 @@ opening (c ∷ cs) =
 
 abbrev pub enter_as : ℕ → ℕ → List ℕ → Option (Opening × List ℕ) → Read Opening
 enter_as levels room text None = stop Syntax text
-enter_as levels room text (Some o) = if levels == 0 then stop TooDeep text else if room == 0 then stop TooLong text else Ok o
+enter_as levels room text (Some o) =
+    if levels == 0 then stop TooDeep text else if room == 0 then stop TooLong text else Ok o
 
 -- how a term begins, where so many levels and terms are left
 unfoldable pub enter : ℕ → ℕ → List ℕ → Read Opening
@@ -135,16 +138,19 @@ fits negative n = nat_le n (if negative then 9223372036854775808 else 9223372036
 -- the number that the digits in front write behind those of n, and the text behind them
 abbrev pub number_run : ℕ → List ℕ → ℕ × List ℕ
 number_run n [] = (n, [])
-number_run n (c ∷ cs) = if is_ascii_digit c then number_run (n * 10 + digit_value c) cs else (n, c ∷ cs)
+number_run n (c ∷ cs) =
+    if is_ascii_digit c then number_run (n * 10 + digit_value c) cs else (n, c ∷ cs)
 
 abbrev pub number_at : Bool → List ℕ → List ℕ → Read ℤ
 number_at negative start text =
-    if fits negative (number_run 0 text).0 then Ok (signed negative (number_run 0 text).0, (number_run 0 text).1) else stop IntegerRange start
+    if fits negative (number_run 0 text).0 then Ok
+    (signed negative (number_run 0 text).0, (number_run 0 text).1) else stop IntegerRange start
 
 -- whether a minus stands first, and the text behind the sign
 abbrev pub behind_sign : List ℕ → Bool × List ℕ
 behind_sign [] = (false, [])
-behind_sign (c ∷ cs) = if c == minus then (true, cs) else if c == plus then (false, cs) else (false, c ∷ cs)
+behind_sign (c ∷ cs) =
+    if c == minus then (true, cs) else if c == plus then (false, cs) else (false, c ∷ cs)
 
 unfoldable pub integer_at : List ℕ → Read ℤ
 integer_at text = number_at (behind_sign text).0 text (behind_sign text).1
@@ -209,11 +215,14 @@ string_marks levels before = record {
 }
 
 abbrev pub byte_marks : ℕ → Marks
-byte_marks before = record { mark = double_quote; room = binary_limit - before; past = TooLong; only_bytes = true }
+byte_marks before =
+    record { mark = double_quote; room = binary_limit - before; past = TooLong; only_bytes = true }
 
 -- the list of these elements and a string's characters
 unfoldable pub string_at : ℕ → List Datum → List ℕ → Read Datum
-string_at levels front text = quoted_at (string_marks levels (length front)) text >>= λ x. Ok (cells (front ++ each code_point x.0) nil, x.1)
+string_at levels front text =
+    quoted_at (string_marks levels (length front)) text >>= λ x. Ok
+    (cells (front ++ each code_point x.0) nil, x.1)
 
 -- an integer as a byte
 abbrev pub byte_of : ℤ → List ℕ → Result ℕ Fault
@@ -224,12 +233,15 @@ unfoldable pub byte_at : List ℕ → Read ℕ
 byte_at text = integer_at text >>= λ z. byte_of z.0 text >>= λ b. Ok (b, z.1)
 
 abbrev pub one_byte_at : List ℕ → List ℕ → Read (List ℕ)
-one_byte_at bytes text = if length bytes == binary_limit then stop TooLong text else byte_at text >>= λ b. Ok (bytes ++ b.0 ∷ [], b.1)
+one_byte_at bytes text =
+    if length bytes == binary_limit then stop TooLong text else byte_at text >>= λ b. Ok
+    (bytes ++ b.0 ∷ [], b.1)
 
 abbrev pub segment_as : Option (Opening × List ℕ) → List ℕ → List ℕ → Read (List ℕ)
 segment_as None bytes text = stop Syntax text
 segment_as (Some (opens.Integer, rest)) bytes text = one_byte_at bytes text
-segment_as (Some (opens.String, rest)) bytes text = quoted_at (byte_marks (length bytes)) rest >>= λ x. Ok (bytes ++ x.0, x.1)
+segment_as (Some (opens.String, rest)) bytes text =
+    quoted_at (byte_marks (length bytes)) rest >>= λ x. Ok (bytes ++ x.0, x.1)
 segment_as (Some (o, rest)) bytes text = stop Syntax text
 
 -- one more segment behind these bytes
@@ -248,11 +260,14 @@ behind_both a b (x ∷ y ∷ ys) = if x == a && y == b then Some ys else None
 -- the bytes of a binary, none where it closes at once
 abbrev pub bytes_at : Option (List ℕ) → List ℕ → Read (List ℕ)
 bytes_at (Some rest) text = Ok ([], rest)
-bytes_at None text = segments_at [] text >>= λ x. expect_both greater greater x.1 >>= λ rest. Ok (x.0, rest)
+bytes_at None text =
+    segments_at [] text >>= λ x. expect_both greater greater x.1 >>= λ rest. Ok (x.0, rest)
 
 -- behind the opening of a binary
 unfoldable pub binary_at : List ℕ → Read Datum
-binary_at text = bytes_at (behind_both greater greater (after_gap false text)) (after_gap false text) >>= λ x. Ok (binary x.0, x.1)
+binary_at text =
+    bytes_at (behind_both greater greater (after_gap false text)) (after_gap false text) >>= λ x. Ok
+    (binary x.0, x.1)
 
 -- the readers of terms that are nested less: of a term where so many more may stand, and of the tail of a list of these
 -- elements, which gives the list
@@ -272,15 +287,20 @@ elements_at read limit ds text = all_steps (separated (element_at read limit)) d
 -- the elements of a tuple, none where it closes at once
 abbrev pub items_at : TermReader → Option (List ℕ) → List ℕ → Read (List Datum)
 items_at read (Some rest) text = Ok ([], rest)
-items_at read None text = elements_at read tuple_limit [] text >>= λ x. expect close_brace x.1 >>= λ rest. Ok (x.0, rest)
+items_at read None text =
+    elements_at read tuple_limit [] text >>= λ x. expect close_brace x.1 >>= λ rest. Ok (x.0, rest)
 
 -- behind the opening of a tuple
 unfoldable pub tuple_at : TermReader → List ℕ → Read Datum
-tuple_at read text = items_at read (behind close_brace (after_gap false text)) (after_gap false text) >>= λ x. Ok (tuple (items_of x.0), x.1)
+tuple_at read text =
+    items_at read (behind close_brace (after_gap false text)) (after_gap false text) >>= λ x. Ok
+    (tuple (items_of x.0), x.1)
 
 -- behind the elements of a list: its tail, where a bar stands there, and its end
 abbrev pub end_at : TailReader → List Datum → Option (List ℕ) → List ℕ → Read Datum
-end_at read_tail ds (Some rest) text = read_tail ds (after_gap false rest) >>= λ x. expect close_bracket (after_gap false x.1) >>= λ rest. Ok (x.0, rest)
+end_at read_tail ds (Some rest) text =
+    read_tail ds (after_gap false rest) >>= λ x. expect close_bracket (after_gap false x.1) >>=
+    λ rest. Ok (x.0, rest)
 end_at read_tail ds None text = expect close_bracket text >>= λ rest. Ok (cells ds nil, rest)
 
 unfoldable pub list_end : TailReader → List Datum → List ℕ → Read Datum
@@ -288,11 +308,14 @@ list_end read_tail ds text = end_at read_tail ds (behind bar text) text
 
 abbrev pub list_from : TermReader → TailReader → List Datum → Option (List ℕ) → List ℕ → Read Datum
 list_from read read_tail front (Some rest) text = Ok (cells front nil, rest)
-list_from read read_tail front None text = elements_at read list_limit front text >>= λ x. list_end read_tail x.0 x.1
+list_from read read_tail front None text =
+    elements_at read list_limit front text >>= λ x. list_end read_tail x.0 x.1
 
 -- a list that begins with these elements, behind the opening of its last part
 unfoldable pub list_at : TermReader → TailReader → List Datum → List ℕ → Read Datum
-list_at read read_tail front text = list_from read read_tail front (behind close_bracket (after_gap false text)) (after_gap false text)
+list_at read read_tail front text =
+    list_from read read_tail front (behind close_bracket (after_gap false text))
+    (after_gap false text)
 
 abbrev pub has_key : Datum → List (Datum × Datum) → Bool
 has_key k [] = false
@@ -301,16 +324,21 @@ has_key k (e ∷ es) = is_eq (datum_cmp k e.0) || has_key k es
 unfoldable pub pair_at : TermReader → List (Datum × Datum) → List ℕ → Read (List (Datum × Datum))
 pair_at read es text = read (map_limit - length es) text >>= λ k.
     if has_key k.0 es then stop DuplicateKey text
-    else expect_both equals greater (after_gap false k.1) >>= λ rest. read 1 (after_gap false rest) >>= λ v. Ok (insert_entry datum_cmp es k.0 v.0, v.1)
+    else expect_both equals greater (after_gap false k.1) >>= λ rest. read 1 (after_gap false rest)
+    >>= λ v. Ok (insert_entry datum_cmp es k.0 v.0, v.1)
 
 -- the pairs of a map, none where it closes at once
 abbrev pub pairs_at : TermReader → Option (List ℕ) → List ℕ → Read (List (Datum × Datum))
 pairs_at read (Some rest) text = Ok ([], rest)
-pairs_at read None text = all_steps (separated (pair_at read)) [] text >>= λ x. expect close_brace x.1 >>= λ rest. Ok (x.0, rest)
+pairs_at read None text =
+    all_steps (separated (pair_at read)) [] text >>= λ x. expect close_brace x.1 >>= λ rest. Ok
+    (x.0, rest)
 
 -- behind the opening of a map
 unfoldable pub map_at : TermReader → List ℕ → Read Datum
-map_at read text = pairs_at read (behind close_brace (after_gap false text)) (after_gap false text) >>= λ x. Ok (map (entries_of x.0), x.1)
+map_at read text =
+    pairs_at read (behind close_brace (after_gap false text)) (after_gap false text) >>= λ x. Ok
+    (map (entries_of x.0), x.1)
 
 unfoldable pub quoted_atom_at : List ℕ → Read Datum
 quoted_atom_at text = quoted_at atom_marks text >>= λ x. Ok (atom x.0, x.1)
@@ -335,18 +363,21 @@ form_at read read_tail levels opens.Binary text = binary_at text
 abbrev pub tail_form : TermReader → TailReader → ℕ → List Datum → Opening → List ℕ → Read Datum
 tail_form read read_tail levels front opens.String text = string_at levels front text
 tail_form read read_tail levels front opens.List text = list_at read read_tail front text
-tail_form read read_tail levels front o text = form_at read read_tail levels o text >>= λ x. Ok (cells front x.0, x.1)
+tail_form read read_tail levels front o text =
+    form_at read read_tail levels o text >>= λ x. Ok (cells front x.0, x.1)
 
 unfoldable mutual
   -- a term, where so many levels are left and so many terms
   pub term_at : ℕ → TermReader
   term_at zero room text = enter zero room text >>= λ o. stop Syntax text
-  term_at (suc n) room text = enter (suc n) room text >>= λ o. form_at (term_at n) (tail_at n) n o.0 o.1
+  term_at (suc n) room text =
+      enter (suc n) room text >>= λ o. form_at (term_at n) (tail_at n) n o.0 o.1
 
   -- the list of these elements and the tail
   pub tail_at : ℕ → TailReader
   tail_at zero front text = enter zero 1 text >>= λ o. stop Syntax text
-  tail_at (suc n) front text = enter (suc n) 1 text >>= λ o. tail_form (term_at n) (tail_at n) n front o.0 o.1
+  tail_at (suc n) front text =
+      enter (suc n) 1 text >>= λ o. tail_form (term_at n) (tail_at n) n front o.0 o.1
 
 -- white space, a comment or the end
 abbrev pub begins_gap : List ℕ → Bool
@@ -359,11 +390,13 @@ dot_at [] = Err (Syntax, 0)
 dot_at (c ∷ cs) = if c == dot && begins_gap cs then Ok cs else stop Syntax (c ∷ cs)
 
 unfoldable pub sentence_at : List ℕ → Read Datum
-sentence_at text = term_at depth_limit 1 text >>= λ x. dot_at (after_gap false x.1) >>= λ rest. Ok (x.0, rest)
+sentence_at text =
+    term_at depth_limit 1 text >>= λ x. dot_at (after_gap false x.1) >>= λ rest. Ok (x.0, rest)
 
 unfoldable pub sentence_step : Step (List Datum)
 sentence_step ds [] = Ok (false, ds, [])
-sentence_step ds (c ∷ cs) = sentence_at (c ∷ cs) >>= λ x. Ok (true, ds ++ x.0 ∷ [], after_gap false x.1)
+sentence_step ds (c ∷ cs) =
+    sentence_at (c ∷ cs) >>= λ x. Ok (true, ds ++ x.0 ∷ [], after_gap false x.1)
 
 -- all terms of a text
 unfoldable pub text_at : List ℕ → Result (List Datum) Fault

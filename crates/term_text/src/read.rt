@@ -330,7 +330,8 @@ fn form<A: Allocator + Copy>(
     text: &[char],
 ) -> Result<(Term<A>, &[char]), Stop>
     requires { levels < MAX_DEPTH }
-    ensures { Gives (λ x. (x.0, x.1.now)) result (form_at (term_at levels) (tail_at levels) levels opening text.now) }
+    ensures { Gives (λ x. (x.0, x.1.now)) result
+        (form_at (term_at levels) (tail_at levels) levels opening text.now) }
 {
     match opening {
         Opening::Integer => integer_term(text),
@@ -390,7 +391,8 @@ fn elements<A: Allocator + Copy>(
     elements: Vec<Term<A>, A>,
     text: &[char],
 ) -> Result<(Vec<Term<A>, A>, &[char]), Stop>
-    ensures { Gives (λ x. (x.0.items, x.1.now)) result (elements_at (term_at levels) limit elements.items text.now) }
+    ensures { Gives (λ x. (x.0.items, x.1.now)) result
+        (elements_at (term_at levels) limit elements.items text.now) }
 {
     let mut elements = elements;
     let mut rest = text;
@@ -437,7 +439,8 @@ fn list<A: Allocator + Copy>(
 ) -> Result<(Term<A>, &[char]), Stop>
     requires levels { levels < MAX_DEPTH }
     requires elements { AreElements front.items }
-    ensures { Gives (λ x. (x.0, x.1.now)) result (list_at (term_at levels) (tail_at levels) front.items text.now) }
+    ensures { Gives (λ x. (x.0, x.1.now)) result
+        (list_at (term_at levels) (tail_at levels) front.items text.now) }
 {
     let text = after_gap(text);
     if let Some(rest) = behind(']', text) {
@@ -458,7 +461,8 @@ fn list_end<A: Allocator + Copy>(
 ) -> Result<(Term<A>, &[char]), Stop>
     requires levels { levels < MAX_DEPTH }
     requires elements { AreElements elements.items }
-    ensures { Gives (λ x. (x.0, x.1.now)) result (list_end (tail_at levels) elements.items text.now) }
+    ensures { Gives (λ x. (x.0, x.1.now)) result
+        (list_end (tail_at levels) elements.items text.now) }
 {
     if let Some(rest) = behind('|', text) {
         let (list, rest) = tail(alloc, levels, elements, after_gap(rest))?;
@@ -478,7 +482,8 @@ fn pair<A: Allocator + Copy>(
     pairs: Pairs<A>,
     text: &[char],
 ) -> Result<(Pairs<A>, &[char]), Stop>
-    ensures { Gives (λ x. (x.0.entries, x.1.now)) result (pair_at (term_at levels) pairs.entries text.now) }
+    ensures { Gives (λ x. (x.0.entries, x.1.now)) result
+        (pair_at (term_at levels) pairs.entries text.now) }
 {
     let mut pairs = pairs;
     let room = MAX_MAP.saturating_sub(pairs.len());
@@ -499,7 +504,8 @@ fn pairs<A: Allocator + Copy>(
     levels: u8,
     text: &[char],
 ) -> Result<(Pairs<A>, &[char]), Stop>
-    ensures { Gives (λ x. (x.0.entries, x.1.now)) result (all_steps (separated (pair_at (term_at levels))) [] text.now) }
+    ensures { Gives (λ x. (x.0.entries, x.1.now)) result
+        (all_steps (separated (pair_at (term_at levels))) [] text.now) }
 {
     let mut pairs = BTreeMap::new(alloc);
     let mut rest = text;

@@ -59,7 +59,8 @@ pub fn read_terms<A: Allocator + Copy>(alloc: A, bytes: &[u8]) -> Result<Vec<Ter
     // What is read is spelled so.
     ensures ok { IfOk result (λ terms. Spells bytes.now terms.items) }
     // What is spelled so is read, unless memory runs out.
-    ensures only { (ds : List Datum) → Spells bytes.now ds → MatchResult result (λ terms. terms.items ≡ ds) (λ fault. fault ≡ TextFault.Memory) }
+    ensures only { (ds : List Datum) → Spells bytes.now ds
+        → MatchResult result (λ terms. terms.items ≡ ds) (λ fault. fault ≡ TextFault.Memory) }
     // What a refusal names stands at its byte, and what stands before has no fault.
     ensures cause { IfErr result (λ fault. HasCause bytes.now fault) }
     // The first byte that begins no UTF-8.

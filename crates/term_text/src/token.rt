@@ -164,7 +164,8 @@ fn number(text: &[char]) -> (u64, &[char])
 
 /// A number with its sign, where 64 bits hold the integer.
 fn with_sign(is_negative: bool, magnitude: u64) -> Option<i64>
-    ensures { result ≡ (if fits is_negative magnitude then Some (signed is_negative magnitude) else None) }
+    ensures { result ≡ (if fits is_negative magnitude then Some (signed is_negative magnitude) else
+        None) }
 {
     if is_negative {
         0_i64.checked_sub_unsigned(magnitude)
@@ -284,7 +285,8 @@ pub(crate) fn quoted<A: Allocator>(
     text: &[char],
 ) -> Result<(Vec<char, A>, &[char]), Stop>
     ensures value { Gives (λ x. (x.0.items, x.1.now)) result (quoted_at marks text.now) }
-    ensures allowed { IfOk result (λ x. AllByRecursion (λ c. is_allowed marks.only_bytes c ≡ true) x.0.items) }
+    ensures allowed { IfOk result (λ x. AllByRecursion (λ c. is_allowed marks.only_bytes c ≡ true)
+        x.0.items) }
 {
     let mut characters = Vec::new(alloc);
     let mut rest = text;

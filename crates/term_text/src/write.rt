@@ -90,7 +90,8 @@ fn is_bare(characters: &[char]) -> bool
 
 /// Appends a character as it stands between single quotes.
 fn put_quoted<B: Allocator>(character: char, out: &mut Vec<u8, B>) -> Result<(), AllocError>
-    ensures { OnOk result (out.new.items ≡ out.old.items ++ encode_utf8_all (quoted_character character)) }
+    ensures { OnOk result (out.new.items ≡ out.old.items
+        ++ encode_utf8_all (quoted_character character)) }
 {
     match character {
         '\\' => out.extend_from_slice(b"\\\\"),
@@ -122,7 +123,8 @@ fn put_characters<B: Allocator>(characters: &[char], out: &mut Vec<u8, B>) -> Re
 
 /// Appends these characters as they stand between single quotes.
 fn put_all_quoted<B: Allocator>(characters: &[char], out: &mut Vec<u8, B>) -> Result<(), AllocError>
-    ensures { OnOk result (out.new.items ≡ out.old.items ++ encode_utf8_all (quoted_characters characters.now)) }
+    ensures { OnOk result (out.new.items ≡ out.old.items
+        ++ encode_utf8_all (quoted_characters characters.now)) }
 {
     for character in characters {
         put_quoted(*character, out)?;
@@ -133,7 +135,8 @@ fn put_all_quoted<B: Allocator>(characters: &[char], out: &mut Vec<u8, B>) -> Re
 /// Appends an atom, bare where it can be.
 #[tactic(auto, using(crate::proofs::Bytes::quoted_bytes))]
 fn put_atom<B: Allocator>(characters: &[char], out: &mut Vec<u8, B>) -> Result<(), AllocError>
-    ensures { OnOk result (out.new.items ≡ out.old.items ++ encode_utf8_all (atom_text characters.now)) }
+    ensures { OnOk result (out.new.items ≡ out.old.items
+        ++ encode_utf8_all (atom_text characters.now)) }
 {
     if is_bare(characters) {
         return put_characters(characters, out);
@@ -194,7 +197,8 @@ fn put<A: Allocator, B: Allocator>(term: &Term<A>, out: &mut Vec<u8, B>) -> Resu
 
 /// Appends a binary.
 fn put_binary<B: Allocator>(bytes: &[u8], out: &mut Vec<u8, B>) -> Result<(), AllocError>
-    ensures { OnOk result (out.new.items ≡ out.old.items ++ encode_utf8_all (canonical (binary bytes.now))) }
+    ensures { OnOk result (out.new.items ≡ out.old.items
+        ++ encode_utf8_all (canonical (binary bytes.now))) }
 {
     out.extend_from_slice(b"<<")?;
     put_bytes(bytes, out)?;
@@ -209,7 +213,8 @@ fn put_tuple<A: Allocator, B: Allocator>(
     elements: &[Term<A>],
     out: &mut Vec<u8, B>,
 ) -> Result<(), AllocError>
-    ensures { OnOk result (out.new.items ≡ out.old.items ++ encode_utf8_all (canonical (tuple (items_of elements.now)))) }
+    ensures { OnOk result (out.new.items ≡ out.old.items
+        ++ encode_utf8_all (canonical (tuple (items_of elements.now)))) }
 {
     out.push(b'{')?;
     put_elements(elements, out)?;
@@ -224,7 +229,8 @@ fn put_elements<A: Allocator, B: Allocator>(
     elements: &[Term<A>],
     out: &mut Vec<u8, B>,
 ) -> Result<(), AllocError>
-    ensures { OnOk result (out.new.items ≡ out.old.items ++ encode_utf8_all (items_text (items_of elements.now))) }
+    ensures { OnOk result (out.new.items ≡ out.old.items
+        ++ encode_utf8_all (items_text (items_of elements.now))) }
 {
     let Some((first, rest)) = elements.split_first() else {
         return Ok(());
@@ -246,7 +252,8 @@ fn put_list<A: Allocator, B: Allocator>(
     out: &mut Vec<u8, B>,
 ) -> Result<(), AllocError>
     requires { (0 < length elements.now) × IsTail (option_copied tail) }
-    ensures { OnOk result (out.new.items ≡ out.old.items ++ encode_utf8_all (canonical (cells elements.now (tail_of (option_copied tail.entry))))) }
+    ensures { OnOk result (out.new.items ≡ out.old.items
+        ++ encode_utf8_all (canonical (cells elements.now (tail_of (option_copied tail.entry))))) }
 {
     out.push(b'[')?;
     put_elements(elements, out)?;
@@ -265,7 +272,8 @@ fn put_map<A: Allocator, B: Allocator>(
     pairs: &[(Term<A>, Term<A>)],
     out: &mut Vec<u8, B>,
 ) -> Result<(), AllocError>
-    ensures { OnOk result (out.new.items ≡ out.old.items ++ encode_utf8_all (canonical (map (entries_of pairs.now)))) }
+    ensures { OnOk result (out.new.items ≡ out.old.items
+        ++ encode_utf8_all (canonical (map (entries_of pairs.now)))) }
 {
     out.extend_from_slice(b"#{")?;
     put_pairs(pairs, out)?;
@@ -280,7 +288,8 @@ fn put_pairs<A: Allocator, B: Allocator>(
     pairs: &[(Term<A>, Term<A>)],
     out: &mut Vec<u8, B>,
 ) -> Result<(), AllocError>
-    ensures { OnOk result (out.new.items ≡ out.old.items ++ encode_utf8_all (entries_text (entries_of pairs.now))) }
+    ensures { OnOk result (out.new.items ≡ out.old.items
+        ++ encode_utf8_all (entries_text (entries_of pairs.now))) }
 {
     let Some(((key, value), rest)) = pairs.split_first() else {
         return Ok(());
@@ -301,7 +310,8 @@ fn put_pair<A: Allocator, B: Allocator>(
     value: &Term<A>,
     out: &mut Vec<u8, B>,
 ) -> Result<(), AllocError>
-    ensures { OnOk result (out.new.items ≡ out.old.items ++ encode_utf8_all (canonical key.now ++ (equals ∷ greater ∷ canonical value.now))) }
+    ensures { OnOk result (out.new.items ≡ out.old.items
+        ++ encode_utf8_all (canonical key.now ++ (equals ∷ greater ∷ canonical value.now))) }
 {
     put(key, out)?;
     out.extend_from_slice(b"=>")?;
@@ -315,7 +325,8 @@ pub fn write_term<A: Allocator, B: Allocator + Copy>(
     term: &Term<A>,
     out: &mut Vec<u8, B>,
 ) -> Result<(), AllocError>
-    ensures ok { OnOk result (out.new.items ≡ out.old.items ++ encode_utf8_all (canonical term.now)) }
+    ensures ok { OnOk result (out.new.items ≡ out.old.items
+        ++ encode_utf8_all (canonical term.now)) }
     ensures err { OnErr result (out.new.items ≡ out.old.items) }
 {
     let mut text = Vec::new(*out.allocator());

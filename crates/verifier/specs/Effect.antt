@@ -55,7 +55,8 @@ IsConstantFit p (instr.Value c l) = c < length p.constants
 IsConstantFit p (instr.MakeMap c l) = IsSome (key_count p c)
 IsConstantFit p i = Unit {0}
 
--- the kinds of the operands are those that an instruction needs, FIELD's place is one of the tuple's, and CALL's function takes so many arguments
+-- the kinds of the operands are those that an instruction needs, FIELD's place is one of the tuple's, and
+-- CALL's function takes so many arguments
 abbrev pub kinds_fit : Instr → List Kind → Bool
 kinds_fit (instr.Field i) (kind.Tuple n ∷ ks) = nat_lt 0 i && nat_le i n
 kinds_fit (instr.Field i) ks = false
@@ -125,7 +126,11 @@ left_bound i bound = bound
 -- the state that an instruction leaves where it goes on
 abbrev pub left_shape : Program → Instr → Shape → Shape
 left_shape p i s =
-    record { kinds = pushed_kinds p i s.kinds ++ drop (needs p i) s.kinds; bound = left_bound i s.bound }
+    record {
+      kinds =
+          pushed_kinds p i s.kinds ++ drop (needs p i) s.kinds;
+      bound = left_bound i s.bound;
+    }
 
 -- the top stays where the instruction jumps
 abbrev pub top_stays : Instr → Bool

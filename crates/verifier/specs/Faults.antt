@@ -51,20 +51,31 @@ pub record IsLeavingFit (p : Program) (pc : ℕ) (i : Instr) (s : Shape) : Type 
   pub depth : IsDepthFit p pc i s
   pub jump : IsJumpFit p i s
 
--- What a fault says of the instruction at pc in its state: the first in this order that isn't what it has to be is its target, constant, number of operands, their kinds, slot, depth, jump, or that it goes on though it is the last.
+-- What a fault says of the instruction at pc in its state: the first in this order that isn't what it has to
+-- be is its target, constant, number of operands, their kinds, slot, depth, jump, or that it goes on though
+-- it is the last.
 abbrev pub IsFaultIn : Program → ℕ → Instr → Shape → Fault → Type 0
 IsFaultIn p pc i s fault.Memory = ⊥
-IsFaultIn p pc i s (fault.JumpOutside at) = (at ≡ pc) × ((target : ℕ) × JumpsTo i target × (length p.instructions ≤ target))
-IsFaultIn p pc i s (fault.JumpBack at) = (at ≡ pc) × ((target : ℕ) × JumpsTo i target × (target < length p.instructions) × (target ≤ pc))
-IsFaultIn p pc i s (fault.Frame at) = (at ≡ pc) × (IsUnframed p pc i ⊎ (IsDepthFit p pc i s × ¬ IsJumpFit p i s))
+IsFaultIn p pc i s (fault.JumpOutside at) =
+    (at ≡ pc) × ((target : ℕ) × JumpsTo i target × (length p.instructions ≤ target))
+IsFaultIn p pc i s (fault.JumpBack at) =
+    (at ≡ pc) × ((target : ℕ) × JumpsTo i target × (target < length p.instructions) × (target ≤ pc))
+IsFaultIn p pc i s (fault.Frame at) =
+    (at ≡ pc) × (IsUnframed p pc i ⊎ (IsDepthFit p pc i s × ¬ IsJumpFit p i s))
 IsFaultIn p pc i s (fault.Constant at) = (at ≡ pc) × IsTargetFit p pc i × ¬ IsConstantFit p i
-IsFaultIn p pc i s (fault.Underflow at) = (at ≡ pc) × IsNamingFit p pc i × (length s.kinds < needs p i)
-IsFaultIn p pc i s (fault.Kind at) = (at ≡ pc) × AreOperandsFit p pc i s × (kinds_fit i s.kinds ≡ false)
-IsFaultIn p pc i s (fault.Unbound at) = (at ≡ pc) × AreKindsFit p pc i s × (slot_fits p i s.bound ≡ false)
-IsFaultIn p pc i s (fault.Depth at) = (at ≡ pc) × IsSlotFit p pc i s × (most_places < length (left_shape p i s).kinds)
-IsFaultIn p pc i s (fault.FallsOff at) = (at ≡ pc) × IsLeavingFit p pc i s × IsTrue (goes_on i) × (length p.instructions ≤ suc pc)
+IsFaultIn p pc i s (fault.Underflow at) =
+    (at ≡ pc) × IsNamingFit p pc i × (length s.kinds < needs p i)
+IsFaultIn p pc i s (fault.Kind at) =
+    (at ≡ pc) × AreOperandsFit p pc i s × (kinds_fit i s.kinds ≡ false)
+IsFaultIn p pc i s (fault.Unbound at) =
+    (at ≡ pc) × AreKindsFit p pc i s × (slot_fits p i s.bound ≡ false)
+IsFaultIn p pc i s (fault.Depth at) =
+    (at ≡ pc) × IsSlotFit p pc i s × (most_places < length (left_shape p i s).kinds)
+IsFaultIn p pc i s (fault.FallsOff at) =
+    (at ≡ pc) × IsLeavingFit p pc i s × IsTrue (goes_on i) × (length p.instructions ≤ suc pc)
 
--- no state is one in which the instruction can begin: neither does one fall into it nor has it a frame, or the one that falls into it isn't at or below its frame
+-- no state is one in which the instruction can begin: neither does one fall into it nor has it a frame, or
+-- the one that falls into it isn't at or below its frame
 abbrev pub HasNoBeginning : Program → Option Shape → Option Frame → Type 0
 HasNoBeginning p falling frame = (s : Shape) → ¬ Begins p falling frame s
 
@@ -78,7 +89,8 @@ pub record IsFirstUntyped (p : Program) (told : Fault) : Type 0 where
   pub before : AreTypedBelow p shapes pc
   pub why :
       ((told ≡ fault.Frame pc) × HasNoBeginning p (falling_into p shapes pc) (frame_at p.frames pc))
-      ⊎ (Begins p (falling_into p shapes pc) (frame_at p.frames pc) (shapes pc) × IsFaultIn p pc instr (shapes pc) told)
+      ⊎ (Begins p (falling_into p shapes pc) (frame_at p.frames pc) (shapes pc)
+      × IsFaultIn p pc instr (shapes pc) told)
 
 -- the frame is the first that isn't fit
 pub record IsFirstUnfit (p : Program) (told : Fault) : Type 0 where

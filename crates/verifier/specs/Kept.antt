@@ -16,11 +16,14 @@ pub record AreKept (depth : ℕ) (places : List (ℕ × Kind)) : Type 0 where
 
 -- each place that is listed is no lower than what stands there
 abbrev pub AreListedAbove : List (ℕ × Kind) → List (ℕ × Kind) → Type 0
-AreListedAbove places listed = All (λ place. IsTrue (is_below (place_kind places (place_number place)) place.1)) listed
+AreListedAbove places listed =
+    All (λ place. IsTrue (is_below (place_kind places (place_number place)) place.1)) listed
 
 -- there is a last place, at this depth or above it
 abbrev pub IsReaching : ℕ → List (ℕ × Kind) → Type 0
-IsReaching depth places = (place : ℕ × Kind) → (0 < length places) × (depth ≤ place_number (slice_index_or places (length places - 1) place))
+IsReaching depth places =
+    (place : ℕ × Kind) → (0 < length places) × (depth
+    ≤ place_number (slice_index_or places (length places - 1) place))
 
 -- the state without so many places from the top
 abbrev pub popped_shape : Shape → ℕ → Shape
@@ -28,4 +31,5 @@ popped_shape s count = record { kinds = drop count s.kinds; bound = s.bound }
 
 -- what a frame says over so many slots
 abbrev pub entered_shape : ℕ → Frame → Shape
-entered_shape slots f = record { kinds = frame_kinds f.places f.depth; bound = marked (replicate slots false) f.slots }
+entered_shape slots f =
+    record { kinds = frame_kinds f.places f.depth; bound = marked (replicate slots false) f.slots }

@@ -11,7 +11,8 @@ FaultyCodeIsUntyped = (p : Program) (told : Fault) → IsFirstFault p told → �
 
 -- at most one fault is the first
 abbrev pub FirstFaultIsOne : Type 0
-FirstFaultIsOne = (p : Program) (told again : Fault) → IsFirstFault p told → IsFirstFault p again → told ≡ again
+FirstFaultIsOne =
+    (p : Program) (told again : Fault) → IsFirstFault p told → IsFirstFault p again → told ≡ again
 
 -- code has at most one greatest depth
 abbrev pub DepthIsOne : Type 0

@@ -61,7 +61,8 @@ begun p None None = start_shape p
 abbrev pub shape_at : Program → ℕ → Shape
 shape_at p zero = begun p (Some (start_shape p)) (frame_at p.frames 0)
 shape_at p (suc pc) =
-    begun p (option_and_then (λ i. falling_shape p i (shape_at p pc)) (slice_get p.instructions pc)) (frame_at p.frames (suc pc))
+    begun p (option_and_then (λ i. falling_shape p i (shape_at p pc)) (slice_get p.instructions pc))
+    (frame_at p.frames (suc pc))
 
 -- the state that falls, where one does
 abbrev pub fallen : Bool → Shape → Option Shape
@@ -69,16 +70,20 @@ fallen falls s = if falls then Some s else None
 
 -- the greatest depth before or after the instructions before this one
 pub record IsDeepestBelow (p : Program) (pc n : ℕ) : Type 0 where
-  pub reached : 0 < n → (q : ℕ) × (i : Instr) × (slice_get p.instructions q ≡ Some i) × IsDepthAt p (shape_at p) q i n
-  pub greatest : (q : ℕ) (i : Instr) (m : ℕ) → q < pc → slice_get p.instructions q ≡ Some i → IsDepthAt p (shape_at p) q i m → m ≤ n
+  pub reached : 0 < n → (q : ℕ) × (i : Instr) × (slice_get p.instructions q ≡ Some i)
+      × IsDepthAt p (shape_at p) q i n
+  pub greatest : (q : ℕ) (i : Instr) (m : ℕ) → q < pc → slice_get p.instructions q ≡ Some i
+      → IsDepthAt p (shape_at p) q i m → m ≤ n
 
 -- the depths of the frames before this instruction
 pub record AreDepthsBelow (p : Program) (pc : ℕ) (depths : List ℕ) : Type 0 where
   pub count : length depths ≡ pc
-  pub each : (q : ℕ) (f : Frame) → q < pc → frame_at p.frames q ≡ Some f → slice_get depths q ≡ Some f.depth
+  pub each : (q : ℕ) (f : Frame) → q < pc → frame_at p.frames q ≡ Some f
+      → slice_get depths q ≡ Some f.depth
 
 -- the instructions before this one are typed; what falls into it; and what was seen so far
-pub record IsWalked (p : Program) (pc : ℕ) (falls : Bool) (shape : Shape) (depths : List ℕ) (deepest : ℕ) : Type 0 where
+pub record IsWalked (p : Program) (pc : ℕ) (falls : Bool) (shape : Shape) (depths : List ℕ)
+    (deepest : ℕ) : Type 0 where
   pub typed : AreTypedBelow p (shape_at p) pc
   pub falling : falling_into p (shape_at p) pc ≡ fallen falls shape
   pub slots : length shape.bound ≡ p.slots

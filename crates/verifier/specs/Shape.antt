@@ -31,7 +31,12 @@ marked bound (slot ∷ slots) = marked (set bound slot true) slots
 
 -- what a frame says
 abbrev pub shape_of : Program → Frame → Shape
-shape_of p f = record { kinds = frame_kinds f.places f.depth; bound = marked (replicate p.slots false) f.slots }
+shape_of p f =
+    record {
+      kinds = frame_kinds f.places f.depth;
+      bound = marked (replicate p.slots false)
+          f.slots;
+    }
 
 -- the slot is there and bound
 abbrev pub is_bound : List Bool → ℕ → Bool

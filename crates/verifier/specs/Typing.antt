@@ -31,7 +31,8 @@ IsTargetFit p pc i = IfSome (target_of i) (λ target. IsTarget p pc target)
 -- where the instruction may jump to a frame, the state of that jump is at or below it once it is cut
 abbrev pub IsJumpFit : Program → Instr → Shape → Type 0
 IsJumpFit p i s =
-    IfSome (target_of i) (λ target. IfSome (frame_at p.frames target) (λ f. IsCutBelow (jump_shape p i s) f))
+    IfSome (target_of i) (λ target. IfSome (frame_at p.frames target)
+    (λ f. IsCutBelow (jump_shape p i s) f))
 
 -- the instruction at pc finds in this state what it needs, and leaves what may be left
 pub record IsTypedAt (p : Program) (pc : ℕ) (i : Instr) (s : Shape) : Type 0 where
@@ -44,7 +45,8 @@ pub record IsTypedAt (p : Program) (pc : ℕ) (i : Instr) (s : Shape) : Type 0 w
   pub jump : IsJumpFit p i s
   pub last : IsTrue (goes_on i) → suc pc < length p.instructions
 
--- an instruction begins in the state that its frame says, which the one that falls into it is at or below; without a frame in the one that falls into it
+-- an instruction begins in the state that its frame says, which the one that falls into it is at or below;
+-- without a frame in the one that falls into it
 abbrev pub Begins : Program → Option Shape → Option Frame → Shape → Type 0
 Begins p falling None s = falling ≡ Some s
 Begins p falling (Some f) s = (s ≡ shape_of p f) × IfSome falling (λ t. IsAtOrBelow t f)
@@ -52,7 +54,8 @@ Begins p falling (Some f) s = (s ≡ shape_of p f) × IfSome falling (λ t. IsAt
 -- the state that falls into an instruction, where these are those of all
 abbrev pub falling_into : Program → (ℕ → Shape) → ℕ → Option Shape
 falling_into p shapes zero = Some (start_shape p)
-falling_into p shapes (suc pc) = option_and_then (λ i. falling_shape p i (shapes pc)) (slice_get p.instructions pc)
+falling_into p shapes (suc pc) =
+    option_and_then (λ i. falling_shape p i (shapes pc)) (slice_get p.instructions pc)
 
 -- the instruction at pc begins in its state and is typed there
 pub record IsTypedIn (p : Program) (shapes : ℕ → Shape) (pc : ℕ) (i : Instr) : Type 0 where
@@ -61,7 +64,8 @@ pub record IsTypedIn (p : Program) (shapes : ℕ → Shape) (pc : ℕ) (i : Inst
 
 -- so is each instruction before this one
 abbrev pub AreTypedBelow : Program → (ℕ → Shape) → ℕ → Type 0
-AreTypedBelow p shapes n = (pc : ℕ) (i : Instr) → pc < n → slice_get p.instructions pc ≡ Some i → IsTypedIn p shapes pc i
+AreTypedBelow p shapes n =
+    (pc : ℕ) (i : Instr) → pc < n → slice_get p.instructions pc ≡ Some i → IsTypedIn p shapes pc i
 
 -- these are states for all instructions of the code, which has one
 pub record HasShapes (p : Program) (shapes : ℕ → Shape) : Type 0 where
@@ -75,11 +79,14 @@ IsTyped p = (shapes : ℕ → Shape) × HasShapes p shapes
 
 -- the depth of a state before or after an instruction
 abbrev pub IsDepthAt : Program → (ℕ → Shape) → ℕ → Instr → ℕ → Type 0
-IsDepthAt p shapes pc i n = (n ≡ length (shapes pc).kinds) ⊎ (n ≡ length (left_shape p i (shapes pc)).kinds)
+IsDepthAt p shapes pc i n =
+    (n ≡ length (shapes pc).kinds) ⊎ (n ≡ length (left_shape p i (shapes pc)).kinds)
 
 -- the greatest depth of a state before or after an instruction
 pub record IsDepth (p : Program) (n : ℕ) : Type 0 where
   pub shapes : ℕ → Shape
   pub typing : HasShapes p shapes
-  pub reached : (pc : ℕ) × (i : Instr) × (slice_get p.instructions pc ≡ Some i) × IsDepthAt p shapes pc i n
-  pub greatest : (pc : ℕ) (i : Instr) (m : ℕ) → slice_get p.instructions pc ≡ Some i → IsDepthAt p shapes pc i m → m ≤ n
+  pub reached : (pc : ℕ) × (i : Instr) × (slice_get p.instructions pc ≡ Some i)
+      × IsDepthAt p shapes pc i n
+  pub greatest : (pc : ℕ) (i : Instr) (m : ℕ) → slice_get p.instructions pc ≡ Some i
+      → IsDepthAt p shapes pc i m → m ≤ n

@@ -6,7 +6,8 @@ use Rattle.verifier.specs.Typing.{IsTyped, IsDepth}
 
 -- by the number of an instruction with a frame, the frame's depth
 abbrev pub AreDepths : Program → List ℕ → Type 0
-AreDepths p depths = (pc : ℕ) (f : Frame) → frame_at p.frames pc ≡ Some f → slice_get depths pc ≡ Some f.depth
+AreDepths p depths =
+    (pc : ℕ) (f : Frame) → frame_at p.frames pc ≡ Some f → slice_get depths pc ≡ Some f.depth
 
 -- the code is typed, and these are its frames' depths, its budget and its depth
 pub record IsVerified (p : Program) (depths : List ℕ) (budget depth : ℕ) : Type 0 where

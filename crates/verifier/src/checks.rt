@@ -18,7 +18,8 @@ use std::alloc::Allocator;
 /// Whether an instruction may jump only to a frame that is after it and inside the code.
 fn check_target<A: Allocator>(code: &Code<A>, pc: u16, instr: Instr) -> Result<(), Fault>
     ensures fit { OnOk result (IsTargetFit code.now pc instr) }
-    ensures fault { IfErr result (λ fault. (s : shapes.Shape) → IsFaultIn code.now pc instr s fault) }
+    ensures fault { IfErr result (λ fault. (s : shapes.Shape)
+        → IsFaultIn code.now pc instr s fault) }
 {
     let Some(target) = instr.target() else {
         return Ok(());
@@ -77,7 +78,8 @@ fn check_naming<A: Allocator>(
 ) -> Result<(), Fault>
     requires { AreCounts code.now counts.now }
     ensures fit { OnOk result (IsNamingFit code.now pc instr) }
-    ensures fault { IfErr result (λ fault. (s : shapes.Shape) → IsFaultIn code.now pc instr s fault) }
+    ensures fault { IfErr result (λ fault. (s : shapes.Shape)
+        → IsFaultIn code.now pc instr s fault) }
 {
     check_target(code, pc, instr)?;
     if is_constant_fit(code, counts, instr) {

@@ -105,7 +105,8 @@ fn kinds_pushed<A: Allocator>(code: &Code<A>, instr: Instr, top: Option<Kind>) -
 /// Pushes these kinds.
 fn push<A: Allocator>(shape: &mut Shape<A>, pushed: Pushed) -> Result<(), AllocError>
     requires { length shape.old.kinds + 2 < 65536 }
-    ensures { OnOk result (shape.new ≡ record { kinds = pushed_list pushed ++ shape.old.kinds; bound = shape.old.bound }) }
+    ensures { OnOk result (shape.new ≡ record
+        { kinds = pushed_list pushed ++ shape.old.kinds; bound = shape.old.bound }) }
 {
     match pushed {
         Pushed::Nothing => Ok(()),
@@ -120,7 +121,11 @@ fn push<A: Allocator>(shape: &mut Shape<A>, pushed: Pushed) -> Result<(), AllocE
 /// Binds the slot that an instruction binds.
 fn bind<A: Allocator>(shape: &mut Shape<A>, instr: Instr)
     requires { IsBindable instr (length shape.old.bound) }
-    ensures { shape.new ≡ record { kinds = shape.old.kinds; bound = left_bound instr shape.old.bound } }
+    ensures { shape.new ≡ record {
+      kinds = shape.old.kinds;
+      bound = left_bound instr
+          shape.old.bound;
+    } }
 {
     match instr {
         Instr::Bind { slot } => shape.bind(slot),

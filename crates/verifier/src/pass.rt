@@ -32,7 +32,8 @@ pub(crate) struct Walk<A: Allocator> {
 /// Whether the state that falls into an instruction with a frame, where one does, is at or below it.
 fn falls_below<A: Allocator>(falls: bool, shape: &Shape<A>, frame: &Frame<A>) -> bool
     requires { AreKept frame.now.depth frame.now.places }
-    ensures { IsTrue result ↔ IfSome (fallen falls shape.now) (λ t. IsAtOrBelow t (frame_of frame.now)) }
+    ensures { IsTrue result ↔ IfSome (fallen falls shape.now)
+        (λ t. IsAtOrBelow t (frame_of frame.now)) }
 {
     if !falls {
         return true;
@@ -49,8 +50,11 @@ fn begin<A: Allocator>(
 ) -> Result<(), Fault>
     requires frames { All (IsFrameFit code.now) code.now.frames }
     requires slots { length shape.old.bound ≡ code.now.slots }
-    ensures begins { OnOk result (Begins code.now (fallen falls shape.old) (frame_at code.now.frames pc) shape.new) }
-    ensures fault { IfErr result (λ fault. (fault ≡ Memory) ⊎ ((fault ≡ FrameFault pc) × HasNoBeginning code.now (fallen falls shape.old) (frame_at code.now.frames pc))) }
+    ensures begins { OnOk result (Begins code.now (fallen falls shape.old)
+        (frame_at code.now.frames pc) shape.new) }
+    ensures fault { IfErr result (λ fault. (fault ≡ Memory)
+        ⊎ ((fault ≡ FrameFault pc) × HasNoBeginning code.now (fallen falls shape.old)
+        (frame_at code.now.frames pc))) }
 {
     let Some(frame) = code.frame_at(pc) else {
         return if falls { Ok(()) } else { Err(Fault::Frame(pc)) };
@@ -116,8 +120,10 @@ pub(crate) fn step<A: Allocator>(
     requires counts { AreCounts code.now counts.now }
     requires frames { All (IsFrameFit code.now) code.now.frames }
     requires inside { pc < length code.now.instructions }
-    requires walked { IsWalked code.now pc walk.old.falls walk.old.shape walk.old.depths.items walk.old.depth }
-    ensures typed { OnOk result (IsWalked code.now (pc + 1) walk.new.falls walk.new.shape walk.new.depths.items walk.new.depth) }
+    requires walked { IsWalked code.now pc walk.old.falls walk.old.shape walk.old.depths.items
+        walk.old.depth }
+    ensures typed { OnOk result (IsWalked code.now (pc + 1) walk.new.falls walk.new.shape
+        walk.new.depths.items walk.new.depth) }
     ensures fault { IfErr result (λ fault. (fault ≡ Memory) ⊎ IsFirstUntyped code.now fault) }
 {
     match begin(code, pc, walk.falls, &mut walk.shape) {

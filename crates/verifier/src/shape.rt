@@ -74,7 +74,8 @@ fn push_place<A: Allocator>(
     requires kept { AreKept depth places.old.items }
     requires room { depth + 1 < 65536 }
     ensures kept { OnOk result (AreKept (depth + 1) places.new.items) }
-    ensures kinds { OnOk result (frame_kinds places.new.items (depth + 1) ≡ kind ∷ frame_kinds places.old.items depth) }
+    ensures kinds { OnOk result (frame_kinds places.new.items (depth + 1)
+        ≡ kind ∷ frame_kinds places.old.items depth) }
     ensures same { OnErr result (places.new.items ≡ places.old.items) }
 {
     match kind {
@@ -214,7 +215,8 @@ impl<A: Allocator> Shape<A> {
     /// Puts a place on the top.
     pub(crate) fn push(&mut self, kind: Kind) -> Result<(), AllocError>
         requires { length self.old.kinds + 1 < 65536 }
-        ensures { OnOk result (self.new ≡ record { kinds = kind ∷ self.old.kinds; bound = self.old.bound }) }
+        ensures { OnOk result (self.new ≡ record
+            { kinds = kind ∷ self.old.kinds; bound = self.old.bound }) }
     {
         push_place(&mut self.places, self.depth, kind)?;
         self.depth += 1;
@@ -224,7 +226,11 @@ impl<A: Allocator> Shape<A> {
     /// Binds a slot.
     pub(crate) fn bind(&mut self, slot: u8)
         requires { slot < length self.old.bound }
-        ensures { self.new ≡ record { kinds = self.old.kinds; bound = set self.old.bound slot true } }
+        ensures { self.new ≡ record {
+          kinds = self.old.kinds;
+          bound = set self.old.bound slot
+              true;
+        } }
     {
         self.bound[usize::from(slot)] = true;
     }
@@ -240,7 +246,8 @@ impl<A: Allocator> Shape<A> {
     pub(crate) fn enter(&mut self, frame: &Frame<A>) -> Result<(), AllocError>
         requires places { AreKept frame.now.depth frame.now.places }
         requires slots { All (λ slot. slot < length self.old.bound) frame.now.slots }
-        ensures { OnOk result (self.new ≡ entered_shape (length self.old.bound) (frame_of frame.now)) }
+        ensures { OnOk result (self.new ≡ entered_shape (length self.old.bound)
+            (frame_of frame.now)) }
     {
         copy_places(&mut self.places, frame.places.as_slice())?;
         self.depth = frame.depth;
@@ -253,7 +260,8 @@ impl<A: Allocator> Shape<A> {
     fn is_below_at_cut(&self, frame: &Frame<A>) -> bool
         requires deep { frame.now.depth ≤ length self.now.kinds }
         requires frame { AreKept frame.now.depth frame.now.places }
-        ensures { IsTrue result ↔ IsAtOrBelow (cut_shape self.now frame.now.depth) (frame_of frame.now) }
+        ensures { IsTrue result ↔ IsAtOrBelow (cut_shape self.now frame.now.depth)
+            (frame_of frame.now) }
     {
         if !listed_above(self.places.as_slice(), frame.places.as_slice()) {
             return false;

@@ -61,7 +61,8 @@ fn check_frames<A: Allocator>(code: &Code<A>, frames: &[Frame<A>]) -> Result<(),
 /// Types each instruction in turn.
 fn walk_through<A: Allocator + Copy>(alloc: A, code: &Code<A>) -> Result<Walk<A>, Fault>
     requires { All (IsFrameFit code.now) code.now.frames }
-    ensures typed { IfOk result (λ w. IsWalked code.now (length code.now.instructions) w.falls w.shape w.depths.items w.depth) }
+    ensures typed { IfOk result (λ w. IsWalked code.now (length code.now.instructions) w.falls
+        w.shape w.depths.items w.depth) }
     ensures fault { IfErr result (λ fault. (fault ≡ Memory) ⊎ IsFirstUntyped code.now fault) }
 {
     let counts = key_counts(alloc, code.constants())?;
@@ -118,7 +119,8 @@ pub fn verify<A: Allocator + Copy>(
     code: Code<A>,
 ) -> Result<Verified<A>, Refused<Code<A>, Fault>>
     ensures ok { IfOk result (λ v. (v ≡ code) × IsTyped code) }
-    ensures refused { IfErr result (λ r. (r.value ≡ code) × ((r.fault ≡ Memory) ⊎ IsFirstFault code r.fault)) }
+    ensures refused { IfErr result (λ r. (r.value ≡ code)
+        × ((r.fault ≡ Memory) ⊎ IsFirstFault code r.fault)) }
 {
     match find_out(alloc, &code) {
         Ok(found) => Ok(Verified::new(code, found.depths, found.budget, found.depth)),

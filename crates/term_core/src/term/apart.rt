@@ -11,7 +11,8 @@ use std::alloc::{AllocError, Allocator};
 /// Whether all of these terms, which do not fall, differ.
 pub(crate) fn neighbours_differ<A: Allocator>(terms: &[&Term<A>]) -> bool
     requires { IsSorted (λ a b. datum_cmp a.now b.now) terms.now }
-    ensures { IsTrue result ↔ IsDistinct (eq_by_cmp datum_cmp) (map_list (λ term. term.now) terms.now) }
+    ensures { IsTrue result ↔ IsDistinct (eq_by_cmp datum_cmp)
+        (map_list (λ term. term.now) terms.now) }
 {
     for later in 1..terms.len() {
         if terms[later - 1] == terms[later] {

@@ -105,7 +105,8 @@ impl<A: Allocator> Term<A> {
         ensures ok { IfOk result (λ t. IsMapOf pairs.items t) }
         ensures only { IfOk result (λ t. (d : Datum) → IsMapOf pairs.items d → d ≡ t) }
         ensures apart { IfOk result (λ t. ¬ HasTwice pairs.items) }
-        ensures refused { IfErr result (λ r. (r.value.items ≡ pairs.items) × IsMapFault r.fault pairs.items) }
+        ensures refused { IfErr result (λ r. (r.value.items ≡ pairs.items)
+            × IsMapFault r.fault pairs.items) }
     {
         let depth = match map_depth(pairs.as_slice()) {
             Ok(depth) => depth,
@@ -141,7 +142,8 @@ impl<A: Allocator> Term<A> {
         requires within { IsMapDepth depth pairs.items }
         requires rising { AreRising (entries_of pairs.items) }
         ensures ok { IfOk result (λ t. t ≡ map (entries_of pairs.items)) }
-        ensures refused { IfErr result (λ r. (r.value.items ≡ pairs.items) × (r.fault ≡ Fault.Memory)) }
+        ensures refused { IfErr result (λ r. (r.value.items ≡ pairs.items)
+            × (r.fault ≡ Fault.Memory)) }
     {
         let pairs = boxed(alloc, pairs)?;
         Ok(Term {
