@@ -2,7 +2,7 @@
 //!
 //! An operand is tried as the term that it is; as a plain integer or truth value, where it is one; and as the rest of a list that is
 //! all of it, where it is a list. A number says the forms of up to three operands.
-use prims::{Gives, Operand, Primitive, call};
+use prims::{Function, Gives, Operand, Primitive, call};
 use row_terms::{canonical, elements, fields, is_atom, number, primitive, tagged, word};
 use std::alloc::Global;
 use std::cmp::Ordering;
@@ -32,7 +32,7 @@ fn plain_operand(term: &Term) -> Operand<'_> {
 pub(crate) fn operand(term: &Term, form: usize) -> Operand<'_> {
     match (form % 3, term.view()) {
         (1, _) => plain_operand(term),
-        (2, View::List(elements, tail)) => Operand::Rest(elements, tail),
+        (2, View::List(_, _)) => Operand::Rest(term, 0),
         _ => Operand::Term(term),
     }
 }
@@ -53,12 +53,17 @@ fn is_plain(operand: Operand<'_>) -> bool {
     matches!(operand, Operand::Int(_) | Operand::Bool(_))
 }
 
+/// Whether a function gives one of its operands.
+fn is_extreme(function: Primitive) -> bool {
+    matches!(function, Primitive::Function(Function::Extreme(_)))
+}
+
 /// Whether an operand is as the function gives it: plain where it was computed, and not where it was taken from a term.
 pub(crate) fn is_in_form(function: Primitive, operand: Operand<'_>) -> bool {
     match function.gives() {
         Gives::Boolean => matches!(operand, Operand::Bool(_)),
         Gives::Integer => matches!(operand, Operand::Int(_)),
-        Gives::Any => matches!(function, Primitive::Extreme(_)) || !is_plain(operand),
+        Gives::Any => is_extreme(function) || !is_plain(operand),
     }
 }
 

@@ -1,15 +1,15 @@
 //! Operands: the term that each is, its values, a list taken apart, the limits of a rest.
 use crate::calls::operand;
 use crate::constructors::size_of;
-use prims::{Comparison, Operand, Primitive, call};
+use prims::{Comparison, Function, Operand, Primitive, call};
 use row_terms::{canonical, elements, text, word};
 use std::alloc::Global;
-use term_core::Term;
+use term_core::{Term, copy_tail};
 use term_text::{read_terms, write_term};
 
 /// Whether an operand is exactly equal to a term.
 fn is_equal(term: &Term, operand: Operand<'_>) -> bool {
-    let same = Primitive::Comparison(Comparison::ExactlyEqual);
+    let same = Primitive::Function(Function::Comparison(Comparison::ExactlyEqual));
     matches!(
         call(same, &[Operand::Term(term), operand]),
         Some(Operand::Bool(true))
@@ -47,11 +47,26 @@ fn write_operand(
     write_equals(out, Operand::Term(&copy), terms)
 }
 
+/// A copy of the only element of a list of one tail or none.
+fn tail(alloc: Global, tails: &Term) -> Option<Option<Term>> {
+    copy_tail(alloc, elements(tails)?.first()).ok()
+}
+
+/// The list of one more element, of these and of one tail or none.
+fn list(alloc: Global, listed: &Term, tails: &Term) -> Option<Term> {
+    let mut terms = Vec::new(alloc);
+    terms.push(Term::int(0)).ok()?;
+    for element in elements(listed)? {
+        terms.push(element.copy(alloc).ok()?).ok()?;
+    }
+    Term::list(alloc, terms, tail(alloc, tails)?).ok()
+}
+
 /// The term that the rest of these elements and of one tail or none is, and the terms that are equal to it.
 fn rest(alloc: Global, listed: &Term, tails: &Term, terms: &Term) -> Option<Vec<u8>> {
-    let rest = Operand::Rest(elements(listed)?, elements(tails)?.first());
+    let list = list(alloc, listed, tails)?;
     let mut out = word(alloc, "{")?;
-    write_operand(alloc, &mut out, rest, elements(terms)?)?;
+    write_operand(alloc, &mut out, Operand::Rest(&list, 1), elements(terms)?)?;
     out.push(b'}').ok()?;
     Some(out)
 }
@@ -93,14 +108,14 @@ fn values(alloc: Global, operand: Operand<'_>) -> Option<Vec<u8>> {
     Some(format!(in alloc; "{{{truth},{number}}}").ok()?.into_bytes())
 }
 
-/// The size of the list that the rest of a text's terms and of one tail or none is, or the refusal.
+/// The size of what is left behind the first element of the list of a text's terms and of one tail or none, or the
+/// refusal of that list.
 fn rest_size(alloc: Global, listed: &Term, tails: &Term) -> Option<Vec<u8>> {
     let terms = read_terms(alloc, text(alloc, listed)?.as_slice()).ok()?;
-    let rest = Operand::Rest(terms.as_slice(), elements(tails)?.first());
-    match rest.to_term(alloc) {
-        Ok(copy) => size_of(alloc, &copy),
-        Err(fault) => {
-            let number = fault.number();
+    match Term::list(alloc, terms, tail(alloc, tails)?) {
+        Ok(list) => size_of(alloc, &Operand::Rest(&list, 1).to_term(alloc).ok()?),
+        Err(refused) => {
+            let number = refused.fault.number();
             Some(format!(in alloc; "{{refused,{number}}}").ok()?.into_bytes())
         }
     }

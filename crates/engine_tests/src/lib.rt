@@ -1,33 +1,30 @@
-//! Tests that cross crates: worked rows on the crates' public calls, and each request for memory refused in turn.
+//! Tests that cross crates and that no row of `engine_rows` can say: each request for memory refused in turn, what takes no
+//! memory, and the texts of errors.
 //!
 //! It has no code of its own. What a test here calls is proved in its own crate once, and not a second time with its tests.
 //!
-//! - `terms`: terms made, looked at, copied and refused; `order`: how they stand to each other; `text`: terms read and written.
-//! - `functions`: what calls of functions give, operands and values.
-//! - `syntax`: specifications that are read or refused; `meaning`: what they answer.
+//! - `failing`: the allocator that refuses; `sweeps`: calls with each request refused in turn.
+//! - `terms`, `text`: terms made, copied, read and written; `functions`: operands and values.
+//! - `syntax`: a specification that is read; `meaning`: what one answers.
+//! - `codes`: code that is built, verified and run.
 //! - `commands`: inputs of the program and what comes of them, on its streams and as its status.
-//! - `code`: code built part by part; `budgets`: its longest way; `verification`: which code is accepted; `runs`: what it answers.
 #![tactic(auto)]
 
 #[cfg(test)]
-mod budgets;
-#[cfg(test)]
-mod code;
+mod codes;
 #[cfg(test)]
 mod commands;
+#[cfg(test)]
+mod failing;
 #[cfg(test)]
 mod functions;
 #[cfg(test)]
 mod meaning;
 #[cfg(test)]
-mod order;
-#[cfg(test)]
-mod runs;
+mod sweeps;
 #[cfg(test)]
 mod syntax;
 #[cfg(test)]
 mod terms;
 #[cfg(test)]
 mod text;
-#[cfg(test)]
-mod verification;

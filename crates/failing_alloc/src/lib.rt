@@ -16,8 +16,6 @@ mod failing;
 mod gate;
 mod plan;
 mod sweeps;
-#[cfg(test)]
-mod tests;
 
 pub use failing::Failing;
 pub use plan::Plan;

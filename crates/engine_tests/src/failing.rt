@@ -1,8 +1,9 @@
-use super::*;
+//! The allocator that refuses chosen requests, and sweeps over them.
+use failing_alloc::{Failing, Plan, SweepOutcome, sweep};
 use std::alloc::{AllocError, Allocator, Global};
 use std::thread;
 
-// Makes four requests, one after another, and answers which were granted.
+/// Makes four requests, one after another, and answers which were granted.
 fn four_requests<A: Allocator + Copy>(heap: A) -> [bool; 4] {
     [
         Box::new(heap, 1u8).is_ok(),
@@ -12,7 +13,7 @@ fn four_requests<A: Allocator + Copy>(heap: A) -> [bool; 4] {
     ]
 }
 
-// Code under test that makes three requests, and answers a number.
+/// Code under test that makes three requests, and answers a number.
 fn sum_of_three<A: Allocator + Copy>(heap: A) -> Result<u64, AllocError> {
     let one = Box::new(heap, 1u64)?;
     let two = Box::new(heap, 2u64)?;
@@ -20,9 +21,12 @@ fn sum_of_three<A: Allocator + Copy>(heap: A) -> Result<u64, AllocError> {
     Ok(one.saturating_add(*two).saturating_add(*three))
 }
 
-// Code under test that hides that it was refused.
+/// Code under test that hides that it was refused.
 fn sum_or_zero<A: Allocator + Copy>(heap: A) -> u64 {
-    sum_of_three(heap).unwrap_or(0)
+    match sum_of_three(heap) {
+        Ok(sum) => sum,
+        Err(AllocError) => 0,
+    }
 }
 
 fn up_to<A: Allocator>(heap: A, count: u8) -> Result<Vec<u8, A>, AllocError> {
@@ -31,6 +35,23 @@ fn up_to<A: Allocator>(heap: A, count: u8) -> Result<Vec<u8, A>, AllocError> {
         numbers.push(number)?;
     }
     Ok(numbers)
+}
+
+/// How many numbers there are up to one, and the last of them.
+fn end_of<A: Allocator>(heap: A, count: u8) -> Option<(usize, u8)> {
+    let numbers = up_to(heap, count).ok()?;
+    Some((numbers.len(), *numbers.last()?))
+}
+
+/// How many of four requests were granted.
+fn granted_of(requests: [bool; 4]) -> usize {
+    let mut granted: usize = 0;
+    for is_granted in requests {
+        if is_granted {
+            granted = granted.saturating_add(1);
+        }
+    }
+    granted
 }
 
 #[test]
@@ -55,8 +76,7 @@ fn refuses_what_its_plan_says(rt: HostRuntime) {
 #[test]
 fn grows_a_vec_where_memory_is_ample(rt: HostRuntime) {
     let heap = Failing::counting(rt.alloc());
-    let numbers = up_to(&heap, 100);
-    assert!(rt; numbers.is_ok_and(|numbers| numbers.len() == 100 && numbers[99] == 99));
+    assert_eq!(rt; end_of(&heap, 100), Some((100, 99)));
     assert!(rt; heap.requests() > 1);
     assert!(rt; !heap.was_refused());
 }
@@ -68,12 +88,12 @@ fn refuses_the_growth_of_a_vec(rt: HostRuntime) {
     let mut refused = None;
     for number in 0..100u8 {
         if numbers.push(number).is_err() {
-            refused = Some(number);
+            refused = Some(usize::from(number));
             break;
         }
     }
     // The numbers before stay, and the growth that is asked again is granted.
-    assert_eq!(rt; refused.map(|number| number as usize), Some(numbers.len()));
+    assert_eq!(rt; refused, Some(numbers.len()));
     assert!(rt; heap.was_refused());
     assert!(rt; numbers.push(7).is_ok());
     assert_eq!(rt; heap.requests(), 3);
@@ -136,12 +156,7 @@ fn stops_at_the_first_run_that_does_not_behave_well(rt: HostRuntime) {
 fn counts_the_requests_of_two_threads(rt: HostRuntime) {
     let heap = Failing::refusing_from(rt.alloc(), 6);
     let (here, there) = thread::join(&rt, || four_requests(&heap), || four_requests(&heap));
-    let granted = here
-        .iter()
-        .chain(&there)
-        .filter(|&&is_granted| is_granted)
-        .count();
-    assert_eq!(rt; granted, 5);
+    assert_eq!(rt; granted_of(here).saturating_add(granted_of(there)), 5);
     assert_eq!(rt; heap.requests(), 8);
     assert!(rt; heap.was_refused());
 }
