@@ -5,11 +5,13 @@
 //!
 //! - `specifications`: terms that are read as specifications, and what these answer.
 //! - `codes`: code that is built and verified; `runs`: what it answers.
+//! - `sweeps`: the same with each request for memory refused in turn, and what takes no memory.
 #![tactic(auto)]
 
 mod codes;
 mod runs;
 mod specifications;
+mod sweeps;
 
 use row_terms::{Kinds, judge};
 use std::alloc::Global;
@@ -28,7 +30,10 @@ impl Kinds for CodeKinds {
         if let Some(out) = codes::came(alloc, kind, parts) {
             return Some(out);
         }
-        runs::came(alloc, kind, parts)
+        if let Some(out) = runs::came(alloc, kind, parts) {
+            return Some(out);
+        }
+        sweeps::came(alloc, kind, parts)
     }
 
     fn forms(_kind: &str) -> usize {

@@ -1,12 +1,11 @@
-//! Tests that cross crates and that no row of `engine_rows` can say: each request for memory refused in turn, what takes no
-//! memory, and the texts of errors.
+//! Tests that cross crates and that no row of `engine_rows` or `code_rows` says: calls with each request for memory refused in
+//! turn, what takes no memory, and the texts of errors.
 //!
 //! It has no code of its own. What a test here calls is proved in its own crate once, and not a second time with its tests.
 //!
 //! - `failing`: the allocator that refuses; `sweeps`: calls with each request refused in turn.
 //! - `terms`, `text`: terms made, copied, read and written; `functions`: operands and values.
-//! - `syntax`: a specification that is read; `meaning`: what one answers.
-//! - `codes`: code that is built, verified and run.
+//! - `codes`: the places and slots of code, and what its faults are called.
 //! - `commands`: inputs of the program and what comes of them, on its streams and as its status.
 #![tactic(auto)]
 
@@ -19,11 +18,7 @@ mod failing;
 #[cfg(test)]
 mod functions;
 #[cfg(test)]
-mod meaning;
-#[cfg(test)]
 mod sweeps;
-#[cfg(test)]
-mod syntax;
 #[cfg(test)]
 mod terms;
 #[cfg(test)]

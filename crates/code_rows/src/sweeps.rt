@@ -1,0 +1,194 @@
+//! Calls with each request for memory refused in turn, and calls with each refused from the first one on that they make.
+use budget::{all_forward, longest};
+use failing_alloc::{Failing, sweep};
+use machine::{run, run_true};
+use mcode::Code;
+use mspec_meaning::evaluate;
+use mspec_syntax::{SpecFault, read_spec};
+use row_terms::{Built, build, canonical, code_of, is_code, listed, parts_of, text, word};
+use std::alloc::{Allocator, Global};
+use term_core::Term;
+use term_text::read_terms;
+use verifier::{Fault, Verified, verify};
+
+/// The most requests of memory that the calls of a row make.
+const MOST_REQUESTS: u64 = 2_000;
+
+/// The only term of a text.
+fn term<A: Allocator + Copy>(heap: A, given: &[u8]) -> Option<Term<A>> {
+    read_terms(heap, given).ok()?.pop()
+}
+
+/// The code of a text.
+fn code<A: Allocator + Copy>(heap: A, given: &[u8]) -> Option<Code<A>> {
+    code_of(heap, &term(heap, given)?)
+}
+
+/// Whether a text is read as a specification.
+fn read<A: Allocator + Copy>(alloc: Global, heap: A, given: &[u8]) -> Option<Vec<u8>> {
+    match read_spec(heap, &term(heap, given)?) {
+        Ok(_) => word(alloc, "ok"),
+        Err(SpecFault::Memory) => None,
+        Err(_) => word(alloc, "refused"),
+    }
+}
+
+/// The answers of the first term of a text on those behind it.
+fn answered<A: Allocator + Copy>(alloc: Global, heap: A, given: &[u8]) -> Option<Vec<u8>> {
+    let terms = read_terms(heap, given).ok()?;
+    let (first, objects) = terms.as_slice().split_first()?;
+    let spec = read_spec(heap, first).ok()?;
+    let mut answers = Vec::new(heap);
+    for object in objects {
+        if let Some(answer) = evaluate(heap, &spec, object).ok()? {
+            answers.push(answer).ok()?;
+        }
+    }
+    listed(alloc, answers.as_slice())
+}
+
+/// Whether code is built of its parts; none where it wants memory, hands back what it was given and keeps the rest.
+fn built<A: Allocator + Copy>(alloc: Global, heap: A, given: &[u8]) -> Option<Vec<u8>> {
+    let term = term(heap, given)?;
+    let wanted = parts_of(heap, &term)?;
+    match build(heap, parts_of(heap, &term)?, &wanted) {
+        Built::Whole(code) => word(
+            alloc,
+            if is_code(&code, &wanted) {
+                "built"
+            } else {
+                "other_code"
+            },
+        ),
+        Built::Refused(_, 1, _) => None,
+        Built::Refused(_, _, _) | Built::NoSlots(_) | Built::Wrong => word(alloc, "wrong"),
+    }
+}
+
+/// The budget of code whose jumps go forward.
+fn budget<A: Allocator + Copy>(alloc: Global, heap: A, given: &[u8]) -> Option<Vec<u8>> {
+    let code = code(heap, given)?;
+    if all_forward(&code) {
+        let budget = longest(heap, &code).ok()?;
+        Some(budget.to_string(alloc).ok()?.into_bytes())
+    } else {
+        word(alloc, "not_forward")
+    }
+}
+
+/// What the verifier says of code.
+fn verdict<A: Allocator + Copy>(alloc: Global, heap: A, given: &[u8]) -> Option<Vec<u8>> {
+    let text = match verify(heap, code(heap, given)?) {
+        Ok(verified) => {
+            let (budget, depth) = (verified.budget(), verified.depth());
+            format!(in alloc; "{{accepted,{budget},{depth}}}")
+        }
+        Err(refused) => {
+            if refused.fault == Fault::Memory {
+                return None;
+            }
+            let (number, pc) = (refused.fault.number(), refused.fault.pc()?);
+            format!(in alloc; "{{refused,{number},{pc}}}")
+        }
+    };
+    Some(text.ok()?.into_bytes())
+}
+
+/// The code of a text, and the terms of the text.
+fn loaded<A: Allocator + Copy>(heap: A, given: &[u8]) -> Option<(Verified<A>, Vec<Term<A>, A>)> {
+    let terms = read_terms(heap, given).ok()?;
+    let code = verify(heap, code_of(heap, terms.first()?)?).ok()?;
+    Some((code, terms))
+}
+
+/// The answer of the code of a text on the object behind it.
+fn ran<A: Allocator + Copy>(alloc: Global, heap: A, given: &[u8]) -> Option<Vec<u8>> {
+    let (code, terms) = loaded(heap, given)?;
+    let (answer, _) = run(heap, &code, terms.last()?).ok()?;
+    match answer {
+        Some(answer) => canonical(alloc, &answer),
+        None => word(alloc, "none"),
+    }
+}
+
+/// Whether that answer is `true`, and how many instructions are executed.
+fn tested<A: Allocator + Copy>(alloc: Global, heap: A, given: &[u8]) -> Option<Vec<u8>> {
+    let (code, terms) = loaded(heap, given)?;
+    let (holds, executed) = run_true(heap, &code, terms.last()?).ok()?;
+    Some(
+        format!(in alloc; "{{{holds},{executed}}}")
+            .ok()?
+            .into_bytes(),
+    )
+}
+
+/// What comes of calls on a text; none where they want memory and leave all as it was.
+fn outcome<A: Allocator + Copy>(
+    alloc: Global,
+    heap: A,
+    call: &str,
+    given: &[u8],
+) -> Option<Vec<u8>> {
+    match call {
+        "swept_spec" => read(alloc, heap, given),
+        "swept_answers" => answered(alloc, heap, given),
+        "swept_built" => built(alloc, heap, given),
+        "swept_budget" => budget(alloc, heap, given),
+        "swept_verify" => verdict(alloc, heap, given),
+        "swept_run" | "run_without" => ran(alloc, heap, given),
+        "swept_run_true" | "run_true_without" => tested(alloc, heap, given),
+        _ => None,
+    }
+}
+
+/// Whether the same comes of calls or memory is wanted, whichever request is refused.
+fn is_swept(alloc: Global, call: &str, given: &[u8], wanted: &[u8]) -> bool {
+    sweep(alloc, MOST_REQUESTS, |heap: &Failing<Global>| {
+        match outcome(alloc, heap, call, given) {
+            Some(out) => out.as_slice() == wanted,
+            None => heap.was_refused(),
+        }
+    })
+    .is_complete()
+}
+
+/// What comes of calls on a text, with memory and with each request refused in turn.
+fn swept(alloc: Global, call: &str, given: &[u8]) -> Option<Vec<u8>> {
+    let out = outcome(alloc, alloc, call, given)?;
+    if is_swept(alloc, call, given, out.as_slice()) {
+        Some(out)
+    } else {
+        word(alloc, "another_without_memory")
+    }
+}
+
+/// How many requests of memory it takes to load code and an object.
+fn requests(alloc: Global, given: &[u8]) -> Option<u64> {
+    let heap = Failing::counting(alloc);
+    let _loaded = loaded(&heap, given)?;
+    Some(heap.requests())
+}
+
+/// What comes of a run with each request refused once the code and the object are there.
+fn without_memory(alloc: Global, call: &str, given: &[u8]) -> Option<Vec<u8>> {
+    let heap = Failing::refusing_from(alloc, requests(alloc, given)?.saturating_add(1));
+    match outcome(alloc, &heap, call, given) {
+        Some(out) => Some(out),
+        None => word(alloc, "refused"),
+    }
+}
+
+/// What comes of a row of refused memory.
+pub(crate) fn came(alloc: Global, kind: &str, parts: &[Term]) -> Option<Vec<u8>> {
+    let [given, _] = parts else {
+        return None;
+    };
+    let given = text(alloc, given)?;
+    if kind.starts_with("swept_") {
+        return swept(alloc, kind, given.as_slice());
+    }
+    match kind {
+        "run_without" | "run_true_without" => without_memory(alloc, kind, given.as_slice()),
+        _ => None,
+    }
+}
