@@ -13,11 +13,11 @@ IsRead left progress.End = IsAtEnd left
 
 -- what the reader lost is what the input gained
 pub record Continues (before after : Option (List ℕ)) (old new : List ℕ) (p : Progress) : Type 0
-    where
-  pub part : List ℕ
-  pub lost : Consumes before after part
-  pub gained : new ≡ old ++ part
-  pub ended : IsRead after p
+  where
+    pub part : List ℕ
+    pub lost : Consumes before after part
+    pub gained : new ≡ old ++ part
+    pub ended : IsRead after p
 
 -- reading fails for want of memory, or where the reader does
 abbrev pub IsReadFault : ToolFault → Type 0

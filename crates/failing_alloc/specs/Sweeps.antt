@@ -34,4 +34,4 @@ module _ {F B : Type 0} (g : Mut F (Bor (Failing B) × Unit {0}) Bool) (inner : 
   SweepsTo f most OutOfRuns = (f' : F) × RunWell f most f'
   SweepsTo f most (Misbehaved request) =
       (last : ℕ) × (mid : F) × (f' : F) × (request ≡ last + 1) × (request ≤ most)
-          × RunWell f last mid × Runs mid request false f'
+      × RunWell f last mid × Runs mid request false f'
