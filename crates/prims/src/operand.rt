@@ -4,7 +4,6 @@ ghost use Rattle.std.specs.Str.{chars};
 ghost use Rattle.term_core.specs.Datum.Datum.{atom, cons};
 ghost use Rattle.term_core.specs.Limits.{IsSound};
 ghost use Rattle.term_core.specs.Rest.{rest_of};
-ghost use Rattle.term_core.specs.declared.fault.Fault.TheVariants.{Memory};
 ghost use Rattle.prims.specs.View.{shown, IsEnded};
 ghost use Rattle.prims.specs.Operand.{operand_datum, boolean as boolean_atom, IsNoCell};
 ghost use Rattle.prims.specs.Order.{IsSimple};
@@ -13,7 +12,7 @@ ghost use Rattle.prims.specs.Integers.{integer_of};
 
 use crate::view::View;
 use std::alloc::{AllocError, Allocator, Global};
-use term_core::{Fault, Term, View as TermView};
+use term_core::{Term, View as TermView};
 
 /// The characters of the atom `true`.
 const TRUE: [char; 4] = ['t', 'r', 'u', 'e'];
@@ -60,23 +59,13 @@ fn boolean_text(value: bool) -> &'static str
     if value { "true" } else { "false" }
 }
 
-/// The error for want of memory.
-fn alloc_error(fault: Fault) -> AllocError
-    requires { fault ≡ Memory }
-{
-    match fault {
-        Fault::Memory => AllocError,
-        Fault::TooDeep | Fault::TooLong | Fault::DuplicateKey => unreachable!(),
-    }
-}
-
 /// The atom `true` or `false`.
 fn boolean_term<A: Allocator + Copy>(alloc: A, value: bool) -> Result<Term<A>, AllocError>
     ensures { IfOk result (λ t. t ≡ boolean_atom value) }
 {
     match Term::atom(alloc, boolean_text(value)) {
         Ok(atom) => Ok(atom),
-        Err(fault) => Err(alloc_error(fault)),
+        Err(fault) => Err(fault.alloc_error()),
     }
 }
 

@@ -1,4 +1,5 @@
 //! Why a term can't be made.
+use std::alloc::AllocError;
 use thiserror::Error;
 
 /// Why a term can't be made.
@@ -21,6 +22,7 @@ pub enum Fault {
 impl Fault {
     ghost use Rattle.std.specs.Prelude.{◌≡◌};
     ghost use Rattle.term_core.specs.FaultNumbers.{number_of};
+    ghost use Rattle.term_core.specs.declared.fault.Fault.TheVariants.{Memory};
 
     /// The number that the fault has in what programs print.
     pub const fn number(self) -> u8
@@ -31,6 +33,16 @@ impl Fault {
             Fault::TooDeep => 2,
             Fault::TooLong => 3,
             Fault::DuplicateKey => 4,
+        }
+    }
+
+    /// The library's error for want of memory, which the fault has to be.
+    pub fn alloc_error(self) -> AllocError
+        requires { self ≡ Memory }
+    {
+        match self {
+            Fault::Memory => AllocError,
+            Fault::TooDeep | Fault::TooLong | Fault::DuplicateKey => unreachable!(),
         }
     }
 }

@@ -4,22 +4,10 @@ ghost use Rattle.std.specs.Option.{option_copied};
 ghost use Rattle.term_core.specs.Datum.{cells};
 ghost use Rattle.term_core.specs.Limits.{IsTerm};
 ghost use Rattle.term_core.specs.Term.{tail_of};
-ghost use Rattle.term_core.specs.declared.fault.Fault.TheVariants.{Memory};
 
-use crate::fault::Fault;
 use crate::term::{Term, copy_all, copy_tail};
 use crate::view::View;
 use std::alloc::{AllocError, Allocator};
-
-/// The error for want of memory.
-fn alloc_error(fault: Fault) -> AllocError
-    requires { fault ≡ Memory }
-{
-    match fault {
-        Fault::Memory => AllocError,
-        Fault::TooDeep | Fault::TooLong | Fault::DuplicateKey => unreachable!(),
-    }
-}
 
 /// A list of copies of these elements and this tail.
 fn copy_list<A: Allocator + Copy>(
@@ -34,7 +22,7 @@ fn copy_list<A: Allocator + Copy>(
     let tail = copy_tail(alloc, tail)?;
     match Term::list(alloc, copies, tail) {
         Ok(list) => Ok(list),
-        Err(refused) => Err(alloc_error(refused.fault)),
+        Err(refused) => Err(refused.fault.alloc_error()),
     }
 }
 
