@@ -1,6 +1,7 @@
 //! Code that is built, its budget, and what the verifier says of it.
 use budget::{all_forward, longest};
 use mcode::Code;
+use prims::Primitive;
 use row_terms::{
     Built, Part, Parts, build, code_of, function, instruction, is_code, parts_of, primitive, short,
     word,
@@ -52,7 +53,7 @@ fn frame_at(alloc: Global, code: &Code, pc: u16) -> Option<Vec<u8>> {
 /// Whether the function that an instruction calls by a name is the one of that name and of so many arguments.
 fn called(alloc: Global, name: &Term, arguments: u16) -> Option<Vec<u8>> {
     let wanted = primitive(name, usize::from(arguments))?;
-    if function(name)?.primitive() == wanted {
+    if Primitive::Function(function(name)?) == wanted {
         word(alloc, "same")
     } else {
         word(alloc, "other")
