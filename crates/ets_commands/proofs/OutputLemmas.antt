@@ -1,7 +1,6 @@
 -- What is written is determined by what was read.
-use Rattle.std.proofs.Common.{◌≡◌, ℕ, ◌++◌, List, [], ◌∷◌, Some, refl, sym, ◌∙◌, ap, subst}
+use Rattle.std.proofs.Common.{◌≡◌, ℕ, ◌++◌, List, [], ◌∷◌, Some, sym, ◌∙◌, ap, subst}
 use Rattle.term_core.specs.Datum.{Datum}
-use Rattle.term_text.specs.Text.{Spells}
 use Rattle.term_text.specs.Laws.{SpellsOne}
 use Rattle.mspec_syntax.specs.Grammar.{IsSpecification}
 use Rattle.mspec_syntax.specs.Laws.{HasOneReading}

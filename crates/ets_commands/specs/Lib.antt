@@ -3,3 +3,4 @@ pub mod Input
 pub mod Run
 pub mod Program
 pub mod Laws
+pub mod Words

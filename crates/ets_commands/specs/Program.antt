@@ -3,6 +3,7 @@ use Rattle.std.specs.Prelude.{ℕ, ◌≡◌, ◌⊎◌, Option, Result, Ok, Err
 use Rattle.std.specs.Io.KnownBytes.{Keeps}
 use Rattle.ets_commands.specs.Fault.{status_of}
 use Rattle.ets_commands.specs.Run.{OfInput, WritesOutput, StopsRun}
+use Rattle.ets_commands.specs.Words.{Asked, command, help, topic, mistake}
 use Rattle.ets_commands.specs.declared.words.Request.{Request}
 use Rattle.ets_commands.specs.declared.fault.ToolFault.{ToolFault}
 use Rattle.ets_commands.specs.declared.fault.ToolFault.TheVariants as fault
@@ -35,14 +36,26 @@ abbrev pub EndsHelp : (err err' : Option (List ℕ)) → ℕ → Type 0
 EndsHelp err err' status =
     ((status ≡ 0) × Keeps err err') ⊎ EndsBy fault.WriteFailed err err' status
 
--- no command ran: help was shown; or standard output gained nothing, as there was no memory, or the words were not
--- understood
-abbrev pub EndsUnasked : (out out' err err' : Option (List ℕ)) → ℕ → Type 0
-EndsUnasked out out' err err' status =
-    EndsHelp err err' status ⊎ (((status ≡ 3) ⊎ (status ≡ 64)) × Keeps out out')
+-- no command ran and standard output gained nothing, as there was no memory
+abbrev pub EndsEarly : (out out' : Option (List ℕ)) → ℕ → Type 0
+EndsEarly out out' status = (status ≡ 3) × Keeps out out'
 
--- the program ran a command, or none
+-- as the words were not understood, or there was no memory to find that out or to say so
+abbrev pub EndsMistaken : (out out' : Option (List ℕ)) → ℕ → Type 0
+EndsMistaken out out' status = ((status ≡ 3) ⊎ (status ≡ 64)) × Keeps out out'
+
+-- how the program ends by what its words ask for
+abbrev pub EndsAsked : Asked → (known out out' err err' : Option (List ℕ)) → ℕ → Type 0
+EndsAsked (command r) known out out' err err' status =
+    EndsRequest r known out out' err err' status ⊎ EndsEarly out out' status
+EndsAsked help known out out' err err' status =
+    EndsHelp err err' status ⊎ EndsEarly out out' status
+EndsAsked topic known out out' err err' status =
+    EndsHelp err err' status ⊎ EndsMistaken out out' status
+EndsAsked mistake known out out' err err' status = EndsMistaken out out' status
+
+-- The program ended so by what some words ask for: which words it was started with can't be said. Where they could not
+-- be had it ends as by a mistake.
 abbrev pub EndsProgram : (known out out' err err' : Option (List ℕ)) → ℕ → Type 0
 EndsProgram known out out' err err' status =
-    ((r : Request) × EndsRequest r known out out' err err' status)
-    ⊎ EndsUnasked out out' err err' status
+    (a : Asked) × EndsAsked a known out out' err err' status

@@ -1,9 +1,10 @@
 //! The program from its words to its status: what it reads, and what it writes on which of two streams.
-ghost use Rattle.std.specs.Prelude.{◌≡◌, ◌≢◌, ◌⊎◌, IfErr};
+ghost use Rattle.std.specs.Prelude.{◌≡◌, ◌≢◌, ◌⊎◌, IfErr, map};
 ghost use Rattle.std.specs.Io.KnownBytes.{Keeps};
 ghost use Rattle.clap.specs.Words.{kind_of};
 ghost use Rattle.std.specs.IoError.{error_kind};
-ghost use Rattle.ets_commands.specs.Program.{EndsWith, EndsRequest, EndsHelp, EndsProgram};
+ghost use Rattle.ets_commands.specs.Program.{EndsWith, EndsRequest, EndsHelp, EndsAsked, EndsProgram};
+ghost use Rattle.ets_commands.specs.Words.{asked};
 
 use crate::fault::{ToolFault, fault_line};
 use crate::run::{tool_run, tool_test};
@@ -46,7 +47,8 @@ fn words_of<H: Env + AllocGlobal>(rt: &H) -> io::Result<Vec<String>> {
     Ok(words)
 }
 
-/// As `run_program`, on these words, of which the first is the program's name.
+/// As `run_program`, on these words, of which the first is the program's name: it runs the command that they ask for, or
+/// shows help where they ask for that.
 pub fn run_words<'a, S: AsStr, R: Read, O: Write, E: Write>(
     alloc: Global,
     words: &'a [S],
@@ -54,8 +56,8 @@ pub fn run_words<'a, S: AsStr, R: Read, O: Write, E: Write>(
     out: &mut O,
     err: &mut E,
 ) -> u8
-    ensures { EndsProgram (R.remaining reader.old) (O.contents out.old) (O.contents out.new)
-        (E.contents err.old) (E.contents err.new) result }
+    ensures { EndsAsked (asked (map S.text words.entry.now)) (R.remaining reader.old)
+        (O.contents out.old) (O.contents out.new) (E.contents err.old) (E.contents err.new) result }
 {
     match read_words(alloc, words) {
         Ok(request) => run_request(alloc, request, reader, out, err),
@@ -115,6 +117,8 @@ fn end_unasked<O: Write, E: Write>(
     ensures mistaken { kind_of error.now ≢ WordsErrorKind.DisplayHelp
         → kind_of error.now ≢ WordsErrorKind.DisplayVersion
         → kind_of error.now ≢ WordsErrorKind.OutOfMemory → result ≡ 64 }
+    ensures ended { kind_of error.now ≢ WordsErrorKind.DisplayHelp
+        → kind_of error.now ≢ WordsErrorKind.DisplayVersion → (result ≡ 3) ⊎ (result ≡ 64) }
     ensures silent { kind_of error.now ≢ WordsErrorKind.DisplayHelp
         → kind_of error.now ≢ WordsErrorKind.DisplayVersion
         → Keeps (O.contents out.old) (O.contents out.new) }

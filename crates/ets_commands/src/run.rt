@@ -31,7 +31,6 @@ struct Query<A: Allocator> {
 /// Reads a specification and objects, to the reader's end, and writes each answer: its canonical text, a dot and a line
 /// feed, in the order of the objects. An input that is refused writes nothing; where memory runs out while the objects
 /// are answered, the lines of a beginning of the objects are written.
-#[tactic(auto, using(crate::proofs::RunLemmas::unread))]
 pub fn tool_run<A: Allocator + Copy, R: Read, W: Write>(
     alloc: A,
     reader: &mut R,
@@ -42,13 +41,11 @@ pub fn tool_run<A: Allocator + Copy, R: Read, W: Write>(
     ensures refused { IfErr result (λ fault. OfInput (R.remaining reader.old) (λ input.
         StopsRun Request.Run input (W.contents writer.old) (W.contents writer.new) fault)) }
 {
-    let input = read_whole(alloc, reader)?;
-    run_on(alloc, Request::Run, input.as_slice(), writer)
+    run_from(alloc, Request::Run, reader, writer)
 }
 
 /// As `tool_run`, but a line is written of each object: `{ok,A}.` where the specification answers `A`, and `false.`
 /// where it answers nothing.
-#[tactic(auto, using(crate::proofs::RunLemmas::unread))]
 pub fn tool_test<A: Allocator + Copy, R: Read, W: Write>(
     alloc: A,
     reader: &mut R,
@@ -59,8 +56,24 @@ pub fn tool_test<A: Allocator + Copy, R: Read, W: Write>(
     ensures refused { IfErr result (λ fault. OfInput (R.remaining reader.old) (λ input.
         StopsRun Request.Test input (W.contents writer.old) (W.contents writer.new) fault)) }
 {
-    let whole = read_whole(alloc, reader)?;
-    run_on(alloc, Request::Test, whole.as_slice(), writer)
+    run_from(alloc, Request::Test, reader, writer)
+}
+
+/// Writes the lines that what a reader gives asks for.
+#[tactic(auto, using(crate::proofs::RunLemmas::unread))]
+fn run_from<A: Allocator + Copy, R: Read, W: Write>(
+    alloc: A,
+    request: Request,
+    reader: &mut R,
+    writer: &mut W,
+) -> Result<(), ToolFault>
+    ensures ok { OnOk result (OfInput (R.remaining reader.old) (λ input.
+        WritesOutput request input (W.contents writer.old) (W.contents writer.new))) }
+    ensures refused { IfErr result (λ fault. OfInput (R.remaining reader.old) (λ input.
+        StopsRun request input (W.contents writer.old) (W.contents writer.new) fault)) }
+{
+    let input = read_whole(alloc, reader)?;
+    run_on(alloc, request, input.as_slice(), writer)
 }
 
 /// Writes the lines that an input asks for.

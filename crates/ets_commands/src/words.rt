@@ -1,4 +1,8 @@
 //! The words of the command line.
+ghost use Rattle.std.specs.Prelude.{◌≡◌, IfOk, map};
+ghost use Rattle.clap.specs.Words.{app_of};
+ghost use Rattle.ets_commands.specs.Words.{asked, Reads, tool_app};
+
 use clap::{Command, Error};
 use std::alloc::{AllocError, Global};
 use std::convert::AsStr;
@@ -61,7 +65,9 @@ writes
   {ok,b}.";
 
 /// The program's commands, as `clap` reads them.
-fn program<'a>(alloc: Global) -> Result<Command<'a>, AllocError> {
+fn program<'a>(alloc: Global) -> Result<Command<'a>, AllocError>
+    ensures { IfOk result (λ command. app_of command ≡ tool_app) }
+{
     let run = Command::new(alloc, "run")
         .about(RUN_ABOUT)
         .after_help(RUN_EXAMPLE);
@@ -78,7 +84,9 @@ fn program<'a>(alloc: Global) -> Result<Command<'a>, AllocError> {
 
 /// What the words ask for; the first word is the program's name. Words that `clap` does not take, and words that ask
 /// for help, are its error.
-pub fn read_words<'a, S: AsStr>(alloc: Global, words: &'a [S]) -> Result<Request, Error> {
+pub fn read_words<'a, S: AsStr>(alloc: Global, words: &'a [S]) -> Result<Request, Error>
+    ensures { Reads (asked (map S.text words.entry.now)) result }
+{
     let matches = program(alloc)?.try_get_matches_from(words)?;
     match matches.subcommand_name() {
         Some("test") => Ok(Request::Test),

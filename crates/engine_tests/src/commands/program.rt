@@ -48,6 +48,8 @@ fn words_are_read(rt: HostRuntime) {
     assert!(rt; read_words(alloc, ["ets_tool"].as_slice()).is_err());
     assert!(rt; read_words(alloc, ["ets_tool", "walk"].as_slice()).is_err());
     assert!(rt; read_words(alloc, ["ets_tool", "run", "x"].as_slice()).is_err());
+    assert!(rt; read_words(alloc, ["ets_tool", "run", "--"].as_slice()).ok() == Some(Request::Run));
+    assert!(rt; read_words(alloc, ["ets_tool", "--", "run"].as_slice()).is_err());
 }
 
 #[test]
@@ -87,8 +89,10 @@ fn help_is_written(rt: HostRuntime) {
         assert!(rt; left.begins(about, "", 0), "{word}");
     }
     let run_about = "Reads a specification and then objects, and writes each answer";
-    let asked_of_run = left_by(rt.alloc(), ["ets_tool", "run", "--help"].as_slice(), INPUT);
-    assert!(rt; asked_of_run.begins(run_about, "", 0));
+    for word in ["--help", "-h"] {
+        let asked_of_run = left_by(rt.alloc(), ["ets_tool", "run", word].as_slice(), INPUT);
+        assert!(rt; asked_of_run.begins(run_about, "", 0), "{word}");
+    }
 }
 
 #[test]

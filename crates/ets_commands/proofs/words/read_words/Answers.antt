@@ -1,0 +1,21 @@
+use Rattle.std.proofs.Common.{rules, ◌∙◌, refl, sym, map}
+use Rattle.ets_commands.specs.Words.{asked}
+use Rattle.ets_commands.proofs.WordsLemmas.{handed_on, run_read, test_read, words_refused}
+use Rattle.ets_commands.proofs.words.read_words.Goals as goal
+
+pub returns-in_err-matches : goal.returns-in_err-matches
+returns-in_err-matches g c =
+    let words = map g.S.AsStr.text c.args.words.now in
+    handed_on (asked words) c.in_err-matches.field-0.0 c.from_residual-in_err-matches.result c.from_residual-in_err-matches.ensures.1
+    (words_refused _ words c.in_err-matches.field-0.0 c.in_ok-program.ensures c.in_err-matches.ensures.kinds)
+
+pub returns-in-Some-test : goal.returns-in-Some-test
+returns-in-Some-test g c =
+    let words = map g.S.AsStr.text c.args.words.now in
+    test_read _ words c.in_ok-matches.matches c.in_ok-program.ensures c.in_ok-matches.ensures.kinds c.in_ok-matches.ensures.matches
+    (sym c.subcommand_name.ensures ∙ rw (c.in-Some-test.is, c.in-Some-test.is-test) refl)
+
+pub returns : goal.returns
+returns g c =
+    let words = map g.S.AsStr.text c.args.words.now in
+    run_read _ words c.in_ok-matches.matches c.in_ok-program.ensures c.in_ok-matches.ensures.kinds c.in_ok-matches.ensures.matches (search rules)
