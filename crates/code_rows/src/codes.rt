@@ -2,10 +2,8 @@
 use budget::{all_forward, longest};
 use mcode::Code;
 use prims::Primitive;
-use row_terms::{
-    Built, Part, Parts, build, code_of, function, instruction, is_code, parts_of, primitive, short,
-    word,
-};
+use row_code::{Built, Part, Parts, build, code_of, instruction, is_code, parts_of};
+use row_terms::{function, primitive, short, word};
 use std::alloc::Global;
 use term_core::Term;
 use verifier::{Verified, verify};

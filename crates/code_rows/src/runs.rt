@@ -1,6 +1,7 @@
 //! What code answers on objects.
 use machine::{run, run_true};
-use row_terms::{canonical, code_of, text, word};
+use row_code::code_of;
+use row_terms::{canonical, is_atom, text, word};
 use std::alloc::Global;
 use term_core::Term;
 use term_text::read_terms;
@@ -24,7 +25,7 @@ fn ran(alloc: Global, code: &Verified, object: &Term) -> Option<Vec<u8>> {
     let (answer, executed) = run(alloc, code, object).ok()?;
     let (holds, again) = run_true(alloc, code, object).ok()?;
     let is_true = match &answer {
-        Some(answer) => row_terms::is_atom(answer, "true"),
+        Some(answer) => is_atom(answer, "true"),
         None => false,
     };
     if holds == is_true && again == executed {

@@ -1,27 +1,21 @@
 //! Rows of tests as terms, and one judge of them: what comes of each row is compared with what it wants.
 //!
-//! What code is read from a row is generic in the allocator, so that a test may refuse memory meanwhile.
+//! What is read from a row is generic in the allocator, so that a test may refuse memory meanwhile.
 //!
 //! - `rows`: the rows of a text, judged by what a program says comes of each; `tally`: how many there were of each kind;
 //!   `outcome`: what came, as a text.
 //! - `parts`: names, numbers and lists in a row; `texts`: a text, in pieces that may be repeated.
 //! - `functions`: a function by its name.
-//! - `instr`, `frame`: a part of code; `code`: code of its parts.
 #![tactic(auto)]
 
-mod code;
-mod frame;
 mod functions;
-mod instr;
 mod outcome;
 mod parts;
 mod rows;
 mod tally;
 mod texts;
 
-pub use code::{Built, Part, Parts, build, code_of, is_code, parts_of};
 pub use functions::{arithmetic, function, primitive};
-pub use instr::{instruction, instructions};
 pub use outcome::{canonical, listed, tagged, word, written};
 pub use parts::{elements, fields, is_atom, name, number, short};
 pub use rows::{Kinds, Report, judge};

@@ -2,8 +2,8 @@
 //!
 //! A frame is `{Pc,Depth,[{Place,Kind}],[Slot]}`. In a list of frames `{First,Count}` stands for so many of depth 0 and any
 //! kinds at instructions that rise by one, among places `{First,Count,Kind}` for so many of one kind, among slots `{First,Count}`.
-use crate::parts::{elements, fields, is_atom, number, short};
 use mcode::{Frame, Kind, Places, Slots};
+use row_terms::{elements, fields, is_atom, number, short};
 use std::alloc::Allocator;
 use term_core::Term;
 

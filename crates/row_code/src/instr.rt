@@ -3,9 +3,8 @@
 //! An instruction without operands is an atom, `load`; one with operands a tuple, `{tuple,2,4}`, `{call,hd,1,5}`,
 //! `{arith,'+',7}`: its name, what it needs, and where it jumps to. In a list of instructions `{Count,[Instruction]}` stands for
 //! so many times the same.
-use crate::functions::{arithmetic, function};
-use crate::parts::{elements, fields, name, number, short};
 use mcode::Instr;
+use row_terms::{arithmetic, elements, fields, function, name, number, short};
 use std::alloc::Allocator;
 use term_core::Term;
 

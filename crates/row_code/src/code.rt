@@ -2,8 +2,8 @@
 //! stands for so many of one.
 use crate::frame::{frames, same_frame};
 use crate::instr::instructions;
-use crate::parts::{elements, fields, is_atom, number, short};
 use mcode::{Builder, Code, Fault, Frame, Instr};
+use row_terms::{elements, fields, is_atom, number, short};
 use std::alloc::Allocator;
 use term_core::Term;
 
