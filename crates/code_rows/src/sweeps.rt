@@ -1,19 +1,16 @@
 //! Calls with each request for memory refused in turn, and calls with each refused from the first one on that they make.
 use budget::{all_forward, longest};
-use failing_alloc::{Failing, sweep};
+use failing_alloc::Failing;
 use machine::{run, run_true};
 use mcode::Code;
 use mspec_meaning::evaluate;
 use mspec_syntax::{SpecFault, read_spec};
 use row_code::{Built, build, code_of, is_code, parts_of};
-use row_terms::{canonical, listed, text, word};
+use row_terms::{Calls, canonical, listed, swept, text, word};
 use std::alloc::{Allocator, Global};
 use term_core::Term;
 use term_text::read_terms;
 use verifier::{Fault, Verified, verify};
-
-/// The most requests of memory that the calls of a row make.
-const MOST_REQUESTS: u64 = 2_000;
 
 /// The only term of a text.
 fn term<A: Allocator + Copy>(heap: A, given: &[u8]) -> Option<Term<A>> {
@@ -123,43 +120,28 @@ fn tested<A: Allocator + Copy>(alloc: Global, heap: A, given: &[u8]) -> Option<V
     )
 }
 
-/// What comes of calls on a text; none where they want memory and leave all as it was.
-fn outcome<A: Allocator + Copy>(
-    alloc: Global,
-    heap: A,
-    call: &str,
-    given: &[u8],
-) -> Option<Vec<u8>> {
-    match call {
-        "swept_spec" => read(alloc, heap, given),
-        "swept_answers" => answered(alloc, heap, given),
-        "swept_built" => built(alloc, heap, given),
-        "swept_budget" => budget(alloc, heap, given),
-        "swept_verify" => verdict(alloc, heap, given),
-        "swept_run" | "run_without" => ran(alloc, heap, given),
-        "swept_run_true" | "run_true_without" => tested(alloc, heap, given),
-        _ => None,
-    }
-}
+/// The calls of rows of refused memory.
+struct CodeCalls;
 
-/// Whether the same comes of calls or memory is wanted, whichever request is refused.
-fn is_swept(alloc: Global, call: &str, given: &[u8], wanted: &[u8]) -> bool {
-    sweep(alloc, MOST_REQUESTS, |heap: &Failing<Global>| {
-        match outcome(alloc, heap, call, given) {
-            Some(out) => out.as_slice() == wanted,
-            None => heap.was_refused(),
+impl Calls for CodeCalls {
+    const MOST_REQUESTS: u64 = 2_000;
+
+    fn outcome<A: Allocator + Copy>(
+        alloc: Global,
+        heap: A,
+        call: &str,
+        given: &[u8],
+    ) -> Option<Vec<u8>> {
+        match call {
+            "swept_spec" => read(alloc, heap, given),
+            "swept_answers" => answered(alloc, heap, given),
+            "swept_built" => built(alloc, heap, given),
+            "swept_budget" => budget(alloc, heap, given),
+            "swept_verify" => verdict(alloc, heap, given),
+            "swept_run" | "run_without" => ran(alloc, heap, given),
+            "swept_run_true" | "run_true_without" => tested(alloc, heap, given),
+            _ => None,
         }
-    })
-    .is_complete()
-}
-
-/// What comes of calls on a text, with memory and with each request refused in turn.
-fn swept(alloc: Global, call: &str, given: &[u8]) -> Option<Vec<u8>> {
-    let out = outcome(alloc, alloc, call, given)?;
-    if is_swept(alloc, call, given, out.as_slice()) {
-        Some(out)
-    } else {
-        word(alloc, "another_without_memory")
     }
 }
 
@@ -173,7 +155,7 @@ fn requests(alloc: Global, given: &[u8]) -> Option<u64> {
 /// What comes of a run with each request refused once the code and the object are there.
 fn without_memory(alloc: Global, call: &str, given: &[u8]) -> Option<Vec<u8>> {
     let heap = Failing::refusing_from(alloc, requests(alloc, given)?.saturating_add(1));
-    match outcome(alloc, &heap, call, given) {
+    match CodeCalls::outcome(alloc, &heap, call, given) {
         Some(out) => Some(out),
         None => word(alloc, "refused"),
     }
@@ -186,7 +168,7 @@ pub(crate) fn came(alloc: Global, kind: &str, parts: &[Term]) -> Option<Vec<u8>>
     };
     let given = text(alloc, given)?;
     if kind.starts_with("swept_") {
-        return swept(alloc, kind, given.as_slice());
+        return swept::<CodeCalls>(alloc, kind, given.as_slice());
     }
     match kind {
         "run_without" | "run_true_without" => without_memory(alloc, kind, given.as_slice()),

@@ -3,17 +3,13 @@ ghost use Rattle.std.specs.Prelude.{◌≡◌, [], ◌∷◌, pos, IfSome};
 ghost use Rattle.term_core.specs.Datum.Datum.{integer};
 ghost use Rattle.term_core.specs.MapPairs.{keys_of};
 
-use failing_alloc::{Failing, sweep};
-use row_terms::{canonical, name, text, word, written};
+use row_terms::{Calls, canonical, name, swept, text, word, written};
 use std::alloc::{Allocator, Global};
 use term_core::{
     Fault, ListParts, Refused, Term, View, are_apart, copy_all, copy_tail, make_list, make_map,
     make_tuple,
 };
 use term_text::read_terms;
-
-/// The most requests of memory that a call of a row makes.
-const MOST_REQUESTS: u64 = 200;
 
 /// What a call makes of terms, or the refusal with all of them.
 type Made<A> = Result<Term<A>, Refused<Vec<Term<A>, A>>>;
@@ -219,41 +215,26 @@ fn tells_apart<A: Allocator + Copy>(alloc: Global, heap: A, given: &[u8]) -> Opt
     word(alloc, if are_apart { "true" } else { "false" })
 }
 
-/// What comes of a call; `None` where it wants memory and hands back what it was given.
-fn outcome<A: Allocator + Copy>(
-    alloc: Global,
-    heap: A,
-    call: &str,
-    given: &[u8],
-) -> Option<Vec<u8>> {
-    match call {
-        "atom" => atom(alloc, heap, given),
-        "from_characters" => from_characters(alloc, heap, given),
-        "binary" => binary(alloc, heap, given),
-        "are_apart" => tells_apart(alloc, heap, given),
-        "tuple" | "list" | "list_with_tail" | "map" => constructs(alloc, heap, call, given),
-        _ => makes(alloc, heap, call, given),
-    }
-}
+/// The calls of rows of terms that are made.
+struct TermCalls;
 
-/// Whether the same comes of a call or memory is wanted, whichever request is refused.
-fn is_swept(alloc: Global, call: &str, given: &[u8], wanted: &[u8]) -> bool {
-    sweep(alloc, MOST_REQUESTS, |heap: &Failing<Global>| {
-        match outcome(alloc, heap, call, given) {
-            Some(out) => out.as_slice() == wanted,
-            None => heap.was_refused(),
+impl Calls for TermCalls {
+    const MOST_REQUESTS: u64 = 200;
+
+    fn outcome<A: Allocator + Copy>(
+        alloc: Global,
+        heap: A,
+        call: &str,
+        given: &[u8],
+    ) -> Option<Vec<u8>> {
+        match call {
+            "atom" => atom(alloc, heap, given),
+            "from_characters" => from_characters(alloc, heap, given),
+            "binary" => binary(alloc, heap, given),
+            "are_apart" => tells_apart(alloc, heap, given),
+            "tuple" | "list" | "list_with_tail" | "map" => constructs(alloc, heap, call, given),
+            _ => makes(alloc, heap, call, given),
         }
-    })
-    .is_complete()
-}
-
-/// What comes of a call, with memory and with each request refused in turn.
-fn swept(alloc: Global, call: &str, given: &[u8]) -> Option<Vec<u8>> {
-    let out = outcome(alloc, alloc, call, given)?;
-    if is_swept(alloc, call, given, out.as_slice()) {
-        Some(out)
-    } else {
-        word(alloc, "another_without_memory")
     }
 }
 
@@ -319,7 +300,7 @@ pub(crate) fn came(alloc: Global, kind: &str, parts: &[Term]) -> Option<Vec<u8>>
     };
     let (call, given) = (name(alloc, call)?, text(alloc, given)?);
     match kind {
-        "made" => swept(alloc, call.as_str(), given.as_slice()),
+        "made" => swept::<TermCalls>(alloc, call.as_str(), given.as_slice()),
         "sized" => sized(alloc, call.as_str(), given.as_slice()),
         "sized_leaf" => sized_leaf(alloc, call.as_str(), given.as_slice()),
         _ => None,

@@ -6,12 +6,14 @@
 //!   `outcome`: what came, as a text.
 //! - `parts`: names, numbers and lists in a row; `texts`: a text, in pieces that may be repeated.
 //! - `functions`: a function by its name.
+//! - `sweeps`: calls with each request for memory refused in turn.
 #![tactic(auto)]
 
 mod functions;
 mod outcome;
 mod parts;
 mod rows;
+mod sweeps;
 mod tally;
 mod texts;
 
@@ -19,4 +21,5 @@ pub use functions::{arithmetic, function, primitive};
 pub use outcome::{canonical, listed, tagged, word, written};
 pub use parts::{elements, fields, is_atom, name, number, short};
 pub use rows::{Kinds, Report, judge};
+pub use sweeps::{Calls, swept};
 pub use texts::text;
