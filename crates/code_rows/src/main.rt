@@ -13,9 +13,9 @@ mod runs;
 mod specifications;
 mod sweeps;
 
-use row_terms::{Kinds, judge};
+use row_terms::{Kinds, judge_streams};
 use std::alloc::Global;
-use std::io::{self, Read, Write};
+use std::io;
 use std::process::ExitCode;
 use term_core::Term;
 
@@ -46,14 +46,5 @@ impl Kinds for CodeKinds {
 }
 
 fn main(rt: HostRuntime) -> io::Result<ExitCode> {
-    let alloc = rt.alloc();
-    let mut rows = Vec::new(alloc);
-    rt.stdin().read_to_end(&mut rows)?;
-    let report = judge::<CodeKinds>(alloc, rows.as_slice())?;
-    rt.stdout().write_all(report.text.as_slice())?;
-    Ok(if report.is_right {
-        ExitCode::SUCCESS
-    } else {
-        ExitCode::FAILURE
-    })
+    judge_streams::<CodeKinds, _, _>(rt.alloc(), &mut rt.stdin(), &mut rt.stdout())
 }

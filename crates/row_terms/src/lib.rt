@@ -20,6 +20,6 @@ mod texts;
 pub use functions::{arithmetic, function, primitive};
 pub use outcome::{canonical, listed, tagged, word, written};
 pub use parts::{elements, fields, is_atom, name, number, short};
-pub use rows::{Kinds, Report, judge};
+pub use rows::{Kinds, judge_streams};
 pub use sweeps::{Calls, swept};
 pub use texts::text;

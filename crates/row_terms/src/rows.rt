@@ -4,6 +4,8 @@ use crate::parts::{fields, name};
 use crate::tally::Tally;
 use crate::texts::text;
 use std::alloc::{AllocError, Global};
+use std::io::{self, Read, Write};
+use std::process::ExitCode;
 use term_core::Term;
 use term_text::read_terms;
 
@@ -24,11 +26,10 @@ pub trait Kinds {
 
 /// What comes of all rows.
 #[derive(Drop)]
-pub struct Report {
+struct Report {
     /// A line for each kind and one for all, behind what is to be said of rows that are not right.
-    pub text: Vec<u8>,
-    /// Whether all rows are right.
-    pub is_right: bool,
+    text: Vec<u8>,
+    is_right: bool,
 }
 
 /// What comes of a row.
@@ -143,7 +144,7 @@ fn judge_rows<K: Kinds>(alloc: Global, rows: &[Term]) -> Result<Report, AllocErr
 }
 
 /// Judges the rows of a text.
-pub fn judge<K: Kinds>(alloc: Global, text: &[u8]) -> Result<Report, AllocError> {
+fn judge<K: Kinds>(alloc: Global, text: &[u8]) -> Result<Report, AllocError> {
     match read_terms(alloc, text) {
         Ok(rows) => judge_rows::<K>(alloc, rows.as_slice()),
         Err(fault) => Ok(Report {
@@ -151,4 +152,22 @@ pub fn judge<K: Kinds>(alloc: Global, text: &[u8]) -> Result<Report, AllocError>
             is_right: false,
         }),
     }
+}
+
+/// Judges the rows that a reader gives to its end, and writes what is to be said of them. The status is of success where all rows are
+/// right. An error is of want of memory, of the reader or of the writer.
+pub fn judge_streams<K: Kinds, R: Read, W: Write>(
+    alloc: Global,
+    reader: &mut R,
+    writer: &mut W,
+) -> io::Result<ExitCode> {
+    let mut rows = Vec::new(alloc);
+    reader.read_to_end(&mut rows)?;
+    let report = judge::<K>(alloc, rows.as_slice())?;
+    writer.write_all(report.text.as_slice())?;
+    Ok(if report.is_right {
+        ExitCode::SUCCESS
+    } else {
+        ExitCode::FAILURE
+    })
 }
