@@ -4,7 +4,7 @@ use mcode::Code;
 use prims::Primitive;
 use row_code::{Built, Part, Parts, build, code_of, instruction, is_code, parts_of};
 use row_terms::{function, primitive, short, word};
-use std::alloc::Global;
+use std::alloc::{Allocator, Global};
 use term_core::Term;
 use verifier::{Verified, verify};
 
@@ -69,10 +69,14 @@ fn leads(alloc: Global, term: &Term) -> Option<Vec<u8>> {
     Some(text.ok()?.into_bytes())
 }
 
-/// The budget of code whose jumps go forward.
-fn budget(alloc: Global, code: &Code) -> Option<Vec<u8>> {
+/// The budget of code whose jumps go forward, with memory from `heap`.
+pub(crate) fn budget<A: Allocator + Copy>(
+    alloc: Global,
+    heap: A,
+    code: &Code<A>,
+) -> Option<Vec<u8>> {
     if all_forward(code) {
-        let budget = longest(alloc, code).ok()?;
+        let budget = longest(heap, code).ok()?;
         Some(budget.to_string(alloc).ok()?.into_bytes())
     } else {
         word(alloc, "not_forward")
@@ -132,7 +136,7 @@ pub(crate) fn came(alloc: Global, kind: &str, parts: &[Term]) -> Option<Vec<u8>>
         ("function", [name, arguments, _]) => called(alloc, name, short(arguments)?),
         ("leads", [instr, _]) => leads(alloc, instr),
         ("forward", [code, _]) => forward(alloc, &code_of(alloc, code)?),
-        ("budget", [code, _]) => budget(alloc, &code_of(alloc, code)?),
+        ("budget", [code, _]) => budget(alloc, alloc, &code_of(alloc, code)?),
         ("verify", [code, _]) => verified(alloc, code),
         _ => None,
     }

@@ -2,7 +2,7 @@
 use mspec_meaning::evaluate;
 use mspec_syntax::{Spec, SpecFault, read_spec};
 use row_terms::{elements, listed, text};
-use std::alloc::Global;
+use std::alloc::{Allocator, Global};
 use term_core::Term;
 use term_text::read_terms;
 
@@ -36,11 +36,16 @@ fn read_text(alloc: Global, given: &Term) -> Option<Vec<u8>> {
     read(alloc, terms.first()?)
 }
 
-/// The answers of a specification on objects.
-fn answers(alloc: Global, spec: &Spec, objects: &[Term]) -> Option<Vec<u8>> {
-    let mut answers = Vec::new(alloc);
+/// The answers of a specification on objects, with memory from `heap`.
+fn answers<A: Allocator + Copy>(
+    alloc: Global,
+    heap: A,
+    spec: &Spec<A>,
+    objects: &[Term<A>],
+) -> Option<Vec<u8>> {
+    let mut answers = Vec::new(heap);
     for object in objects {
-        if let Some(answer) = evaluate(alloc, spec, object).ok()? {
+        if let Some(answer) = evaluate(heap, spec, object).ok()? {
             answers.push(answer).ok()?;
         }
     }
@@ -48,15 +53,24 @@ fn answers(alloc: Global, spec: &Spec, objects: &[Term]) -> Option<Vec<u8>> {
 }
 
 /// The answers of the specification that a term is read as.
-fn answers_of(alloc: Global, term: &Term, objects: &[Term]) -> Option<Vec<u8>> {
-    answers(alloc, &read_spec(alloc, term).ok()?, objects)
+fn answers_of<A: Allocator + Copy>(
+    alloc: Global,
+    heap: A,
+    term: &Term<A>,
+    objects: &[Term<A>],
+) -> Option<Vec<u8>> {
+    answers(alloc, heap, &read_spec(heap, term).ok()?, objects)
 }
 
 /// The answers of the first term of a text on those behind it.
-fn answers_of_text(alloc: Global, given: &Term) -> Option<Vec<u8>> {
-    let terms = read_terms(alloc, text(alloc, given)?.as_slice()).ok()?;
+pub(crate) fn answers_of_text<A: Allocator + Copy>(
+    alloc: Global,
+    heap: A,
+    given: &[u8],
+) -> Option<Vec<u8>> {
+    let terms = read_terms(heap, given).ok()?;
     let (spec, objects) = terms.as_slice().split_first()?;
-    answers_of(alloc, spec, objects)
+    answers_of(alloc, heap, spec, objects)
 }
 
 /// What comes of a row of specifications.
@@ -64,8 +78,12 @@ pub(crate) fn came(alloc: Global, kind: &str, parts: &[Term]) -> Option<Vec<u8>>
     match (kind, parts) {
         ("spec", [term, _]) => read(alloc, term),
         ("spec_text", [given, _]) => read_text(alloc, given),
-        ("answers", [term, objects, _]) => answers_of(alloc, term, elements(objects)?),
-        ("answers_text", [given, _]) => answers_of_text(alloc, given),
+        ("answers", [term, objects, _]) => answers_of(alloc, alloc, term, elements(objects)?),
+        ("answers_text", [given, _]) => answers_of_text(
+            alloc,
+            alloc,
+            text(alloc, given)?.as_slice(),
+        ),
         _ => None,
     }
 }

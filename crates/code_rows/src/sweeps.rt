@@ -1,12 +1,12 @@
 //! Calls with each request for memory refused in turn, and calls with each refused from the first one on that they make.
-use budget::{all_forward, longest};
+use crate::codes;
+use crate::specifications::answers_of_text;
 use failing_alloc::Failing;
 use machine::{run, run_true};
 use mcode::Code;
-use mspec_meaning::evaluate;
 use mspec_syntax::{SpecFault, read_spec};
 use row_code::{Built, build, code_of, is_code, parts_of};
-use row_terms::{Calls, canonical, listed, swept, text, word};
+use row_terms::{Calls, canonical, swept, text, word};
 use std::alloc::{Allocator, Global};
 use term_core::Term;
 use term_text::read_terms;
@@ -31,20 +31,6 @@ fn read<A: Allocator + Copy>(alloc: Global, heap: A, given: &[u8]) -> Option<Vec
     }
 }
 
-/// The answers of the first term of a text on those behind it.
-fn answered<A: Allocator + Copy>(alloc: Global, heap: A, given: &[u8]) -> Option<Vec<u8>> {
-    let terms = read_terms(heap, given).ok()?;
-    let (first, objects) = terms.as_slice().split_first()?;
-    let spec = read_spec(heap, first).ok()?;
-    let mut answers = Vec::new(heap);
-    for object in objects {
-        if let Some(answer) = evaluate(heap, &spec, object).ok()? {
-            answers.push(answer).ok()?;
-        }
-    }
-    listed(alloc, answers.as_slice())
-}
-
 /// Whether code is built of its parts; none where it wants memory, hands back what it was given and keeps the rest.
 fn built<A: Allocator + Copy>(alloc: Global, heap: A, given: &[u8]) -> Option<Vec<u8>> {
     let term = term(heap, given)?;
@@ -63,15 +49,9 @@ fn built<A: Allocator + Copy>(alloc: Global, heap: A, given: &[u8]) -> Option<Ve
     }
 }
 
-/// The budget of code whose jumps go forward.
+/// The budget of the code of a text.
 fn budget<A: Allocator + Copy>(alloc: Global, heap: A, given: &[u8]) -> Option<Vec<u8>> {
-    let code = code(heap, given)?;
-    if all_forward(&code) {
-        let budget = longest(heap, &code).ok()?;
-        Some(budget.to_string(alloc).ok()?.into_bytes())
-    } else {
-        word(alloc, "not_forward")
-    }
+    codes::budget(alloc, heap, &code(heap, given)?)
 }
 
 /// What the verifier says of code.
@@ -134,7 +114,7 @@ impl Calls for CodeCalls {
     ) -> Option<Vec<u8>> {
         match call {
             "swept_spec" => read(alloc, heap, given),
-            "swept_answers" => answered(alloc, heap, given),
+            "swept_answers" => answers_of_text(alloc, heap, given),
             "swept_built" => built(alloc, heap, given),
             "swept_budget" => budget(alloc, heap, given),
             "swept_verify" => verdict(alloc, heap, given),
