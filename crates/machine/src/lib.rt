@@ -3,7 +3,8 @@
 //! The one contract: `run` gives the answer of the run of the code on an object, by the machine's definition (`Runs` of
 //! `mcode/specs/Machine.antt`), and the exact number of instructions executed, which is at most the budget; no state of the
 //! run is stuck. `run_true` gives whether that answer is `true`, and the same number; of code that makes no terms, and has few
-//! places and slots, it takes no memory. Neither tests what the verifier knows.
+//! places and slots, it takes no memory. That an instruction finds what it needs follows from the
+//! verifier's typing: where a call below it tests that again, the arm of its failure is proved to be out of reach.
 //!
 //! - `execution`: runs; `instructions`: what each instruction does; `flow`: where one leads.
 //! - `place`, `stack`, `slots`: where values are kept, the operand stack and the slots. `values`, `maps`: what instructions make
