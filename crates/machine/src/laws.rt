@@ -1,5 +1,5 @@
 //! Laws of the machine, each the contract of a function that does nothing.
-ghost use Rattle.machine.specs.Laws.{IsDeterministic, TypedCodeIsNeverStuck, RunsAreWithinBudget, TypedCodeEnds};
+ghost use Rattle.machine.specs.Laws.{IsDeterministic, TypedCodeIsNeverStuck, RunsAreWithinBudget, TypedCodeEnds, RunsEndWithTheAnswer};
 
 /// A run executes one number of instructions, and ends in one way.
 pub fn machine_is_deterministic()
@@ -19,4 +19,9 @@ pub fn runs_stay_within_the_budget()
 /// Typed code runs to an end on each object.
 pub fn typed_code_ends()
     ensures { TypedCodeEnds }
+{}
+
+/// What typed code answers on an object is a function of both, with which each of its runs ends.
+pub fn runs_end_with_the_answer()
+    ensures { RunsEndWithTheAnswer }
 {}

@@ -9,7 +9,8 @@
 //! - `execution`: runs; `instructions`: what each instruction does; `flow`: where one leads.
 //! - `place`, `stack`, `slots`: where values are kept, the operand stack and the slots. `values`, `maps`: what instructions make
 //!   of values.
-//! - `laws`: that a run has one end, that typed code is never stuck and ends, and that no run passes the budget. What is
+//! - `laws`: that a run has one end, that typed code is never stuck and ends with its answer (`answer_of` of
+//!   `mcode/specs/Answer.antt`), and that no run passes the budget. What is
 //!   known of a state that is of the shape known to the verifier stands in `specs/Fits.antt`, and which code needs no memory in
 //!   `specs/Memory.antt`.
 #![tactic(auto)]
@@ -26,7 +27,7 @@ mod values;
 
 pub use execution::{run, run_true};
 pub use laws::{
-    machine_is_deterministic, runs_stay_within_the_budget, typed_code_ends,
-    typed_code_is_never_stuck,
+    machine_is_deterministic, runs_end_with_the_answer, runs_stay_within_the_budget,
+    typed_code_ends, typed_code_is_never_stuck,
 };
 pub use place::{INLINE_PLACES, INLINE_SLOTS};

@@ -4,4 +4,5 @@ pub mod Program
 pub mod Frame
 pub mod FaultNumbers
 pub mod Machine
+pub mod Answer
 pub mod Building
