@@ -6,9 +6,8 @@ pub mod FindLemmas
 pub mod StepLemmas
 pub mod EdgeLemmas
 pub mod RunLemmas
-pub mod StackLemmas
-pub mod MakeLemmas
 pub mod ComeLemmas
-pub mod ReadyLemmas
-pub mod BorrowLemmas
+pub mod JumpLemmas
+pub mod LeadLemmas
 pub mod MemoryLemmas
+pub mod TableLemmas

@@ -1,6 +1,6 @@
 pub mod Fits
 pub mod Laws
-pub mod Stack
+pub mod Slots
 pub mod Flow
 pub mod Way
 pub mod Memory

@@ -6,9 +6,9 @@
 //! places and slots, it takes no memory. That an instruction finds what it needs follows from the
 //! verifier's typing: where a call below it tests that again, the arm of its failure is proved to be out of reach.
 //!
-//! - `execution`: runs; `instructions`: what each instruction does; `flow`: where one leads.
-//! - `place`, `stack`, `slots`: where values are kept, the operand stack and the slots. `values`, `maps`: what instructions make
-//!   of values.
+//! - `runs`: a `Machine`, which is made once and runs on any number of objects, and runs on one object.
+//! - `execution`: what an instruction does to stack and slots, and a step; `step`: what a step comes to. What instructions do to the
+//!   stack alone is in `operand_stack`.
 //! - `laws`: that a run has one end, that typed code is never stuck and ends with its answer (`answer_of` of
 //!   `mcode/specs/Answer.antt`), and that no run passes the budget. What is
 //!   known of a state that is of the shape known to the verifier stands in `specs/Fits.antt`, and which code needs no memory in
@@ -16,18 +16,13 @@
 #![tactic(auto)]
 
 mod execution;
-mod flow;
-mod instructions;
 mod laws;
-mod maps;
-mod place;
-mod slots;
-mod stack;
-mod values;
+mod runs;
+mod step;
 
-pub use execution::{run, run_true};
 pub use laws::{
     machine_is_deterministic, runs_end_with_the_answer, runs_stay_within_the_budget,
     typed_code_ends, typed_code_is_never_stuck,
 };
-pub use place::{INLINE_PLACES, INLINE_SLOTS};
+pub use operand_stack::{INLINE_PLACES, INLINE_SLOTS};
+pub use runs::{Machine, run, run_true};

@@ -1,0 +1,5 @@
+pub mod StackLemmas
+pub mod ViewLemmas
+pub mod MakeLemmas
+pub mod ReadyLemmas
+pub mod BorrowLemmas

@@ -1,0 +1,377 @@
+//! The operand stack: what instructions do to its places, of which the lowest are taken.
+ghost use Rattle.std.specs.Prelude.{ℕ, ◌≡◌, ◌≤◌, List};
+ghost use Rattle.term_core.specs.Datum.{Datum};
+ghost use Rattle.mcode.specs.Machine.{test_outcome};
+ghost use Rattle.operand_stack.specs.Flow.{Leads, IsWithin};
+ghost use Rattle.operand_stack.specs.Stack.{stack_at};
+
+use crate::flow::Flow;
+use crate::kinds::holds;
+use crate::made::{keys_of, list_of, made, map_of};
+use crate::place::Place;
+use crate::places::Places;
+use crate::values::{INLINE_OPERANDS, call_all, call_one, call_two, computed};
+use mcode::{Code, Kind};
+use prims::{Arithmetic, Function, Primitive};
+use std::alloc::{AllocError, Allocator};
+use term_core::{Term, make_tuple};
+
+/// Goes on where a test holds, else jumps, with so many places taken.
+fn jump_unless(holds: bool, height: u16, otherwise: u16) -> Flow
+    ensures flow { (terms : List Datum) → Leads result terms
+        (λ p pc slots. test_outcome p pc otherwise (stack_at terms height) slots holds) }
+    ensures within { (room : ℕ) → height ≤ room → IsWithin result room }
+{
+    if holds {
+        Flow::Next(height)
+    } else {
+        Flow::Jump(otherwise, height)
+    }
+}
+
+impl<'a, 'h, const N: usize, A: Allocator + Copy> Places<'a, 'h, N, A> {
+    ghost use Rattle.std.specs.Prelude.{ℕ, ◌≡◌, ◌<◌, ◌≤◌, ◌-◌, ◌+◌, ◌∷◌, Some, IsTrue, IsSome, IsOk, IsOkAnd, IfOk, OnOk, IfSome, length, take, drop, map, reverse};
+    ghost use Rattle.std.specs.Option.{option_map};
+    ghost use Rattle.prims.specs.Calls.{function_of};
+    ghost use Rattle.mcode.specs.Machine.{next, push_or_jump, test_outcome};
+    ghost use Rattle.mcode.specs.declared.instr.Instr.TheVariants as instr;
+    ghost use Rattle.operand_stack.specs.Flow.{Leads, IsWithin, keys_at, top_holds, IsReady, Does, IsReadyAnywhere, DoesAnywhere};
+    ghost use Rattle.operand_stack.specs.Stack.{place_datum, is_borrowed, all, stack_at};
+
+    /// Puts a value on top of so many places, and goes on.
+    pub fn push(&mut self, height: u16, place: Place<'a, 'h, A>) -> Flow
+        requires { height < length self.old.terms }
+        ensures flow { Leads result self.new.terms (λ p pc slots.
+            next pc (place_datum place.entry ∷ stack_at self.old.terms height) slots) }
+        ensures within { IsWithin result (length self.old.terms) }
+        ensures count { length self.new.terms ≡ length self.old.terms }
+        ensures borrowed { IsTrue self.old.borrowed → IsTrue (is_borrowed place.entry)
+            → IsTrue self.new.borrowed }
+    {
+        self.put(usize::from(height), place);
+        Flow::Next(height + 1)
+    }
+
+    /// Puts a value on top of so many places and goes on where there is one, else jumps.
+    pub fn push_or_jump(
+        &mut self,
+        height: u16,
+        place: Option<Place<'a, 'h, A>>,
+        otherwise: u16,
+    ) -> Flow
+        requires { height < length self.old.terms }
+        ensures flow { Leads result self.new.terms (λ p pc slots.
+            push_or_jump p pc otherwise (stack_at self.old.terms height) slots
+            (option_map place_datum place.entry)) }
+        ensures within { IsWithin result (length self.old.terms) }
+        ensures count { length self.new.terms ≡ length self.old.terms }
+        ensures borrowed { IsTrue self.old.borrowed
+            → IfSome place.entry (λ place. IsTrue (is_borrowed place)) → IsTrue self.new.borrowed }
+    {
+        match place {
+            Some(place) => self.push(height, place),
+            None => Flow::Jump(otherwise, height),
+        }
+    }
+
+    /// The top of so many places.
+    pub fn top(&self, height: u16) -> &Place<'a, 'h, A>
+        requires some { 0 < height }
+        requires within { height ≤ length self.now.terms }
+        ensures terms { stack_at self.now.terms height
+            ≡ place_datum result.now ∷ stack_at self.now.terms (height - 1) }
+        ensures borrowed { IsTrue self.now.borrowed → IsTrue (is_borrowed result.now) }
+    {
+        self.get(usize::from(height) - 1)
+    }
+
+    /// Takes the top of so many places.
+    pub fn pop(&mut self, height: u16) -> Place<'a, 'h, A>
+        requires some { 0 < height }
+        requires within { height ≤ length self.old.terms }
+        ensures terms { stack_at self.old.terms height
+            ≡ place_datum result ∷ stack_at self.new.terms (height - 1) }
+        ensures count { length self.new.terms ≡ length self.old.terms }
+        ensures borrowed { IsTrue self.old.borrowed
+            → IsTrue (is_borrowed result) × IsTrue self.new.borrowed }
+    {
+        self.take(usize::from(height) - 1)
+    }
+
+    /// So many places at the top of so many, from the lowest.
+    fn top_places(&self, height: u16, count: u16) -> &[Place<'a, 'h, A>]
+        requires deep { count ≤ height }
+        requires within { height ≤ length self.now.terms }
+        ensures terms { map place_datum result.now
+            ≡ reverse (take count (stack_at self.now.terms height)) }
+        ensures count { length result.now ≡ count }
+        ensures borrowed { IsTrue self.now.borrowed → IsTrue (all is_borrowed result.now) }
+    {
+        let above = usize::from(height);
+        &self.as_slice()[above - usize::from(count)..above]
+    }
+
+    /// Pushes the top again.
+    pub fn duplicate(&mut self, height: u16) -> Result<Flow, AllocError>
+        requires some { 0 < height }
+        requires room { height < length self.old.terms }
+        ensures flow { IfOk result (λ flow. DoesAnywhere instr.Dup (stack_at self.old.terms height)
+            flow self.new.terms) }
+        ensures within { IfOk result (λ flow. IsWithin flow (length self.old.terms)) }
+        ensures count { length self.new.terms ≡ length self.old.terms }
+        ensures memory { IsTrue self.old.borrowed → IsOk result × IsTrue self.new.borrowed }
+    {
+        let top = self.top(height).copy(self.heap())?;
+        Ok(self.push(height, top))
+    }
+
+    /// Goes on where the top, which stays, is of a kind, else jumps.
+    pub fn test(&self, height: u16, kind: Kind, otherwise: u16) -> Flow
+        requires some { 0 < height }
+        requires within { height ≤ length self.now.terms }
+        ensures flow { Leads result self.now.terms (λ p pc slots.
+            test_outcome p pc otherwise (stack_at self.now.terms height) slots
+            (top_holds kind (stack_at self.now.terms height))) }
+        ensures within { IsWithin result (length self.now.terms) }
+    {
+        jump_unless(holds(kind, self.top(height)), height, otherwise)
+    }
+
+    /// Puts the element of a tuple in its place.
+    pub fn field(&mut self, height: u16, index: u16) -> Result<Flow, AllocError>
+        requires some { 0 < height }
+        requires within { height ≤ length self.old.terms }
+        requires ready { IsReadyAnywhere (instr.Field index) (stack_at self.old.terms height) }
+        ensures flow { IfOk result (λ flow. DoesAnywhere (instr.Field index)
+            (stack_at self.old.terms height) flow self.new.terms) }
+        ensures within { IfOk result (λ flow. IsWithin flow (length self.old.terms)) }
+        ensures count { length self.new.terms ≡ length self.old.terms }
+        ensures memory { IsTrue self.old.borrowed → IsOk result × IsTrue self.new.borrowed }
+    {
+        let element = self.top(height).field(self.heap(), index)?;
+        Ok(self.push(height - 1, element))
+    }
+
+    /// Puts the head of a list in its place.
+    pub fn head(&mut self, height: u16) -> Result<Flow, AllocError>
+        requires some { 0 < height }
+        requires within { height ≤ length self.old.terms }
+        requires ready { IsReadyAnywhere instr.Head (stack_at self.old.terms height) }
+        ensures flow { IfOk result (λ flow. DoesAnywhere instr.Head
+            (stack_at self.old.terms height) flow self.new.terms) }
+        ensures within { IfOk result (λ flow. IsWithin flow (length self.old.terms)) }
+        ensures count { length self.new.terms ≡ length self.old.terms }
+        ensures memory { IsTrue self.old.borrowed → IsOk result × IsTrue self.new.borrowed }
+    {
+        let head = self.top(height).head(self.heap())?;
+        Ok(self.push(height - 1, head))
+    }
+
+    /// Puts the tail of a list in its place.
+    pub fn tail(&mut self, height: u16) -> Result<Flow, AllocError>
+        requires some { 0 < height }
+        requires within { height ≤ length self.old.terms }
+        requires ready { IsReadyAnywhere instr.Tail (stack_at self.old.terms height) }
+        ensures flow { IfOk result (λ flow. DoesAnywhere instr.Tail
+            (stack_at self.old.terms height) flow self.new.terms) }
+        ensures within { IfOk result (λ flow. IsWithin flow (length self.old.terms)) }
+        ensures count { length self.new.terms ≡ length self.old.terms }
+        ensures memory { IsTrue self.old.borrowed → IsOk result × IsTrue self.new.borrowed }
+    {
+        let tail = self.top(height).tail(self.heap())?;
+        Ok(self.push(height - 1, tail))
+    }
+
+    /// Puts the value of a key in the place of a map, or jumps.
+    pub fn value(
+        &mut self,
+        code: &'a Code<A>,
+        height: u16,
+        key: u16,
+        otherwise: u16,
+    ) -> Result<Flow, AllocError>
+        requires some { 0 < height }
+        requires within { height ≤ length self.old.terms }
+        requires ready { IsReady code.now (instr.Value key otherwise)
+            (stack_at self.old.terms height) }
+        ensures flow { IfOk result (λ flow. Does code.now (instr.Value key otherwise)
+            (stack_at self.old.terms height) flow self.new.terms) }
+        ensures within { IfOk result (λ flow. IsWithin flow (length self.old.terms)) }
+        ensures count { length self.new.terms ≡ length self.old.terms }
+        ensures memory { IsTrue self.old.borrowed → IsOk result × IsTrue self.new.borrowed }
+    {
+        let key = &code.constants()[usize::from(key)];
+        let value = self.top(height).value_of(self.heap(), key)?;
+        Ok(self.push_or_jump(height - 1, value, otherwise))
+    }
+
+    /// Takes two terms away, and jumps where they are not the same.
+    pub fn equal(&self, height: u16, otherwise: u16) -> Flow
+        requires two { 2 ≤ height }
+        requires within { height ≤ length self.now.terms }
+        ensures flow { DoesAnywhere (instr.Equal otherwise) (stack_at self.now.terms height) result
+            self.now.terms }
+        ensures within { IsWithin result (length self.now.terms) }
+    {
+        let left = self.top(height - 1);
+        let same = left.is_same(self.top(height));
+        jump_unless(same, height - 2, otherwise)
+    }
+
+    /// Takes a truth value away, and jumps where it is false.
+    pub fn branch(&self, height: u16, otherwise: u16) -> Flow
+        requires some { 0 < height }
+        requires within { height ≤ length self.now.terms }
+        requires ready { IsReadyAnywhere (instr.Branch otherwise) (stack_at self.now.terms height) }
+        ensures flow { DoesAnywhere (instr.Branch otherwise) (stack_at self.now.terms height) result
+            self.now.terms }
+        ensures within { IsWithin result (length self.now.terms) }
+    {
+        match self.top(height).boolean() {
+            Some(holds) => jump_unless(holds, height - 1, otherwise),
+            None => unreachable!(),
+        }
+    }
+
+    /// Puts what a function of two integers gives in their place, or jumps.
+    pub fn arithmetic(&mut self, height: u16, function: Arithmetic, otherwise: u16) -> Flow
+        requires two { 2 ≤ height }
+        requires within { height ≤ length self.old.terms }
+        requires ready { IsReadyAnywhere (instr.Arith function otherwise)
+            (stack_at self.old.terms height) }
+        ensures flow { DoesAnywhere (instr.Arith function otherwise)
+            (stack_at self.old.terms height) result self.new.terms }
+        ensures within { IsWithin result (length self.old.terms) }
+        ensures count { length self.new.terms ≡ length self.old.terms }
+        ensures borrowed { IsTrue self.old.borrowed → IsTrue self.new.borrowed }
+    {
+        let left = self.top(height - 1).integer();
+        let right = self.top(height).integer();
+        let value = match (left, right) {
+            (Some(left), Some(right)) => computed(function, left, right),
+            _ => unreachable!(),
+        };
+        self.push_or_jump(height - 2, value, otherwise)
+    }
+
+    /// What a function gives of so many values at the top; none where the call fails. Few borrowed ones take no memory.
+    fn called(
+        &self,
+        height: u16,
+        function: Primitive,
+        count: u16,
+    ) -> Result<Option<Place<'a, 'h, A>>, AllocError>
+        requires deep { count ≤ height }
+        requires within { height ≤ length self.now.terms }
+        ensures value { IfOk result (λ value. option_map place_datum value
+            ≡ function_of function (reverse (take count (stack_at self.now.terms height)))) }
+        ensures memory { IsTrue self.now.borrowed → count ≤ INLINE_OPERANDS
+            → IsOkAnd result (λ value. IfSome value (λ place. IsTrue (is_borrowed place))) }
+    {
+        match self.top_places(height, count) {
+            [one] => call_one(self.heap(), function, one),
+            [left, right] => call_two(self.heap(), function, left, right),
+            places => call_all(self.heap(), function, places),
+        }
+    }
+
+    /// Puts what a function gives in the place of its arguments, or jumps.
+    pub fn call(
+        &mut self,
+        height: u16,
+        function: Function,
+        arguments: u16,
+        otherwise: u16,
+    ) -> Result<Flow, AllocError>
+        requires deep { arguments ≤ height }
+        requires within { height ≤ length self.old.terms }
+        requires room { height - arguments < length self.old.terms }
+        requires ready { IsReadyAnywhere (instr.Call function arguments otherwise)
+            (stack_at self.old.terms height) }
+        ensures flow { IfOk result (λ flow. DoesAnywhere (instr.Call function arguments otherwise)
+            (stack_at self.old.terms height) flow self.new.terms) }
+        ensures within { IfOk result (λ flow. IsWithin flow (length self.old.terms)) }
+        ensures count { length self.new.terms ≡ length self.old.terms }
+        ensures memory { IsTrue self.old.borrowed → arguments ≤ INLINE_OPERANDS → IsOk result
+            × IsTrue self.new.borrowed }
+    {
+        let value = self.called(height, Primitive::Function(function), arguments)?;
+        Ok(self.push_or_jump(height - arguments, value, otherwise))
+    }
+
+    /// Takes so many values from the top as terms, and gives them from the lowest.
+    fn take_terms(&mut self, height: u16, count: u16) -> Result<Vec<Term<A>, A>, AllocError>
+        requires deep { count ≤ height }
+        requires within { height ≤ length self.old.terms }
+        ensures terms { IfOk result (λ terms. terms.items
+            ≡ reverse (take count (stack_at self.old.terms height))) }
+        ensures rest { OnOk result (stack_at self.new.terms (height - count)
+            ≡ drop count (stack_at self.old.terms height)) }
+        ensures count { length self.new.terms ≡ length self.old.terms }
+    {
+        let alloc = *self.heap();
+        let mut terms = Vec::with_capacity(alloc, usize::from(count))?;
+        for taken in 0..count {
+            terms.push(self.pop(height - taken).into_term(alloc)?)?;
+        }
+        terms.reverse();
+        Ok(terms)
+    }
+
+    /// Puts a tuple in the place of its elements, or jumps.
+    pub fn make_tuple(&mut self, height: u16, size: u16, otherwise: u16) -> Result<Flow, AllocError>
+        requires deep { size ≤ height }
+        requires within { height ≤ length self.old.terms }
+        requires room { height - size < length self.old.terms }
+        requires ready { IsReadyAnywhere (instr.MakeTuple size otherwise)
+            (stack_at self.old.terms height) }
+        ensures flow { IfOk result (λ flow. DoesAnywhere (instr.MakeTuple size otherwise)
+            (stack_at self.old.terms height) flow self.new.terms) }
+        ensures within { IfOk result (λ flow. IsWithin flow (length self.old.terms)) }
+        ensures count { length self.new.terms ≡ length self.old.terms }
+    {
+        let elements = self.take_terms(height, size)?;
+        let tuple = made(self.heap(), make_tuple(*self.heap(), elements)?)?;
+        Ok(self.push_or_jump(height - size, tuple, otherwise))
+    }
+
+    /// Puts a list in the place of its head and its tail, or jumps.
+    pub fn make_list(&mut self, height: u16, otherwise: u16) -> Result<Flow, AllocError>
+        requires two { 2 ≤ height }
+        requires within { height ≤ length self.old.terms }
+        ensures flow { IfOk result (λ flow. DoesAnywhere (instr.MakeCons otherwise)
+            (stack_at self.old.terms height) flow self.new.terms) }
+        ensures within { IfOk result (λ flow. IsWithin flow (length self.old.terms)) }
+        ensures count { length self.new.terms ≡ length self.old.terms }
+    {
+        let tail = self.pop(height);
+        let head = self.pop(height - 1);
+        let list = list_of(self.heap(), head, tail)?;
+        Ok(self.push_or_jump(height - 2, list, otherwise))
+    }
+
+    /// Puts a map of the keys that a constant lists in the place of its values, or jumps.
+    pub fn make_map(
+        &mut self,
+        code: &'a Code<A>,
+        height: u16,
+        keys: u16,
+        otherwise: u16,
+    ) -> Result<Flow, AllocError>
+        requires within { height ≤ length self.old.terms }
+        requires keys { IsSome (keys_at code.now keys) }
+        requires deep { IfSome (keys_at code.now keys) (λ ks. length ks ≤ height) }
+        requires room { IfSome (keys_at code.now keys) (λ ks.
+            height - length ks < length self.old.terms) }
+        ensures flow { IfOk result (λ flow. Does code.now (instr.MakeMap keys otherwise)
+            (stack_at self.old.terms height) flow self.new.terms) }
+        ensures within { IfOk result (λ flow. IsWithin flow (length self.old.terms)) }
+        ensures count { length self.new.terms ≡ length self.old.terms }
+    {
+        let keys = keys_of(*self.heap(), code, keys)?;
+        let count = keys.len() as u16;
+        let values = self.take_terms(height, count)?;
+        let map = map_of(self.heap(), keys, values)?;
+        Ok(self.push_or_jump(height - count, map, otherwise))
+    }
+}
