@@ -3,10 +3,10 @@ use budget::{all_forward, longest};
 use mcode::Code;
 use prims::Primitive;
 use row_code::{Built, Part, Parts, build, code_of, instruction, is_code, parts_of};
-use row_terms::{function, primitive, short, word};
+use row_terms::{Outcome, digits, function, primitive, short, truth_name, word};
 use std::alloc::{Allocator, Global};
 use term_core::Term;
-use verifier::{Verified, verify};
+use verifier::{Fault, Verified, verify};
 
 const fn part_name(part: Part) -> &'static str {
     match part {
@@ -18,32 +18,50 @@ const fn part_name(part: Part) -> &'static str {
 }
 
 /// How many constants, instructions and frames code has.
-fn counts(alloc: Global, code: &Code) -> Option<String> {
-    let constants = code.constants().len();
-    let instructions = code.instructions().len();
-    let frames = code.frames().len();
-    format!(in alloc; "{{{constants},{instructions},{frames}}}").ok()
+fn counts(alloc: Global, code: &Code) -> Option<Vec<u8>> {
+    let out = Outcome::tuple(alloc).number(code.constants().len());
+    out.number(code.instructions().len())
+        .number(code.frames().len())
+        .end()
+}
+
+/// The beginning of the text of a part that was refused for a fault of this number.
+fn refused_part(alloc: Global, part: Part, number: u8) -> Outcome {
+    let out = Outcome::tuple(alloc).word("refused");
+    out.word(part_name(part)).number(usize::from(number))
+}
+
+/// The text of what a builder made.
+fn built_text(alloc: Global, built: &Built<Global>) -> Option<Vec<u8>> {
+    match built {
+        Built::Whole(code) => {
+            let counts = counts(alloc, code)?;
+            Outcome::tuple(alloc)
+                .word("built")
+                .text(counts.as_slice())
+                .end()
+        }
+        Built::NoSlots(number) => refused_part(alloc, Part::Slots, *number).end(),
+        Built::Refused(part, number, code) => {
+            let counts = counts(alloc, code)?;
+            refused_part(alloc, *part, *number)
+                .text(counts.as_slice())
+                .end()
+        }
+        Built::Wrong => word(alloc, "wrong"),
+    }
 }
 
 /// What a builder makes of the parts of code.
 fn built(alloc: Global, term: &Term) -> Option<Vec<u8>> {
     let wanted = parts_of(alloc, term)?;
-    let text = match build(alloc, parts_of(alloc, term)?, &wanted) {
-        Built::Whole(code) => format!(in alloc; "{{built,{}}}", counts(alloc, &code)?),
-        Built::NoSlots(number) => format!(in alloc; "{{refused,slots,{number}}}"),
-        Built::Refused(part, number, code) => {
-            let (name, counts) = (part_name(part), counts(alloc, &code)?);
-            format!(in alloc; "{{refused,{name},{number},{counts}}}")
-        }
-        Built::Wrong => String::from_str(alloc, "wrong"),
-    };
-    Some(text.ok()?.into_bytes())
+    built_text(alloc, &build(alloc, parts_of(alloc, term)?, &wanted))
 }
 
 /// The depth of the frame of code at an instruction.
 fn frame_at(alloc: Global, code: &Code, pc: u16) -> Option<Vec<u8>> {
     match code.frame_at(pc) {
-        Some(frame) => Some(frame.depth.to_string(alloc).ok()?.into_bytes()),
+        Some(frame) => digits(alloc, u64::from(frame.depth)),
         None => word(alloc, "none"),
     }
 }
@@ -61,12 +79,12 @@ fn called(alloc: Global, name: &Term, arguments: u16) -> Option<Vec<u8>> {
 /// Where an instruction may jump, and whether it goes on.
 fn leads(alloc: Global, term: &Term) -> Option<Vec<u8>> {
     let instr = instruction(alloc, term)?;
-    let goes_on = instr.goes_on();
-    let text = match instr.target() {
-        Some(target) => format!(in alloc; "{{{target},{goes_on}}}"),
-        None => format!(in alloc; "{{none,{goes_on}}}"),
+    let out = Outcome::tuple(alloc);
+    let out = match instr.target() {
+        Some(target) => out.number(usize::from(target)),
+        None => out.word("none"),
     };
-    Some(text.ok()?.into_bytes())
+    out.truth(instr.goes_on()).end()
 }
 
 /// The budget of code whose jumps go forward, with memory from `heap`.
@@ -76,8 +94,7 @@ pub(crate) fn budget<A: Allocator + Copy>(
     code: &Code<A>,
 ) -> Option<Vec<u8>> {
     if all_forward(code) {
-        let budget = longest(heap, code).ok()?;
-        Some(budget.to_string(alloc).ok()?.into_bytes())
+        digits(alloc, u64::from(longest(heap, code).ok()?))
     } else {
         word(alloc, "not_forward")
     }
@@ -85,7 +102,7 @@ pub(crate) fn budget<A: Allocator + Copy>(
 
 /// Whether all jumps go forward.
 fn forward(alloc: Global, code: &Code) -> Option<Vec<u8>> {
-    word(alloc, if all_forward(code) { "true" } else { "false" })
+    word(alloc, truth_name(all_forward(code)))
 }
 
 /// Whether verified code has the depths of these frames.
@@ -101,25 +118,32 @@ fn are_depths(verified: &Verified, parts: &Parts<Global>) -> bool {
     true
 }
 
+/// The budget and the depth of verified code.
+pub(crate) fn accepted<A: Allocator>(alloc: Global, code: &Verified<A>) -> Option<Vec<u8>> {
+    let out = Outcome::tuple(alloc).word("accepted");
+    out.number(code.budget() as usize)
+        .number(usize::from(code.depth()))
+        .end()
+}
+
+/// The number of a fault of code, and the instruction that it names; none for want of memory.
+pub(crate) fn refused(alloc: Global, fault: Fault) -> Option<Vec<u8>> {
+    let pc = usize::from(fault.pc()?);
+    let out = Outcome::tuple(alloc).word("refused");
+    out.number(usize::from(fault.number())).number(pc).end()
+}
+
 /// What the verifier says of code, which it keeps or hands back.
 fn verdict(alloc: Global, code: Code, parts: &Parts<Global>) -> Option<Vec<u8>> {
-    let text = match verify(alloc, code) {
-        Ok(verified) => {
-            if !is_code(verified.code(), parts) || !are_depths(&verified, parts) {
-                return word(alloc, "other_code");
-            }
-            let (budget, depth) = (verified.budget(), verified.depth());
-            format!(in alloc; "{{accepted,{budget},{depth}}}")
+    match verify(alloc, code) {
+        Ok(verified) if is_code(verified.code(), parts) && are_depths(&verified, parts) => {
+            accepted(alloc, &verified)
         }
-        Err(refused) => {
-            if !is_code(&refused.value, parts) {
-                return word(alloc, "other_code");
-            }
-            let (number, pc) = (refused.fault.number(), refused.fault.pc()?);
-            format!(in alloc; "{{refused,{number},{pc}}}")
+        Err(handed_back) if is_code(&handed_back.value, parts) => {
+            refused(alloc, handed_back.fault)
         }
-    };
-    Some(text.ok()?.into_bytes())
+        _ => word(alloc, "other_code"),
+    }
 }
 
 /// What the verifier says of the code that a term says.

@@ -1,31 +1,26 @@
 //! Terms that are read as specifications, and what these answer.
 use mspec_meaning::evaluate;
 use mspec_syntax::{Spec, SpecFault, read_spec};
-use row_terms::{elements, listed, text};
+use row_terms::{Outcome, elements, listed, numbered, text};
 use std::alloc::{Allocator, Global};
 use term_core::Term;
 use term_text::read_terms;
 
 /// The number of a fault, and the clause and the variable that it names.
 fn fault_text(alloc: Global, fault: SpecFault) -> Option<Vec<u8>> {
-    let number = fault.number();
-    let text = match (fault.clause(), fault.variable()) {
-        (Some(clause), Some(variable)) => {
-            format!(in alloc; "{{refused,{number},{clause},{variable}}}")
-        }
-        (Some(clause), None) => format!(in alloc; "{{refused,{number},{clause}}}"),
-        (None, _) => format!(in alloc; "{{refused,{number}}}"),
-    };
-    Some(text.ok()?.into_bytes())
+    let number = usize::from(fault.number());
+    let out = Outcome::tuple(alloc).word("refused").number(number);
+    match (fault.clause(), fault.variable()) {
+        (Some(clause), Some(variable)) => out.number(clause).number(variable as usize).end(),
+        (Some(clause), None) => out.number(clause).end(),
+        (None, _) => out.end(),
+    }
 }
 
 /// How many clauses the specification has that a term is read as, or its fault.
 fn read(alloc: Global, term: &Term) -> Option<Vec<u8>> {
     match read_spec(alloc, term) {
-        Ok(spec) => {
-            let count = spec.clauses().len();
-            Some(format!(in alloc; "{{ok,{count}}}").ok()?.into_bytes())
-        }
+        Ok(spec) => numbered(alloc, "ok", spec.clauses().len()),
         Err(fault) => fault_text(alloc, fault),
     }
 }

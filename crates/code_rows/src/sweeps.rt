@@ -5,12 +5,12 @@ use failing_alloc::Failing;
 use machine::{run, run_true};
 use mcode::Code;
 use mspec_syntax::{SpecFault, read_spec};
-use row_code::{Built, build, code_of, is_code, parts_of};
-use row_terms::{Calls, canonical, swept, text, word};
+use row_code::{Built, Parts, build, code_of, is_code, parts_of};
+use row_terms::{Calls, Outcome, canonical, swept, text, word};
 use std::alloc::{Allocator, Global};
 use term_core::Term;
 use term_text::read_terms;
-use verifier::{Fault, Verified, verify};
+use verifier::{Verified, verify};
 
 /// The only term of a text.
 fn term<A: Allocator + Copy>(heap: A, given: &[u8]) -> Option<Term<A>> {
@@ -31,19 +31,21 @@ fn read<A: Allocator + Copy>(alloc: Global, heap: A, given: &[u8]) -> Option<Vec
     }
 }
 
+/// Whether code that was built has these parts.
+fn whole<A: Allocator>(alloc: Global, code: &Code<A>, parts: &Parts<A>) -> Option<Vec<u8>> {
+    if is_code(code, parts) {
+        word(alloc, "built")
+    } else {
+        word(alloc, "other_code")
+    }
+}
+
 /// Whether code is built of its parts; none where it wants memory, hands back what it was given and keeps the rest.
 fn built<A: Allocator + Copy>(alloc: Global, heap: A, given: &[u8]) -> Option<Vec<u8>> {
     let term = term(heap, given)?;
     let wanted = parts_of(heap, &term)?;
     match build(heap, parts_of(heap, &term)?, &wanted) {
-        Built::Whole(code) => word(
-            alloc,
-            if is_code(&code, &wanted) {
-                "built"
-            } else {
-                "other_code"
-            },
-        ),
+        Built::Whole(code) => whole(alloc, &code, &wanted),
         Built::Refused(_, 1, _) => None,
         Built::Refused(_, _, _) | Built::NoSlots(_) | Built::Wrong => word(alloc, "wrong"),
     }
@@ -56,20 +58,10 @@ fn budget<A: Allocator + Copy>(alloc: Global, heap: A, given: &[u8]) -> Option<V
 
 /// What the verifier says of code.
 fn verdict<A: Allocator + Copy>(alloc: Global, heap: A, given: &[u8]) -> Option<Vec<u8>> {
-    let text = match verify(heap, code(heap, given)?) {
-        Ok(verified) => {
-            let (budget, depth) = (verified.budget(), verified.depth());
-            format!(in alloc; "{{accepted,{budget},{depth}}}")
-        }
-        Err(refused) => {
-            if refused.fault == Fault::Memory {
-                return None;
-            }
-            let (number, pc) = (refused.fault.number(), refused.fault.pc()?);
-            format!(in alloc; "{{refused,{number},{pc}}}")
-        }
-    };
-    Some(text.ok()?.into_bytes())
+    match verify(heap, code(heap, given)?) {
+        Ok(verified) => codes::accepted(alloc, &verified),
+        Err(refused) => codes::refused(alloc, refused.fault),
+    }
 }
 
 /// The code of a text, and the terms of the text.
@@ -93,11 +85,8 @@ fn ran<A: Allocator + Copy>(alloc: Global, heap: A, given: &[u8]) -> Option<Vec<
 fn tested<A: Allocator + Copy>(alloc: Global, heap: A, given: &[u8]) -> Option<Vec<u8>> {
     let (code, terms) = loaded(heap, given)?;
     let (holds, executed) = run_true(heap, &code, terms.last()?).ok()?;
-    Some(
-        format!(in alloc; "{{{holds},{executed}}}")
-            .ok()?
-            .into_bytes(),
-    )
+    let out = Outcome::tuple(alloc).truth(holds);
+    out.number(executed as usize).end()
 }
 
 /// The calls of rows of refused memory.

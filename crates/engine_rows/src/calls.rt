@@ -2,12 +2,12 @@
 //!
 //! An operand is tried as the term that it is; as a plain integer or truth value, where it is one; and as the rest of a list that is
 //! all of it, where it is a list. A number says the forms of up to three operands.
-use prims::{Function, Gives, Operand, Primitive, call};
-use row_terms::{canonical, elements, fields, is_atom, number, primitive, tagged, word};
+use operand::Operand;
+use prims::{Function, Gives, Primitive, call};
+use row_terms::{Outcome, canonical, elements, fields, is_atom, number, primitive, tagged, word};
 use std::alloc::Global;
 use std::cmp::Ordering;
 use term_core::{Term, View};
-use term_text::write_term;
 
 /// In how many forms three operands are tried.
 pub(crate) const FORMS: usize = 27;
@@ -88,8 +88,9 @@ fn given(alloc: Global, function: Primitive, operands: &[Operand<'_>]) -> Option
     tagged(alloc, tag, &operand.to_term(alloc).ok()?)
 }
 
-/// What the call of a name with these terms gives.
-fn called(alloc: Global, named: &Term, terms: &[Term], forms: usize) -> Option<Vec<u8>> {
+/// What the call of a name with a list of terms gives.
+fn called(alloc: Global, named: &Term, list: &Term, forms: usize) -> Option<Vec<u8>> {
+    let terms = elements(list)?;
     match function(named, terms.len()) {
         Some(function) => {
             let operands = operands(alloc, terms, forms)?;
@@ -107,19 +108,17 @@ fn truth(function: Primitive, operands: &[Operand<'_>]) -> Option<bool> {
     }
 }
 
-/// The list of those terms of which a test holds.
-fn holding(alloc: Global, test: Primitive, terms: &[Term], form: usize) -> Option<Vec<u8>> {
-    let mut out = word(alloc, "[")?;
+/// The list of those terms of a list of which the test of a name holds.
+fn holding(alloc: Global, name: &Term, list: &Term, form: usize) -> Option<Vec<u8>> {
+    let test = primitive(name, 1)?;
+    let terms = elements(list)?;
+    let mut out = Outcome::list(alloc);
     for term in terms {
         if truth(test, &[operand(term, form)])? {
-            if out.len() > 1 {
-                out.push(b',').ok()?;
-            }
-            write_term(term, &mut out).ok()?;
+            out = out.term(term);
         }
     }
-    out.push(b']').ok()?;
-    Some(out)
+    out.end()
 }
 
 const fn order_name(order: Ordering) -> &'static str {
@@ -155,21 +154,35 @@ fn compares_at(
     Some(true)
 }
 
-/// For which orders a comparison of rising terms holds: these, if it is so.
-fn compared(
-    alloc: Global,
+/// The first place of rising terms of which a comparison with one of them doesn't hold just for these orders, if any.
+fn first_compared_otherwise(
     comparison: Primitive,
     rising: &[Term],
+    orders: &[Term],
+    forms: usize,
+) -> Option<Option<usize>> {
+    for place in 0..rising.len() {
+        if !compares_at(comparison, rising, place, orders, forms)? {
+            return Some(Some(place));
+        }
+    }
+    Some(None)
+}
+
+/// For which orders the comparison of a name holds of rising terms: these, if it is so.
+fn compared(
+    alloc: Global,
+    name: &Term,
+    rising: &Term,
     wanted: &Term,
     forms: usize,
 ) -> Option<Vec<u8>> {
-    let orders = elements(wanted)?;
-    for place in 0..rising.len() {
-        if !compares_at(comparison, rising, place, orders, forms)? {
-            return tagged(alloc, "other_orders_of", &rising[place]);
-        }
+    let comparison = primitive(name, 2)?;
+    let rising = elements(rising)?;
+    match first_compared_otherwise(comparison, rising, elements(wanted)?, forms)? {
+        Some(place) => tagged(alloc, "other_orders_of", rising.get(place)?),
+        None => canonical(alloc, wanted),
     }
-    canonical(alloc, wanted)
 }
 
 const fn gives_name(gives: Gives) -> &'static str {
@@ -198,9 +211,9 @@ pub(crate) fn came(alloc: Global, kind: &str, parts: &[Term], forms: usize) -> O
         return None;
     };
     match kind {
-        "call" => called(alloc, name, elements(given)?, forms),
-        "holding" => holding(alloc, primitive(name, 1)?, elements(given)?, forms),
-        "comparison" => compared(alloc, primitive(name, 2)?, elements(given)?, wanted, forms),
+        "call" => called(alloc, name, given, forms),
+        "holding" => holding(alloc, name, given, forms),
+        "comparison" => compared(alloc, name, given, wanted, forms),
         "gives" => kind_given(alloc, name, number(given)? as usize),
         _ => None,
     }

@@ -3,7 +3,7 @@ ghost use Rattle.std.specs.Prelude.{◌≡◌, [], ◌∷◌, pos, IfSome};
 ghost use Rattle.term_core.specs.Datum.Datum.{integer};
 ghost use Rattle.term_core.specs.MapPairs.{keys_of};
 
-use row_terms::{Calls, canonical, name, swept, text, word, written};
+use row_terms::{Calls, Outcome, canonical, name, numbered, swept, text, word, written};
 use std::alloc::{Allocator, Global};
 use term_core::{
     Fault, ListParts, Refused, Term, View, are_apart, copy_all, copy_tail, make_list, make_map,
@@ -65,8 +65,13 @@ fn list<A: Allocator + Copy>(
     }
 }
 
-fn map<A: Allocator + Copy>(heap: A, pairs: Vec<(Term<A>, Term<A>), A>) -> Option<Made<A>> {
-    match Term::map(heap, pairs) {
+fn list_with_tail<A: Allocator + Copy>(heap: A, mut elements: Vec<Term<A>, A>) -> Option<Made<A>> {
+    let tail = elements.pop();
+    list(heap, elements, tail)
+}
+
+fn map<A: Allocator + Copy>(heap: A, terms: Vec<Term<A>, A>) -> Option<Made<A>> {
+    match Term::map(heap, paired(heap, terms)?) {
         Ok(map) => Some(Ok(map)),
         Err(refused) => Some(Err(Refused {
             value: unpaired(heap, refused.value)?,
@@ -79,16 +84,13 @@ fn map<A: Allocator + Copy>(heap: A, pairs: Vec<(Term<A>, Term<A>), A>) -> Optio
 fn constructed<A: Allocator + Copy>(
     heap: A,
     constructor: &str,
-    mut terms: Vec<Term<A>, A>,
+    terms: Vec<Term<A>, A>,
 ) -> Option<Made<A>> {
     match constructor {
         "tuple" => Some(Term::tuple(heap, terms)),
         "list" => list(heap, terms, None),
-        "list_with_tail" => {
-            let tail = terms.pop();
-            list(heap, terms, tail)
-        }
-        "map" => map(heap, paired(heap, terms)?),
+        "list_with_tail" => list_with_tail(heap, terms),
+        "map" => map(heap, terms),
         _ => None,
     }
 }
@@ -112,6 +114,11 @@ fn mapped<A: Allocator + Copy>(heap: A, terms: Vec<Term<A>, A>) -> Option<Option
     make_map(heap, pairs).ok()
 }
 
+fn copied_all<A: Allocator + Copy>(heap: A, terms: &[Term<A>]) -> Option<Option<Term<A>>> {
+    let copies = copy_all(heap, terms).ok()?;
+    make_tuple(heap, copies).ok()
+}
+
 fn copied_tail<A: Allocator + Copy>(heap: A, list: &Term<A>) -> Option<Option<Term<A>>> {
     match list.view() {
         View::List(_, tail) => copy_tail(heap, tail).ok(),
@@ -119,27 +126,42 @@ fn copied_tail<A: Allocator + Copy>(heap: A, list: &Term<A>) -> Option<Option<Te
     }
 }
 
+/// What a call copies of these terms, if anything; `None` for want of memory.
+fn copied<A: Allocator + Copy>(
+    heap: A,
+    copier: &str,
+    terms: &[Term<A>],
+) -> Option<Option<Term<A>>> {
+    match copier {
+        "copy" => Some(Some(terms.first()?.copy(heap).ok()?)),
+        "copy_all" => copied_all(heap, terms),
+        "copy_tail" => copied_tail(heap, terms.first()?),
+        _ => None,
+    }
+}
+
+fn listed<A: Allocator + Copy>(heap: A, mut elements: Vec<Term<A>, A>) -> Option<Option<Term<A>>> {
+    let tail = elements.pop()?;
+    make_list(heap, elements, tail).ok()
+}
+
 /// What a call that hands nothing back makes of these terms, if anything; `None` for want of memory.
 fn made<A: Allocator + Copy>(
     heap: A,
     maker: &str,
-    mut terms: Vec<Term<A>, A>,
+    terms: Vec<Term<A>, A>,
 ) -> Option<Option<Term<A>>> {
     match maker {
-        "copy" => Some(Some(terms.first()?.copy(heap).ok()?)),
-        "copy_all" => {
-            let copies = copy_all(heap, terms.as_slice()).ok()?;
-            make_tuple(heap, copies).ok()
-        }
-        "copy_tail" => copied_tail(heap, terms.first()?),
         "make_tuple" => make_tuple(heap, terms).ok(),
-        "make_list" => {
-            let tail = terms.pop()?;
-            make_list(heap, terms, tail).ok()
-        }
+        "make_list" => listed(heap, terms),
         "make_map" => mapped(heap, terms),
-        _ => None,
+        _ => copied(heap, maker, terms.as_slice()),
     }
+}
+
+/// The text of a refusal.
+pub(crate) fn refused(alloc: Global, fault: Fault) -> Option<Vec<u8>> {
+    numbered(alloc, "refused", usize::from(fault.number()))
 }
 
 /// The text of a refusal; `None` where it is for want of memory. What was given has to come back whole.
@@ -150,8 +172,17 @@ fn refusal(alloc: Global, fault: Fault, is_whole: bool) -> Option<Vec<u8>> {
     if fault == Fault::Memory {
         return None;
     }
-    let number = fault.number();
-    Some(format!(in alloc; "{{refused,{number}}}").ok()?.into_bytes())
+    refused(alloc, fault)
+}
+
+/// The refusal of a constructor, which has to hand back the terms of a text.
+fn refused_terms<A: Allocator>(
+    alloc: Global,
+    refused: &Refused<Vec<Term<A>, A>>,
+    given: &[u8],
+) -> Option<Vec<u8>> {
+    let whole = written(alloc, refused.value.as_slice())?;
+    refusal(alloc, refused.fault, whole.as_slice() == given)
 }
 
 /// What is made of the terms of a text, or the refusal.
@@ -161,13 +192,9 @@ fn constructs<A: Allocator + Copy>(
     constructor: &str,
     given: &[u8],
 ) -> Option<Vec<u8>> {
-    let terms = read_terms(heap, given).ok()?;
-    match constructed(heap, constructor, terms)? {
+    match constructed(heap, constructor, read_terms(heap, given).ok()?)? {
         Ok(term) => canonical(alloc, &term),
-        Err(refused) => {
-            let whole = written(alloc, refused.value.as_slice())?;
-            refusal(alloc, refused.fault, whole.as_slice() == given)
-        }
+        Err(refused) => refused_terms(alloc, &refused, given),
     }
 }
 
@@ -190,15 +217,21 @@ fn atom<A: Allocator + Copy>(alloc: Global, heap: A, given: &[u8]) -> Option<Vec
     }
 }
 
+/// The refusal of characters, which have to come back.
+fn refused_characters<A: Allocator>(
+    alloc: Global,
+    refused: &Refused<Vec<char, A>>,
+    given: &str,
+) -> Option<Vec<u8>> {
+    let is_whole = refused.value.iter().copied().eq(given.chars());
+    refusal(alloc, refused.fault, is_whole)
+}
+
 fn from_characters<A: Allocator + Copy>(alloc: Global, heap: A, given: &[u8]) -> Option<Vec<u8>> {
     let given = str::from_utf8(given).ok()?;
-    let characters = given.chars().collect(heap).ok()?;
-    match Term::from_characters(heap, characters) {
+    match Term::from_characters(heap, given.chars().collect(heap).ok()?) {
         Ok(term) => canonical(alloc, &term),
-        Err(refused) => {
-            let is_whole = refused.value.iter().copied().eq(given.chars());
-            refusal(alloc, refused.fault, is_whole)
-        }
+        Err(refused) => refused_characters(alloc, &refused, given),
     }
 }
 
@@ -253,43 +286,75 @@ fn length(term: &Term) -> usize {
 
 /// The depth and the length of a term.
 pub(crate) fn size_of(alloc: Global, term: &Term) -> Option<Vec<u8>> {
-    let (depth, length) = (term.depth(), length(term));
-    Some(format!(in alloc; "{{{depth},{length}}}").ok()?.into_bytes())
+    let (depth, length) = (usize::from(term.depth()), length(term));
+    Outcome::tuple(alloc).number(depth).number(length).end()
 }
 
 /// The refusal of a constructor, how many terms came back, and how long the last of them is.
 fn sized_refusal(alloc: Global, fault: Fault, terms: &[Term]) -> Option<Vec<u8>> {
-    let (number, count, last) = (fault.number(), terms.len(), length(terms.last()?));
-    let text = format!(in alloc; "{{refused,{number},{count},{last}}}").ok()?;
-    Some(text.into_bytes())
+    let (number, last) = (usize::from(fault.number()), length(terms.last()?));
+    let out = Outcome::tuple(alloc).word("refused").number(number);
+    out.number(terms.len()).number(last).end()
 }
 
-/// The size of what a call makes of the terms of a text.
-fn sized(alloc: Global, call: &str, given: &[u8]) -> Option<Vec<u8>> {
-    let terms = read_terms(alloc, given).ok()?;
-    if call.starts_with("make_") || call == "copy" {
-        return match made(alloc, call, terms)? {
-            Some(term) => size_of(alloc, &term),
-            None => word(alloc, "none"),
-        };
+/// The size of what a call that hands nothing back makes of these terms.
+fn made_size(alloc: Global, call: &str, terms: Vec<Term>) -> Option<Vec<u8>> {
+    match made(alloc, call, terms)? {
+        Some(term) => size_of(alloc, &term),
+        None => word(alloc, "none"),
     }
+}
+
+/// The size of what a constructor makes of these terms.
+fn constructed_size(alloc: Global, call: &str, terms: Vec<Term>) -> Option<Vec<u8>> {
     match constructed(alloc, call, terms)? {
         Ok(term) => size_of(alloc, &term),
         Err(refused) => sized_refusal(alloc, refused.fault, refused.value.as_slice()),
     }
 }
 
-/// The size of the atom or binary of so many characters or bytes, or the refusal and how many came back.
-fn sized_leaf(alloc: Global, call: &str, given: &[u8]) -> Option<Vec<u8>> {
-    if call == "atom" {
-        return match Term::atom(alloc, str::from_utf8(given).ok()?) {
-            Ok(term) => size_of(alloc, &term),
-            Err(fault) => refusal(alloc, fault, true),
-        };
+/// The size of what a call makes of the terms of a text.
+fn sized(alloc: Global, call: &str, given: &[u8]) -> Option<Vec<u8>> {
+    let terms = read_terms(alloc, given).ok()?;
+    if call.starts_with("make_") || call == "copy" {
+        made_size(alloc, call, terms)
+    } else {
+        constructed_size(alloc, call, terms)
     }
+}
+
+/// The size of the atom of these characters, or the refusal.
+fn sized_atom(alloc: Global, given: &[u8]) -> Option<Vec<u8>> {
+    match Term::atom(alloc, str::from_utf8(given).ok()?) {
+        Ok(term) => size_of(alloc, &term),
+        Err(fault) => refusal(alloc, fault, true),
+    }
+}
+
+/// The size of the binary of these bytes, or the refusal.
+fn sized_binary(alloc: Global, given: &[u8]) -> Option<Vec<u8>> {
     match Term::binary(alloc, Vec::from_slice(alloc, given).ok()?) {
         Ok(term) => size_of(alloc, &term),
         Err(refused) => refusal(alloc, refused.fault, refused.value.as_slice() == given),
+    }
+}
+
+/// The size of the atom or binary of so many characters or bytes, or the refusal and how many came back.
+fn sized_leaf(alloc: Global, call: &str, given: &[u8]) -> Option<Vec<u8>> {
+    if call == "atom" {
+        sized_atom(alloc, given)
+    } else {
+        sized_binary(alloc, given)
+    }
+}
+
+/// What comes of a call on a text.
+fn outcome(alloc: Global, kind: &str, call: &str, given: &[u8]) -> Option<Vec<u8>> {
+    match kind {
+        "made" => swept::<TermCalls>(alloc, call, given),
+        "sized" => sized(alloc, call, given),
+        "sized_leaf" => sized_leaf(alloc, call, given),
+        _ => None,
     }
 }
 
@@ -299,10 +364,5 @@ pub(crate) fn came(alloc: Global, kind: &str, parts: &[Term]) -> Option<Vec<u8>>
         return None;
     };
     let (call, given) = (name(alloc, call)?, text(alloc, given)?);
-    match kind {
-        "made" => swept::<TermCalls>(alloc, call.as_str(), given.as_slice()),
-        "sized" => sized(alloc, call.as_str(), given.as_slice()),
-        "sized_leaf" => sized_leaf(alloc, call.as_str(), given.as_slice()),
-        _ => None,
-    }
+    outcome(alloc, kind, call.as_str(), given.as_slice())
 }

@@ -1,11 +1,12 @@
 //! Operands: the term that each is, its values, a list taken apart, the limits of a rest.
 use crate::calls::operand;
-use crate::constructors::size_of;
-use prims::{Comparison, Function, Operand, Primitive, call};
-use row_terms::{canonical, elements, text, word};
+use crate::constructors::{refused, size_of};
+use operand::Operand;
+use prims::{Comparison, Function, Primitive, call};
+use row_terms::{Outcome, canonical, elements, text, word};
 use std::alloc::Global;
 use term_core::{Term, copy_tail};
-use term_text::{read_terms, write_term};
+use term_text::read_terms;
 
 /// Whether an operand is exactly equal to a term.
 fn is_equal(term: &Term, operand: Operand<'_>) -> bool {
@@ -16,35 +17,28 @@ fn is_equal(term: &Term, operand: Operand<'_>) -> bool {
     )
 }
 
-/// Appends the list of those terms to which an operand is exactly equal.
-fn write_equals(out: &mut Vec<u8>, operand: Operand<'_>, terms: &[Term]) -> Option<()> {
-    out.push(b'[').ok()?;
-    let mut is_first = true;
+/// Puts the list of those terms at the end to which an operand is exactly equal.
+fn with_equals(out: Outcome, operand: Operand<'_>, terms: &[Term]) -> Outcome {
+    let mut out = out.open_list();
     for term in terms {
         if is_equal(term, operand) {
-            if !is_first {
-                out.push(b',').ok()?;
-            }
-            is_first = false;
-            write_term(term, out).ok()?;
+            out = out.term(term);
         }
     }
-    out.push(b']').ok()
+    out.close_list()
 }
 
-/// Appends the term that an operand is, and the lists of those terms to which it and its copy are exactly equal.
-fn write_operand(
+/// Puts the term that an operand is at the end, and the lists of those terms to which it and its copy are exactly equal.
+fn with_operand(
     alloc: Global,
-    out: &mut Vec<u8>,
+    out: Outcome,
     operand: Operand<'_>,
-    terms: &[Term],
-) -> Option<()> {
+    terms: &Term,
+) -> Option<Vec<u8>> {
+    let terms = elements(terms)?;
     let copy = operand.to_term(alloc).ok()?;
-    write_term(&copy, out).ok()?;
-    out.push(b',').ok()?;
-    write_equals(out, operand, terms)?;
-    out.push(b',').ok()?;
-    write_equals(out, Operand::Term(&copy), terms)
+    let out = with_equals(out.term(&copy), operand, terms);
+    with_equals(out, Operand::Term(&copy), terms).end()
 }
 
 /// A copy of the only element of a list of one tail or none.
@@ -65,10 +59,7 @@ fn list(alloc: Global, listed: &Term, tails: &Term) -> Option<Term> {
 /// The term that the rest of these elements and of one tail or none is, and the terms that are equal to it.
 fn rest(alloc: Global, listed: &Term, tails: &Term, terms: &Term) -> Option<Vec<u8>> {
     let list = list(alloc, listed, tails)?;
-    let mut out = word(alloc, "{")?;
-    write_operand(alloc, &mut out, Operand::Rest(&list, 1), elements(terms)?)?;
-    out.push(b'}').ok()?;
-    Some(out)
+    with_operand(alloc, Outcome::tuple(alloc), Operand::Rest(&list, 1), terms)
 }
 
 /// The first element of a list, what follows it, and the terms that are equal to that.
@@ -76,36 +67,39 @@ fn split(alloc: Global, list: &Term, terms: &Term) -> Option<Vec<u8>> {
     let Some((first, follows)) = Operand::Term(list).split() else {
         return word(alloc, "none");
     };
-    let mut out = word(alloc, "{")?;
-    write_term(first, &mut out).ok()?;
-    out.push(b',').ok()?;
-    write_operand(alloc, &mut out, follows, elements(terms)?)?;
-    out.push(b'}').ok()?;
-    Some(out)
+    with_operand(alloc, Outcome::tuple(alloc).term(first), follows, terms)
 }
 
-/// The text of a truth value.
-pub(crate) const fn truth_name(value: Option<bool>) -> &'static str {
-    match value {
-        Some(true) => "true",
-        Some(false) => "false",
-        None => "none",
+/// Puts a truth value at the end, or none.
+fn with_truth(out: Outcome, truth: Option<bool>) -> Outcome {
+    match truth {
+        Some(value) => out.truth(value),
+        None => out.word("none"),
     }
 }
 
-/// The text of a number.
-pub(crate) fn number_text(alloc: Global, value: Option<i64>) -> Option<String> {
-    match value {
-        Some(value) => value.to_string(alloc).ok(),
-        None => String::from_str(alloc, "none").ok(),
+/// Puts a number at the end, or none.
+fn with_number(out: Outcome, number: Option<i64>) -> Outcome {
+    match number {
+        Some(value) => out.term::<Global>(&Term::int(value)),
+        None => out.word("none"),
     }
+}
+
+/// Puts a truth value and a number at the end, or none of each.
+pub(crate) fn with_values(out: Outcome, truth: Option<bool>, number: Option<i64>) -> Outcome {
+    with_number(with_truth(out, truth), number)
 }
 
 /// The truth value and the number that an operand is.
 fn values(alloc: Global, operand: Operand<'_>) -> Option<Vec<u8>> {
-    let truth = truth_name(operand.boolean());
-    let number = number_text(alloc, operand.integer())?;
-    Some(format!(in alloc; "{{{truth},{number}}}").ok()?.into_bytes())
+    let out = Outcome::tuple(alloc);
+    with_values(out, operand.boolean(), operand.integer()).end()
+}
+
+/// The size of what is left behind the first element of a list.
+fn size_behind_first(alloc: Global, list: &Term) -> Option<Vec<u8>> {
+    size_of(alloc, &Operand::Rest(list, 1).to_term(alloc).ok()?)
 }
 
 /// The size of what is left behind the first element of the list of a text's terms and of one tail or none, or the
@@ -113,11 +107,8 @@ fn values(alloc: Global, operand: Operand<'_>) -> Option<Vec<u8>> {
 fn rest_size(alloc: Global, listed: &Term, tails: &Term) -> Option<Vec<u8>> {
     let terms = read_terms(alloc, text(alloc, listed)?.as_slice()).ok()?;
     match Term::list(alloc, terms, tail(alloc, tails)?) {
-        Ok(list) => size_of(alloc, &Operand::Rest(&list, 1).to_term(alloc).ok()?),
-        Err(refused) => {
-            let number = refused.fault.number();
-            Some(format!(in alloc; "{{refused,{number}}}").ok()?.into_bytes())
-        }
+        Ok(list) => size_behind_first(alloc, &list),
+        Err(refusal) => refused(alloc, refusal.fault),
     }
 }
 

@@ -1,5 +1,5 @@
 //! Texts read and written, the order of terms, their hashes.
-use row_terms::{text, word, written};
+use row_terms::{Outcome, digits, text, word, written};
 use std::alloc::Global;
 use std::cmp::Ordering;
 use term_core::Term;
@@ -8,8 +8,8 @@ use term_text::{TextFault, read_terms};
 
 /// The number and the byte of a fault.
 fn fault_text(alloc: Global, fault: TextFault) -> Option<Vec<u8>> {
-    let (number, at) = (fault.number(), fault.at()?);
-    Some(format!(in alloc; "{{{number},{at}}}").ok()?.into_bytes())
+    let (number, at) = (usize::from(fault.number()), fault.at()?);
+    Outcome::tuple(alloc).number(number).number(at).end()
 }
 
 /// The canonical texts of the terms that a text spells, or its fault.
@@ -34,7 +34,7 @@ fn order(alloc: Global, left: &Term, right: &Term) -> Option<Vec<u8>> {
 
 /// The decimal digits of a term's hash.
 fn hash(alloc: Global, term: &Term) -> Option<Vec<u8>> {
-    Some(key_hash(term).to_string(alloc).ok()?.into_bytes())
+    digits(alloc, key_hash(term))
 }
 
 /// What comes of a row of texts, orders or hashes.

@@ -1,8 +1,8 @@
 //! Functions: operands and values that are copied, and what takes no memory.
 use failing_alloc::Failing;
+use operand::{Operand, Value};
 use prims::{
-    BooleanFunction, Comparison, Extreme, Function, Operand, Primitive, TupleFunction, Value, call,
-    call_values,
+    BooleanFunction, Comparison, Extreme, Function, Primitive, TupleFunction, call, call_values,
 };
 use row_terms::is_atom;
 use std::alloc::{Allocator, Global};
@@ -86,21 +86,27 @@ fn term<A: Allocator + Copy>(heap: A, text: &[u8]) -> Option<Term<A>> {
 }
 
 /// The number one, and the only term of a text as a value that was made.
-fn one_and_made<'a, A: Allocator + Copy>(heap: A, text: &[u8]) -> Option<Vec<Value<'a, A>, A>> {
-    let mut values = Vec::new(heap);
-    values.push(Value::Borrowed(Operand::Int(1))).ok()?;
-    values.push(Value::Made(term(heap, text)?)).ok()?;
+fn one_and_made<'a, 'h, A: Allocator + Copy>(
+    heap: &'h A,
+    text: &[u8],
+) -> Option<Vec<Value<'a, 'h, A>, A>> {
+    let mut values = Vec::new(*heap);
+    values.push(Value::Int(1)).ok()?;
+    values
+        .push(Value::made(heap, term(*heap, text)?).ok()?)
+        .ok()?;
     Some(values)
 }
 
 /// Whether a copy of a value is the atom `a`, none where memory is refused.
-fn is_copied_a<A: Allocator + Copy>(heap: A, value: &Value<'_, A>) -> Option<bool> {
-    let term = value.copy(heap).ok()?.into_term(heap).ok()?;
+fn is_copied_a<'h, A: Allocator + Copy>(heap: &'h A, value: &Value<'_, 'h, A>) -> Option<bool> {
+    let term = value.copy(heap).ok()?.into_term(*heap).ok()?;
     Some(is_atom(&term, "a"))
 }
 
 /// Whether a copy of the first element of a tuple that was made is right, none where memory is refused.
 pub(super) fn is_element_copied<A: Allocator + Copy>(heap: A) -> Option<bool> {
+    let heap = &heap;
     let values = one_and_made(heap, b"{a}.")?;
     let element = Primitive::Function(Function::Tuple(TupleFunction::Element));
     match call_values(heap, element, values.as_slice()).ok()? {
@@ -110,10 +116,13 @@ pub(super) fn is_element_copied<A: Allocator + Copy>(heap: A) -> Option<bool> {
 }
 
 /// So many times the borrowed value `true`.
-fn trues<'a, A: Allocator + Copy>(heap: A, count: usize) -> Option<Vec<Value<'a, A>, A>> {
-    let mut values = Vec::new(heap);
+fn trues<'a, 'h, A: Allocator + Copy>(
+    heap: &'h A,
+    count: usize,
+) -> Option<Vec<Value<'a, 'h, A>, A>> {
+    let mut values = Vec::new(*heap);
     for _ in 0..count {
-        values.push(Value::Borrowed(Operand::Bool(true))).ok()?;
+        values.push(Value::Bool(true)).ok()?;
     }
     Some(values)
 }
@@ -121,17 +130,20 @@ fn trues<'a, A: Allocator + Copy>(heap: A, count: usize) -> Option<Vec<Value<'a,
 /// How many requests of memory it takes to make so many.
 fn requests(heap: Global, count: usize) -> Option<u64> {
     let counting = Failing::counting(heap);
-    let _values = trues(&counting, count)?;
+    let heap = &counting;
+    let _values = trues(&heap, count)?;
     Some(counting.requests())
 }
 
 /// What `and` gives of so many times `true`, none where it is refused memory, as each request of the call is.
 fn and_without_memory(heap: Global, count: usize) -> Option<Option<bool>> {
     let failing = Failing::refusing_from(heap, requests(heap, count)?.saturating_add(1));
-    let values = trues(&failing, count)?;
+    let heap = &failing;
+    let refusing = &heap;
+    let values = trues(refusing, count)?;
     let and = Primitive::Function(Function::Boolean(BooleanFunction::And));
-    match call_values(&failing, and, values.as_slice()) {
-        Ok(Some(value)) => Some(value.into_boolean()),
+    match call_values(refusing, and, values.as_slice()) {
+        Ok(Some(value)) => Some(value.boolean()),
         Ok(None) => None,
         Err(_) => Some(None),
     }

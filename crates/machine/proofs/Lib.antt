@@ -11,3 +11,4 @@ pub mod JumpLemmas
 pub mod LeadLemmas
 pub mod MemoryLemmas
 pub mod TableLemmas
+pub mod AskLemmas

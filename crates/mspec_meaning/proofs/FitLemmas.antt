@@ -1,7 +1,10 @@
 -- What fits a pattern, and claims on substitutions taken together.
 use Rattle.std.proofs.Common.{◌≡◌, ℕ, suc, ◌+◌, ◌<◌, ◌≤◌, Bool, true, false, MatchBool, Option, Some, None, List, [], ◌∷◌, length, get_or, drop, refl, sym, ◌∙◌, ap, subst, arith, drop-cons, add-one}
 use Rattle.std.proofs.lemmas.List.{drop_all}
-use Rattle.term_core.specs.Datum.{Datum, Items, Entries, items_of, entries_of, cells, cell_count}
+use Rattle.std.specs.Ordering.{eq_by_cmp, is_eq}
+use Rattle.term_core.specs.Order.{datum_cmp}
+use Rattle.term_core.specs.OrderLaws.{datum_cmp-same, datum_eq-same}
+use Rattle.term_core.specs.Datum.{Datum, Items, Entries, items_of, entries_of}
 use Rattle.term_core.specs.Datum.Datum.{integer, atom, tuple, nil, cons, binary, map as table}
 use Rattle.term_core.specs.Datum.Items.{no_items, item}
 use Rattle.mspec_syntax.specs.Pattern.{Pattern, Patterns, Fields, patterns_of, fields_of, cells_of}
@@ -10,7 +13,13 @@ use Rattle.mspec_syntax.specs.Pattern.Patterns.{no_patterns, pattern}
 use Rattle.mspec_syntax.specs.Pattern.Fields.{no_fields, field}
 use Rattle.prims.specs.Maps.{value_at}
 use Rattle.mspec_meaning.specs.Match.{Fits, AllFit, FieldsFit}
-use Rattle.mspec_meaning.specs.Slots.{assigned, Extends, IsOver, Binds, NeverHolds, Answers}
+use Rattle.operand.specs.Operand.{IsNoCell}
+use Rattle.mspec_meaning.specs.Slots.{assigned, Extends, IsOver, Binds, NeverHolds, Answers, LeadsOn, BindsFront, NeverFitsFront}
+
+-- a test of equality
+pub eq-says : (r : Bool) (a b : Datum) → r ≡ eq_by_cmp datum_cmp a b → MatchBool r (a ≡ b) (a ≡ b → ⊥)
+eq-says true a b e = datum_eq-same a b (sym e)
+eq-says false a b e = λ same. absurd (let equal = ap is_eq (datum_cmp-same same) in let r = e ∙ equal in cc)
 
 mutual
   -- more values do no harm
@@ -188,29 +197,55 @@ FieldsFront-all vs first now fs es i end front =
     let P : List (Datum × Pattern) → Type 0 = λ xs. Binds vs now now (λ s. FieldsFit (fields_of xs) s (entries_of es)) in
     front.done now (subst P (sym left) (Binds-nothing vs now (λ s. Unit {0}) (λ s. tt)))
 
--- a list fits where its front and what is left do
-pub cells-to : (ps : List Pattern) (q : Pattern) (s : ℕ → Option Datum) (ds : List Datum) (t : Datum) → length ds ≡ length ps → Fits (cells_of ps q) s (cells ds t) → AllFit (patterns_of ps) s (items_of ds) × Fits q s t
-cells-to [] q s [] t e h = (tt, h)
-cells-to [] q s (d ∷ ds) t e h = absurd (omega arith)
-cells-to (p ∷ ps) q s [] t e h = absurd (omega arith)
-cells-to (p ∷ ps) q s (d ∷ ds) t e h = let rest = cells-to ps q s ds t (omega arith) h.1 in ((h.0, rest.0), rest.1)
+-- what is left of a list's first elements leads on by one more
+pub cells-more : (vs : List ℕ) (first now next : List (Option Datum)) (ps : List Pattern) (whole : Datum) (i : ℕ) (p : Pattern) (head tail rest : Datum) → i < length ps → p ≡ get_or ps i p → cons head tail ≡ rest → Binds vs now next (λ s. Fits p s head) → LeadsOn vs first now ps whole (drop i ps) rest → LeadsOn vs first next ps whole (drop (i + 1) ps) tail
+cells-more vs first now next ps whole i p head tail rest h e is bound leads = λ q answer last claim.
+    let left : drop i ps ≡ p ∷ drop (i + 1) ps = split_at ps i p h e in
+    let both = Answers-then answer vs now next last (λ s. Fits p s head) (λ s. Fits (cells_of (drop (i + 1) ps) q) s tail) (λ s r x y. Fits-more p s r head x y) bound claim in
+    let P : Datum → Type 0 = λ d. Answers answer vs now last (λ s. Fits (cells_of (p ∷ drop (i + 1) ps) q) s d) in
+    let Q : List Pattern → Type 0 = λ xs. Answers answer vs now last (λ s. Fits (cells_of xs q) s rest) in
+    leads q answer last (subst Q (sym left) (subst P is both))
 
-pub cells-from : (ps : List Pattern) (q : Pattern) (s : ℕ → Option Datum) (ds : List Datum) (t : Datum) → length ds ≡ length ps → AllFit (patterns_of ps) s (items_of ds) × Fits q s t → Fits (cells_of ps q) s (cells ds t)
-cells-from [] q s [] t e h = h.1
-cells-from [] q s (d ∷ ds) t e h = absurd (omega arith)
-cells-from (p ∷ ps) q s [] t e h = absurd (omega arith)
-cells-from (p ∷ ps) q s (d ∷ ds) t e h = (h.0.0, cells-from ps q s ds t (omega arith) (h.0.1, h.1))
+-- an element that fits under no values
+pub cells-never : (vs : List ℕ) (first now : List (Option Datum)) (ps : List Pattern) (whole : Datum) (i : ℕ) (p : Pattern) (head tail rest : Datum) → i < length ps → p ≡ get_or ps i p → cons head tail ≡ rest → NeverHolds vs now (λ s. Fits p s head) → LeadsOn vs first now ps whole (drop i ps) rest → NeverFitsFront vs first ps whole
+cells-never vs first now ps whole i p head tail rest h e is never leads = λ q.
+    let left : drop i ps ≡ p ∷ drop (i + 1) ps = split_at ps i p h e in
+    let both = Never-first vs now (λ s. Fits p s head) (λ s. Fits (cells_of (drop (i + 1) ps) q) s tail) never in
+    let P : Datum → Type 0 = λ d. NeverHolds vs now (λ s. Fits (cells_of (p ∷ drop (i + 1) ps) q) s d) in
+    let Q : List Pattern → Type 0 = λ xs. NeverHolds vs now (λ s. Fits (cells_of xs q) s rest) in
+    leads q false [] (subst Q (sym left) (subst P is both))
 
--- a list with too few elements fits under no values
-pub short-never : (ps : List Pattern) (q : Pattern) (s : ℕ → Option Datum) (d : Datum) → cell_count d < length ps → Fits (cells_of ps q) s d → ⊥
-short-never [] q s d h fits = absurd (omega arith)
-short-never (p ∷ ps) q s (cons head tail) h fits = short-never ps q s tail (omega arith) fits.1
-short-never (p ∷ ps) q s (integer z) h fits = fits
-short-never (p ∷ ps) q s (atom cs) h fits = fits
-short-never (p ∷ ps) q s (tuple ds) h fits = fits
-short-never (p ∷ ps) q s (table es) h fits = fits
-short-never (p ∷ ps) q s nil h fits = fits
-short-never (p ∷ ps) q s (binary bs) h fits = fits
+no_cell-never : (p q : Pattern) (s : ℕ → Option Datum) (d : Datum) → IsNoCell d → Fits (cell_of p q) s d → ⊥
+no_cell-never p q s (cons head tail) none fits = none
+no_cell-never p q s (integer z) none fits = fits
+no_cell-never p q s (atom cs) none fits = fits
+no_cell-never p q s (tuple ds) none fits = fits
+no_cell-never p q s (table es) none fits = fits
+no_cell-never p q s nil none fits = fits
+no_cell-never p q s (binary bs) none fits = fits
+
+-- an element that isn't there
+pub cells-short : (vs : List ℕ) (first now : List (Option Datum)) (ps : List Pattern) (whole : Datum) (i : ℕ) (p : Pattern) (rest : Datum) → i < length ps → p ≡ get_or ps i p → IsNoCell rest → LeadsOn vs first now ps whole (drop i ps) rest → NeverFitsFront vs first ps whole
+cells-short vs first now ps whole i p rest h e none leads = λ q.
+    let left : drop i ps ≡ p ∷ drop (i + 1) ps = split_at ps i p h e in
+    let Q : List Pattern → Type 0 = λ xs. NeverHolds vs now (λ s. Fits (cells_of xs q) s rest) in
+    leads q false [] (subst Q (sym left) (λ s over extends claim. no_cell-never p (cells_of (drop (i + 1) ps) q) s rest none claim))
+
+pub cells-all : (vs : List ℕ) (first now : List (Option Datum)) (ps : List Pattern) (whole : Datum) (i : ℕ) (rest : Datum) → length ps ≤ i → LeadsOn vs first now ps whole (drop i ps) rest → BindsFront vs first now ps whole rest
+cells-all vs first now ps whole i rest end leads =
+    let P : List Pattern → Type 0 = λ xs. LeadsOn vs first now ps whole xs rest in
+    subst P (drop_all i ps end) leads
+
+-- a list fits where its first elements and what is left do
+pub list-Answers : (answer : Bool) (vs : List ℕ) (a b c : List (Option Datum)) (xs ps : List Pattern) (q p : Pattern) (t rest : Datum) → xs ≡ ps → cells_of ps q ≡ p → BindsFront vs a b xs t rest → Answers answer vs b c (λ s. Fits q s rest) → Answers answer vs a c (λ s. Fits p s t)
+list-Answers answer vs a b c xs ps q p t rest same is bound h =
+    let P : Pattern → Type 0 = λ x. Answers answer vs a c (λ s. Fits x s t) in
+    subst P (ap (λ l. cells_of l q) same ∙ is) (bound q answer c h)
+
+pub list-never : (vs : List ℕ) (a : List (Option Datum)) (xs ps : List Pattern) (q p : Pattern) (t : Datum) → xs ≡ ps → cells_of ps q ≡ p → NeverFitsFront vs a xs t → NeverHolds vs a (λ s. Fits p s t)
+list-never vs a xs ps q p t same is never =
+    let P : Pattern → Type 0 = λ x. NeverHolds vs a (λ s. Fits x s t) in
+    subst P (ap (λ l. cells_of l q) same ∙ is) (never q)
 
 pub variable-Answers : (r : Bool) (vs : List ℕ) (a b : List (Option Datum)) (n : ℕ) (p : Pattern) (t : Datum) → variable n ≡ p → Answers r vs a b (λ s. s n ≡ Some t) → Answers r vs a b (λ s. Fits p s t)
 variable-Answers r vs a b n p t is h = let P : Pattern → Type 0 = λ x. Answers r vs a b (λ s. Fits x s t) in subst P is h
@@ -228,45 +263,3 @@ map-Answers r vs a b xs fs es p t same is it h =
     let Q : Pattern → Type 0 = λ x. Answers r vs a b (λ s. Fits x s (table (entries_of es))) in
     let R : Datum → Type 0 = λ d. Answers r vs a b (λ s. Fits p s d) in
     subst R it (subst Q is (subst P same h))
-
--- a list's front, in the words of the program
-pub record ListFront (xs : List Pattern) (q : Pattern) (front : List Datum) (rest : Datum) (p : Pattern) (t : Datum) : Type 0 where
-  pub pattern : cells_of xs q ≡ p
-  pub count : length front ≡ length xs
-  pub term : cells front rest ≡ t
-
-ListFront-to : (xs : List Pattern) (q : Pattern) (front : List Datum) (rest : Datum) (p : Pattern) (t : Datum) (s : ℕ → Option Datum) → ListFront xs q front rest p t → Fits p s t → AllFit (patterns_of xs) s (items_of front) × Fits q s rest
-ListFront-to xs q front rest p t s l h =
-    let P : Pattern → Type 0 = λ x. Fits x s t in
-    let Q : Datum → Type 0 = λ d. Fits (cells_of xs q) s d in
-    cells-to xs q s front rest l.count (subst Q (sym l.term) (subst P (sym l.pattern) h))
-
-ListFront-from : (xs : List Pattern) (q : Pattern) (front : List Datum) (rest : Datum) (p : Pattern) (t : Datum) (s : ℕ → Option Datum) → ListFront xs q front rest p t → AllFit (patterns_of xs) s (items_of front) × Fits q s rest → Fits p s t
-ListFront-from xs q front rest p t s l h =
-    let P : Pattern → Type 0 = λ x. Fits x s t in
-    let Q : Datum → Type 0 = λ d. Fits (cells_of xs q) s d in
-    subst P l.pattern (subst Q l.term (cells-from xs q s front rest l.count h))
-
-pub list-never : (vs : List ℕ) (a : List (Option Datum)) (xs : List Pattern) (q : Pattern) (front : List Datum) (rest : Datum) (p : Pattern) (t : Datum) → ListFront xs q front rest p t → NeverHolds vs a (λ s. AllFit (patterns_of xs) s (items_of front)) → NeverHolds vs a (λ s. Fits p s t)
-list-never vs a xs q front rest p t l never = λ s over extends claim. never s over extends (ListFront-to xs q front rest p t s l claim).0
-
-pub list-Answers : (r : Bool) (vs : List ℕ) (a b c : List (Option Datum)) (xs : List Pattern) (q : Pattern) (front : List Datum) (rest : Datum) (p : Pattern) (t : Datum) → ListFront xs q front rest p t → Binds vs a b (λ s. AllFit (patterns_of xs) s (items_of front)) → Answers r vs b c (λ s. Fits q s rest) → Answers r vs a c (λ s. Fits p s t)
-list-Answers r vs a b c xs q front rest p t l bound h =
-    Answers-same r vs a c (λ s. AllFit (patterns_of xs) s (items_of front) × Fits q s rest) (λ s. Fits p s t)
-    (λ s k. ListFront-from xs q front rest p t s l k) (λ s k. ListFront-to xs q front rest p t s l k)
-    (Answers-then r vs a b c (λ s. AllFit (patterns_of xs) s (items_of front)) (λ s. Fits q s rest) (λ s u x y. AllFit-more (patterns_of xs) s u (items_of front) x y) bound h)
-
-pub list-short : (vs : List ℕ) (a : List (Option Datum)) (xs ps : List Pattern) (q p : Pattern) (t : Datum) → xs ≡ ps → cells_of ps q ≡ p → cell_count t < length xs → NeverHolds vs a (λ s. Fits p s t)
-list-short vs a xs ps q p t same is less = λ s over extends claim.
-    let P : Pattern → Type 0 = λ x. Fits x s t in
-    short-never ps q s t (omega (arith, ap length same)) (subst P (sym is) claim)
-
-pub front-ListFront : (xs ps : List Pattern) (q : Pattern) (front : List Datum) (rest : Datum) (p : Pattern) (t : Datum) → xs ≡ ps → cells_of ps q ≡ p → length front ≡ length xs → cells front rest ≡ t → ListFront xs q front rest p t
-front-ListFront xs ps q front rest p t same is count term = record { pattern = ap (λ l. cells_of l q) same ∙ is; count = count; term = term }
-
-cells-long : (ds : List Datum) (t : Datum) → length ds ≤ cell_count (cells ds t)
-cells-long [] t = omega arith
-cells-long (d ∷ ds) t = omega (arith, cells-long ds t)
-
-pub front-count : (front : List Datum) (rest t : Datum) (n : ℕ) → length front ≡ n → cells front rest ≡ t → n ≤ cell_count t
-front-count front rest t n count term = omega (arith, cells-long front rest, ap cell_count term)

@@ -1,17 +1,15 @@
 -- Conditions one by one, and clauses one by one.
-use Rattle.std.proofs.Common.{◌≡◌, ℕ, suc, ◌+◌, ◌-◌, ◌<◌, slice_get, map, ◌≤◌, inl, inr, Option, Some, None, List, [], ◌∷◌, ◌++◌, length, get_or, drop, refl, sym, ◌∙◌, ap, subst, arith, drop-cons, add-one}
+use Rattle.std.proofs.Common.{◌≡◌, ℕ, suc, ◌+◌, ◌-◌, ◌<◌, slice_get, map, ◌≤◌, inl, inr, Option, Some, None, List, [], ◌∷◌, ◌++◌, length, get_or, drop, refl, sym, ◌∙◌, ap, subst, arith}
 use Rattle.std.proofs.lemmas.List.{drop_all}
 use Rattle.term_core.specs.Datum.{Datum}
 use Rattle.mspec_syntax.specs.Expression.{Expression}
-use Rattle.mspec_syntax.specs.Specification.{Clause, Specification, clause_variables}
+use Rattle.mspec_syntax.specs.Specification.{Clause, Specification}
 use Rattle.mspec_meaning.specs.Match.{Substitution, Matches}
-use Rattle.mspec_meaning.specs.Slots.{AreFree, NeverMatches, substitution_of}
+use Rattle.mspec_meaning.specs.Slots.{AreFree, NeverMatches}
 use Rattle.mspec_meaning.proofs.MatchLemmas.{one-match}
+use Rattle.mspec_meaning.proofs.ValueLemmas.{split_at}
 use Rattle.mspec_meaning.specs.Meaning.{value_of, true_term, AllHold, Means, IsApplicable, Applies, body_value}
 use Rattle.mspec_meaning.specs.declared.value.Mode.TheVariants.{Condition, Body}
-
-split_at : {X : Type 0} (xs : List X) (i : ℕ) (x : X) → i < length xs → x ≡ get_or xs i x → drop i xs ≡ x ∷ drop (i + 1) xs
-split_at xs i x h e = drop-cons xs i x h ∙ ap (λ y. y ∷ drop (suc i) xs) (sym e) ∙ ap (λ j. x ∷ drop j xs) (sym (add-one i))
 
 -- the conditions that are left decide for all
 pub record HoldFront (es : List Expression) (i : ℕ) (s : Substitution) (o : Datum) : Type 0 where
@@ -78,20 +76,20 @@ AreFree-push f [] x e h = (e, tt)
 AreFree-push f (y ∷ xs) x e h = (h.0, AreFree-push f xs x e h.1)
 
 -- a clause applies by what its slots hold, or by nothing
-pub clause-applies : (c : Clause) (o : Datum) (vs : List ℕ) (xs ys : List (Option Datum)) (es : List Expression) → vs ≡ clause_variables c → ys ≡ xs → es ≡ c.conditions → Matches c.head (substitution_of (clause_variables c) xs) o → AllHold es (substitution_of vs ys) o → Applies c (substitution_of vs ys) o
-clause-applies c o vs xs ys es names slots conditions match hold =
-    let P : Substitution → Type 0 = λ s. Matches c.head s o in
-    let Q : List Expression → Type 0 = λ l. AllHold l (substitution_of vs ys) o in
-    let same = ap (λ l. substitution_of l ys) names ∙ ap (λ l. substitution_of (clause_variables c) l) slots in
-    record { head = subst P (sym same) match; conditions = subst Q conditions hold }
+pub clause-applies : (c : Clause) (s t : Substitution) (o p : Datum) (es : List Expression) → t ≡ s → p ≡ o → es ≡ c.conditions → Matches c.head s o → AllHold es t p → Applies c s o
+clause-applies c s t o p es bound object conditions match hold =
+    let P : Substitution → Type 0 = λ r. AllHold es r p in
+    let Q : Datum → Type 0 = λ d. AllHold es s d in
+    let R : List Expression → Type 0 = λ l. AllHold l s o in
+    record { head = match; conditions = subst R conditions (subst Q object (subst P bound hold)) }
 
-pub clause-fails : (c : Clause) (o : Datum) (vs : List ℕ) (xs ys : List (Option Datum)) (es : List Expression) → vs ≡ clause_variables c → ys ≡ xs → es ≡ c.conditions → Matches c.head (substitution_of (clause_variables c) xs) o → (AllHold es (substitution_of vs ys) o → ⊥) → ¬ IsApplicable c o
-clause-fails c o vs xs ys es names slots conditions match fails = λ a.
-    let same = ap (λ l. substitution_of l ys) names ∙ ap (λ l. substitution_of (clause_variables c) l) slots in
-    let one = one-match c.head o a.substitution (substitution_of (clause_variables c) xs) a.applies.head match in
-    let P : Substitution → Type 0 = λ s. AllHold c.conditions s o in
-    let Q : List Expression → Type 0 = λ l. AllHold l (substitution_of vs ys) o in
-    fails (subst Q (sym conditions) (subst P (one ∙ sym same) a.applies.conditions))
+pub clause-fails : (c : Clause) (s t : Substitution) (o p : Datum) (es : List Expression) → t ≡ s → p ≡ o → es ≡ c.conditions → Matches c.head s o → (AllHold es t p → ⊥) → ¬ IsApplicable c o
+clause-fails c s t o p es bound object conditions match fails = λ a.
+    let one : a.substitution ≡ s = one-match c.head o a.substitution s a.applies.head match in
+    let P : Substitution → Type 0 = λ r. AllHold c.conditions r o in
+    let Q : Datum → Type 0 = λ d. AllHold c.conditions t d in
+    let R : List Expression → Type 0 = λ l. AllHold l t p in
+    fails (subst R (sym conditions) (subst Q (sym object) (subst P (one ∙ sym bound) a.applies.conditions)))
 
 pub clause-unmatched : (c : Clause) (o : Datum) → NeverMatches c.head o → ¬ IsApplicable c o
 clause-unmatched c o never = λ a. never a.substitution a.applies.head

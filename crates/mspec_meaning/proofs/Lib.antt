@@ -1,4 +1,3 @@
-pub mod PartLemmas
 pub mod SlotLemmas
 pub mod FitLemmas
 pub mod MatchLemmas

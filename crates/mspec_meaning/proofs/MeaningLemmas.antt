@@ -3,7 +3,7 @@ use Rattle.std.proofs.Common.{◌≡◌, inl, inr, ℕ, ◌<◌, ◌==◌, ◌||
 use Rattle.std.specs.List.{All}
 use Rattle.std.specs.Option.{IsSome}
 use Rattle.std.proofs.lemmas.List.Elements.{All-nil, All-cons, All-head, All-tail}
-use Rattle.prims.specs.Booleans.{boolean_of}
+use Rattle.operand.specs.Operand.{boolean_of}
 use Rattle.prims.specs.Calls.{function_of}
 use Rattle.prims.specs.declared.prim.Primitive.{Primitive}
 use Rattle.term_core.specs.Datum.{Datum, Entries, cells, items_of}

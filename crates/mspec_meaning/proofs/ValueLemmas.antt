@@ -1,9 +1,9 @@
 -- Values of expressions, part by part.
-use Rattle.std.proofs.Common.{◌≡◌, ℕ, zero, suc, ◌+◌, ◌<◌, ◌≤◌, Bool, true, false, cond, Option, Some, None, option_map, Box, List, [], ◌∷◌, ◌++◌, length, get_or, drop, refl, sym, ◌∙◌, ap, subst, arith, drop-cons, add-one}
+use Rattle.std.proofs.Common.{◌≡◌, ℕ, zero, suc, ◌+◌, ◌<◌, ◌≤◌, Bool, true, false, not, cond, IfSome, Option, Some, None, option_map, Box, List, [], ◌∷◌, ◌++◌, length, get_or, drop, refl, sym, ◌∙◌, ap, subst, arith, drop-cons, add-one}
 use Rattle.std.specs.Prelude.{nat_eq, codes}
 use Rattle.std.proofs.lemmas.List.{drop_all, append_assoc, append-nil}
 use Rattle.std.specs.Cmp.Lexicographic.{pointwise, bytes_decides}
-use Rattle.prims.specs.Booleans.{boolean_of}
+use Rattle.operand.specs.Operand.{boolean_of, boolean, operand_datum}
 use Rattle.term_core.specs.Datum.{Datum, Entries, entries_of}
 use Rattle.term_core.specs.Datum.Datum.{integer, atom, tuple, map as table, nil, cons, binary}
 use Rattle.term_core.specs.Datum.Entries.{no_entries, entry}
@@ -15,9 +15,11 @@ use Rattle.mspec_syntax.specs.Expression.Expression.{bound, object, bindings, co
 use Rattle.mspec_syntax.specs.Expression.Assignments.{no_assignments, assignment}
 use Rattle.mspec_syntax.specs.ExpressionView.{tail_expression, IsTailExpression}
 use Rattle.mspec_meaning.specs.Match.{Substitution}
-use Rattle.mspec_meaning.specs.Meaning.{true_term, made_of, before, at_key, joined, and_step, and_at, or_step, or_at, value_at, value_of, argument_values, entry_values, all_true, any_true}
+use Rattle.mspec_meaning.specs.Meaning.{true_term, made_of, before, at_key, joined, value_at, value_of, argument_values, entry_values}
 use Rattle.mspec_meaning.specs.Meaning.Position.{as_tail}
-use Rattle.mspec_meaning.specs.Value.{joined_to}
+use Rattle.mspec_meaning.specs.Value.{joined_to, decided, decided_at}
+use Rattle.mspec_meaning.specs.Slots.{seen, known}
+use Rattle.operand.specs.declared.operand.Operand.{Operand}
 use Rattle.mspec_meaning.specs.declared.value.Mode.{Mode}
 
 no-true : (b : Bool) → Some true ≡ cond b (Some false) None → ⊥
@@ -41,7 +43,8 @@ boolean-true (binary bs) e = absurd (cc)
 pub boolean-other : (b : Option Bool) (d : Datum) → b ≡ boolean_of d → (b ≡ Some true → ⊥) → d ≡ true_term → ⊥
 boolean-other b d is other e = other (is ∙ ap boolean_of e)
 
-split_at : {X : Type 0} (xs : List X) (i : ℕ) (x : X) → i < length xs → x ≡ get_or xs i x → drop i xs ≡ x ∷ drop (i + 1) xs
+-- what is left, from its first element
+pub split_at : {X : Type 0} (xs : List X) (i : ℕ) (x : X) → i < length xs → x ≡ get_or xs i x → drop i xs ≡ x ∷ drop (i + 1) xs
 split_at xs i x h e = drop-cons xs i x h ∙ ap (λ y. y ∷ drop (suc i) xs) (sym e) ∙ ap (λ j. x ∷ drop j xs) (sym (add-one i))
 
 expressions_size-get : (es : List Expression) (i : ℕ) (e : Expression) → i < length es → expression_size (get_or es i e) < expressions_size (expressions_of es)
@@ -132,10 +135,6 @@ pub joined_to-none : (c : Option Datum) → None ≡ joined_to None c
 joined_to-none None = refl
 joined_to-none (Some d) = refl
 
-pub joined_to-nothing : (b : Option (List Datum)) → None ≡ joined_to b None
-joined_to-nothing None = refl
-joined_to-nothing (Some ds) = refl
-
 joined-nothing : (c : Option Datum) → c ≡ joined_to (Some []) c
 joined-nothing None = refl
 joined-nothing (Some d) = refl
@@ -149,6 +148,15 @@ rises-at : (k : Datum) (v : Option Datum) (found : Option Entries) (es : Entries
 rises-at k None found es is h = absurd (let e = is ∙ at_key-none k found in cc)
 rises-at k (Some v) None es is h = absurd (cc)
 rises-at k (Some v) (Some fs) es is h = let same : entry k v fs ≡ es = cc in subst AreRising same (h fs refl)
+
+-- the values of the slots that are left, at a slot
+pub known-free : {A : Type 0} (slots : List (Option (Operand A))) (i : ℕ) (slot : Option (Operand A)) → i < length slots → slot ≡ get_or slots i slot → slot ≡ None → known (seen (drop (i + 1) slots)) ≡ known (seen (drop i slots))
+known-free slots i slot h is empty =
+    sym (ap (λ l. known (seen l)) (split_at slots i slot h is) ∙ ap (λ x. known (seen (x ∷ drop (i + 1) slots))) empty)
+
+pub known-bound : {A : Type 0} (slots : List (Option (Operand A))) (i : ℕ) (slot : Option (Operand A)) (part : Operand A) → i < length slots → slot ≡ get_or slots i slot → slot ≡ Some part → operand_datum part ∷ known (seen (drop (i + 1) slots)) ≡ known (seen (drop i slots))
+known-bound slots i slot part h is filled =
+    sym (ap (λ l. known (seen l)) (split_at slots i slot h is) ∙ ap (λ x. known (seen (x ∷ drop (i + 1) slots))) filled)
 
 module _ (mode : Mode) (s : Substitution) (o : Datum) where
   -- the values so far, and those of the arguments that are left
@@ -211,39 +219,28 @@ module _ (mode : Mode) (s : Substitution) (o : Datum) where
       ∙ front
 
   -- the arguments that are left decide
-  abbrev pub AllFront : List Expression → ℕ → Type 0
-  AllFront es i = all_true mode (expressions_of (drop i es)) s o ≡ all_true mode (expressions_of es) s o
+  abbrev pub DecidedFront : Bool → List Expression → ℕ → Type 0
+  DecidedFront b es i = decided b mode (expressions_of (drop i es)) s o ≡ decided b mode (expressions_of es) s o
 
-  abbrev pub AnyFront : List Expression → ℕ → Type 0
-  AnyFront es i = any_true mode (expressions_of (drop i es)) s o ≡ any_true mode (expressions_of es) s o
+  decided-first : (b : Bool) (e : Expression) (es : List Expression) → decided_at b mode (value_of mode e s o) (decided b mode (expressions_of es) s o) ≡ decided b mode (expressions_of (e ∷ es)) s o
+  decided-first true e es = refl
+  decided-first false e es = refl
 
   -- what an argument's value makes of the arguments behind it
-  pub AllFront-step : (es : List Expression) (i : ℕ) (e : Expression) (value : Option Datum) → i < length es → e ≡ get_or es i e → value ≡ value_of mode e s o → AllFront es i → and_step mode value (all_true mode (expressions_of (drop (i + 1) es)) s o) ≡ all_true mode (expressions_of es) s o
-  AllFront-step es i e value h is same front =
-      ap (λ x. and_step mode x (all_true mode (expressions_of (drop (i + 1) es)) s o)) same
-      ∙ ap (λ l. all_true mode (expressions_of l) s o) (sym (split_at es i e h is))
+  pub DecidedFront-step : (b : Bool) (es : List Expression) (i : ℕ) (e : Expression) (value : Option Datum) → i < length es → e ≡ get_or es i e → value ≡ value_of mode e s o → DecidedFront b es i → decided_at b mode value (decided b mode (expressions_of (drop (i + 1) es)) s o) ≡ decided b mode (expressions_of es) s o
+  DecidedFront-step b es i e value h is same front =
+      ap (λ x. decided_at b mode x (decided b mode (expressions_of (drop (i + 1) es)) s o)) same
+      ∙ decided-first b e (drop (i + 1) es)
+      ∙ ap (λ l. decided b mode (expressions_of l) s o) (sym (split_at es i e h is))
       ∙ front
 
-  pub AnyFront-step : (es : List Expression) (i : ℕ) (e : Expression) (value : Option Datum) → i < length es → e ≡ get_or es i e → value ≡ value_of mode e s o → AnyFront es i → or_step mode value (any_true mode (expressions_of (drop (i + 1) es)) s o) ≡ any_true mode (expressions_of es) s o
-  AnyFront-step es i e value h is same front =
-      ap (λ x. or_step mode x (any_true mode (expressions_of (drop (i + 1) es)) s o)) same
-      ∙ ap (λ l. any_true mode (expressions_of l) s o) (sym (split_at es i e h is))
-      ∙ front
+  decided-none : (b : Bool) → Some (boolean (not b)) ≡ decided b mode (expressions_of []) s o
+  decided-none true = refl
+  decided-none false = refl
 
-  -- the same at an argument's truth value
-  pub AllFront-at : (es : List Expression) (i : ℕ) (e : Expression) (v : Datum) (b : Option Bool) → i < length es → e ≡ get_or es i e → Some v ≡ value_of mode e s o → b ≡ boolean_of v → AllFront es i → and_at mode b (all_true mode (expressions_of (drop (i + 1) es)) s o) ≡ all_true mode (expressions_of es) s o
-  AllFront-at es i e v b h is same says front =
-      ap (λ x. and_at mode x (all_true mode (expressions_of (drop (i + 1) es)) s o)) says ∙ AllFront-step es i e (Some v) h is same front
-
-  pub AnyFront-at : (es : List Expression) (i : ℕ) (e : Expression) (v : Datum) (b : Option Bool) → i < length es → e ≡ get_or es i e → Some v ≡ value_of mode e s o → b ≡ boolean_of v → AnyFront es i → or_at mode b (any_true mode (expressions_of (drop (i + 1) es)) s o) ≡ any_true mode (expressions_of es) s o
-  AnyFront-at es i e v b h is same says front =
-      ap (λ x. or_at mode x (any_true mode (expressions_of (drop (i + 1) es)) s o)) says ∙ AnyFront-step es i e (Some v) h is same front
-
-  pub AllFront-all : (es : List Expression) (i : ℕ) → length es ≤ i → AllFront es i → all_true mode (expressions_of []) s o ≡ all_true mode (expressions_of es) s o
-  AllFront-all es i end front = ap (λ l. all_true mode (expressions_of l) s o) (sym (drop_all i es end)) ∙ front
-
-  pub AnyFront-all : (es : List Expression) (i : ℕ) → length es ≤ i → AnyFront es i → any_true mode (expressions_of []) s o ≡ any_true mode (expressions_of es) s o
-  AnyFront-all es i end front = ap (λ l. any_true mode (expressions_of l) s o) (sym (drop_all i es end)) ∙ front
+  pub DecidedFront-all : (b : Bool) (es : List Expression) (i : ℕ) → length es ≤ i → DecidedFront b es i → Some (boolean (not b)) ≡ decided b mode (expressions_of es) s o
+  DecidedFront-all b es i end front =
+      decided-none b ∙ ap (λ l. decided b mode (expressions_of l) s o) (sym (drop_all i es end)) ∙ front
 
   -- by itself and as a tail what is no list has one value
   tail-value : {A : Type 0} (tail : Option (Box Expression A)) → IsTailExpression tail
@@ -293,3 +290,7 @@ module _ (mode : Mode) (s : Substitution) (o : Datum) where
   entries-rise (assignment k e ms) es is h =
       rises-at k (value_of mode e s o) (entry_values mode ms s o) es is
       (λ fs same. (below-next k ms fs same h.0, entries-rise ms fs same h.1))
+
+  pub pairs-rise : {X : Type 0} (entries : X → Entries) (pairs : Option X) (ms : Assignments) → option_map entries pairs ≡ entry_values mode ms s o → AreKeysRising (assignment_keys ms) → IfSome pairs (λ p. AreRising (entries p))
+  pairs-rise entries None ms is h = tt
+  pairs-rise entries (Some p) ms is h = entries-rise ms (entries p) is h

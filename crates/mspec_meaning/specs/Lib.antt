@@ -1,6 +1,7 @@
 pub mod Match
 pub mod Meaning
 pub mod Value
-pub mod Part
 pub mod Slots
+pub mod Scope
+pub mod Applied
 pub mod Laws

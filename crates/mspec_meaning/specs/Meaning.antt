@@ -1,9 +1,8 @@
 -- What a specification means on an object. (ERTS User's Guide, "Match Specifications in Erlang",
 -- "Semantics".)
 use Rattle.std.specs.Prelude.{◌≡◌, ◌⊎◌, Bool, true, false, Option, Some, None, option_map, List, [], ◌∷◌, codes}
-use Rattle.prims.specs.Booleans.{boolean_of}
+use Rattle.operand.specs.Operand.{boolean_of, boolean}
 use Rattle.prims.specs.Calls.{function_of}
-use Rattle.prims.specs.Operand.{boolean}
 use Rattle.prims.specs.declared.prim.Primitive.{Primitive}
 use Rattle.term_core.specs.Datum.{Datum, Entries, cells, items_of}
 use Rattle.term_core.specs.Datum.Entries.{no_entries, entry}

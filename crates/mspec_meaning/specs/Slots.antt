@@ -2,15 +2,15 @@
 use Rattle.std.specs.Prelude.{ℕ, ◌≡◌, ◌==◌, if◌then◌else◌, Bool, false, Option, Some, None, option_map, List, [], ◌∷◌, map, length, MatchBool, Vec}
 use Rattle.term_core.specs.Datum.{Datum}
 use Rattle.mspec_syntax.specs.Grammar.{is_among}
-use Rattle.mspec_syntax.specs.Pattern.{Pattern}
+use Rattle.operand.specs.Operand.{operand_datum}
+use Rattle.operand.specs.declared.operand.Operand.{Operand}
+use Rattle.mspec_syntax.specs.Pattern.{Pattern, cells_of}
 use Rattle.mspec_syntax.specs.Specification.{Clause, clause_variables}
-use Rattle.mspec_meaning.specs.Match.{Substitution, Matches}
-use Rattle.mspec_meaning.specs.declared.part.Part.{Part}
-use Rattle.mspec_meaning.specs.Part.{part_of}
+use Rattle.mspec_meaning.specs.Match.{Substitution, Fits, Matches}
 
 -- the terms in the slots
-abbrev pub seen : {A : Type 0} → List (Option (Part A)) → List (Option Datum)
-seen slots = map (λ o. option_map part_of o) slots
+abbrev pub seen : {A : Type 0} → List (Option (Operand A)) → List (Option Datum)
+seen slots = map (λ o. option_map operand_datum o) slots
 
 -- the value of a variable, each having its slot
 abbrev pub assigned : List ℕ → List (Option Datum) → ℕ → Option Datum
@@ -45,6 +45,24 @@ abbrev pub Answers : Bool → List ℕ → List (Option Datum) → List (Option 
 Answers answer vs old new Claim =
     MatchBool answer (Binds vs old new Claim) (NeverHolds vs old Claim)
 
+-- no list with these first elements fits, whatever its other patterns
+abbrev pub NeverFitsFront : List ℕ → List (Option Datum) → List Pattern → Datum → Type 0
+NeverFitsFront vs old ps d = (q : Pattern) → NeverHolds vs old (λ s. Fits (cells_of ps q) s d)
+
+-- The slots are bound as a list's first elements ask, and these patterns are left, for this rest: an answer for what is left,
+-- whatever patterns follow, answers for the whole.
+abbrev pub LeadsOn : List ℕ → List (Option Datum) → List (Option Datum)
+    → List Pattern → Datum → List Pattern → Datum → Type 0
+LeadsOn vs old now ps d left rest =
+    (q : Pattern) (answer : Bool) (new : List (Option Datum))
+    → Answers answer vs now new (λ s. Fits (cells_of left q) s rest)
+    → Answers answer vs old new (λ s. Fits (cells_of ps q) s d)
+
+-- the slots are bound as all of a list's first elements ask, of which this rest is left
+abbrev pub BindsFront : List ℕ → List (Option Datum) → List (Option Datum)
+    → List Pattern → Datum → Datum → Type 0
+BindsFront vs old now ps d rest = LeadsOn vs old now ps d [] rest
+
 -- every slot is free
 abbrev pub AreFree : List (Option Datum) → Type 0
 AreFree [] = Unit {0}
@@ -68,7 +86,7 @@ abbrev pub NeverMatches : Pattern → Datum → Type 0
 NeverMatches p t = (s : Substitution) → Matches p s t → ⊥
 
 -- each variable of the clause's head has a slot, and what the slots hold makes the head match
-abbrev pub MatchesBy : {A : Type 0} → Clause → Vec (Option (Part A)) A → Datum → Type 0
+abbrev pub MatchesBy : {A : Type 0} → Clause → Vec (Option (Operand A)) A → Datum → Type 0
 MatchesBy c slots t =
     (length slots.items ≡ length (clause_variables c))
     × Matches c.head (substitution_of (clause_variables c) (seen slots.items)) t

@@ -1,32 +1,48 @@
 //! Patterns matched with parts of an object.
-ghost use Rattle.std.specs.Prelude.{◌≡◌, length};
-ghost use Rattle.std.specs.Option.{option_copied};
+ghost use Rattle.std.specs.Prelude.{◌≡◌, length, MatchBool, MatchOption};
 ghost use Rattle.term_core.specs.Datum.{items_of, entries_of};
+ghost use Rattle.term_core.specs.Datum.Datum.{nil};
 ghost use Rattle.term_core.specs.Limits.{ArePairsSound};
+ghost use Rattle.operand.specs.Operand.{operand_datum};
 ghost use Rattle.mspec_syntax.specs.Pattern.{patterns_of, fields_of};
-ghost use Rattle.prims.specs.Maps.{value_at};
 ghost use Rattle.mspec_meaning.specs.Match.{Fits, AllFit, FieldsFit};
-ghost use Rattle.mspec_meaning.specs.Part.{part_of};
-ghost use Rattle.mspec_meaning.specs.Slots.{seen, Answers};
+ghost use Rattle.mspec_meaning.specs.Slots.{seen, Answers, BindsFront, NeverFitsFront};
 
-use crate::part::{Part, same_part};
 use mspec_syntax::{Pattern, PatternKind, Variables};
+use operand::{Operand, View, compare};
+use prims::find_value;
 use std::alloc::Allocator;
 use term_core::Term;
 
 /// The slots of a head's variables, in rising order of their numbers.
-pub(crate) type Slot<'a, A> = Option<Part<'a, A>>;
+pub(crate) type Slot<'a, A> = Option<Operand<'a, A>>;
+
+/// Whether two operands are the same term.
+fn are_same<A: Allocator>(left: Operand<'_, A>, right: Operand<'_, A>) -> bool
+    ensures { MatchBool result (operand_datum left.entry ≡ operand_datum right.entry)
+        (operand_datum left.entry ≡ operand_datum right.entry → ⊥) }
+{
+    compare(left, right).is_eq()
+}
+
+/// Whether an operand is `[]`.
+fn is_nil<A: Allocator>(operand: Operand<'_, A>) -> bool
+    ensures { MatchBool result (operand_datum operand.entry ≡ nil)
+        (operand_datum operand.entry ≡ nil → ⊥) }
+{
+    matches!(operand.view(), View::Nil)
+}
 
 /// Binds a variable that is free, and compares what one is bound to.
 fn bind_variable<'a, A: Allocator + Copy>(
     variables: &Variables<A>,
     slots: &mut [Slot<'a, A>],
     number: u32,
-    part: Part<'a, A>,
+    part: Operand<'a, A>,
 ) -> bool
     requires { length slots.old ≡ length variables.now }
     ensures { Answers result variables.now (seen slots.old) (seen slots.new)
-        (λ s. s number ≡ Some (part_of part.entry)) }
+        (λ s. s number ≡ Some (operand_datum part.entry)) }
 {
     let Some(rank) = variables.rank(number) else {
         return false;
@@ -36,7 +52,7 @@ fn bind_variable<'a, A: Allocator + Copy>(
             slots[rank] = Some(part);
             true
         }
-        Some(bound) => same_part(bound, part),
+        Some(bound) => are_same(bound, part),
     }
 }
 
@@ -46,31 +62,26 @@ pub(crate) fn bind<'a, A: Allocator + Copy>(
     variables: &Variables<A>,
     slots: &mut [Slot<'a, A>],
     pattern: &Pattern<A>,
-    part: Part<'a, A>,
+    part: Operand<'a, A>,
 ) -> bool
     requires { length slots.old ≡ length variables.now }
     ensures { Answers result variables.now (seen slots.old) (seen slots.new)
-        (λ s. Fits pattern.now s (part_of part.entry)) }
+        (λ s. Fits pattern.now s (operand_datum part.entry)) }
 {
     match pattern.kind() {
         PatternKind::Anything => true,
         PatternKind::Variable(number) => bind_variable(variables, slots, *number, part),
-        PatternKind::Literal(term) => same_part(part, Part::Whole(term)),
+        PatternKind::Literal(term) => are_same(part, Operand::Term(term)),
         PatternKind::Tuple(patterns) => match part.elements() {
             Some(elements) => bind_all(variables, slots, patterns.as_slice(), elements),
             None => false,
         },
         PatternKind::List(patterns, tail) => {
-            let patterns = patterns.as_slice();
-            let Some(front) = part.front(patterns.len()) else {
+            let Some(rest) = bind_front(variables, slots, patterns.as_slice(), part) else {
                 return false;
             };
-            if !bind_all(variables, slots, patterns, front) {
-                return false;
-            }
-            let rest = part.behind(patterns.len());
             match tail {
-                None => rest.is_nil(),
+                None => is_nil(rest),
                 Some(tail) => bind(variables, slots, tail, rest),
             }
         }
@@ -97,11 +108,39 @@ fn bind_all<'a, A: Allocator + Copy>(
         return false;
     }
     for i in 0..patterns.len() {
-        if !bind(variables, slots, &patterns[i], Part::Whole(&terms[i])) {
+        if !bind(variables, slots, &patterns[i], Operand::Term(&terms[i])) {
             return false;
         }
     }
     true
+}
+
+/// Binds the variables of the patterns of a list's first elements, from the left, and gives what follows them. None where one doesn't
+/// fit, or there are fewer elements.
+#[cycle(bind)]
+fn bind_front<'a, A: Allocator + Copy>(
+    variables: &Variables<A>,
+    slots: &mut [Slot<'a, A>],
+    patterns: &[Pattern<A>],
+    list: Operand<'a, A>,
+) -> Option<Operand<'a, A>>
+    requires { length slots.old ≡ length variables.now }
+    ensures { MatchOption result
+        (NeverFitsFront variables.now (seen slots.old) patterns.now (operand_datum list.entry))
+        (λ rest. BindsFront variables.now (seen slots.old) (seen slots.new) patterns.now
+        (operand_datum list.entry) (operand_datum rest)) }
+{
+    let mut rest = list;
+    for pattern in patterns {
+        let Some((head, behind)) = rest.split() else {
+            return None;
+        };
+        if !bind(variables, slots, pattern, Operand::Term(head)) {
+            return None;
+        }
+        rest = behind;
+    }
+    Some(rest)
 }
 
 /// Binds the variables of the patterns of keys so that the values of these keys fit them.
@@ -118,23 +157,12 @@ fn bind_fields<'a, A: Allocator + Copy>(
         (λ s. FieldsFit (fields_of fields.now) s (entries_of pairs.entry.now)) }
 {
     for (key, pattern) in fields {
-        let Some(value) = find(pairs, key) else {
+        let Some(value) = find_value(pairs, Operand::Term(key)) else {
             return false;
         };
-        if !bind(variables, slots, pattern, Part::Whole(value)) {
+        if !bind(variables, slots, pattern, Operand::Term(value)) {
             return false;
         }
     }
     true
-}
-
-/// The value of a key among pairs whose keys rise.
-fn find<'a, A: Allocator>(pairs: &'a [(Term<A>, Term<A>)], key: &Term<A>) -> Option<&'a Term<A>>
-    requires { ArePairsSound (entries_of pairs.now) }
-    ensures { option_copied result ≡ value_at key.now (entries_of pairs.entry.now) }
-{
-    match pairs.binary_search_by(|(name, _)| name.cmp(key)) {
-        Ok(place) => Some(&pairs[place].1),
-        Err(_) => None,
-    }
 }

@@ -1,27 +1,31 @@
 //! Calls of functions over values.
-ghost use Rattle.std.specs.Prelude.{◌≡◌, map, IfOk};
-ghost use Rattle.std.specs.Option.{option_map};
-ghost use Rattle.prims.specs.Calls.{function_of};
-ghost use Rattle.prims.specs.Value.{value_datum};
-ghost use Rattle.mspec_meaning.specs.Meaning.{or_failed};
-
-use crate::made::{failure, held};
-use crate::value::Mode;
-use prims::{Primitive, Value, call_values};
+use crate::scope::Scope;
+use operand::Value;
+use prims::{Primitive, call_values};
 use std::alloc::{AllocError, Allocator};
 
-/// What a call gives of these values. What it borrows from those that are borrowed isn't copied.
-pub(crate) fn called<'a, A: Allocator + Copy>(
-    alloc: A,
-    mode: Mode,
-    function: Primitive,
-    values: &[Value<'a, A>],
-) -> Result<Option<Value<'a, A>>, AllocError>
-    ensures { IfOk result (λ value. option_map value_datum value
-        ≡ or_failed mode (function_of function (map value_datum values.now))) }
-{
-    match call_values(alloc, function, values)? {
-        Some(value) => Ok(Some(value)),
-        None => Ok(held(failure(alloc, mode)?)),
+impl<'s, 'a, A: Allocator + Copy> Scope<'s, 'a, A> {
+    ghost use Rattle.std.specs.Prelude.{◌≡◌, map, IfOk};
+    ghost use Rattle.std.specs.Option.{option_map};
+    ghost use Rattle.operand.specs.Value.{value_datum};
+    ghost use Rattle.mspec_meaning.specs.Meaning.{called};
+
+    /// What a call comes to, of its arguments' values where all have one. What it borrows from those that are borrowed isn't
+    /// copied.
+    pub(crate) fn called(
+        &self,
+        function: Primitive,
+        values: Option<Vec<Value<'a, 's, A>, A>>,
+    ) -> Result<Option<Value<'a, 's, A>>, AllocError>
+        ensures { IfOk result (λ value. option_map value_datum value ≡ called self.now.mode function
+            (option_map (λ values. map value_datum values.items) values.entry)) }
+    {
+        let Some(values) = values else {
+            return Ok(None);
+        };
+        match call_values(self.heap(), function, values.as_slice())? {
+            Some(value) => Ok(Some(value)),
+            None => self.failure(),
+        }
     }
 }

@@ -2,19 +2,31 @@
 ghost use Rattle.std.specs.Prelude.{◌≡◌, length, IfOk, OnOk, MatchBool, MatchOption};
 ghost use Rattle.mspec_meaning.specs.Match.{Matches};
 ghost use Rattle.mspec_meaning.specs.Meaning.{AllHold, IsApplicable, Applies, Means, body_value, true_term};
-ghost use Rattle.prims.specs.Value.{value_datum};
-ghost use Rattle.mspec_meaning.specs.Slots.{seen, substitution_of, AreFree, NeverMatches, MatchesBy};
+ghost use Rattle.operand.specs.Value.{value_datum};
+ghost use Rattle.mspec_meaning.specs.Applied.{AnswersBy};
+ghost use Rattle.mspec_meaning.specs.Slots.{seen, AreFree, NeverMatches, MatchesBy};
+ghost use Rattle.mspec_meaning.specs.declared.value.Mode.TheVariants.{Condition, Body};
 
 use crate::bind::{Slot, bind};
-use crate::part::Part;
-use crate::value::{Mode, value_of};
-use mspec_syntax::{Clause, Expression, Spec, Variables};
-use prims::Value;
+use crate::made::into_term;
+use crate::scope::Scope;
+use crate::value::Mode;
+use mspec_syntax::{Clause, Expression, Spec};
+use operand::{Operand, Value};
 use std::alloc::{AllocError, Allocator};
 use term_core::Term;
 
+/// What a clause comes to on an object.
+#[derive(Drop)]
+enum Applied<A: Allocator> {
+    /// The clause doesn't apply.
+    Not,
+    /// The clause applies, and this is the value of its body.
+    Answers(Option<Term<A>>),
+}
+
 /// Whether a value is the atom `true`.
-fn is_true<A: Allocator + Copy>(value: Value<'_, A>) -> bool
+fn is_true<A: Allocator>(value: Value<'_, '_, A>) -> bool
     ensures { MatchBool result (value_datum value.entry ≡ true_term)
         (value_datum value.entry ≡ true_term → ⊥) }
 {
@@ -53,7 +65,7 @@ fn matched<'a, A: Allocator + Copy>(
         clause.variables(),
         slots.as_mut_slice(),
         clause.head(),
-        Part::Whole(object),
+        Operand::Term(object),
     ) {
         Ok(Some(slots))
     } else {
@@ -63,19 +75,16 @@ fn matched<'a, A: Allocator + Copy>(
 
 /// Whether all conditions have the value `true`.
 fn all_hold<'a, A: Allocator + Copy>(
-    alloc: A,
+    scope: &Scope<'_, 'a, A>,
     conditions: &'a [Expression<A>],
-    variables: &Variables<A>,
-    slots: &[Slot<'a, A>],
-    object: &'a Term<A>,
 ) -> Result<bool, AllocError>
-    requires { length slots.now ≡ length variables.now }
+    requires { scope.now.mode ≡ Condition }
     ensures { IfOk result (λ holds. MatchBool holds
-        (AllHold conditions.now (substitution_of variables.now (seen slots.now)) object.now)
-        (AllHold conditions.now (substitution_of variables.now (seen slots.now)) object.now → ⊥)) }
+        (AllHold conditions.now scope.now.substitution scope.now.object)
+        (AllHold conditions.now scope.now.substitution scope.now.object → ⊥)) }
 {
     for condition in conditions {
-        match value_of(alloc, Mode::Condition, condition, variables, slots, object)? {
+        match scope.value(condition)? {
             Some(answer) => {
                 if !is_true(answer) {
                     return Ok(false);
@@ -89,23 +98,40 @@ fn all_hold<'a, A: Allocator + Copy>(
 
 /// The value of the last expression of a body.
 fn body_answer<'a, A: Allocator + Copy>(
-    alloc: A,
+    scope: &Scope<'_, 'a, A>,
     body: &'a [Expression<A>],
-    variables: &Variables<A>,
-    slots: &[Slot<'a, A>],
-    object: &'a Term<A>,
 ) -> Result<Option<Term<A>>, AllocError>
-    requires { length slots.now ≡ length variables.now }
-    ensures { IfOk result (λ answer. answer ≡ body_value body.now
-        (substitution_of variables.now (seen slots.now)) object.now) }
+    requires { scope.now.mode ≡ Body }
+    ensures { IfOk result (λ answer. answer ≡ body_value body.now scope.now.substitution
+        scope.now.object) }
 {
     let Some(last) = body.last() else {
         return Ok(None);
     };
-    match value_of(alloc, Mode::Body, last, variables, slots, object)? {
-        Some(value) => Ok(Some(value.into_term(alloc)?)),
-        None => Ok(None),
+    let value = scope.value(last)?;
+    into_term(scope.alloc(), value)
+}
+
+/// What a clause answers on an object, where it applies.
+fn clause_answer<A: Allocator + Copy>(
+    alloc: A,
+    clause: &Clause<A>,
+    object: &Term<A>,
+) -> Result<Applied<A>, AllocError>
+    ensures { IfOk result (λ applied. AnswersBy applied clause.now object.now) }
+{
+    let Some(slots) = matched(alloc, clause, object)? else {
+        return Ok(Applied::Not);
+    };
+    let slots = slots.as_slice();
+    let variables = clause.variables();
+    let heap = &alloc;
+    let conditions = Scope::new(heap, Mode::Condition, variables, slots, object);
+    if !all_hold(&conditions, clause.conditions())? {
+        return Ok(Applied::Not);
     }
+    let body = Scope::new(heap, Mode::Body, variables, slots, object);
+    Ok(Applied::Answers(body_answer(&body, clause.body())?))
 }
 
 /// What a specification answers on an object: the value of the body of the first clause whose head matches the object
@@ -118,18 +144,9 @@ pub fn evaluate<A: Allocator + Copy>(
     ensures { IfOk result (λ answer. Means spec.now object.now answer) }
 {
     for clause in spec.clauses() {
-        let Some(slots) = matched(alloc, clause, object)? else {
-            continue;
-        };
-        let variables = clause.variables();
-        if all_hold(
-            alloc,
-            clause.conditions(),
-            variables,
-            slots.as_slice(),
-            object,
-        )? {
-            return body_answer(alloc, clause.body(), variables, slots.as_slice(), object);
+        match clause_answer(alloc, clause, object)? {
+            Applied::Not => {}
+            Applied::Answers(answer) => return Ok(answer),
         }
     }
     Ok(None)

@@ -1,6 +1,5 @@
 //! Laws of matching and meaning, each the contract of a function that does nothing.
-ghost use Rattle.mspec_meaning.specs.Laws.{HasOneMatch, EmptyAnswersNothing, FirstAnswers, OthersAnswer, OwnTermMatches};
-ghost use Rattle.mspec_meaning.specs.Laws.{HasOneMeaning, ApplicableHasValue, NothingWhereNoneApplies};
+ghost use Rattle.mspec_meaning.specs.Laws.{HasOneMatch, EmptyAnswersNothing, FirstAnswers, OthersAnswer, OwnTermMatches, HasOneMeaning, ApplicableHasValue, NothingWhereNoneApplies};
 
 /// At most one substitution makes a pattern match a term.
 pub fn one_substitution_matches()

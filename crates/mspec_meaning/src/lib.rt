@@ -3,10 +3,11 @@
 //! The contract is that of `evaluate`: it answers on an object what the specification means there
 //! (`Means`, in `specs/Meaning.antt`), or that no memory was given.
 //!
-//! - When a pattern matches: `specs/Match.antt`; `bind.rt`, over parts of terms (`part.rt`), by the
-//!   slots of `specs/Slots.antt`.
-//! - The values of expressions: `value.rt`; calls in `called.rt`, what is made in `made.rt`. A
-//!   value is borrowed until it is put into a term or is the answer (`prims::Value`).
+//! - When a pattern matches: `specs/Match.antt`; `bind.rt`, over parts of terms
+//!   (`operand::Operand`), by the slots of `specs/Slots.antt`.
+//! - The values of expressions: `value.rt`, as methods of what they depend on (`scope.rt`); calls in
+//!   `called.rt`, arguments of `andalso` and `orelse` in `decided.rt`, what is made in `made.rt`. A
+//!   value is borrowed until it is put into a term or is the answer (`operand::Value`).
 //! - Clauses and specifications: `clauses.rt`.
 //! - Laws of the meaning: `laws.rt`, `specs/Laws.antt`.
 #![tactic(auto)]
@@ -14,9 +15,10 @@
 mod bind;
 mod called;
 mod clauses;
+mod decided;
 mod laws;
 mod made;
-mod part;
+mod scope;
 mod value;
 
 pub use clauses::evaluate;

@@ -1,122 +1,150 @@
 //! Terms that expressions make.
-ghost use Rattle.std.specs.Prelude.{◌≡◌, IfOk};
+ghost use Rattle.std.specs.Prelude.{◌≡◌, ◌++◌, ◌∷◌, [], IfOk, OnOk};
 ghost use Rattle.std.specs.Option.{option_map};
-ghost use Rattle.prims.specs.Value.{value_datum};
-ghost use Rattle.term_core.specs.Datum.{cells, items_of, entries_of};
-ghost use Rattle.term_core.specs.Datum.Datum.{nil, tuple, map};
-ghost use Rattle.term_core.specs.MapPairs.{AreRising};
-ghost use Rattle.mspec_meaning.specs.Meaning.{failed, made, or_failed};
-ghost use Rattle.mspec_meaning.specs.Slots.{seen, known};
+ghost use Rattle.operand.specs.Value.{value_datum};
+ghost use Rattle.mspec_meaning.specs.Meaning.{exit_term};
 
-use crate::bind::Slot;
+use crate::scope::Scope;
 use crate::value::Mode;
-use prims::Value;
+use operand::Value;
 use std::alloc::{AllocError, Allocator};
 use term_core::{Term, make_list, make_map, make_tuple};
 
-/// The value of what fails: none in a condition, `'EXIT'` in a body.
-pub(crate) fn failure<A: Allocator + Copy>(
-    alloc: A,
-    mode: Mode,
-) -> Result<Option<Term<A>>, AllocError>
-    ensures { IfOk result (λ value. value ≡ failed mode) }
+/// The atom `'EXIT'`.
+fn exit<A: Allocator + Copy>(alloc: A) -> Result<Term<A>, AllocError>
+    ensures { IfOk result (λ term. term ≡ exit_term) }
 {
-    match mode {
-        Mode::Condition => Ok(None),
-        Mode::Body => {
-            let characters = Vec::from_slice(alloc, &['E', 'X', 'I', 'T'])?;
-            match Term::from_characters(alloc, characters) {
-                Ok(exit) => Ok(Some(exit)),
-                Err(_) => Err(AllocError),
-            }
+    let characters = Vec::from_slice(alloc, &['E', 'X', 'I', 'T'])?;
+    match Term::from_characters(alloc, characters) {
+        Ok(exit) => Ok(exit),
+        Err(_) => Err(AllocError),
+    }
+}
+
+/// A value as a term in memory of its own, where there is one.
+pub(crate) fn into_term<A: Allocator + Copy>(
+    alloc: A,
+    value: Option<Value<'_, '_, A>>,
+) -> Result<Option<Term<A>>, AllocError>
+    ensures { IfOk result (λ term. term ≡ option_map value_datum value.entry) }
+{
+    match value {
+        Some(value) => Ok(Some(value.into_term(alloc)?)),
+        None => Ok(None),
+    }
+}
+
+/// Adds a value to the elements of a tuple or a list.
+pub(crate) fn push_element<A: Allocator + Copy>(
+    alloc: A,
+    elements: &mut Vec<Term<A>, A>,
+    value: Value<'_, '_, A>,
+) -> Result<(), AllocError>
+    ensures { OnOk result (elements.new.items ≡ elements.old.items
+        ++ value_datum value.entry ∷ []) }
+{
+    elements.push(value.into_term(alloc)?)?;
+    Ok(())
+}
+
+/// Adds a key and its value to the pairs of a map.
+pub(crate) fn push_entry<A: Allocator + Copy>(
+    alloc: A,
+    pairs: &mut Vec<(Term<A>, Term<A>), A>,
+    key: &Term<A>,
+    value: Value<'_, '_, A>,
+) -> Result<(), AllocError>
+    ensures { OnOk result (pairs.new.items ≡ pairs.old.items
+        ++ (key.now, value_datum value.entry) ∷ []) }
+{
+    let name = key.copy(alloc)?;
+    let term = value.into_term(alloc)?;
+    pairs.push((name, term))?;
+    Ok(())
+}
+
+impl<'s, 'a, A: Allocator + Copy> Scope<'s, 'a, A> {
+    ghost use Rattle.std.specs.Prelude.{◌≡◌, Some, IfOk, IfSome};
+    ghost use Rattle.std.specs.Option.{option_map};
+    ghost use Rattle.operand.specs.Value.{value_datum};
+    ghost use Rattle.term_core.specs.Datum.{cells, items_of, entries_of};
+    ghost use Rattle.term_core.specs.Datum.Datum.{nil, tuple, map};
+    ghost use Rattle.term_core.specs.MapPairs.{AreRising};
+    ghost use Rattle.mspec_meaning.specs.Match.{values_of};
+    ghost use Rattle.mspec_meaning.specs.Meaning.{failed, made, made_of, or_failed};
+    ghost use Rattle.mspec_meaning.specs.Value.{joined_to};
+
+    /// The value of what fails: none in a condition, `'EXIT'` in a body.
+    pub(crate) fn failure(&self) -> Result<Option<Value<'a, 's, A>>, AllocError>
+        ensures { IfOk result (λ value. option_map value_datum value ≡ failed self.now.mode) }
+    {
+        match self.mode() {
+            Mode::Condition => Ok(None),
+            Mode::Body => Ok(Some(Value::made(self.heap(), exit(self.alloc())?)?)),
         }
     }
-}
 
-/// A term that was made, else the value of what fails.
-fn or_failure<A: Allocator + Copy>(
-    alloc: A,
-    mode: Mode,
-    made: Option<Term<A>>,
-) -> Result<Option<Term<A>>, AllocError>
-    ensures { IfOk result (λ value. value ≡ or_failed mode made) }
-{
-    match made {
-        Some(term) => Ok(Some(term)),
-        None => failure(alloc, mode),
-    }
-}
-
-/// A term that was made as a value, where there is one.
-pub(crate) fn held<'a, A: Allocator>(term: Option<Term<A>>) -> Option<Value<'a, A>>
-    ensures { option_map value_datum result ≡ term }
-{
-    match term {
-        Some(term) => Some(Value::Made(term)),
-        None => None,
-    }
-}
-
-/// Copies of what the variables are bound to.
-fn bound_values<A: Allocator + Copy>(
-    alloc: A,
-    slots: &[Slot<'_, A>],
-) -> Result<Vec<Term<A>, A>, AllocError>
-    ensures { IfOk result (λ values. values.items ≡ known (seen slots.now)) }
-{
-    let mut values = Vec::with_capacity(alloc, slots.len())?;
-    for slot in slots {
-        if let Some(part) = slot {
-            let value = Value::Borrowed(part.operand());
-            values.push(value.into_term(alloc)?)?;
+    /// A term that was made, else the value of what fails.
+    fn or_failure(&self, made: Option<Term<A>>) -> Result<Option<Value<'a, 's, A>>, AllocError>
+        ensures { IfOk result (λ value. option_map value_datum value
+            ≡ or_failed self.now.mode made) }
+    {
+        match made {
+            Some(term) => Ok(Some(Value::made(self.heap(), term)?)),
+            None => self.failure(),
         }
     }
-    Ok(values)
-}
 
-/// The list of the values of all variables.
-pub(crate) fn bindings<A: Allocator + Copy>(
-    alloc: A,
-    mode: Mode,
-    slots: &[Slot<'_, A>],
-) -> Result<Option<Term<A>>, AllocError>
-    ensures { IfOk result (λ value. value ≡ made mode (cells (known (seen slots.now)) nil)) }
-{
-    let values = bound_values(alloc, slots)?;
-    list(alloc, mode, values, Term::nil())
-}
+    /// The list of the values of all variables.
+    pub(crate) fn bindings(&self) -> Result<Option<Value<'a, 's, A>>, AllocError>
+        ensures { IfOk result (λ value. option_map value_datum value
+            ≡ made self.now.mode (cells (values_of self.now.substitution) nil)) }
+    {
+        let values = self.bound_values()?;
+        self.list(values, Some(Term::nil()))
+    }
 
-/// The tuple of these elements.
-pub(crate) fn tuple<A: Allocator + Copy>(
-    alloc: A,
-    mode: Mode,
-    elements: Vec<Term<A>, A>,
-) -> Result<Option<Term<A>>, AllocError>
-    ensures { IfOk result (λ value. value ≡ made mode (tuple (items_of elements.items))) }
-{
-    or_failure(alloc, mode, make_tuple(alloc, elements)?)
-}
+    /// The tuple of these elements, where all have a value.
+    pub(crate) fn tuple(
+        &self,
+        elements: Option<Vec<Term<A>, A>>,
+    ) -> Result<Option<Value<'a, 's, A>>, AllocError>
+        ensures { IfOk result (λ value. option_map value_datum value ≡ made_of self.now.mode
+            (option_map (λ ds. tuple (items_of ds)) (option_map (λ terms. terms.items) elements))) }
+    {
+        match elements {
+            Some(elements) => self.or_failure(make_tuple(self.alloc(), elements)?),
+            None => Ok(None),
+        }
+    }
 
-/// The list of these elements and this tail.
-pub(crate) fn list<A: Allocator + Copy>(
-    alloc: A,
-    mode: Mode,
-    elements: Vec<Term<A>, A>,
-    tail: Term<A>,
-) -> Result<Option<Term<A>>, AllocError>
-    ensures { IfOk result (λ value. value ≡ made mode (cells elements.items tail)) }
-{
-    or_failure(alloc, mode, make_list(alloc, elements, tail)?)
-}
+    /// The list of these elements and this tail, where it has a value.
+    pub(crate) fn list(
+        &self,
+        elements: Vec<Term<A>, A>,
+        tail: Option<Term<A>>,
+    ) -> Result<Option<Value<'a, 's, A>>, AllocError>
+        ensures { IfOk result (λ value. option_map value_datum value ≡ made_of self.now.mode
+            (joined_to (Some elements.items) tail)) }
+    {
+        match tail {
+            Some(tail) => self.or_failure(make_list(self.alloc(), elements, tail)?),
+            None => Ok(None),
+        }
+    }
 
-/// The map of these pairs.
-pub(crate) fn map<A: Allocator + Copy>(
-    alloc: A,
-    mode: Mode,
-    pairs: Vec<(Term<A>, Term<A>), A>,
-) -> Result<Option<Term<A>>, AllocError>
-    requires { AreRising (entries_of pairs.items) }
-    ensures { IfOk result (λ value. value ≡ made mode (map (entries_of pairs.items))) }
-{
-    or_failure(alloc, mode, make_map(alloc, pairs)?)
+    /// The map of these pairs, where all have a value.
+    pub(crate) fn map(
+        &self,
+        pairs: Option<Vec<(Term<A>, Term<A>), A>>,
+    ) -> Result<Option<Value<'a, 's, A>>, AllocError>
+        requires { IfSome pairs (λ pairs. AreRising (entries_of pairs.items)) }
+        ensures { IfOk result (λ value. option_map value_datum value ≡ made_of self.now.mode
+            (option_map map (option_map (λ pairs. entries_of pairs.items) pairs))) }
+    {
+        match pairs {
+            Some(pairs) => self.or_failure(make_map(self.alloc(), pairs)?),
+            None => Ok(None),
+        }
+    }
 }

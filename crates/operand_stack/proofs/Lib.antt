@@ -1,5 +1,5 @@
 pub mod StackLemmas
-pub mod ViewLemmas
+pub mod TupleLemmas
 pub mod MakeLemmas
 pub mod ReadyLemmas
-pub mod BorrowLemmas
+pub mod CellLemmas

@@ -8,34 +8,36 @@ ghost use Rattle.term_core.specs.Limits.{within_limits};
 ghost use Rattle.term_core.specs.MapPairs.{are_apart};
 ghost use Rattle.mcode.specs.Machine.{map_made};
 ghost use Rattle.operand_stack.specs.Flow.{keys_at};
-ghost use Rattle.operand_stack.specs.Stack.{place_datum};
+ghost use Rattle.operand.specs.Value.{value_datum};
 
-use crate::place::Place;
 use mcode::Code;
+use operand::Value;
 use std::alloc::{AllocError, Allocator};
 use term_core::{Term, copy_all, make_list, make_map};
 
 /// What was made, where it passes no limit.
-pub fn made<'a, 'h, A: Allocator + Copy>(
+#[inline(never)]
+pub(crate) fn made<'a, 'h, A: Allocator + Copy>(
     heap: &'h A,
     term: Option<Term<A>>,
-) -> Result<Option<Place<'a, 'h, A>>, AllocError>
-    ensures { IfOk result (λ place. option_map place_datum place ≡ term) }
+) -> Result<Option<Value<'a, 'h, A>>, AllocError>
+    ensures { IfOk result (λ place. option_map value_datum place ≡ term) }
 {
     match term {
-        Some(term) => Ok(Some(Place::Made(Box::new(heap, term)?))),
+        Some(term) => Ok(Some(Value::made(heap, term)?)),
         None => Ok(None),
     }
 }
 
 /// The list of a head and a tail, none where it passes a limit.
-pub fn list_of<'a, 'h, A: Allocator + Copy>(
+#[inline(never)]
+pub(crate) fn list_of<'a, 'h, A: Allocator + Copy>(
     heap: &'h A,
-    head: Place<'a, 'h, A>,
-    tail: Place<'a, 'h, A>,
-) -> Result<Option<Place<'a, 'h, A>>, AllocError>
-    ensures { IfOk result (λ list. option_map place_datum list
-        ≡ within_limits (cons (place_datum head.entry) (place_datum tail.entry))) }
+    head: Value<'a, 'h, A>,
+    tail: Value<'a, 'h, A>,
+) -> Result<Option<Value<'a, 'h, A>>, AllocError>
+    ensures { IfOk result (λ list. option_map value_datum list
+        ≡ within_limits (cons (value_datum head.entry) (value_datum tail.entry))) }
 {
     let alloc = *heap;
     let mut elements = Vec::with_capacity(alloc, 1)?;
@@ -44,7 +46,7 @@ pub fn list_of<'a, 'h, A: Allocator + Copy>(
 }
 
 /// The elements of a proper list.
-pub fn elements_of<A: Allocator + Copy>(
+pub(crate) fn elements_of<A: Allocator + Copy>(
     alloc: A,
     list: &Term<A>,
 ) -> Result<Vec<Term<A>, A>, AllocError>
@@ -58,7 +60,8 @@ pub fn elements_of<A: Allocator + Copy>(
 }
 
 /// The keys that a constant of the code lists.
-pub fn keys_of<A: Allocator + Copy>(
+#[inline(never)]
+pub(crate) fn keys_of<A: Allocator + Copy>(
     alloc: A,
     code: &Code<A>,
     number: u16,
@@ -94,14 +97,15 @@ fn pairs_of<A: Allocator + Copy>(
 }
 
 /// The map of these keys, of which no two are the same, and as many values; none where it passes a limit.
-pub fn map_of<'a, 'h, A: Allocator + Copy>(
+#[inline(never)]
+pub(crate) fn map_of<'a, 'h, A: Allocator + Copy>(
     heap: &'h A,
     keys: Vec<Term<A>, A>,
     values: Vec<Term<A>, A>,
-) -> Result<Option<Place<'a, 'h, A>>, AllocError>
+) -> Result<Option<Value<'a, 'h, A>>, AllocError>
     requires apart { IsTrue (are_apart keys.items) }
     requires count { length keys.items ≡ length values.items }
-    ensures { IfOk result (λ map. option_map place_datum map
+    ensures { IfOk result (λ map. option_map value_datum map
         ≡ map_made keys.items values.items) }
 {
     let alloc = *heap;

@@ -1,5 +1,5 @@
 //! The places of the operand stack, and those of the slots.
-use crate::place::Place;
+use operand::Value;
 use smallvec::SmallVec;
 use std::alloc::{AllocError, Allocator};
 use std::marker::Model;
@@ -15,7 +15,7 @@ pub const INLINE_SLOTS: usize = 8;
 /// was made.
 #[derive(Drop)]
 pub struct Places<'a, 'h, const N: usize, A: Allocator> {
-    places: SmallVec<Place<'a, 'h, A>, N, &'h A>,
+    places: SmallVec<Value<'a, 'h, A>, N, &'h A>,
 }
 
 impl<'a, 'h, const N: usize, A: Allocator> Model for Places<'a, 'h, N, A> {
@@ -35,8 +35,8 @@ impl<'a, 'h, const N: usize, A: Allocator> Model for Places<'a, 'h, N, A> {
 
 impl<'a, 'h, const N: usize, A: Allocator + Copy> Places<'a, 'h, N, A> {
     ghost use Rattle.std.specs.Prelude.{◌≡◌, ◌<◌, ◌≤◌, ◌+◌, Some, false, IsTrue, IsOk, IfOk, OnOk, length, set, slice_get, map};
-    ghost use Rattle.prims.specs.Operand.{boolean};
-    ghost use Rattle.operand_stack.specs.Stack.{place_datum, is_borrowed, all};
+    ghost use Rattle.operand.specs.Operand.{boolean};
+    ghost use Rattle.operand.specs.Value.{value_datum, is_borrowed, all};
 
     /// No places.
     fn empty(heap: &'h A) -> Self
@@ -62,7 +62,7 @@ impl<'a, 'h, const N: usize, A: Allocator + Copy> Places<'a, 'h, N, A> {
         ensures borrowed { IsTrue self.old.borrowed → OnOk result (IsTrue self.new.borrowed) }
         ensures memory { length self.old.terms < N → IsOk result }
     {
-        self.places.push(Place::Bool(false))?;
+        self.places.push(Value::Bool(false))?;
         Ok(())
     }
 
@@ -80,31 +80,35 @@ impl<'a, 'h, const N: usize, A: Allocator + Copy> Places<'a, 'h, N, A> {
     }
 
     /// What asks for memory.
+    #[inline(always)]
     pub fn heap(&self) -> &'h A {
         *self.places.allocator()
     }
 
     /// What all places hold.
-    pub fn as_slice(&self) -> &[Place<'a, 'h, A>]
-        ensures terms { map place_datum result.now ≡ self.now.terms }
+    #[inline(always)]
+    pub fn as_slice(&self) -> &[Value<'a, 'h, A>]
+        ensures terms { map value_datum result.now ≡ self.now.terms }
         ensures borrowed { all is_borrowed result.now ≡ self.now.borrowed }
     {
         self.places.as_slice()
     }
 
     /// What a place holds.
-    pub fn get(&self, index: usize) -> &Place<'a, 'h, A>
+    #[inline(always)]
+    pub fn get(&self, index: usize) -> &Value<'a, 'h, A>
         requires { index < length self.now.terms }
-        ensures value { slice_get self.now.terms index ≡ Some (place_datum result.now) }
+        ensures value { slice_get self.now.terms index ≡ Some (value_datum result.now) }
         ensures borrowed { IsTrue self.now.borrowed → IsTrue (is_borrowed result.now) }
     {
         &self.places.as_slice()[index]
     }
 
     /// Puts a value in a place, where the one before goes.
-    pub fn put(&mut self, index: usize, place: Place<'a, 'h, A>)
+    #[inline(always)]
+    pub fn put(&mut self, index: usize, place: Value<'a, 'h, A>)
         requires { index < length self.old.terms }
-        ensures terms { self.new.terms ≡ set self.old.terms index (place_datum place.entry) }
+        ensures terms { self.new.terms ≡ set self.old.terms index (value_datum place.entry) }
         ensures few { length self.new.terms < 65536 }
         ensures borrowed { IsTrue self.old.borrowed → IsTrue (is_borrowed place.entry)
             → IsTrue self.new.borrowed }
@@ -116,15 +120,16 @@ impl<'a, 'h, const N: usize, A: Allocator + Copy> Places<'a, 'h, N, A> {
     }
 
     /// Takes the value of a place, which holds `false` then.
-    pub fn take(&mut self, index: usize) -> Place<'a, 'h, A>
+    #[inline(always)]
+    pub fn take(&mut self, index: usize) -> Value<'a, 'h, A>
         requires { index < length self.old.terms }
-        ensures value { slice_get self.old.terms index ≡ Some (place_datum result) }
+        ensures value { slice_get self.old.terms index ≡ Some (value_datum result) }
         ensures terms { self.new.terms ≡ set self.old.terms index (boolean false) }
         ensures borrowed { IsTrue self.old.borrowed
             → IsTrue (is_borrowed result) × IsTrue self.new.borrowed }
     {
         match self.places.get_mut(index) {
-            Some(there) => mem::replace(there, Place::Bool(false)),
+            Some(there) => mem::replace(there, Value::Bool(false)),
             None => unreachable!(),
         }
     }

@@ -8,15 +8,16 @@ ghost use Rattle.operand_stack.specs.Stack.{stack_at};
 use crate::flow::Flow;
 use crate::kinds::holds;
 use crate::made::{keys_of, list_of, made, map_of};
-use crate::place::Place;
 use crate::places::Places;
-use crate::values::{INLINE_OPERANDS, call_all, call_one, call_two, computed};
+use crate::values::{are_same, computed, field, head, tail, value_of};
 use mcode::{Code, Kind};
-use prims::{Arithmetic, Function, Primitive};
+use operand::Value;
+use prims::{Arithmetic, Function, Primitive, call_one, call_two, call_values};
 use std::alloc::{AllocError, Allocator};
 use term_core::{Term, make_tuple};
 
 /// Goes on where a test holds, else jumps, with so many places taken.
+#[inline(always)]
 fn jump_unless(holds: bool, height: u16, otherwise: u16) -> Flow
     ensures flow { (terms : List Datum) → Leads result terms
         (λ p pc slots. test_outcome p pc otherwise (stack_at terms height) slots holds) }
@@ -29,20 +30,24 @@ fn jump_unless(holds: bool, height: u16, otherwise: u16) -> Flow
     }
 }
 
+// What answers a flow is inlined into the machine's loop. What is large stands in functions of its own, which answer no flow: a loop that
+// grew too large would not be inlined, and a flow that a call answers is written to memory.
 impl<'a, 'h, const N: usize, A: Allocator + Copy> Places<'a, 'h, N, A> {
     ghost use Rattle.std.specs.Prelude.{ℕ, ◌≡◌, ◌<◌, ◌≤◌, ◌-◌, ◌+◌, ◌∷◌, Some, IsTrue, IsSome, IsOk, IsOkAnd, IfOk, OnOk, IfSome, length, take, drop, map, reverse};
     ghost use Rattle.std.specs.Option.{option_map};
-    ghost use Rattle.prims.specs.Calls.{function_of};
+    ghost use Rattle.prims.specs.Calls.{function_of, inline_operands};
     ghost use Rattle.mcode.specs.Machine.{next, push_or_jump, test_outcome};
     ghost use Rattle.mcode.specs.declared.instr.Instr.TheVariants as instr;
     ghost use Rattle.operand_stack.specs.Flow.{Leads, IsWithin, keys_at, top_holds, IsReady, Does, IsReadyAnywhere, DoesAnywhere};
-    ghost use Rattle.operand_stack.specs.Stack.{place_datum, is_borrowed, all, stack_at};
+    ghost use Rattle.operand.specs.Value.{value_datum, is_borrowed, all};
+    ghost use Rattle.operand_stack.specs.Stack.{stack_at};
 
     /// Puts a value on top of so many places, and goes on.
-    pub fn push(&mut self, height: u16, place: Place<'a, 'h, A>) -> Flow
+    #[inline(always)]
+    pub fn push(&mut self, height: u16, place: Value<'a, 'h, A>) -> Flow
         requires { height < length self.old.terms }
         ensures flow { Leads result self.new.terms (λ p pc slots.
-            next pc (place_datum place.entry ∷ stack_at self.old.terms height) slots) }
+            next pc (value_datum place.entry ∷ stack_at self.old.terms height) slots) }
         ensures within { IsWithin result (length self.old.terms) }
         ensures count { length self.new.terms ≡ length self.old.terms }
         ensures borrowed { IsTrue self.old.borrowed → IsTrue (is_borrowed place.entry)
@@ -53,16 +58,17 @@ impl<'a, 'h, const N: usize, A: Allocator + Copy> Places<'a, 'h, N, A> {
     }
 
     /// Puts a value on top of so many places and goes on where there is one, else jumps.
+    #[inline(always)]
     pub fn push_or_jump(
         &mut self,
         height: u16,
-        place: Option<Place<'a, 'h, A>>,
+        place: Option<Value<'a, 'h, A>>,
         otherwise: u16,
     ) -> Flow
         requires { height < length self.old.terms }
         ensures flow { Leads result self.new.terms (λ p pc slots.
             push_or_jump p pc otherwise (stack_at self.old.terms height) slots
-            (option_map place_datum place.entry)) }
+            (option_map value_datum place.entry)) }
         ensures within { IsWithin result (length self.old.terms) }
         ensures count { length self.new.terms ≡ length self.old.terms }
         ensures borrowed { IsTrue self.old.borrowed
@@ -75,22 +81,24 @@ impl<'a, 'h, const N: usize, A: Allocator + Copy> Places<'a, 'h, N, A> {
     }
 
     /// The top of so many places.
-    pub fn top(&self, height: u16) -> &Place<'a, 'h, A>
+    #[inline(always)]
+    pub fn top(&self, height: u16) -> &Value<'a, 'h, A>
         requires some { 0 < height }
         requires within { height ≤ length self.now.terms }
         ensures terms { stack_at self.now.terms height
-            ≡ place_datum result.now ∷ stack_at self.now.terms (height - 1) }
+            ≡ value_datum result.now ∷ stack_at self.now.terms (height - 1) }
         ensures borrowed { IsTrue self.now.borrowed → IsTrue (is_borrowed result.now) }
     {
         self.get(usize::from(height) - 1)
     }
 
     /// Takes the top of so many places.
-    pub fn pop(&mut self, height: u16) -> Place<'a, 'h, A>
+    #[inline(always)]
+    pub fn pop(&mut self, height: u16) -> Value<'a, 'h, A>
         requires some { 0 < height }
         requires within { height ≤ length self.old.terms }
         ensures terms { stack_at self.old.terms height
-            ≡ place_datum result ∷ stack_at self.new.terms (height - 1) }
+            ≡ value_datum result ∷ stack_at self.new.terms (height - 1) }
         ensures count { length self.new.terms ≡ length self.old.terms }
         ensures borrowed { IsTrue self.old.borrowed
             → IsTrue (is_borrowed result) × IsTrue self.new.borrowed }
@@ -99,10 +107,11 @@ impl<'a, 'h, const N: usize, A: Allocator + Copy> Places<'a, 'h, N, A> {
     }
 
     /// So many places at the top of so many, from the lowest.
-    fn top_places(&self, height: u16, count: u16) -> &[Place<'a, 'h, A>]
+    #[inline(always)]
+    fn top_places(&self, height: u16, count: u16) -> &[Value<'a, 'h, A>]
         requires deep { count ≤ height }
         requires within { height ≤ length self.now.terms }
-        ensures terms { map place_datum result.now
+        ensures terms { map value_datum result.now
             ≡ reverse (take count (stack_at self.now.terms height)) }
         ensures count { length result.now ≡ count }
         ensures borrowed { IsTrue self.now.borrowed → IsTrue (all is_borrowed result.now) }
@@ -112,6 +121,7 @@ impl<'a, 'h, const N: usize, A: Allocator + Copy> Places<'a, 'h, N, A> {
     }
 
     /// Pushes the top again.
+    #[inline(always)]
     pub fn duplicate(&mut self, height: u16) -> Result<Flow, AllocError>
         requires some { 0 < height }
         requires room { height < length self.old.terms }
@@ -126,6 +136,7 @@ impl<'a, 'h, const N: usize, A: Allocator + Copy> Places<'a, 'h, N, A> {
     }
 
     /// Goes on where the top, which stays, is of a kind, else jumps.
+    #[inline(always)]
     pub fn test(&self, height: u16, kind: Kind, otherwise: u16) -> Flow
         requires some { 0 < height }
         requires within { height ≤ length self.now.terms }
@@ -138,6 +149,7 @@ impl<'a, 'h, const N: usize, A: Allocator + Copy> Places<'a, 'h, N, A> {
     }
 
     /// Puts the element of a tuple in its place.
+    #[inline(always)]
     pub fn field(&mut self, height: u16, index: u16) -> Result<Flow, AllocError>
         requires some { 0 < height }
         requires within { height ≤ length self.old.terms }
@@ -148,11 +160,12 @@ impl<'a, 'h, const N: usize, A: Allocator + Copy> Places<'a, 'h, N, A> {
         ensures count { length self.new.terms ≡ length self.old.terms }
         ensures memory { IsTrue self.old.borrowed → IsOk result × IsTrue self.new.borrowed }
     {
-        let element = self.top(height).field(self.heap(), index)?;
+        let element = field(self.heap(), self.top(height), index)?;
         Ok(self.push(height - 1, element))
     }
 
     /// Puts the head of a list in its place.
+    #[inline(always)]
     pub fn head(&mut self, height: u16) -> Result<Flow, AllocError>
         requires some { 0 < height }
         requires within { height ≤ length self.old.terms }
@@ -163,11 +176,12 @@ impl<'a, 'h, const N: usize, A: Allocator + Copy> Places<'a, 'h, N, A> {
         ensures count { length self.new.terms ≡ length self.old.terms }
         ensures memory { IsTrue self.old.borrowed → IsOk result × IsTrue self.new.borrowed }
     {
-        let head = self.top(height).head(self.heap())?;
+        let head = head(self.heap(), self.top(height))?;
         Ok(self.push(height - 1, head))
     }
 
     /// Puts the tail of a list in its place.
+    #[inline(always)]
     pub fn tail(&mut self, height: u16) -> Result<Flow, AllocError>
         requires some { 0 < height }
         requires within { height ≤ length self.old.terms }
@@ -178,11 +192,12 @@ impl<'a, 'h, const N: usize, A: Allocator + Copy> Places<'a, 'h, N, A> {
         ensures count { length self.new.terms ≡ length self.old.terms }
         ensures memory { IsTrue self.old.borrowed → IsOk result × IsTrue self.new.borrowed }
     {
-        let tail = self.top(height).tail(self.heap())?;
+        let tail = tail(self.heap(), self.top(height))?;
         Ok(self.push(height - 1, tail))
     }
 
     /// Puts the value of a key in the place of a map, or jumps.
+    #[inline(always)]
     pub fn value(
         &mut self,
         code: &'a Code<A>,
@@ -201,11 +216,12 @@ impl<'a, 'h, const N: usize, A: Allocator + Copy> Places<'a, 'h, N, A> {
         ensures memory { IsTrue self.old.borrowed → IsOk result × IsTrue self.new.borrowed }
     {
         let key = &code.constants()[usize::from(key)];
-        let value = self.top(height).value_of(self.heap(), key)?;
+        let value = value_of(self.heap(), self.top(height), key)?;
         Ok(self.push_or_jump(height - 1, value, otherwise))
     }
 
     /// Takes two terms away, and jumps where they are not the same.
+    #[inline(always)]
     pub fn equal(&self, height: u16, otherwise: u16) -> Flow
         requires two { 2 ≤ height }
         requires within { height ≤ length self.now.terms }
@@ -213,12 +229,12 @@ impl<'a, 'h, const N: usize, A: Allocator + Copy> Places<'a, 'h, N, A> {
             self.now.terms }
         ensures within { IsWithin result (length self.now.terms) }
     {
-        let left = self.top(height - 1);
-        let same = left.is_same(self.top(height));
+        let same = are_same(self.top(height - 1), self.top(height));
         jump_unless(same, height - 2, otherwise)
     }
 
     /// Takes a truth value away, and jumps where it is false.
+    #[inline(always)]
     pub fn branch(&self, height: u16, otherwise: u16) -> Flow
         requires some { 0 < height }
         requires within { height ≤ length self.now.terms }
@@ -234,6 +250,7 @@ impl<'a, 'h, const N: usize, A: Allocator + Copy> Places<'a, 'h, N, A> {
     }
 
     /// Puts what a function of two integers gives in their place, or jumps.
+    #[inline(always)]
     pub fn arithmetic(&mut self, height: u16, function: Arithmetic, otherwise: u16) -> Flow
         requires two { 2 ≤ height }
         requires within { height ≤ length self.old.terms }
@@ -255,27 +272,29 @@ impl<'a, 'h, const N: usize, A: Allocator + Copy> Places<'a, 'h, N, A> {
     }
 
     /// What a function gives of so many values at the top; none where the call fails. Few borrowed ones take no memory.
+    #[inline(never)]
     fn called(
         &self,
         height: u16,
         function: Primitive,
         count: u16,
-    ) -> Result<Option<Place<'a, 'h, A>>, AllocError>
+    ) -> Result<Option<Value<'a, 'h, A>>, AllocError>
         requires deep { count ≤ height }
         requires within { height ≤ length self.now.terms }
-        ensures value { IfOk result (λ value. option_map place_datum value
+        ensures value { IfOk result (λ value. option_map value_datum value
             ≡ function_of function (reverse (take count (stack_at self.now.terms height)))) }
-        ensures memory { IsTrue self.now.borrowed → count ≤ INLINE_OPERANDS
+        ensures memory { IsTrue self.now.borrowed → count ≤ inline_operands
             → IsOkAnd result (λ value. IfSome value (λ place. IsTrue (is_borrowed place))) }
     {
         match self.top_places(height, count) {
             [one] => call_one(self.heap(), function, one),
             [left, right] => call_two(self.heap(), function, left, right),
-            places => call_all(self.heap(), function, places),
+            values => call_values(self.heap(), function, values),
         }
     }
 
     /// Puts what a function gives in the place of its arguments, or jumps.
+    #[inline(always)]
     pub fn call(
         &mut self,
         height: u16,
@@ -292,7 +311,7 @@ impl<'a, 'h, const N: usize, A: Allocator + Copy> Places<'a, 'h, N, A> {
             (stack_at self.old.terms height) flow self.new.terms) }
         ensures within { IfOk result (λ flow. IsWithin flow (length self.old.terms)) }
         ensures count { length self.new.terms ≡ length self.old.terms }
-        ensures memory { IsTrue self.old.borrowed → arguments ≤ INLINE_OPERANDS → IsOk result
+        ensures memory { IsTrue self.old.borrowed → arguments ≤ inline_operands → IsOk result
             × IsTrue self.new.borrowed }
     {
         let value = self.called(height, Primitive::Function(function), arguments)?;
@@ -300,7 +319,12 @@ impl<'a, 'h, const N: usize, A: Allocator + Copy> Places<'a, 'h, N, A> {
     }
 
     /// Takes so many values from the top as terms, and gives them from the lowest.
-    fn take_terms(&mut self, height: u16, count: u16) -> Result<Vec<Term<A>, A>, AllocError>
+    #[inline(never)]
+    pub(crate) fn take_terms(
+        &mut self,
+        height: u16,
+        count: u16,
+    ) -> Result<Vec<Term<A>, A>, AllocError>
         requires deep { count ≤ height }
         requires within { height ≤ length self.old.terms }
         ensures terms { IfOk result (λ terms. terms.items
@@ -319,6 +343,7 @@ impl<'a, 'h, const N: usize, A: Allocator + Copy> Places<'a, 'h, N, A> {
     }
 
     /// Puts a tuple in the place of its elements, or jumps.
+    #[inline(always)]
     pub fn make_tuple(&mut self, height: u16, size: u16, otherwise: u16) -> Result<Flow, AllocError>
         requires deep { size ≤ height }
         requires within { height ≤ length self.old.terms }
@@ -336,6 +361,7 @@ impl<'a, 'h, const N: usize, A: Allocator + Copy> Places<'a, 'h, N, A> {
     }
 
     /// Puts a list in the place of its head and its tail, or jumps.
+    #[inline(always)]
     pub fn make_list(&mut self, height: u16, otherwise: u16) -> Result<Flow, AllocError>
         requires two { 2 ≤ height }
         requires within { height ≤ length self.old.terms }
@@ -351,6 +377,7 @@ impl<'a, 'h, const N: usize, A: Allocator + Copy> Places<'a, 'h, N, A> {
     }
 
     /// Puts a map of the keys that a constant lists in the place of its values, or jumps.
+    #[inline(always)]
     pub fn make_map(
         &mut self,
         code: &'a Code<A>,

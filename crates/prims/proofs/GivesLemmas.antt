@@ -5,11 +5,11 @@ use Rattle.std.specs.Option.{option_map, option_and_then}
 use Rattle.std.proofs.lemmas.Option.{none-some, same_Some}
 use Rattle.term_core.specs.Datum.{Datum}
 use Rattle.term_core.specs.Datum.Datum.{integer}
-use Rattle.prims.specs.Operand.{boolean, operand_datum}
+use Rattle.operand.specs.Operand.{boolean, operand_datum, integer_of}
 use Rattle.prims.specs.Kinds.{test_of}
 use Rattle.prims.specs.Booleans.{boolean_function_of}
 use Rattle.prims.specs.Order.{comparison_of}
-use Rattle.prims.specs.Integers.{integer_of, integer_function_of, arithmetic_of}
+use Rattle.prims.specs.Integers.{integer_function_of, arithmetic_of}
 use Rattle.prims.specs.Tuples.{is_record_of}
 use Rattle.prims.specs.Lists.{length_of}
 use Rattle.prims.specs.Maps.{is_map_key_of, map_size_of}
@@ -17,7 +17,7 @@ use Rattle.prims.specs.Sizes.{size_of}
 use Rattle.prims.specs.Calls.{at_integers, unary_of, binary_of, ternary_of, value_of_function, value_of_arithmetic, function_of}
 use Rattle.prims.specs.Gives.{gives_of, IsGiven}
 use Rattle.prims.specs.declared.gives.Gives.TheVariants as gives
-use Rattle.prims.specs.declared.operand.Operand.{Operand}
+use Rattle.operand.specs.declared.operand.Operand.{Operand}
 use Rattle.prims.specs.declared.prim.Primitive.{Primitive}
 use Rattle.prims.specs.declared.prim.Primitive.TheVariants as prim
 use Rattle.prims.specs.declared.prim.Function.{Function}

@@ -1,19 +1,10 @@
 -- Functions of the atoms true and false (Erlang Reference Manual, "Expressions", "Boolean Expressions").
-use Rattle.std.specs.Prelude.{Bool, true, false, not, ◌&&◌, ◌||◌, if◌then◌else◌, Option, Some, None, List, [], ◌∷◌, nat_eq, codes}
+use Rattle.std.specs.Prelude.{Bool, true, false, not, ◌&&◌, ◌||◌, Option, Some, None, List, [], ◌∷◌}
 use Rattle.std.specs.Option.{option_map}
-use Rattle.std.specs.Cmp.Lexicographic.{pointwise}
 use Rattle.term_core.specs.Datum.{Datum}
-use Rattle.term_core.specs.Datum.Datum.{atom}
+use Rattle.operand.specs.Operand.{boolean_of}
 use Rattle.prims.specs.declared.prim.BooleanFunction.{BooleanFunction}
 use Rattle.prims.specs.declared.prim.BooleanFunction.TheVariants.{Not, And, Or, Xor}
-
--- the truth value that an atom is, none of any other term
-abbrev pub boolean_of : Datum → Option Bool
-boolean_of (atom cs) =
-    if pointwise nat_eq cs (codes "true") then Some true
-    else if pointwise nat_eq cs (codes "false") then Some false
-    else None
-boolean_of d = None
 
 -- two truth values taken together, where both are there
 abbrev pub both : (Bool → Bool → Bool) → Option Bool → Option Bool → Option Bool

@@ -1,14 +1,14 @@
 -- What each function gives: a partial function on lists of terms, none where the call fails (ERTS User's
 -- Guide, "Match Specifications in Erlang"; Erlang Reference Manual, module erlang).
-use Rattle.std.specs.Prelude.{ℤ, List, [], ◌∷◌, Option, Some, None}
+use Rattle.std.specs.Prelude.{ℕ, ℤ, List, [], ◌∷◌, Option, Some, None}
 use Rattle.std.specs.Option.{option_map, option_and_then}
 use Rattle.term_core.specs.Datum.{Datum}
 use Rattle.term_core.specs.Datum.Datum.{integer}
-use Rattle.prims.specs.Operand.{boolean}
+use Rattle.operand.specs.Operand.{boolean, integer_of}
 use Rattle.prims.specs.Kinds.{test_of}
 use Rattle.prims.specs.Booleans.{boolean_function_of}
 use Rattle.prims.specs.Order.{comparison_of, extreme_of}
-use Rattle.prims.specs.Integers.{integer_of, integer_function_of, arithmetic_of}
+use Rattle.prims.specs.Integers.{integer_function_of, arithmetic_of}
 use Rattle.prims.specs.Tuples.{element_of, is_record_of}
 use Rattle.prims.specs.Lists.{head_of, tail_behind, length_of}
 use Rattle.prims.specs.Maps.{is_map_key_of, map_get_of, map_size_of}
@@ -72,3 +72,7 @@ value_of_arithmetic arithmetic ds = None
 abbrev pub function_of : Primitive → List Datum → Option Datum
 function_of (prim.Arithmetic arithmetic) ds = value_of_arithmetic arithmetic ds
 function_of (prim.Function f) ds = value_of_function f ds
+
+-- so many borrowed values are handed to a function without memory
+abbrev pub inline_operands : ℕ
+inline_operands = 16

@@ -2,7 +2,7 @@
 use Rattle.std.specs.Prelude.{◌≡◌, Bool, ℤ}
 use Rattle.term_core.specs.Datum.{Datum}
 use Rattle.term_core.specs.Datum.Datum.{integer}
-use Rattle.prims.specs.Operand.{boolean}
+use Rattle.operand.specs.Operand.{boolean}
 use Rattle.prims.specs.declared.gives.Gives.{Gives}
 use Rattle.prims.specs.declared.gives.Gives.TheVariants.{Boolean, Integer, Any}
 use Rattle.prims.specs.declared.prim.Primitive.{Primitive}

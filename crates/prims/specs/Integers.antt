@@ -1,19 +1,12 @@
 -- Functions of integers (Erlang Reference Manual, "Expressions", "Arithmetic Expressions"; module erlang).
 use Rattle.std.specs.Prelude.{zero, ℤ, pos, neg_ℤ, ◌+ℤ◌, ◌-ℤ◌, ◌*ℤ◌, int_div, int_rem, unsigned_abs, Option, Some, None}
 use Rattle.std.specs.Int.{w64, int_bit_and, int_bit_or, int_bit_xor}
-use Rattle.term_core.specs.Datum.{Datum}
-use Rattle.term_core.specs.Datum.Datum.{integer}
 use Rattle.prims.specs.declared.prim.IntegerFunction.{IntegerFunction}
 use Rattle.prims.specs.declared.prim.IntegerFunction.TheVariants.{Abs, Round, Trunc, Plus, Negate, Bnot}
 use Rattle.prims.specs.declared.prim.Arithmetic.{Arithmetic}
 use Rattle.prims.specs.declared.prim.Arithmetic.TheVariants.{Add, Subtract, Multiply, Div, Rem, Band, Bor, Bxor, Bsl, Bsr}
 use Rattle.prims.specs.Shifts.{shift_left, shift_right}
 use Rattle.prims.specs.Fitting.{fitting}
-
--- the number that an integer is, none of any other term
-abbrev pub integer_of : Datum → Option ℤ
-integer_of (integer z) = Some z
-integer_of d = None
 
 -- what a function of one integer gives
 abbrev pub integer_function_of : IntegerFunction → ℤ → Option ℤ

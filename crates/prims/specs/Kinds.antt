@@ -2,7 +2,7 @@
 use Rattle.std.specs.Prelude.{Bool, true, false, is_some}
 use Rattle.term_core.specs.Datum.{Datum}
 use Rattle.term_core.specs.Datum.Datum.{integer, atom, tuple, map, nil, cons, binary}
-use Rattle.prims.specs.Booleans.{boolean_of}
+use Rattle.operand.specs.Operand.{boolean_of}
 use Rattle.prims.specs.declared.prim.Test.{Test}
 use Rattle.prims.specs.declared.prim.Test.TheVariants.{IsAtom, IsInteger, IsList, IsNumber, IsTuple, IsMap, IsBinary, IsBitstring, IsBoolean}
 

@@ -1,5 +1,3 @@
-pub mod View
-pub mod Operand
 pub mod Kinds
 pub mod Booleans
 pub mod Order
@@ -16,4 +14,3 @@ pub mod Numbers
 pub mod PrimitiveCode
 pub mod Gives
 pub mod Bits
-pub mod Value

@@ -3,16 +3,11 @@ use Rattle.std.specs.Prelude.{Bool, if◌then◌else◌}
 use Rattle.std.specs.declared.cmp.Ordering.{Ordering}
 use Rattle.std.specs.Ordering.{is_eq, is_ne, is_lt, is_gt, is_le, is_ge}
 use Rattle.term_core.specs.Datum.{Datum}
-use Rattle.term_core.specs.Datum.Datum.{tuple, map, cons, binary}
 use Rattle.term_core.specs.Order.{datum_cmp}
 use Rattle.prims.specs.declared.prim.Comparison.{Comparison}
 use Rattle.prims.specs.declared.prim.Comparison.TheVariants.{Greater, GreaterOrEqual, Less, LessOrEqual, ExactlyEqual, ExactlyUnequal, Equal, Unequal}
 use Rattle.prims.specs.declared.prim.Extreme.{Extreme}
 use Rattle.prims.specs.declared.prim.Extreme.TheVariants.{Max, Min}
-
--- the same term
-abbrev pub is_same : Datum → Datum → Bool
-is_same d e = is_eq (datum_cmp d e)
 
 -- how the first term has to stand to the second
 abbrev pub allows : Comparison → Ordering → Bool
@@ -33,23 +28,3 @@ comparison_of comparison d e = allows comparison (datum_cmp d e)
 abbrev pub extreme_of : Extreme → Datum → Datum → Datum
 extreme_of Max d e = if is_lt (datum_cmp d e) then e else d
 extreme_of Min d e = if is_gt (datum_cmp d e) then e else d
-
--- not both are lists with elements
-abbrev pub AreEnds : Datum → Datum → Type 0
-AreEnds (cons head tail) (cons head' tail') = ⊥
-AreEnds d e = Unit {0}
-
--- neither a tuple, a map nor a binary
-abbrev pub IsSimple : Datum → Type 0
-IsSimple (tuple ds) = ⊥
-IsSimple (map es) = ⊥
-IsSimple (binary bs) = ⊥
-IsSimple d = Unit {0}
-
--- where both are of one kind, they are integers, atoms or []
-abbrev pub AreDecided : Datum → Datum → Type 0
-AreDecided (tuple ds) (tuple es) = ⊥
-AreDecided (map ds) (map es) = ⊥
-AreDecided (cons head tail) (cons head' tail') = ⊥
-AreDecided (binary bs) (binary cs) = ⊥
-AreDecided d e = Unit {0}

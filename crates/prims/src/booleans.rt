@@ -1,10 +1,10 @@
 //! Functions of the atoms `true` and `false`.
 ghost use Rattle.std.specs.Prelude.{◌≡◌, map};
-ghost use Rattle.prims.specs.Operand.{operand_datum};
+ghost use Rattle.operand.specs.Operand.{operand_datum};
 ghost use Rattle.prims.specs.Booleans.{all_of, any_of, boolean_function_of};
 
-use crate::operand::Operand;
 use crate::prim::BooleanFunction;
+use operand::Operand;
 use std::alloc::Allocator;
 
 /// Whether all operands are `true`, where all are booleans.

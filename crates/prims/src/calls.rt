@@ -1,14 +1,14 @@
 //! Calls of functions.
-ghost use Rattle.std.specs.Prelude.{◌≡◌, map, IfSome};
+ghost use Rattle.std.specs.Prelude.{◌≡◌, ◌∷◌, [], map, IfSome};
 ghost use Rattle.std.specs.Option.{option_map};
-ghost use Rattle.prims.specs.Operand.{operand_datum};
+ghost use Rattle.operand.specs.Operand.{operand_datum, integer_of};
 ghost use Rattle.prims.specs.Gives.{gives_of, IsGiven};
-ghost use Rattle.prims.specs.Integers.{integer_of, arithmetic_of};
+ghost use Rattle.prims.specs.Integers.{arithmetic_of};
 ghost use Rattle.prims.specs.Calls.{at_integers, unary_of, binary_of, ternary_of, value_of_function, value_of_arithmetic, function_of};
 
-use crate::operand::Operand;
 use crate::prim::{Arithmetic, Function, ListFunction, MapFunction, Primitive, TupleFunction};
 use crate::{booleans, integers, kinds, lists, maps, order, sizes, tuples};
+use operand::Operand;
 use std::alloc::Allocator;
 
 /// What a function of one argument gives.
@@ -32,6 +32,7 @@ fn of_one<'a, A: Allocator>(function: Function, operand: Operand<'a, A>) -> Opti
 }
 
 /// What a function of two integers gives, none where an operand is no integer.
+#[inline(always)]
 fn at_integers<A: Allocator>(
     function: Arithmetic,
     left: Operand<'_, A>,
@@ -40,10 +41,11 @@ fn at_integers<A: Allocator>(
     ensures { result ≡ at_integers (arithmetic_of function) (integer_of (operand_datum left.entry))
         (integer_of (operand_datum right.entry)) }
 {
-    integers::of_two(function, left.integer()?, right.integer()?)
+    integers::compute(function, left.integer()?, right.integer()?)
 }
 
 /// What a function of two arguments gives.
+#[inline(always)]
 fn of_two<'a, A: Allocator>(
     function: Function,
     left: Operand<'a, A>,
@@ -88,6 +90,7 @@ fn of_three<'a, A: Allocator>(
 }
 
 /// What a function but those of two integers gives.
+#[inline(always)]
 fn of_any<'a, A: Allocator>(
     function: Function,
     operands: &[Operand<'a, A>],
@@ -107,6 +110,7 @@ fn of_any<'a, A: Allocator>(
 }
 
 /// What a function of two integers gives.
+#[inline(always)]
 fn of_integers<'a, A: Allocator>(
     function: Arithmetic,
     operands: &[Operand<'a, A>],
@@ -120,10 +124,48 @@ fn of_integers<'a, A: Allocator>(
     }
 }
 
+/// What the function gives for one operand, as `call` of a slice of it does.
+#[inline(always)]
+pub fn call_unary<'a, A: Allocator>(
+    prim: Primitive,
+    operand: Operand<'a, A>,
+) -> Option<Operand<'a, A>>
+    ensures { option_map operand_datum result
+        ≡ function_of prim (operand_datum operand.entry ∷ []) }
+{
+    match prim {
+        Primitive::Arithmetic(_) => None,
+        Primitive::Function(Function::Boolean(function)) => {
+            Some(Operand::Bool(booleans::call(function, &[operand])?))
+        }
+        Primitive::Function(function) => of_one(function, operand),
+    }
+}
+
+/// What the function gives for two operands, as `call` of a slice of them does.
+#[inline(always)]
+pub fn call_binary<'a, A: Allocator>(
+    prim: Primitive,
+    left: Operand<'a, A>,
+    right: Operand<'a, A>,
+) -> Option<Operand<'a, A>>
+    ensures { option_map operand_datum result
+        ≡ function_of prim (operand_datum left.entry ∷ operand_datum right.entry ∷ []) }
+{
+    match prim {
+        Primitive::Arithmetic(function) => Some(Operand::Int(at_integers(function, left, right)?)),
+        Primitive::Function(Function::Boolean(function)) => {
+            Some(Operand::Bool(booleans::call(function, &[left, right])?))
+        }
+        Primitive::Function(function) => of_two(function, left, right),
+    }
+}
+
 /// What the function gives for these operands, none where the call fails: where an operand is of the wrong kind, their
 /// number is another, or the result is an integer outside 64 bits. (ERTS User's Guide, "Match Specifications in
 /// Erlang".) Takes no memory.
 #[tactic(auto, using(crate::proofs::GivesLemmas::given_result))]
+#[inline(always)]
 pub fn call<'a, A: Allocator>(
     prim: Primitive,
     operands: &[Operand<'a, A>],

@@ -19,7 +19,7 @@ pub(crate) fn of_one(function: IntegerFunction, value: i64) -> Option<i64>
 }
 
 /// What the function gives, none where that is outside 64 bits or the divisor is 0.
-pub(crate) fn of_two(function: Arithmetic, left: i64, right: i64) -> Option<i64>
+pub fn compute(function: Arithmetic, left: i64, right: i64) -> Option<i64>
     ensures { result ≡ arithmetic_of function left right }
 {
     match function {

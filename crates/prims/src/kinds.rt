@@ -1,11 +1,10 @@
 //! Tests of a term for its kind.
 ghost use Rattle.std.specs.Prelude.{◌≡◌};
-ghost use Rattle.prims.specs.Operand.{operand_datum};
+ghost use Rattle.operand.specs.Operand.{operand_datum};
 ghost use Rattle.prims.specs.Kinds.{test_of};
 
-use crate::operand::Operand;
 use crate::prim::Test;
-use crate::view::View;
+use operand::{Operand, View};
 use std::alloc::Allocator;
 
 /// Whether the operand is of the kind.

@@ -8,10 +8,9 @@
 //! - `prim`: which functions there are, in families; `names`: their names and numbers of arguments;
 //!   `numbers`: the numbers by which instructions name them;
 //!   `gives`: the kind of term that each gives.
-//! - `operand`: what a function is given and gives; `view`: an operand taken apart.
 //! - `kinds`, `booleans`, `order`, `integers`, `shifts`, `tuples`, `lists`, `maps`, `sizes`: a family
 //!   each. `calls`: which family a function is of.
-//! - `value`: what a function is given and gives where some of it was made, and calls over such values.
+//! - `values`: calls over values, of which some may have been made.
 #![tactic(auto)]
 
 mod bits;
@@ -24,20 +23,19 @@ mod lists;
 mod maps;
 mod names;
 mod numbers;
-mod operand;
 mod order;
 mod prim;
 mod shifts;
 mod sizes;
 mod tuples;
-mod value;
-mod view;
+mod values;
 
-pub use calls::call;
+pub use calls::{call, call_binary, call_unary};
 pub use gives::Gives;
-pub use operand::Operand;
+pub use integers::compute;
+pub use maps::find_value;
 pub use prim::{
     Arithmetic, BooleanFunction, Comparison, Extreme, Function, IntegerFunction, ListFunction,
     MapFunction, Primitive, SizeFunction, Test, TupleFunction,
 };
-pub use value::{MAX_INLINE, Value, call_values};
+pub use values::{INLINE_OPERANDS, call_one, call_two, call_values};

@@ -1,11 +1,10 @@
 //! Functions of lists.
 ghost use Rattle.std.specs.Prelude.{◌≡◌};
 ghost use Rattle.std.specs.Option.{option_copied, option_map};
-ghost use Rattle.prims.specs.Operand.{operand_datum};
+ghost use Rattle.operand.specs.Operand.{operand_datum};
 ghost use Rattle.prims.specs.Lists.{head_of, tail_behind, length_of};
 
-use crate::operand::Operand;
-use crate::view::View;
+use operand::{Operand, View};
 use std::alloc::Allocator;
 use term_core::Term;
 

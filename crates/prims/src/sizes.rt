@@ -2,13 +2,12 @@
 ghost use Rattle.std.specs.Prelude.{◌≡◌, ◌≤◌, length, pos};
 ghost use Rattle.term_core.specs.Datum.{item_count, items_of};
 ghost use Rattle.term_core.specs.Datum.Datum.{tuple, binary};
-ghost use Rattle.prims.specs.Operand.{operand_datum};
+ghost use Rattle.operand.specs.Operand.{operand_datum};
 ghost use Rattle.prims.specs.Sizes.{size_of};
 
-use crate::operand::Operand;
 use crate::prim::SizeFunction;
 use crate::tuples::element_count;
-use crate::view::View;
+use operand::{Operand, View};
 use std::alloc::Allocator;
 use term_core::{MAX_BINARY, MAX_TUPLE, Term};
 

@@ -5,7 +5,7 @@ use crate::instr::instructions;
 use mcode::{Builder, Code, Fault, Frame, Instr};
 use row_terms::{elements, fields, is_atom, number, short};
 use std::alloc::Allocator;
-use term_core::Term;
+use term_core::{Term, copy_all};
 
 /// The parts of code.
 #[derive(Drop)]
@@ -53,19 +53,25 @@ enum Stop {
     Wrong,
 }
 
-/// The constants that a term says.
-fn constants<A: Allocator + Copy>(heap: A, term: &Term<A>) -> Option<Vec<Term<A>, A>> {
+/// So many times a constant.
+fn repeated<A: Allocator + Copy>(
+    heap: A,
+    count: u32,
+    constant: &Term<A>,
+) -> Option<Vec<Term<A>, A>> {
     let mut out = Vec::new(heap);
-    if let Some([count, constant]) = fields(term) {
-        for _ in 0..number(count)? {
-            out.push(constant.copy(heap).ok()?).ok()?;
-        }
-        return Some(out);
-    }
-    for constant in elements(term)? {
+    for _ in 0..count {
         out.push(constant.copy(heap).ok()?).ok()?;
     }
     Some(out)
+}
+
+/// The constants that a term says.
+fn constants<A: Allocator + Copy>(heap: A, term: &Term<A>) -> Option<Vec<Term<A>, A>> {
+    match fields(term) {
+        Some([count, constant]) => repeated(heap, number(count)?, constant),
+        _ => copy_all(heap, elements(term)?).ok(),
+    }
 }
 
 /// The parts of code that a term says.
@@ -76,10 +82,13 @@ pub fn parts_of<A: Allocator + Copy>(heap: A, term: &Term<A>) -> Option<Parts<A>
     if !is_atom(code, "code") {
         return None;
     }
+    let slots = short(slots)?;
+    let instructions = instructions(heap, listed)?;
+    let constants = constants(heap, fixed)?;
     Some(Parts {
-        slots: short(slots)?,
-        constants: constants(heap, fixed)?,
-        instructions: instructions(heap, listed)?,
+        slots,
+        constants,
+        instructions,
         frames: frames(heap, framed)?,
     })
 }
@@ -101,23 +110,37 @@ fn is_at<A: Allocator>(terms: &[Term<A>], place: usize, term: &Term<A>) -> bool 
     }
 }
 
+/// Whether what was taken has the number that its place says.
+fn check_number(number: u16, place: usize) -> Result<(), Stop> {
+    if usize::from(number) == place {
+        Ok(())
+    } else {
+        Err(Stop::Wrong)
+    }
+}
+
+fn add_constant<A: Allocator>(
+    builder: &mut Builder<A>,
+    place: usize,
+    constant: Term<A>,
+    wanted: &[Term<A>],
+) -> Result<(), Stop> {
+    match builder.constant(constant) {
+        Ok(number) => check_number(number, place),
+        Err(refused) => {
+            let is_whole = is_at(wanted, place, &refused.value);
+            Err(stop_at(Part::Constant, refused.fault, is_whole))
+        }
+    }
+}
+
 fn add_constants<A: Allocator>(
     builder: &mut Builder<A>,
     given: Vec<Term<A>, A>,
     wanted: &[Term<A>],
 ) -> Result<(), Stop> {
     for (place, constant) in given.into_iter().enumerate() {
-        match builder.constant(constant) {
-            Ok(number) => {
-                if usize::from(number) != place {
-                    return Err(Stop::Wrong);
-                }
-            }
-            Err(refused) => {
-                let is_whole = is_at(wanted, place, &refused.value);
-                return Err(stop_at(Part::Constant, refused.fault, is_whole));
-            }
-        }
+        add_constant(builder, place, constant, wanted)?;
     }
     Ok(())
 }
@@ -125,11 +148,7 @@ fn add_constants<A: Allocator>(
 fn add_instructions<A: Allocator>(builder: &mut Builder<A>, given: &[Instr]) -> Result<(), Stop> {
     for (place, instr) in given.iter().enumerate() {
         match builder.instr(*instr) {
-            Ok(number) => {
-                if usize::from(number) != place {
-                    return Err(Stop::Wrong);
-                }
-            }
+            Ok(number) => check_number(number, place)?,
             Err(fault) => return Err(stop_at(Part::Instruction, fault, true)),
         }
     }
@@ -144,16 +163,28 @@ fn is_frame_at<A: Allocator>(frames: &[Frame<A>], place: usize, frame: &Frame<A>
     }
 }
 
+fn add_frame<A: Allocator>(
+    builder: &mut Builder<A>,
+    place: usize,
+    frame: Frame<A>,
+    wanted: &[Frame<A>],
+) -> Result<(), Stop> {
+    match builder.frame(frame) {
+        Ok(()) => Ok(()),
+        Err(refused) => {
+            let is_whole = is_frame_at(wanted, place, &refused.value);
+            Err(stop_at(Part::Frame, refused.fault, is_whole))
+        }
+    }
+}
+
 fn add_frames<A: Allocator>(
     builder: &mut Builder<A>,
     given: Vec<Frame<A>, A>,
     wanted: &[Frame<A>],
 ) -> Result<(), Stop> {
     for (place, frame) in given.into_iter().enumerate() {
-        if let Err(refused) = builder.frame(frame) {
-            let is_whole = is_frame_at(wanted, place, &refused.value);
-            return Err(stop_at(Part::Frame, refused.fault, is_whole));
-        }
+        add_frame(builder, place, frame, wanted)?;
     }
     Ok(())
 }

@@ -7,31 +7,31 @@ use row_terms::{elements, fields, is_atom, number, short};
 use std::alloc::Allocator;
 use term_core::Term;
 
-/// The kind that a term says.
-fn kind<A: Allocator>(term: &Term<A>) -> Option<Kind> {
-    if let Some([tuple, size]) = fields(term) {
-        return if is_atom(tuple, "tuple") {
-            Some(Kind::Tuple(short(size)?))
-        } else {
-            None
-        };
-    }
-    if is_atom(term, "any") {
-        return Some(Kind::Any);
-    }
-    if is_atom(term, "int") {
-        return Some(Kind::Int);
-    }
-    if is_atom(term, "bool") {
-        return Some(Kind::Bool);
-    }
-    if is_atom(term, "cons") {
-        return Some(Kind::Cons);
-    }
-    if is_atom(term, "map") {
-        return Some(Kind::Map);
+/// The kinds that are named by a word.
+const KINDS: [(&str, Kind); 5] = [
+    ("any", Kind::Any),
+    ("int", Kind::Int),
+    ("bool", Kind::Bool),
+    ("cons", Kind::Cons),
+    ("map", Kind::Map),
+];
+
+/// The one of these kinds that a term names.
+fn named<A: Allocator>(kinds: &[(&str, Kind)], term: &Term<A>) -> Option<Kind> {
+    for (name, kind) in kinds {
+        if is_atom(term, name) {
+            return Some(*kind);
+        }
     }
     None
+}
+
+/// The kind that a term says.
+fn kind<A: Allocator>(term: &Term<A>) -> Option<Kind> {
+    match fields(term) {
+        Some([tuple, size]) if is_atom(tuple, "tuple") => Some(Kind::Tuple(short(size)?)),
+        _ => named(&KINDS, term),
+    }
 }
 
 /// Adds so many places of one kind, from the first on.
@@ -47,17 +47,20 @@ fn push_places<A: Allocator>(
     Some(())
 }
 
+/// Adds what a member of a list of places says.
+fn push_member<A: Allocator>(out: &mut Vec<(u16, Kind), A>, member: &[Term<A>]) -> Option<()> {
+    match member {
+        [place, named] => out.push((short(place)?, kind(named)?)).ok(),
+        [first, count, named] => push_places(out, number(first)?, number(count)?, kind(named)?),
+        _ => None,
+    }
+}
+
 /// The places that a list says.
 fn places<A: Allocator + Copy>(heap: A, list: &Term<A>) -> Option<Vec<(u16, Kind), A>> {
     let mut out = Vec::new(heap);
-    for term in elements(list)? {
-        match fields(term)? {
-            [place, named] => out.push((short(place)?, kind(named)?)).ok()?,
-            [first, count, named] => {
-                push_places(&mut out, number(first)?, number(count)?, kind(named)?)?;
-            }
-            _ => return None,
-        }
+    for member in elements(list)? {
+        push_member(&mut out, fields(member)?)?;
     }
     Some(out)
 }
@@ -70,14 +73,20 @@ fn push_slots<A: Allocator>(out: &mut Vec<u8, A>, first: u32, count: u32) -> Opt
     Some(())
 }
 
+/// The first slot that a member of a list of slots says, and how many there are.
+fn slot_range<A: Allocator>(member: &Term<A>) -> Option<(u32, u32)> {
+    match fields(member) {
+        Some([first, count]) => Some((number(first)?, number(count)?)),
+        _ => Some((number(member)?, 1)),
+    }
+}
+
 /// The slots that a list says.
 fn slots<A: Allocator + Copy>(heap: A, list: &Term<A>) -> Option<Vec<u8, A>> {
     let mut out = Vec::new(heap);
-    for term in elements(list)? {
-        match fields(term) {
-            Some([first, count]) => push_slots(&mut out, number(first)?, number(count)?)?,
-            _ => push_slots(&mut out, number(term)?, 1)?,
-        }
+    for member in elements(list)? {
+        let (first, count) = slot_range(member)?;
+        push_slots(&mut out, first, count)?;
     }
     Some(out)
 }
@@ -105,6 +114,23 @@ fn push_bare<A: Allocator + Copy>(
     Some(())
 }
 
+/// The frame at an instruction, of a depth, of the places and slots that these lists say.
+fn frame<A: Allocator + Copy>(
+    heap: A,
+    pc: u16,
+    depth: u16,
+    placed: &Term<A>,
+    bound: &Term<A>,
+) -> Option<Frame<A>> {
+    let places = places(heap, placed)?;
+    Some(Frame {
+        pc,
+        depth,
+        places: Places::new(places),
+        slots: Slots::new(slots(heap, bound)?),
+    })
+}
+
 /// Adds what a member of a list of frames says.
 fn push_frame<A: Allocator + Copy>(
     heap: A,
@@ -114,12 +140,7 @@ fn push_frame<A: Allocator + Copy>(
     match member {
         [first, count] => push_bare(heap, out, number(first)?, number(count)?),
         [pc, depth, placed, bound] => {
-            let frame = Frame {
-                pc: short(pc)?,
-                depth: short(depth)?,
-                places: Places::new(places(heap, placed)?),
-                slots: Slots::new(slots(heap, bound)?),
-            };
+            let frame = frame(heap, short(pc)?, short(depth)?, placed, bound)?;
             out.push(frame).ok()
         }
         _ => None,

@@ -68,42 +68,45 @@ fn with_two(name: &str, operand: u16, otherwise: u16) -> Option<Instr> {
     }
 }
 
-/// The instruction of a name and operands.
+/// The instruction that computes the function of a name, of two integers.
+fn arith<A: Allocator>(named: &Term<A>, otherwise: u16) -> Option<Instr> {
+    Some(Instr::Arith {
+        function: arithmetic(named)?,
+        otherwise,
+    })
+}
+
+/// The instruction that calls the function of a name.
+fn call<A: Allocator>(named: &Term<A>, arguments: u16, otherwise: u16) -> Option<Instr> {
+    Some(Instr::Call {
+        function: function(named)?,
+        arguments,
+        otherwise,
+    })
+}
+
+/// The instruction of a name and operands. The last of several says where it jumps to.
 fn with_operands<A: Allocator>(name: &str, operands: &[Term<A>]) -> Option<Instr> {
+    let last = short(operands.last()?)?;
     match operands {
-        [operand] => with_one(name, short(operand)?),
-        [operand, otherwise] => {
-            if name == "arith" {
-                Some(Instr::Arith {
-                    function: arithmetic(operand)?,
-                    otherwise: short(otherwise)?,
-                })
-            } else {
-                with_two(name, short(operand)?, short(otherwise)?)
-            }
-        }
-        [called, arguments, otherwise] => {
-            if name == "call" {
-                Some(Instr::Call {
-                    function: function(called)?,
-                    arguments: short(arguments)?,
-                    otherwise: short(otherwise)?,
-                })
-            } else {
-                None
-            }
-        }
+        [_] => with_one(name, last),
+        [named, _] if name == "arith" => arith(named, last),
+        [operand, _] => with_two(name, short(operand)?, last),
+        [named, arguments, _] if name == "call" => call(named, short(arguments)?, last),
         _ => None,
     }
+}
+
+/// The instruction that a tuple of a name and operands says.
+fn of_fields<A: Allocator + Copy>(heap: A, fields: &[Term<A>]) -> Option<Instr> {
+    let (first, operands) = fields.split_first()?;
+    with_operands(name(heap, first)?.as_str(), operands)
 }
 
 /// The instruction that a term says.
 pub fn instruction<A: Allocator + Copy>(heap: A, term: &Term<A>) -> Option<Instr> {
     match fields(term) {
-        Some(fields) => {
-            let (first, operands) = fields.split_first()?;
-            with_operands(name(heap, first)?.as_str(), operands)
-        }
+        Some(fields) => of_fields(heap, fields),
         None => bare(name(heap, term)?.as_str()),
     }
 }
@@ -125,32 +128,35 @@ fn push_repeated<A: Allocator + Copy>(
     heap: A,
     out: &mut Vec<Instr, A>,
     count: u32,
-    unit: &[Term<A>],
+    unit: &Term<A>,
 ) -> Option<()> {
     let mut instructions = Vec::new(heap);
-    push_all(heap, &mut instructions, unit)?;
+    push_all(heap, &mut instructions, elements(unit)?)?;
     for _ in 0..count {
         out.extend_from_slice(instructions.as_slice()).ok()?;
     }
     Some(())
 }
 
-/// How often which instructions are meant, where a term stands for a repetition.
-fn repetition<A: Allocator>(term: &Term<A>) -> Option<(u32, &[Term<A>])> {
-    match fields(term)? {
-        [count, unit] => Some((number(count)?, elements(unit)?)),
-        _ => None,
+/// Adds what a member of a list of instructions says.
+fn push_member<A: Allocator + Copy>(
+    heap: A,
+    out: &mut Vec<Instr, A>,
+    member: &Term<A>,
+) -> Option<()> {
+    if let Some([count, unit]) = fields(member)
+        && let Some(count) = number(count)
+    {
+        return push_repeated(heap, out, count, unit);
     }
+    out.push(instruction(heap, member)?).ok()
 }
 
 /// The instructions that a list says.
 pub fn instructions<A: Allocator + Copy>(heap: A, list: &Term<A>) -> Option<Vec<Instr, A>> {
     let mut out = Vec::new(heap);
-    for term in elements(list)? {
-        match repetition(term) {
-            Some((count, unit)) => push_repeated(heap, &mut out, count, unit)?,
-            None => out.push(instruction(heap, term)?).ok()?,
-        }
+    for member in elements(list)? {
+        push_member(heap, &mut out, member)?;
     }
     Some(out)
 }

@@ -3,7 +3,7 @@
 //! What is read from a row is generic in the allocator, so that a test may refuse memory meanwhile.
 //!
 //! - `rows`: the rows of a text, judged by what a program says comes of each; `tally`: how many there were of each kind;
-//!   `outcome`: what came, as a text.
+//!   `outcome`: what came, as a text that is put together.
 //! - `parts`: names, numbers and lists in a row; `texts`: a text, in pieces that may be repeated.
 //! - `functions`: a function by its name.
 //! - `sweeps`: calls with each request for memory refused in turn.
@@ -18,7 +18,9 @@ mod tally;
 mod texts;
 
 pub use functions::{arithmetic, function, primitive};
-pub use outcome::{canonical, listed, tagged, word, written};
+pub use outcome::{
+    Outcome, canonical, digits, listed, numbered, tagged, truth_name, word, written,
+};
 pub use parts::{elements, fields, is_atom, name, number, short};
 pub use rows::{Kinds, judge_streams};
 pub use sweeps::{Calls, swept};

@@ -47,6 +47,12 @@ fn kind_of(alloc: Global, row: &Term) -> Option<String> {
     name(alloc, fields(row)?.first()?)
 }
 
+/// What a row has behind its kind.
+fn parts_of(row: &Term) -> Option<&[Term]> {
+    let (_kind, parts) = fields(row)?.split_first()?;
+    Some(parts)
+}
+
 /// The text that the last element of a row wants.
 fn wanted<K: Kinds>(alloc: Global, kind: &str, last: &Term) -> Option<Vec<u8>> {
     if K::wants_text(kind) {
@@ -56,23 +62,35 @@ fn wanted<K: Kinds>(alloc: Global, kind: &str, last: &Term) -> Option<Vec<u8>> {
     }
 }
 
+/// The first that comes of a row in its forms and isn't what is wanted, if any.
+fn other_than<K: Kinds>(
+    alloc: Global,
+    kind: &str,
+    parts: &[Term],
+    wanted: &[u8],
+) -> Option<Option<Vec<u8>>> {
+    for forms in 0..K::forms(kind) {
+        let came = K::came(alloc, kind, parts, forms)?;
+        if came.as_slice() != wanted {
+            return Some(Some(came));
+        }
+    }
+    Some(None)
+}
+
 /// What comes of a row in each of its forms.
 fn verdict_in_forms<K: Kinds>(alloc: Global, kind: &str, parts: &[Term]) -> Option<Verdict> {
     let wanted = wanted::<K>(alloc, kind, parts.last()?)?;
-    for forms in 0..K::forms(kind) {
-        let came = K::came(alloc, kind, parts, forms)?;
-        if came.as_slice() != wanted.as_slice() {
-            return Some(Verdict::Wrong(wanted, came));
-        }
+    match other_than::<K>(alloc, kind, parts, wanted.as_slice())? {
+        Some(came) => Some(Verdict::Wrong(wanted, came)),
+        None => Some(Verdict::Right),
     }
-    Some(Verdict::Right)
 }
 
 /// What comes of a row, none where it isn't one.
 fn verdict_of<K: Kinds>(alloc: Global, row: &Term) -> Option<Verdict> {
-    let kind = kind_of(alloc, row)?;
-    let (_, parts) = fields(row)?.split_first()?;
-    verdict_in_forms::<K>(alloc, kind.as_str(), parts)
+    let parts = parts_of(row)?;
+    verdict_in_forms::<K>(alloc, kind_of(alloc, row)?.as_str(), parts)
 }
 
 /// Appends a line of a word and the beginning of a text.

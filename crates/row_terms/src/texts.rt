@@ -37,6 +37,12 @@ fn push_repeated<A: Allocator>(out: &mut Vec<u8, A>, count: u32, unit: &[u8]) ->
     Some(())
 }
 
+/// Appends the digits of a number.
+fn push_digits<A: Allocator + Copy>(heap: A, out: &mut Vec<u8, A>, number: u32) -> Option<()> {
+    let digits = number.to_string(heap).ok()?;
+    out.extend_from_slice(digits.as_bytes()).ok()
+}
+
 /// Appends so many numbers that rise from the first, each between these texts.
 fn push_numbers<A: Allocator + Copy>(
     heap: A,
@@ -48,11 +54,24 @@ fn push_numbers<A: Allocator + Copy>(
 ) -> Option<()> {
     for number in first..first.saturating_add(count) {
         out.extend_from_slice(before).ok()?;
-        out.extend_from_slice(number.to_string(heap).ok()?.as_bytes())
-            .ok()?;
+        push_digits(heap, out, number)?;
         out.extend_from_slice(after).ok()?;
     }
     Some(())
+}
+
+/// The same between the texts of two terms.
+fn push_numbers_between<A: Allocator + Copy>(
+    heap: A,
+    out: &mut Vec<u8, A>,
+    first: u32,
+    count: u32,
+    before: &Term<A>,
+    after: &Term<A>,
+) -> Option<()> {
+    let before = plain_text(heap, before)?;
+    let after = plain_text(heap, after)?;
+    push_numbers(heap, out, first, count, before.as_slice(), after.as_slice())
 }
 
 /// Appends a character.
@@ -69,24 +88,18 @@ fn push_character<A: Allocator + Copy>(
 /// Appends a piece of a text that is a tuple.
 fn push_many<A: Allocator + Copy>(heap: A, out: &mut Vec<u8, A>, piece: &[Term<A>]) -> Option<()> {
     match piece {
-        [count, unit] => {
-            let unit = plain_text(heap, unit)?;
-            push_repeated(out, number(count)?, unit.as_slice())
-        }
+        [count, unit] => push_repeated(out, number(count)?, plain_text(heap, unit)?.as_slice()),
         [first, count, before, after] => {
-            let before = plain_text(heap, before)?;
-            let after = plain_text(heap, after)?;
-            push_numbers(
-                heap,
-                out,
-                number(first)?,
-                number(count)?,
-                before.as_slice(),
-                after.as_slice(),
-            )
+            push_numbers_between(heap, out, number(first)?, number(count)?, before, after)
         }
         _ => None,
     }
+}
+
+/// Appends a string or a binary.
+fn push_plain<A: Allocator + Copy>(heap: A, out: &mut Vec<u8, A>, text: &Term<A>) -> Option<()> {
+    let text = plain_text(heap, text)?;
+    out.extend_from_slice(text.as_slice()).ok()
 }
 
 /// Appends a piece of a text.
@@ -96,9 +109,7 @@ fn push_piece<A: Allocator + Copy>(heap: A, out: &mut Vec<u8, A>, piece: &Term<A
     }
     match fields(piece) {
         Some(piece) => push_many(heap, out, piece),
-        None => out
-            .extend_from_slice(plain_text(heap, piece)?.as_slice())
-            .ok(),
+        None => push_plain(heap, out, piece),
     }
 }
 

@@ -1,6 +1,6 @@
 -- The kinds of places, of which those are listed that aren't any.
 use Rattle.std.specs.Prelude.{ℕ, zero, suc, ◌≡◌, ◌≢◌, ◌+◌, ◌-◌, ◌<◌, ◌≤◌, cond, Bool, true, false, nat_eq, IsTrue, Option, Some, None, List, [], ◌∷◌, ◌++◌, length, drop, slice_get, All}
-use Rattle.std.specs.Option.{option_map_or}
+use Rattle.std.specs.Option.{option_map_or, option_to_list}
 use Rattle.std.proofs.Common.{arith, get_or, refl, sym, ap, ◌∙◌, inl, inr}
 use Rattle.std.proofs.lemmas.Bool.{eq-eqb, ne_eqb, cases_lt}
 use Rattle.mcode.specs.Kind.{is_below}
@@ -11,7 +11,6 @@ use Rattle.mcode.proofs.RiseLemmas.{number_missing, number_found, number_stands,
 use Rattle.std.proofs.lemmas.List.{length-append}
 use Rattle.std.proofs.lemmas.List.Elements.{All-append}
 use Rattle.std.proofs.Math.Seq.{get_or-append_seam}
-use Rattle.std.specs.Option.{option_to_list}
 use native.Mathlib.Numerals.{unary_clauses}
 use Rattle.verifier.specs.Shape.{Shape, place_kind, frame_kinds, is_bound, cut_shape, AreBelow, IsAtOrBelow}
 use Rattle.verifier.specs.Kept.{AreKept, AreListedAbove, IsReaching, kept_shape, popped_shape}

@@ -1,7 +1,7 @@
 -- Words of what an instruction leaves.
 use Rattle.std.specs.Prelude.{ℕ, ◌<◌, if◌then◌else◌, is_some, Option, Some, None, List, [], ◌∷◌}
 use Rattle.term_core.specs.Datum.{Datum}
-use Rattle.prims.specs.Booleans.{boolean_of}
+use Rattle.operand.specs.Operand.{boolean_of}
 use Rattle.mcode.specs.Program.{Program}
 use Rattle.mcode.specs.declared.instr.Instr.{Instr}
 use Rattle.mcode.specs.declared.instr.Instr.TheVariants as instr

@@ -12,7 +12,8 @@ ghost use Rattle.verifier.specs.Typing.{IsTypedAt};
 use crate::effect::needed;
 use crate::shape::Shape;
 use mcode::{Code, Instr, Kind};
-use prims::{Gives, Operand};
+use operand::Operand;
+use prims::Gives;
 use std::alloc::{AllocError, Allocator};
 use term_core::{Term, View};
 

@@ -1,11 +1,11 @@
 use Rattle.std.proofs.Common.{List, Option, None, option_map, refl, sym, subst, arith}
-use Rattle.mspec_meaning.specs.Part.{part_of}
+use Rattle.operand.specs.Operand.{operand_datum}
 use Rattle.mspec_meaning.specs.Slots.{seen, AreFree}
-use Rattle.mspec_meaning.specs.declared.part.Part.{Part}
+use Rattle.operand.specs.declared.operand.Operand.{Operand}
 use Rattle.mspec_meaning.proofs.HoldLemmas.{AreFree-push}
 use Rattle.mspec_meaning.proofs.clauses.free_slots.Goals as goal
 
 pub loop-slots-preserved : goal.loop-slots-preserved
 loop-slots-preserved g c =
-    let F : List (Option (Part _)) → Type 0 = λ xs. AreFree (seen xs) in
-    (omega (arith, c.in_ok-push.ensures.len, c.loop-slots-test.true), subst F (sym c.in_ok-push.ensures.items) (AreFree-push (λ o. option_map part_of o) _ None refl c.loop-slots.invariant.1))
+    let F : List (Option (Operand _)) → Type 0 = λ xs. AreFree (seen xs) in
+    (omega (arith, c.in_ok-push.ensures.len, c.loop-slots-test.true), subst F (sym c.in_ok-push.ensures.items) (AreFree-push (λ o. option_map operand_datum o) _ None refl c.loop-slots.invariant.1))

@@ -1,31 +1,22 @@
 use Rattle.std.proofs.Common.{Some, ap, ◌∙◌, sym, arith}
-use Rattle.std.specs.Option.{option_copied}
-use Rattle.term_core.specs.Term.{tail_of}
-use Rattle.operand_stack.proofs.ViewLemmas.{cells_no_field, field_within, field_read}
+use Rattle.operand_stack.proofs.TupleLemmas.{field_within, field_read}
 use Rattle.operand_stack.proofs.values.element.Goals as goal
 
 pub offset_bounds-elements-from : goal.offset_bounds-elements-from
 offset_bounds-elements-from g c =
-    let there = rw c.in-Tuple.is at c.requires.there in
+    let there = rw c.in-Tuple.is at c.requires in
     let within = field_within c.args.index c.in-Tuple.elements.now there in
     omega (arith, within.1, c.from.ensures)
 
 pub bounds-elements-from : goal.bounds-elements-from
 bounds-elements-from g c =
-    let there = rw c.in-Tuple.is at c.requires.there in
+    let there = rw c.in-Tuple.is at c.requires in
     let within = field_within c.args.index c.in-Tuple.elements.now there in
     omega (arith, within.1, c.from.ensures)
 
-pub unreachable-requires : goal.unreachable-requires
-unreachable-requires g c =
-    let list = c.in-List in
-    let there = rw list.is at c.requires.there in
-    let split = rw list.is at c.requires.split in
-    cells_no_field c.args.index list.field-0.now (tail_of (option_copied list.field-1)) split.0 there
-
 pub returns : goal.returns
 returns g c =
-    let there = rw c.in-Tuple.is at c.requires.there in
+    let there = rw c.in-Tuple.is at c.requires in
     let within = field_within c.args.index c.in-Tuple.elements.now there in
     let read = rw c.from.ensures at c.index-elements-from.is in
     rw c.in-Tuple.is

@@ -2,7 +2,8 @@ use Rattle.std.proofs.Common.{◌≡◌, ◌-◌, ◌∷◌, rules, sym, ap, ◌
 use mir.Val.{SFits}
 use Rattle.std.specs.Int.{w64}
 use Rattle.std.proofs.lemmas.Int.{to_z-of_z}
-use Rattle.operand_stack.specs.Stack.{stack_at, place_datum}
+use Rattle.operand.specs.Value.{value_datum}
+use Rattle.operand_stack.specs.Stack.{stack_at}
 use Rattle.operand_stack.proofs.MakeLemmas.{computed_is}
 use Rattle.operand_stack.proofs.places.Places.arithmetic.Goals as goal
 
@@ -10,7 +11,7 @@ pub returns-clause-flow : goal.returns-clause-flow
 returns-clause-flow g c p object pc slots =
     let terms = c.args.self.now.terms in
     let below : c.args.height - 1 - 1 ≡ c.args.height - 2 = omega arith in
-    let whole = c.top-2.ensures.terms ∙ ap (λ ds. place_datum c.top-2.result.now ∷ ds) (c.top.ensures.terms ∙ ap (λ n. place_datum c.top.result.now ∷ stack_at terms n) below) in
+    let whole = c.top-2.ensures.terms ∙ ap (λ ds. value_datum c.top-2.result.now ∷ ds) (c.top.ensures.terms ∙ ap (λ n. value_datum c.top.result.now ∷ stack_at terms n) below) in
     let left : SFits w64 c.in-Some-Some.left = search rules in
     let right : SFits w64 c.in-Some-Some.right = search rules in
     let value = rw (to_z-of_z w64 c.in-Some-Some.left left, to_z-of_z w64 c.in-Some-Some.right right) at c.computed-value.ensures.value in

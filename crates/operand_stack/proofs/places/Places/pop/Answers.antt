@@ -1,6 +1,6 @@
 use Rattle.std.proofs.Common.{false}
-use Rattle.prims.specs.Operand.{boolean}
-use Rattle.operand_stack.specs.Stack.{place_datum}
+use Rattle.operand.specs.Operand.{boolean}
+use Rattle.operand.specs.Value.{value_datum}
 use Rattle.operand_stack.proofs.StackLemmas.{stack_pop}
 use Rattle.operand_stack.proofs.places.Places.pop.Goals as goal
 
@@ -8,4 +8,4 @@ pub returns-clause-terms : goal.returns-clause-terms
 returns-clause-terms g c =
     let read = rw c.from.ensures at c.take.ensures.value in
     rw (c.take.ensures.terms, c.from.ensures)
-    (stack_pop c.args.self.now.terms c.args.height (place_datum c.take.result) (boolean false) c.requires.some c.requires.within read)
+    (stack_pop c.args.self.now.terms c.args.height (value_datum c.take.result) (boolean false) c.requires.some c.requires.within read)

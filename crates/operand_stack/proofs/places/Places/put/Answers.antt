@@ -1,12 +1,12 @@
 use Rattle.std.proofs.lemmas.List.{map-set}
-use Rattle.operand_stack.specs.Stack.{place_datum, is_borrowed}
-use Rattle.operand_stack.proofs.BorrowLemmas.{all-set}
+use Rattle.operand.specs.Value.{value_datum, is_borrowed}
+use Rattle.operand.proofs.BorrowLemmas.{all-set}
 use Rattle.operand_stack.proofs.places.Places.put.Goals as goal
 
 pub returns-clause-terms : goal.returns-clause-terms
 returns-clause-terms g c =
     rw (← c.self.view_is, c.replace.ensures.after)
-    (map-set place_datum c.self.inside.places.items c.args.index c.args.place)
+    (map-set value_datum c.self.inside.places.items c.args.index c.args.place)
 
 pub returns-clause-borrowed : goal.returns-clause-borrowed
 returns-clause-borrowed g c =

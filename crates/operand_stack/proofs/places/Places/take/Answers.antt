@@ -1,21 +1,21 @@
 use Rattle.std.proofs.Common.{◌<◌, length, false, refl, arith}
 use Rattle.std.proofs.lemmas.List.{map-set, length-map}
-use Rattle.operand_stack.specs.Stack.{place_datum, is_borrowed}
-use Rattle.operand_stack.specs.declared.place.Place.TheVariants as place
-use Rattle.operand_stack.proofs.BorrowLemmas.{all-get_or, all-set}
+use Rattle.operand.specs.Value.{value_datum, is_borrowed}
+use Rattle.operand.specs.declared.value.Value.TheVariants as place
+use Rattle.operand.proofs.BorrowLemmas.{all-get_or, all-set}
 use Rattle.operand_stack.proofs.places.Places.take.Goals as goal
 
 pub returns-clause-terms : goal.returns-clause-terms
 returns-clause-terms g c =
     rw (← c.self.view_is, c.replace.ensures.after)
-    (map-set place_datum c.self.inside.places.items c.args.index (place.Bool false))
+    (map-set value_datum c.self.inside.places.items c.args.index (place.Bool false))
 
 pub returns-clause-borrowed : goal.returns-clause-borrowed
 returns-clause-borrowed g c =
     let places = c.self.inside.places.items in
     let there = c.in-Some.there.now in
     let within = rw (← c.self.view_is) at c.requires in
-    let inside : c.args.index < length places = omega (arith, within, length-map places place_datum) in
+    let inside : c.args.index < length places = omega (arith, within, length-map places value_datum) in
     rw (← c.self.view_is, c.replace.ensures.after, c.replace.ensures.value)
     (λ is.
     let here = all-get_or is_borrowed places c.args.index there inside is in

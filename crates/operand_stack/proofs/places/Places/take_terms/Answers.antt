@@ -1,5 +1,6 @@
 use Rattle.std.proofs.Common.{◌≡◌, ◌-◌, ◌+◌, ◌∷◌, ◌++◌, [], take, drop, reverse, sym, ap, ◌∙◌, arith}
-use Rattle.operand_stack.specs.Stack.{place_datum, stack_at}
+use Rattle.operand.specs.Value.{value_datum}
+use Rattle.operand_stack.specs.Stack.{stack_at}
 use Rattle.operand_stack.proofs.StackLemmas.{taken_more}
 use Rattle.operand_stack.proofs.places.Places.take_terms.Goals as goal
 
@@ -8,7 +9,7 @@ loop-taken-preserved g c =
     let stack = stack_at c.args.self.now.terms c.args.height in
     let height = c.args.height in
     let taken = c.loop-taken.taken in
-    let d = place_datum c.pop.result in
+    let d = value_datum c.pop.result in
     let inv = c.loop-taken.invariant in
     let below : height - (taken + 1) ≡ height - taken - 1 = omega arith in
     let more = taken_more stack taken d (stack_at c.pop.new.self.terms (height - taken - 1)) (sym inv.2 ∙ c.pop.ensures.terms) in

@@ -1,7 +1,7 @@
 use Rattle.std.proofs.Common.{◌-◌, take, drop, sym, ap, ◌∙◌}
 use Rattle.std.proofs.lemmas.List.{take-map, drop-map}
-use Rattle.operand_stack.specs.Stack.{place_datum, is_borrowed}
-use Rattle.operand_stack.proofs.BorrowLemmas.{all-take, all-drop}
+use Rattle.operand.specs.Value.{value_datum, is_borrowed}
+use Rattle.operand.proofs.BorrowLemmas.{all-take, all-drop}
 use Rattle.operand_stack.proofs.StackLemmas.{stack_taken}
 use Rattle.operand_stack.proofs.places.Places.top_places.Goals as goal
 
@@ -10,8 +10,8 @@ returns-clause-terms g c =
     let places = c.as_slice.result.now in
     let left = c.args.height - c.args.count in
     rw (c.from-above.ensures, c.from.ensures, ← c.as_slice.ensures.terms)
-    (sym (take-map place_datum (c.args.height - left) (drop left places))
-    ∙ ap (take (c.args.height - left)) (sym (drop-map place_datum left places))
+    (sym (take-map value_datum (c.args.height - left) (drop left places))
+    ∙ ap (take (c.args.height - left)) (sym (drop-map value_datum left places))
     ∙ rw c.as_slice.ensures.terms (stack_taken c.args.self.now.terms c.args.height c.args.count c.requires.deep c.requires.within))
 
 pub returns-clause-borrowed : goal.returns-clause-borrowed

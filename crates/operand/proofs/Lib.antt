@@ -1,0 +1,3 @@
+pub mod OrderLemmas
+mod TextLemmas
+pub mod BorrowLemmas

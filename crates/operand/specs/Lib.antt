@@ -1,0 +1,4 @@
+pub mod View
+pub mod Operand
+pub mod Order
+pub mod Value

@@ -1,0 +1,30 @@
+-- How two terms stand that functions are given.
+use Rattle.std.specs.Prelude.{Bool}
+use Rattle.std.specs.Ordering.{is_eq}
+use Rattle.term_core.specs.Datum.{Datum}
+use Rattle.term_core.specs.Datum.Datum.{tuple, map, cons, binary}
+use Rattle.term_core.specs.Order.{datum_cmp}
+
+-- the same term
+abbrev pub is_same : Datum → Datum → Bool
+is_same d e = is_eq (datum_cmp d e)
+
+-- not both are lists with elements
+abbrev pub AreEnds : Datum → Datum → Type 0
+AreEnds (cons head tail) (cons head' tail') = ⊥
+AreEnds d e = Unit {0}
+
+-- neither a tuple, a map nor a binary
+abbrev pub IsSimple : Datum → Type 0
+IsSimple (tuple ds) = ⊥
+IsSimple (map es) = ⊥
+IsSimple (binary bs) = ⊥
+IsSimple d = Unit {0}
+
+-- where both are of one kind, they are integers, atoms or []
+abbrev pub AreDecided : Datum → Datum → Type 0
+AreDecided (tuple ds) (tuple es) = ⊥
+AreDecided (map ds) (map es) = ⊥
+AreDecided (cons head tail) (cons head' tail') = ⊥
+AreDecided (binary bs) (binary cs) = ⊥
+AreDecided d e = Unit {0}

@@ -1,8 +1,0 @@
--- The operands so far and the values that are left make the whole.
-use Rattle.std.proofs.Common.{◌≡◌, ◌++◌, map, drop}
-use Rattle.prims.specs.Operand.{operand_datum}
-use Rattle.operand_stack.specs.Stack.{place_datum}
-use Rattle.operand_stack.proofs.values.operands_of.Given as goal
-
-abbrev pub invariant-loop-value : goal.invariant-loop-value
-invariant-loop-value g l = map operand_datum l.operands.items ++ map place_datum (drop l.value-index l.values) ≡ map place_datum l.values

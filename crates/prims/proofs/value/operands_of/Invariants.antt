@@ -1,8 +1,0 @@
--- the operands so far and the values that are left make the whole
-use Rattle.std.proofs.Common.{◌≡◌, ◌++◌, map, drop}
-use Rattle.prims.specs.Operand.{operand_datum}
-use Rattle.prims.specs.Value.{value_datum}
-use Rattle.prims.proofs.value.operands_of.Given as goal
-
-abbrev pub invariant-loop-value : goal.invariant-loop-value
-invariant-loop-value g l = map operand_datum l.operands.items ++ map value_datum (drop l.value-index l.values) ≡ map value_datum l.values

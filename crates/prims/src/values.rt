@@ -1,0 +1,137 @@
+//! Calls of functions over values, of which some may have been made.
+ghost use Rattle.std.specs.Prelude.{◌≡◌, ◌∷◌, [], ◌≤◌, length, map, IfOk, IfSome, IsOkAnd, IsSome, IsTrue};
+ghost use Rattle.std.specs.Option.{option_map};
+ghost use Rattle.operand.specs.Operand.{operand_datum};
+ghost use Rattle.operand.specs.Value.{value_datum, is_borrowed, all};
+ghost use Rattle.prims.specs.Calls.{function_of, inline_operands};
+
+use crate::calls::{call, call_binary, call_unary};
+use crate::prim::Primitive;
+use operand::{Operand, Value};
+use smallvec::SmallVec;
+use std::alloc::{AllocError, Allocator};
+
+/// How many borrowed values a call takes without memory.
+pub const INLINE_OPERANDS: usize = 16;
+
+/// What a call gave of operands that last, none where it failed.
+#[inline(always)]
+fn given<'a, 'h, A: Allocator>(operand: Option<Operand<'a, A>>) -> Option<Value<'a, 'h, A>>
+    ensures value { option_map value_datum result ≡ option_map operand_datum operand.entry }
+    ensures borrowed { IfSome result (λ value. IsTrue (is_borrowed value)) }
+{
+    match operand {
+        Some(operand) => Some(Value::new(operand)),
+        None => None,
+    }
+}
+
+/// What a call gave of operands that don't last, none where it failed.
+fn kept<'a, 'h, A: Allocator + Copy>(
+    heap: &'h A,
+    operand: Option<Operand<'_, A>>,
+) -> Result<Option<Value<'a, 'h, A>>, AllocError>
+    ensures { IfOk result (λ value. option_map value_datum value
+        ≡ option_map operand_datum operand.entry) }
+{
+    match operand {
+        Some(operand) => Ok(Some(Value::kept(heap, operand)?)),
+        None => Ok(None),
+    }
+}
+
+/// What a function gives of one value, none where the call fails. What it gives of a borrowed one is borrowed, and takes no
+/// memory; else it is copied.
+#[inline(always)]
+pub fn call_one<'a, 'h, A: Allocator + Copy>(
+    heap: &'h A,
+    function: Primitive,
+    value: &Value<'a, 'h, A>,
+) -> Result<Option<Value<'a, 'h, A>>, AllocError>
+    ensures value { IfOk result (λ given. option_map value_datum given
+        ≡ function_of function (value_datum value.now ∷ [])) }
+    ensures memory { IsTrue (is_borrowed value.now)
+        → IsOkAnd result (λ given. IfSome given (λ value. IsTrue (is_borrowed value))) }
+{
+    if let Some(operand) = value.borrowed() {
+        return Ok(given(call_unary(function, operand)));
+    }
+    kept(heap, call_unary(function, value.operand()))
+}
+
+/// What a function gives of two values, none where the call fails. What it gives of borrowed ones is borrowed, and takes no
+/// memory; else it is copied.
+#[inline(always)]
+pub fn call_two<'a, 'h, A: Allocator + Copy>(
+    heap: &'h A,
+    function: Primitive,
+    left: &Value<'a, 'h, A>,
+    right: &Value<'a, 'h, A>,
+) -> Result<Option<Value<'a, 'h, A>>, AllocError>
+    ensures value { IfOk result (λ given. option_map value_datum given
+        ≡ function_of function (value_datum left.now ∷ value_datum right.now ∷ [])) }
+    ensures memory { IsTrue (is_borrowed left.now) → IsTrue (is_borrowed right.now)
+        → IsOkAnd result (λ given. IfSome given (λ value. IsTrue (is_borrowed value))) }
+{
+    if let Some(first) = left.borrowed() {
+        if let Some(second) = right.borrowed() {
+            return Ok(given(call_binary(function, first, second)));
+        }
+    }
+    kept(heap, call_binary(function, left.operand(), right.operand()))
+}
+
+/// These values as operands that last, where none was made. Few of them take no memory.
+fn lasting<'h, 'a, A: Allocator + Copy>(
+    heap: &'h A,
+    values: &[Value<'a, 'h, A>],
+) -> Result<Option<SmallVec<Operand<'a, A>, INLINE_OPERANDS, &'h A>>, AllocError>
+    ensures value { IfOk result (λ found. IfSome found
+        (λ operands. map operand_datum operands.items ≡ map value_datum values.now)) }
+    ensures memory { IsTrue (all is_borrowed values.now) → length values.now ≤ inline_operands
+        → IsOkAnd result IsSome }
+{
+    let mut operands = SmallVec::new(heap);
+    for value in values {
+        match value.borrowed() {
+            Some(operand) => operands.push(operand)?,
+            None => return Ok(None),
+        }
+    }
+    Ok(Some(operands))
+}
+
+/// These values as operands.
+fn operands_of<'a, A: Allocator + Copy>(
+    alloc: A,
+    values: &'a [Value<'_, '_, A>],
+) -> Result<Vec<Operand<'a, A>, A>, AllocError>
+    ensures { IfOk result (λ operands. map operand_datum operands.items
+        ≡ map value_datum values.now) }
+{
+    let mut operands = Vec::with_capacity(alloc, values.len())?;
+    for value in values {
+        operands.push(value.operand())?;
+    }
+    Ok(operands)
+}
+
+/// What a function gives of these values, none where the call fails. What it gives of borrowed values alone is borrowed,
+/// and up to `INLINE_OPERANDS` of them take no memory; else it is copied.
+#[inline(never)]
+pub fn call_values<'a, 'h, A: Allocator + Copy>(
+    heap: &'h A,
+    function: Primitive,
+    values: &[Value<'a, 'h, A>],
+) -> Result<Option<Value<'a, 'h, A>>, AllocError>
+    ensures value { IfOk result (λ given. option_map value_datum given
+        ≡ function_of function (map value_datum values.now)) }
+    ensures memory { IsTrue (all is_borrowed values.now) → length values.now ≤ inline_operands
+        → IsOkAnd result (λ given. IfSome given (λ value. IsTrue (is_borrowed value))) }
+{
+    if let Some(operands) = lasting(heap, values)? {
+        return Ok(given(call(function, operands.as_slice())));
+    }
+    let operands = operands_of(*heap, values)?;
+    kept(heap, call(function, operands.as_slice()))
+}
