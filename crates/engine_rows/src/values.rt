@@ -36,11 +36,7 @@ fn values<'a, 'h>(
 }
 
 /// What a call over values gives.
-fn given<'h>(
-    heap: &'h Global,
-    function: Primitive,
-    values: &[Value<'_, 'h>],
-) -> Option<Vec<u8>> {
+fn given<'h>(heap: &'h Global, function: Primitive, values: &[Value<'_, 'h>]) -> Option<Vec<u8>> {
     let alloc = *heap;
     let Some(value) = call_values(heap, function, values).ok()? else {
         return word(alloc, "fails");
