@@ -3,7 +3,7 @@
 # with a condition, a term 255 deep, a list of a million integers, a map of 65,535 pairs in falling order, specifications of up to
 # 8,000 nodes and 256 variables, and a long list that a condition looks at. Time and memory are to be linear. Then it times
 # `machine_bench`: the largest code verified, with frames at a third of its instructions and at nearly all, and short code
-# run a million times.
+# run on a million pairs.
 # usage: bench/run.sh
 set -eu
 top=$(cd "$(dirname "$0")/.." && pwd)
@@ -59,5 +59,5 @@ for n in 64 128 256; do variables "$n" > "$work/in"; measure "$n variables, 1,00
 for n in 10000 100000 1000000; do looked_at "$n" > "$work/in"; measure "a list of $n in a condition" "$work/in"; done
 measure_machine "verify, a third framed" third
 measure_machine "verify, nearly all framed" each
-measure_machine "a million runs" run
-measure_machine "a million tests" run_true
+{ echo '{code,0,[],[load,{tuple,2,4},{field,2},answer,no_answer],[{4,0,[],[]}]}.'; yes '{1,true}.' | head -n 1000000; } > "$work/in"
+"$machine" objects < "$work/in"

@@ -1,132 +1,13 @@
-//! The program's commands: inputs with what is written, readers and writers that fail, memory refused in turn.
+//! The program's commands: readers and writers that fail, memory refused in turn. Inputs with what is written on them are rows that the
+//! built program is tried on, in `crates/ets_tool/rows`.
 //!
-//! - `program`: from its words, with both streams; `texts`: the texts of refusals.
+//! - `program`: with both streams.
 mod program;
-mod texts;
 
-use ets_commands::{Request, ToolFault, read_within, run_request, tool_run, tool_test};
+use ets_commands::{Request, ToolFault, read_within, tool_run, tool_test};
 use failing_alloc::sweep;
 use std::alloc::Global;
 use std::io::{self, ErrorKind, Read, Write};
-
-/// Whether a command over this input writes this on its two streams, and ends with this status.
-fn ends(alloc: Global, request: Request, input: &str, out: &str, err: &str, status: u8) -> bool {
-    let mut reader = input.as_bytes();
-    let mut written = Vec::new(alloc);
-    let mut told = Vec::new(alloc);
-    let ended = run_request(alloc, request, &mut reader, &mut written, &mut told);
-    written.as_slice() == out.as_bytes() && told.as_slice() == err.as_bytes() && ended == status
-}
-
-/// Whether `run` over this input writes this, and nothing is refused.
-fn writes(alloc: Global, input: &str, output: &str) -> bool {
-    ends(alloc, Request::Run, input, output, "", 0)
-}
-
-/// Whether both commands refuse this input with this line, and write nothing.
-fn refuses(alloc: Global, input: &str, line: &str) -> bool {
-    ends(alloc, Request::Run, input, "", line, 2) && ends(alloc, Request::Test, input, "", line, 2)
-}
-
-#[test]
-fn specifications_are_answered(rt: HostRuntime) {
-    for (input, output) in [
-        ("[{{'$1','$2'},[],['$2']}]. {1,a}. {2,b}.", "a.\nb.\n"),
-        ("[{{'$2','$1'},[],['$$']}]. {a,b}.", "[b,a].\n"),
-        ("[{{'$1','$1'},[],['$_']}]. {1,1}. {1,2}.", "{1,1}.\n"),
-        ("[]. {1}.", ""),
-        (
-            "% nothing\n[ {'_' , [] , [ok] } ]. a. 'B c'. -7.",
-            "ok.\nok.\nok.\n",
-        ),
-    ] {
-        assert!(rt; writes(rt.alloc(), input, output), "{input}");
-    }
-}
-
-#[test]
-fn conditions_and_bodies_are_evaluated(rt: HostRuntime) {
-    for (input, output) in [
-        (
-            "[{{'$1','$2'},[{'>','$1',1}],['$2']}]. {1,a}. {2,b}.",
-            "b.\n",
-        ),
-        ("[{{'$1','$2'},[true],['$2']}]. {1,a}. {2,b}.", "a.\nb.\n"),
-        (
-            "[{{'$1'},[{hd,'$1'}],['$1']},{'_',[],[other]}]. {5}.",
-            "other.\n",
-        ),
-        ("[{{'$1'},[],[{{{hd,'$1'},ok}}]}]. {5}.", "{'EXIT',ok}.\n"),
-        (
-            "[{{'$1'},[],[{'+','$1',1}]}]. {9223372036854775807}.",
-            "'EXIT'.\n",
-        ),
-        ("[{'_',[],[{'orelse',true,{hd,5}}]}]. {1}.", "true.\n"),
-        ("[{'_',[],[{'or',true,{hd,5}}]}]. {1}.", "'EXIT'.\n"),
-        ("[{{'$1'},[],[{'bsl','$1',-1}]}]. {-1}.", "-1.\n"),
-        (
-            "[{'$1',[],['$1']}]. #{b=>1,a=>2}. \"hi\". <<\"ok\">>. 'and'. [a|b].",
-            "#{a=>2,b=>1}.\n[104,105].\n<<111,107>>.\n'and'.\n[a|b].\n",
-        ),
-        (
-            "[{{#{a=>'$1'}},[],['$1']}]. {#{a=>1,b=>2}}. {#{b=>2}}.",
-            "1.\n",
-        ),
-        (
-            "[{'_',[],[[{'div',-7,2},{'rem',-7,2},{'bsr',-7,1},{'bsl',1,63},{'bsl',0,1000},{'bsr',-1,1000},{abs,-9223372036854775808}]]}]. {1}.",
-            "[-3,-1,-4,'EXIT',0,-1,'EXIT'].\n",
-        ),
-        (
-            "[{'_',[],[[{'<',1,a},{'<',a,{{}}},{'<',{{}},#{}},{'<',#{},[]},{'<',[],[a]},{'<',[a],<<>>}]]}]. {1}.",
-            "[true,true,true,true,true,true].\n",
-        ),
-    ] {
-        assert!(rt; writes(rt.alloc(), input, output), "{input}");
-    }
-}
-
-#[test]
-fn outcomes_are_shown(rt: HostRuntime) {
-    for (input, output) in [
-        (
-            "[{{'$1','$2'},[{'>','$1',1}],['$2']}]. {1,a}. {2,b}.",
-            "false.\n{ok,b}.\n",
-        ),
-        ("[]. {1}. a.", "false.\nfalse.\n"),
-        ("[{'_',[],['_']}]. {1}.", "{ok,'_'}.\n"),
-        ("[{'_',[],[false]}]. {1}.", "{ok,false}.\n"),
-    ] {
-        assert!(rt;
-            ends(rt.alloc(), Request::Test, input, output, "", 0),
-            "{input}"
-        );
-    }
-}
-
-#[test]
-fn inputs_are_refused(rt: HostRuntime) {
-    for (input, line) in [
-        ("", "error E5 0\n"),
-        ("#{a=>1,a=>2}.", "error E4 7\n"),
-        ("[]. 9223372036854775808.", "error E7 4\n"),
-        ("a.", "error E10\n"),
-        ("[a|b].", "error E10\n"),
-        ("[a].", "error E11 0\n"),
-        ("[{1,[],[1]}].", "error E12 0\n"),
-        ("[{'_',a,[1]}].", "error E13 0\n"),
-        ("[{'_',[],[]}].", "error E14 0\n"),
-        ("[{'_',[{foo,1}],[1]}].", "error E15 0\n"),
-        ("[{'_',[],[{hd}]}].", "error E15 0\n"),
-        ("[{'_',[],[{const,1,2}]}].", "error E15 0\n"),
-        ("[{{'$1'},[],['$3']}]. {1}.", "error E16 0 3\n"),
-        ("[{'_',[],[1]},{{'$1'},[],['$3']}]. {1}.", "error E16 1 3\n"),
-        ("[{{'$01'},[],[1]}].", "error E17 0\n"),
-        ("[{'_',[],[{1,2}]}].", "error E18 0\n"),
-        ("[{{#{'$1'=>2}},[],[1]}].", "error E19 0\n"),
-    ] {
-        assert!(rt; refuses(rt.alloc(), input, line), "{input}");
-    }
-}
 
 /// A reader over bytes that fails at its nth call, counted from 1.
 #[derive(Drop)]

@@ -5,12 +5,9 @@
 //!
 //! - `failing`: the allocator that refuses; `sweeps`: calls with each request refused in turn.
 //! - `terms`, `text`: terms made, copied, read and written; `functions`: operands and values.
-//! - `codes`: the places and slots of code, and what its faults are called.
-//! - `commands`: inputs of the program and what comes of them, on its streams and as its status.
+//! - `commands`: commands of the program, whose readers and writers fail; `texts`: what refusals are called.
 #![tactic(auto)]
 
-#[cfg(test)]
-mod codes;
 #[cfg(test)]
 mod commands;
 #[cfg(test)]
@@ -23,3 +20,5 @@ mod sweeps;
 mod terms;
 #[cfg(test)]
 mod text;
+#[cfg(test)]
+mod texts;

@@ -1,8 +1,7 @@
-//! Terms: what takes no memory, that a limit is told without it, and what faults are called.
+//! Terms: what takes no memory, and that a limit is told without it.
 use failing_alloc::Failing;
 use std::alloc::Global;
-use std::test::Fail;
-use term_core::Fault::{self, DuplicateKey, TooDeep, TooLong};
+use term_core::Fault::{self, TooLong};
 use term_core::Term;
 use term_text::{read_terms, write_term};
 
@@ -75,18 +74,4 @@ fn a_copy_takes_memory(rt: HostRuntime) {
         Some(false)
     );
     assert_eq!(rt; is_copied_without_memory(rt.alloc(), b"7."), Some(true));
-}
-
-#[test]
-fn faults_have_numbers_and_texts(rt: HostRuntime) -> Result<(), Fail> {
-    for (fault, number, text) in [
-        (Fault::Memory, 1, "out of memory"),
-        (TooDeep, 2, "the term is too deep"),
-        (TooLong, 3, "the term is too long"),
-        (DuplicateKey, 4, "a key stands twice in a map"),
-    ] {
-        assert_eq!(rt; fault.number(), number, "{fault:?}");
-        assert_eq!(rt; fault.to_string(rt.alloc())?.as_str(), text);
-    }
-    Ok(())
 }

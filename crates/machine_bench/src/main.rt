@@ -2,16 +2,14 @@
 //!
 //! - `third`: verifies 65,535 instructions with 256 slots, a frame at every third.
 //! - `each`: verifies 65,535 instructions with 256 slots, a frame at nearly each one.
-//! - `run`, `run_true`: runs short code a million times on a pair.
 //! - `objects`: runs the code that standard input has on the objects behind it.
 //!
-//! It prints the budget of what it verified, the number of instructions that it executed, or the time of an object.
+//! It prints the budget of what it verified, or the time of an object.
 #![tactic(auto)]
 
 mod largest;
 mod runs;
 
-use runs::Work;
 use std::alloc::Global;
 use std::io::Write;
 use std::process::ExitCode;
@@ -22,8 +20,6 @@ fn lines_of(rt: &HostRuntime, word: &str) -> Option<String> {
     match word {
         "third" => line(alloc, largest::budget_framed_at_each_third(alloc)?),
         "each" => line(alloc, largest::budget_framed_at_each(alloc)?),
-        "run" => line(alloc, runs::executed(alloc, Work::Run)?),
-        "run_true" => line(alloc, runs::executed(alloc, Work::RunTrue)?),
         "objects" => runs::times(rt),
         _ => None,
     }
@@ -47,7 +43,7 @@ fn main(rt: HostRuntime) -> anyhow::Result<ExitCode> {
         }
         None => {
             let usage =
-                "usage: machine_bench third|each|run|run_true, or objects < TERMS, of which the first is code that verifies\n";
+                "usage: machine_bench third|each, or objects < TERMS, of which the first is code that verifies\n";
             rt.stderr().write_all(usage.as_bytes())?;
             Ok(ExitCode::FAILURE)
         }

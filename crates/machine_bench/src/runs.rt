@@ -1,5 +1,4 @@
-//! Runs of a machine that is made once: of short code on a pair a million times, or of the code of standard input on the objects
-//! behind it.
+//! Runs of a machine that is made once: of the code of standard input on the objects behind it.
 use machine::Machine;
 use row_code::code_of;
 use std::alloc::Global;
@@ -9,19 +8,12 @@ use term_core::Term;
 use term_text::read_terms;
 use verifier::{Verified, verify};
 
-/// Code that answers the second element of a pair, and a pair.
-const SECOND_OF_A_PAIR: &[u8] =
-    b"{code,0,[],[load,{tuple,2,4},{field,2},answer,no_answer],[{4,0,[],[]}]}. {1,true}.";
-
-/// How often short code is run.
-const RUNS: u32 = 1_000_000;
-
 /// How often runs on objects are timed.
 const ROUNDS: usize = 5;
 
 /// What is run.
 #[derive(Clone, Copy)]
-pub(crate) enum Work {
+enum Work {
     /// Answers.
     Run,
     /// Whether the answers are `true`.
@@ -33,37 +25,6 @@ fn load(alloc: Global, text: &[u8]) -> Option<(Verified, Vec<Term>)> {
     let terms = read_terms(alloc, text).ok()?;
     let code = verify(alloc, code_of(alloc, terms.first()?)?).ok()?;
     Some((code, terms))
-}
-
-/// How many instructions a run executes.
-fn executed_once<'a>(machine: &mut Machine<'a, '_>, work: Work, object: &'a Term) -> Option<u32> {
-    match work {
-        Work::Run => {
-            let (_answer, executed) = machine.run(object).ok()?;
-            Some(executed)
-        }
-        Work::RunTrue => {
-            let (_holds, executed) = machine.run_true(object).ok()?;
-            Some(executed)
-        }
-    }
-}
-
-/// How many instructions a million runs of code on an object execute.
-fn executed_on(alloc: Global, work: Work, code: &Verified, object: &Term) -> Option<u64> {
-    let mut machine = Machine::new(&alloc, code).ok()?;
-    let mut executed: u64 = 0;
-    for _run in 0..RUNS {
-        let once = executed_once(&mut machine, work, object)?;
-        executed = executed.saturating_add(u64::from(once));
-    }
-    Some(executed)
-}
-
-/// How many instructions a million runs of short code execute.
-pub(crate) fn executed(alloc: Global, work: Work) -> Option<u64> {
-    let (code, terms) = load(alloc, SECOND_OF_A_PAIR)?;
-    executed_on(alloc, work, &code, terms.last()?)
 }
 
 /// How many objects code answers. The answers are kept until the last of them.

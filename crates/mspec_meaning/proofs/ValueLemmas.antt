@@ -1,11 +1,8 @@
 -- Values of expressions, part by part.
-use Rattle.std.proofs.Common.{◌≡◌, ℕ, zero, suc, ◌+◌, ◌<◌, ◌≤◌, Bool, true, false, not, cond, IfSome, Option, Some, None, option_map, Box, List, [], ◌∷◌, ◌++◌, length, get_or, drop, refl, sym, ◌∙◌, ap, subst, arith, drop-cons, add-one}
-use Rattle.std.specs.Prelude.{nat_eq, codes}
+use Rattle.std.proofs.Common.{◌≡◌, ℕ, zero, suc, ◌+◌, ◌<◌, ◌≤◌, Bool, true, false, not, IfSome, Option, Some, None, option_map, Box, List, [], ◌∷◌, ◌++◌, length, get_or, drop, refl, sym, ◌∙◌, ap, subst, arith, drop-cons, add-one}
 use Rattle.std.proofs.lemmas.List.{drop_all, append_assoc, append-nil}
-use Rattle.std.specs.Cmp.Lexicographic.{pointwise, bytes_decides}
-use Rattle.operand.specs.Operand.{boolean_of, boolean, operand_datum}
+use Rattle.operand.specs.Operand.{boolean, operand_datum}
 use Rattle.term_core.specs.Datum.{Datum, Entries, entries_of}
-use Rattle.term_core.specs.Datum.Datum.{integer, atom, tuple, map as table, nil, cons, binary}
 use Rattle.term_core.specs.Datum.Entries.{no_entries, entry}
 use Rattle.term_core.specs.MapPairs.{AreRising}
 use Rattle.term_core.specs.Order.{IsBelow, IsBelowFirst}
@@ -15,33 +12,12 @@ use Rattle.mspec_syntax.specs.Expression.Expression.{bound, object, bindings, co
 use Rattle.mspec_syntax.specs.Expression.Assignments.{no_assignments, assignment}
 use Rattle.mspec_syntax.specs.ExpressionView.{tail_expression, IsTailExpression}
 use Rattle.mspec_meaning.specs.Match.{Substitution}
-use Rattle.mspec_meaning.specs.Meaning.{true_term, made_of, before, at_key, joined, value_at, value_of, argument_values, entry_values}
+use Rattle.mspec_meaning.specs.Meaning.{made_of, before, at_key, joined, value_at, value_of, argument_values, entry_values}
 use Rattle.mspec_meaning.specs.Meaning.Position.{as_tail}
 use Rattle.mspec_meaning.specs.Value.{joined_to, decided, decided_at}
 use Rattle.mspec_meaning.specs.Slots.{seen, known}
 use Rattle.operand.specs.declared.operand.Operand.{Operand}
 use Rattle.mspec_meaning.specs.declared.value.Mode.{Mode}
-
-no-true : (b : Bool) → Some true ≡ cond b (Some false) None → ⊥
-no-true true e = absurd (cc)
-no-true false e = absurd (cc)
-
--- the truth value true is the atom true
-pub boolean-true : (d : Datum) → Some true ≡ boolean_of d → d ≡ true_term
-boolean-true (atom cs) e = by (pointwise nat_eq cs (codes "true")) refl e
-  where
-    by : (b : Bool) → pointwise nat_eq cs (codes "true") ≡ b → Some true ≡ cond b (Some true) (cond (pointwise nat_eq cs (codes "false")) (Some false) None) → atom cs ≡ true_term
-    by true same f = ap atom ((bytes_decides cs (codes "true")).0 same)
-    by false same f = absurd (no-true (pointwise nat_eq cs (codes "false")) f)
-boolean-true (integer z) e = absurd (cc)
-boolean-true (tuple ds) e = absurd (cc)
-boolean-true (table es) e = absurd (cc)
-boolean-true nil e = absurd (cc)
-boolean-true (cons head tail) e = absurd (cc)
-boolean-true (binary bs) e = absurd (cc)
-
-pub boolean-other : (b : Option Bool) (d : Datum) → b ≡ boolean_of d → (b ≡ Some true → ⊥) → d ≡ true_term → ⊥
-boolean-other b d is other e = other (is ∙ ap boolean_of e)
 
 -- what is left, from its first element
 pub split_at : {X : Type 0} (xs : List X) (i : ℕ) (x : X) → i < length xs → x ≡ get_or xs i x → drop i xs ≡ x ∷ drop (i + 1) xs

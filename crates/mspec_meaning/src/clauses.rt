@@ -1,8 +1,7 @@
 //! The meaning of a specification on an object.
 ghost use Rattle.std.specs.Prelude.{◌≡◌, length, IfOk, OnOk, MatchBool, MatchOption};
 ghost use Rattle.mspec_meaning.specs.Match.{Matches};
-ghost use Rattle.mspec_meaning.specs.Meaning.{AllHold, IsApplicable, Applies, Means, body_value, true_term};
-ghost use Rattle.operand.specs.Value.{value_datum};
+ghost use Rattle.mspec_meaning.specs.Meaning.{AllHold, IsApplicable, Applies, Means, body_value};
 ghost use Rattle.mspec_meaning.specs.Applied.{AnswersBy};
 ghost use Rattle.mspec_meaning.specs.Slots.{seen, AreFree, NeverMatches, MatchesBy};
 ghost use Rattle.mspec_meaning.specs.declared.value.Mode.TheVariants.{Condition, Body};
@@ -12,7 +11,7 @@ use crate::made::into_term;
 use crate::scope::Scope;
 use crate::value::Mode;
 use mspec_syntax::{Clause, Expression, Spec};
-use operand::{Operand, Value};
+use operand::Operand;
 use std::alloc::{AllocError, Allocator};
 use term_core::Term;
 
@@ -23,18 +22,6 @@ enum Applied<A: Allocator> {
     Not,
     /// The clause applies, and this is the value of its body.
     Answers(Option<Term<A>>),
-}
-
-/// Whether a value is the atom `true`.
-fn is_true<A: Allocator>(value: Value<'_, '_, A>) -> bool
-    ensures { MatchBool result (value_datum value.entry ≡ true_term)
-        (value_datum value.entry ≡ true_term → ⊥) }
-{
-    match value.into_boolean() {
-        Some(true) => true,
-        Some(false) => false,
-        None => false,
-    }
 }
 
 /// Slots of variables that are free.
@@ -86,7 +73,7 @@ fn all_hold<'a, A: Allocator + Copy>(
     for condition in conditions {
         match scope.value(condition)? {
             Some(answer) => {
-                if !is_true(answer) {
+                if !answer.is_true() {
                     return Ok(false);
                 }
             }

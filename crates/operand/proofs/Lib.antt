@@ -1,3 +1,4 @@
 pub mod OrderLemmas
 mod TextLemmas
+mod ViewLemmas
 pub mod BorrowLemmas

@@ -5,6 +5,7 @@ ghost use Rattle.term_core.specs.Datum.{items_of, entries_of};
 ghost use Rattle.term_core.specs.Datum.Datum.{atom, tuple, map, cons};
 ghost use Rattle.term_core.specs.Limits.{IsSound, ArePairsSound};
 ghost use Rattle.term_core.specs.Rest.{rest_of};
+ghost use Rattle.term_core.specs.View.{shown as shown_term, IsSplit};
 ghost use Rattle.operand.specs.View.{shown, IsEnded};
 ghost use Rattle.operand.specs.Operand.{operand_datum, boolean as boolean_atom, boolean_of, integer_of, IsNoCell, IsNoTuple, IsNoMap};
 ghost use Rattle.operand.specs.Order.{IsSimple};
@@ -98,8 +99,38 @@ fn whole_behind<A: Allocator>(list: &Term<A>, count: usize) -> Option<&Term<A>>
     }
 }
 
+/// The number of an integer.
+#[inline(always)]
+fn integer_of<A: Allocator>(view: TermView<'_, A>) -> Option<i64>
+    requires { IsSplit view }
+    ensures { result ≡ integer_of (shown_term view.entry) }
+{
+    match view {
+        TermView::Integer(value) => Some(value),
+        TermView::Atom(_) | TermView::Nil | TermView::Tuple(_) => None,
+        TermView::List(_elements, _tail) => None,
+        TermView::Map(_) | TermView::Binary(_) => None,
+    }
+}
+
+/// The elements of a tuple.
+#[inline(always)]
+fn elements_of<'a, A: Allocator>(view: TermView<'a, A>) -> Option<&'a [Term<A>]>
+    requires { IsSplit view }
+    ensures { MatchOption result (IsNoTuple (shown_term view.entry))
+        (λ elements. tuple (items_of elements.now) ≡ shown_term view.entry) }
+{
+    match view {
+        TermView::Tuple(elements) => Some(elements),
+        TermView::Integer(_) | TermView::Atom(_) | TermView::Nil => None,
+        TermView::List(_elements, _tail) => None,
+        TermView::Map(_) | TermView::Binary(_) => None,
+    }
+}
+
 impl<'a, A: Allocator> Operand<'a, A> {
     /// The operand taken apart one level down.
+    #[inline]
     pub fn view(self) -> View<'a, A>
         ensures value { shown result ≡ operand_datum self.entry }
         ensures ended { IsEnded result }
@@ -126,12 +157,15 @@ impl<'a, A: Allocator> Operand<'a, A> {
     }
 
     /// The number that the operand is, where it is an integer.
+    #[inline(always)]
     pub fn integer(self) -> Option<i64>
         ensures { result ≡ integer_of (operand_datum self.entry) }
     {
-        match self.view() {
-            View::Integer(value) => Some(value),
-            _ => None,
+        match self {
+            Operand::Term(term) => integer_of(term.view()),
+            Operand::Rest(list, count) => integer_of(list.view_behind(count)),
+            Operand::Int(value) => Some(value),
+            Operand::Bool(_) => None,
         }
     }
 
@@ -148,14 +182,15 @@ impl<'a, A: Allocator> Operand<'a, A> {
     }
 
     /// The elements, where the operand is a tuple.
+    #[inline(always)]
     pub fn elements(self) -> Option<&'a [Term<A>]>
         ensures { MatchOption result (IsNoTuple (operand_datum self.entry))
             (λ elements. tuple (items_of elements.now) ≡ operand_datum self.entry) }
     {
-        match self.view() {
-            View::Tuple(elements) => Some(elements),
-            View::Integer(_) | View::Atom(_) | View::Nil => None,
-            View::List(..) | View::Map(_) | View::Binary(_) => None,
+        match self {
+            Operand::Term(term) => elements_of(term.view()),
+            Operand::Rest(list, count) => elements_of(list.view_behind(count)),
+            Operand::Int(_) | Operand::Bool(_) => None,
         }
     }
 

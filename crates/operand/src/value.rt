@@ -27,9 +27,9 @@ impl<'a, 'h, A: Allocator> Default for Value<'a, 'h, A> {
 }
 
 impl<'a, 'h, A: Allocator> Value<'a, 'h, A> {
-    ghost use Rattle.std.specs.Prelude.{◌≡◌, IsTrue, IfSome, IsSome};
+    ghost use Rattle.std.specs.Prelude.{◌≡◌, ◌↔◌, IsTrue, IfSome, IsSome, true};
     ghost use Rattle.term_core.specs.Limits.{IsSound};
-    ghost use Rattle.operand.specs.Operand.{operand_datum, boolean_of, integer_of};
+    ghost use Rattle.operand.specs.Operand.{operand_datum, boolean as boolean_atom, boolean_of, integer_of};
     ghost use Rattle.operand.specs.Value.{value_datum, is_borrowed};
     ghost use Rattle.operand.specs.View.{shown, IsEnded};
 
@@ -100,6 +100,14 @@ impl<'a, 'h, A: Allocator> Value<'a, 'h, A> {
             Value::Int(_) => None,
             Value::Term(_) | Value::Rest(_, _) | Value::Made(_) => self.operand().boolean(),
         }
+    }
+
+    /// Whether the value is the atom `true`.
+    #[inline(always)]
+    pub fn is_true(&self) -> bool
+        ensures { IsTrue result ↔ (value_datum self.now ≡ boolean_atom true) }
+    {
+        matches!(self.boolean(), Some(true))
     }
 
     /// The number that the value is, where it is an integer.

@@ -4,27 +4,26 @@ ghost use Rattle.std.specs.Option.{option_map};
 ghost use Rattle.term_core.specs.Datum.Datum.{integer};
 ghost use Rattle.operand.specs.Order.{is_same};
 ghost use Rattle.operand.specs.Value.{value_datum, is_borrowed};
-ghost use Rattle.operand.specs.View.{shown};
+ghost use Rattle.operand.specs.Operand.{operand_datum};
 ghost use Rattle.prims.specs.Integers.{arithmetic_of};
 ghost use Rattle.prims.specs.Lists.{head_of, tail_behind};
 ghost use Rattle.prims.specs.Maps.{map_get_of};
 ghost use Rattle.mcode.specs.Machine.{field_of};
 
-use operand::{Value, View, compare};
-use prims::{Arithmetic, Function, MapFunction, Primitive, call_two, compute};
+use operand::{Operand, Value, compare};
+use prims::{Arithmetic, compute, map_get};
 use std::alloc::{AllocError, Allocator};
 use term_core::Term;
 
 /// The element of a tuple at a place that is counted from 1.
 #[inline(always)]
-fn element<'a, A: Allocator>(view: View<'a, A>, index: u16) -> &'a Term<A>
-    requires { IsSome (field_of index (shown view)) }
-    ensures { field_of index (shown view.entry) ≡ Some result.now }
+fn element<'a, A: Allocator>(tuple: Operand<'a, A>, index: u16) -> &'a Term<A>
+    requires { IsSome (field_of index (operand_datum tuple)) }
+    ensures { field_of index (operand_datum tuple.entry) ≡ Some result.now }
 {
-    match view {
-        View::Tuple(elements) => &elements[usize::from(index) - 1],
-        View::Integer(_) | View::Atom(_) | View::Nil => unreachable!(),
-        View::List(..) | View::Map(_) | View::Binary(_) => unreachable!(),
+    match tuple.elements() {
+        Some(elements) => &elements[usize::from(index) - 1],
+        None => unreachable!(),
     }
 }
 
@@ -42,9 +41,9 @@ pub(crate) fn field<'a, 'h, A: Allocator + Copy>(
         → IsOkAnd result (λ value. IsTrue (is_borrowed value)) }
 {
     match tuple.borrowed() {
-        Some(tuple) => Ok(Value::Term(element(tuple.view(), index))),
+        Some(tuple) => Ok(Value::Term(element(tuple, index))),
         None => {
-            let element = element(tuple.view(), index).copy(*heap)?;
+            let element = element(tuple.operand(), index).copy(*heap)?;
             Ok(Value::Made(Box::new(heap, element)?))
         }
     }
@@ -110,8 +109,17 @@ pub(crate) fn value_of<'a, 'h, A: Allocator + Copy>(
     ensures memory { IsTrue (is_borrowed map.now)
         → IsOkAnd result (λ value. IfSome value (λ value. IsTrue (is_borrowed value))) }
 {
-    let function = Primitive::Function(Function::Map(MapFunction::MapGet));
-    call_two(heap, function, &Value::Term(key), map)
+    let key = Operand::Term(key);
+    match map.borrowed() {
+        Some(map) => match map_get(key, map) {
+            Some(value) => Ok(Some(Value::Term(value))),
+            None => Ok(None),
+        },
+        None => match map_get(key, map.operand()) {
+            Some(value) => Ok(Some(Value::Made(Box::new(heap, value.copy(*heap)?)?))),
+            None => Ok(None),
+        },
+    }
 }
 
 /// Whether two values are the same term.

@@ -33,7 +33,7 @@ mod values;
 pub use calls::{call, call_binary, call_unary};
 pub use gives::Gives;
 pub use integers::compute;
-pub use maps::find_value;
+pub use maps::{find_value, map_get};
 pub use prim::{
     Arithmetic, BooleanFunction, Comparison, Extreme, Function, IntegerFunction, ListFunction,
     MapFunction, Primitive, SizeFunction, Test, TupleFunction,

@@ -6,7 +6,8 @@ ghost use Rattle.operand.specs.Value.{value_datum, is_borrowed, all};
 ghost use Rattle.prims.specs.Calls.{function_of, inline_operands};
 
 use crate::calls::{call, call_binary, call_unary};
-use crate::prim::Primitive;
+use crate::order;
+use crate::prim::{Function, Primitive};
 use operand::{Operand, Value};
 use smallvec::SmallVec;
 use std::alloc::{AllocError, Allocator};
@@ -73,6 +74,10 @@ pub fn call_two<'a, 'h, A: Allocator + Copy>(
     ensures memory { IsTrue (is_borrowed left.now) → IsTrue (is_borrowed right.now)
         → IsOkAnd result (λ given. IfSome given (λ value. IsTrue (is_borrowed value))) }
 {
+    if let Primitive::Function(Function::Comparison(comparison)) = function {
+        let holds = order::holds(comparison, left.operand(), right.operand());
+        return Ok(Some(Value::Bool(holds)));
+    }
     if let Some(first) = left.borrowed() {
         if let Some(second) = right.borrowed() {
             return Ok(given(call_binary(function, first, second)));

@@ -1,9 +1,9 @@
 -- What is left of a list is a term, and its elements and tail.
-use Rattle.std.proofs.Common.{◌≡◌, ℕ, zero, suc, ◌+◌, ◌<◌, ◌≤◌, max, add-one, Option, Some, None, List, [], ◌∷◌, ◌-◌, length, take, drop, length-drop, refl, sym, ◌∙◌, ap, subst, arith}
+use Rattle.std.proofs.Common.{◌≡◌, ℕ, zero, suc, ◌+◌, ◌<◌, ◌≤◌, add-one, Option, Some, None, List, [], ◌∷◌, ◌-◌, length, take, drop, length-drop, refl, sym, ◌∙◌, ap, subst, arith}
 use Rattle.std.proofs.lemmas.List.{drop_all}
-use Rattle.term_core.specs.Datum.{Datum, cells, cell_count, IsNoList}
+use Rattle.term_core.specs.Datum.{Datum, cells, cell_count}
 use Rattle.term_core.specs.Datum.Datum.{integer, atom, tuple, map, nil, cons, binary}
-use Rattle.term_core.specs.Limits.{depth, tail_depth, IsTerm}
+use Rattle.term_core.specs.Limits.{depth, IsTerm}
 use Rattle.term_core.specs.Fault.{IsFault, IsTooLong}
 use Rattle.term_core.specs.Rest.{rest_of}
 use Rattle.term_core.specs.Term.{tail_of, IsTail}

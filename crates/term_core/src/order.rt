@@ -18,6 +18,7 @@ const NIL_RANK: u8 = 4;
 const LIST_RANK: u8 = 5;
 
 /// Where a term's kind stands among the kinds.
+#[inline(always)]
 fn rank<A: Allocator>(term: &Term<A>) -> u8
     ensures { result ≡ rank_of term.now }
 {
@@ -222,6 +223,19 @@ impl<A: Allocator> Eq for Term<A> {
     ghost laws = { eq_by_cmp_equiv datum_cmp_total };
 }
 
+/// Which of two terms stands first. Integers are compared at once.
+#[inline(always)]
+fn order_of<A: Allocator>(a: &Term<A>, b: &Term<A>) -> Ordering
+    ensures { result ≡ datum_cmp a.now b.now }
+{
+    if let View::Integer(left) = a.view() {
+        if let View::Integer(right) = b.view() {
+            return compare_integers(left, right);
+        }
+    }
+    compare(a, b)
+}
+
 impl<A: Allocator> Ord for Term<A> {
     ghost use Rattle.std.proofs.Common.{refl};
     ghost use Rattle.term_core.specs.Order.{datum_cmp};
@@ -236,7 +250,7 @@ impl<A: Allocator> Ord for Term<A> {
     ghost matches_eq = { λ a b. refl };
 
     fn cmp(&self, other: &Self) -> Ordering {
-        compare(self, other)
+        order_of(self, other)
     }
 }
 

@@ -458,6 +458,7 @@ impl<A: Allocator> Term<A> {
     }
 
     /// How deep the term is, from 1 to 255.
+    #[inline]
     pub fn depth(&self) -> u8
         ensures value { result ≡ depth self.now }
         ensures within { IsTerm self.now }
@@ -469,6 +470,7 @@ impl<A: Allocator> Term<A> {
     }
 
     /// The term taken apart one level down.
+    #[inline(always)]
     pub fn view(&self) -> View<'_, A>
         ensures value { shown result ≡ self.now }
         ensures split { IsSplit result }

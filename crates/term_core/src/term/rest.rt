@@ -1,11 +1,11 @@
 //! What is left of a list behind some of its elements.
-ghost use Rattle.std.specs.Prelude.{◌≡◌, IfOk};
+ghost use Rattle.std.specs.Prelude.{◌≡◌, ◌<◌, IfOk, length};
 ghost use Rattle.std.specs.Option.{option_copied};
 ghost use Rattle.term_core.specs.Datum.{cells};
-ghost use Rattle.term_core.specs.Limits.{IsTerm};
-ghost use Rattle.term_core.specs.Term.{tail_of};
+ghost use Rattle.term_core.specs.Limits.{IsTerm, depth};
+ghost use Rattle.term_core.specs.Term.{tail_of, IsTail};
 
-use crate::term::{Term, copy_all, copy_tail};
+use crate::term::{Term, copy_all, copy_tail, deepest};
 use crate::view::View;
 use std::alloc::{AllocError, Allocator};
 
@@ -26,9 +26,29 @@ fn copy_list<A: Allocator + Copy>(
     }
 }
 
+/// How deep a list's tail is, which is no list.
+fn depth_of_tail<A: Allocator>(tail: Option<&Term<A>>) -> u8
+    ensures { result ≡ depth (tail_of (option_copied tail.entry)) }
+{
+    match tail {
+        Some(tail) => tail.depth(),
+        None => 1,
+    }
+}
+
+/// How deep the list of these elements and this tail is.
+fn depth_of_list<A: Allocator>(elements: &[Term<A>], tail: Option<&Term<A>>) -> u8
+    requires some { 0 < length elements.now }
+    requires tail { IsTail (option_copied tail) }
+    requires within { IsTerm (cells elements.now (tail_of (option_copied tail))) }
+    ensures { result ≡ depth (cells elements.now (tail_of (option_copied tail.entry))) }
+{
+    deepest(elements).max(depth_of_tail(tail)) + 1
+}
+
 impl<A: Allocator> Term<A> {
     ghost use Rattle.std.specs.Prelude.{◌≡◌, IfOk};
-    ghost use Rattle.term_core.specs.Limits.{IsTerm};
+    ghost use Rattle.term_core.specs.Limits.{IsTerm, depth};
     ghost use Rattle.term_core.specs.Rest.{rest_of};
     ghost use Rattle.term_core.specs.View.{shown, IsSplit};
 
@@ -57,6 +77,20 @@ impl<A: Allocator> Term<A> {
             View::Map(pairs) => View::Map(pairs),
             View::Binary(bytes) => View::Binary(bytes),
         }
+    }
+
+    /// How deep what is left of a list behind so many of its elements is, from 1 to 255; of another term, how deep it is. It looks at each
+    /// of these elements.
+    pub fn depth_behind(&self, count: usize) -> u8
+        ensures { result ≡ depth (rest_of count self.now) }
+    {
+        let View::List(elements, tail) = self.view() else {
+            return self.depth();
+        };
+        if count < elements.len() {
+            return depth_of_list(&elements[count..], tail);
+        }
+        depth_of_tail(tail)
     }
 
     /// What is left of a list behind so many of its elements, in memory of its own. Another term is copied as it is.

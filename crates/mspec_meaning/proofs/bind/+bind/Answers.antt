@@ -1,5 +1,4 @@
-use Rattle.std.proofs.Common.{◌≡◌, length, MatchBool, ap, sym, ◌∙◌, subst, arith}
-use Rattle.term_core.specs.Datum.{Datum}
+use Rattle.std.proofs.Common.{◌≡◌, ap, sym, ◌∙◌, subst, arith}
 use Rattle.term_core.specs.Datum.Datum.{nil}
 use Rattle.mspec_syntax.specs.Pattern.{Pattern, pattern_size, patterns_size, patterns_of}
 use Rattle.mspec_meaning.specs.Match.{Fits}

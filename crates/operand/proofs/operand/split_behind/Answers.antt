@@ -1,7 +1,4 @@
 use Rattle.std.proofs.Common.{arith}
-use Rattle.std.specs.Option.{option_copied}
-use Rattle.term_core.specs.Datum.{cells}
-use Rattle.term_core.specs.Term.{tail_of}
 use Rattle.term_core.proofs.LimitLemmas.{cell_count-sound}
 use Rattle.term_core.proofs.RestLemmas.{rest_of-count, rest_of-next}
 use Rattle.operand.proofs.operand.split_behind.Goals as goal

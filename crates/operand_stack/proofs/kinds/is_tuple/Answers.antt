@@ -3,7 +3,7 @@ use Rattle.std.specs.Prelude.{nat_eq}
 use Rattle.term_core.proofs.LimitLemmas.{item_count-items_of}
 use Rattle.operand_stack.proofs.kinds.is_tuple.Goals as goal
 
-pub returns-in-Tuple : goal.returns-in-Tuple
-returns-in-Tuple g c =
-    rw (c.in-Tuple.is, c.from.ensures)
-    (ap (λ n. nat_eq n c.args.size) (sym (item_count-items_of c.in-Tuple.elements.now)))
+pub returns-in-Some : goal.returns-in-Some
+returns-in-Some g c =
+    rw (← c.in-Some.ensures, c.from.ensures)
+    (ap (λ n. nat_eq n c.args.size) (sym (item_count-items_of c.in-Some.elements.now)))

@@ -1,4 +1,4 @@
-use Rattle.std.proofs.Common.{ap, arith, rules, ◌∙◌, sym}
+use Rattle.std.proofs.Common.{ap, arith, rules}
 use Rattle.std.specs.Option.{option_copied}
 use Rattle.term_core.specs.Term.{tail_of}
 use Rattle.term_core.proofs.LimitLemmas.{cell_count-cells}

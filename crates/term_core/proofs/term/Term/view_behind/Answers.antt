@@ -1,8 +1,7 @@
-use Rattle.std.proofs.Common.{subst, sym, ap, ◌∙◌}
+use Rattle.std.proofs.Common.{◌∙◌}
 use Rattle.std.specs.Option.{option_copied}
 use Rattle.term_core.specs.Datum.Datum.{tuple, map}
 use Rattle.term_core.specs.Datum.{items_of, entries_of}
-use Rattle.term_core.specs.Limits.{IsTerm}
 use Rattle.term_core.proofs.RestLemmas.{rest_of-IsTerm, rest_of-slice, rest_of-past, rest_of-shown}
 use Rattle.term_core.proofs.term.Term.view_behind.Goals as goal
 

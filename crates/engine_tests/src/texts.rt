@@ -1,10 +1,14 @@
-//! The texts of refusals, which say in words what their numbers and arguments say.
+//! The texts of refusals, which say in words what their numbers and arguments say. Those of terms and of code stand behind their numbers,
+//! and those of code that is not verified also behind the number of the instruction.
 use ets_commands::ToolFault;
+use mcode::Fault as BuildFault;
 use mspec_syntax::SpecFault;
 use std::alloc::Global;
 use std::fmt::Display;
 use std::io::Write;
+use term_core::Fault as TermFault;
 use term_text::TextFault;
+use verifier::Fault as CodeFault;
 
 /// Puts a line with the text of a refusal at the end.
 fn put<F: Display + Drop>(lines: &mut Vec<u8>, fault: F) -> Option<()> {
@@ -104,4 +108,106 @@ fn texts_of_commands(alloc: Global) -> Option<Vec<u8>> {
 fn faults_of_commands_are_told(rt: HostRuntime) {
     let texts = texts_of_commands(rt.alloc());
     assert!(rt; texts.is_some_and(|lines| lines.as_slice() == OF_COMMANDS.as_bytes()));
+}
+
+/// The same behind a number.
+fn put_numbered<F: Display + Drop>(lines: &mut Vec<u8>, number: u8, fault: F) -> Option<()> {
+    write!(lines, "{number} {fault}\n").ok()
+}
+
+const OF_TERMS: &str = "\
+1 out of memory
+2 the term is too deep
+3 the term is too long
+4 a key stands twice in a map
+";
+
+fn texts_of_terms(alloc: Global) -> Option<Vec<u8>> {
+    let mut lines = Vec::new(alloc);
+    for fault in [
+        TermFault::Memory,
+        TermFault::TooDeep,
+        TermFault::TooLong,
+        TermFault::DuplicateKey,
+    ] {
+        put_numbered(&mut lines, fault.number(), fault)?;
+    }
+    Some(lines)
+}
+
+#[test]
+fn faults_of_terms_are_told(rt: HostRuntime) {
+    let texts = texts_of_terms(rt.alloc());
+    assert!(rt; texts.is_some_and(|lines| lines.as_slice() == OF_TERMS.as_bytes()));
+}
+
+const OF_BUILDING: &str = "\
+1 out of memory
+36 the code has too many parts of a kind
+37 the frame is out of order
+";
+
+fn texts_of_building(alloc: Global) -> Option<Vec<u8>> {
+    let mut lines = Vec::new(alloc);
+    for fault in [
+        BuildFault::Memory,
+        BuildFault::Limit,
+        BuildFault::FrameOrder,
+    ] {
+        put_numbered(&mut lines, fault.number(), fault)?;
+    }
+    Some(lines)
+}
+
+#[test]
+fn faults_of_building_are_told(rt: HostRuntime) {
+    let texts = texts_of_building(rt.alloc());
+    assert!(rt; texts.is_some_and(|lines| lines.as_slice() == OF_BUILDING.as_bytes()));
+}
+
+const OF_CODE: &str = "\
+1 out of memory
+0 40 instruction 0 finds too few operands
+1 41 instruction 1 finds an operand of the wrong kind
+2 42 instruction 2 names a slot that isn't bound
+3 43 instruction 3 jumps out of the code
+4 44 instruction 4 jumps back
+5 45 the frame at or of instruction 5 doesn't hold
+6 46 the code ends after instruction 6, which goes on
+7 47 instruction 7 names a constant that isn't what it needs
+65535 48 instruction 65535 leaves a stack that is too deep
+";
+
+/// Puts the number of the instruction at the end, where there is one.
+fn put_place(lines: &mut Vec<u8>, pc: Option<u16>) -> Option<()> {
+    match pc {
+        Some(pc) => write!(lines, "{pc} ").ok(),
+        None => Some(()),
+    }
+}
+
+fn texts_of_code(alloc: Global) -> Option<Vec<u8>> {
+    let mut lines = Vec::new(alloc);
+    for fault in [
+        CodeFault::Memory,
+        CodeFault::Underflow(0),
+        CodeFault::Kind(1),
+        CodeFault::Unbound(2),
+        CodeFault::JumpOutside(3),
+        CodeFault::JumpBack(4),
+        CodeFault::Frame(5),
+        CodeFault::FallsOff(6),
+        CodeFault::Constant(7),
+        CodeFault::Depth(65_535),
+    ] {
+        put_place(&mut lines, fault.pc())?;
+        put_numbered(&mut lines, fault.number(), fault)?;
+    }
+    Some(lines)
+}
+
+#[test]
+fn faults_of_code_are_told(rt: HostRuntime) {
+    let texts = texts_of_code(rt.alloc());
+    assert!(rt; texts.is_some_and(|lines| lines.as_slice() == OF_CODE.as_bytes()));
 }
