@@ -2,8 +2,8 @@
 # Times `ets_tool run`, as `rt run` builds it, over inputs that are made here: objects {N,a} in growing numbers, without and
 # with a condition, a term 255 deep, a list of a million integers, a map of 65,535 pairs in falling order, specifications of up to
 # 8,000 nodes and 256 variables, and a long list that a condition looks at. Time and memory are to be linear. Then it times
-# `machine_bench`: the largest code verified, with frames at a third of its instructions and at nearly all, and short code
-# run on a million pairs.
+# `machine_bench`: the largest code verified, with frames at a third of its instructions and at nearly all; what compiling, running and
+# evaluating takes of a short specification over a million pairs, of growing bodies, and of a body that is one long list.
 # usage: bench/run.sh
 set -eu
 top=$(cd "$(dirname "$0")/.." && pwd)
@@ -59,5 +59,9 @@ for n in 64 128 256; do variables "$n" > "$work/in"; measure "$n variables, 1,00
 for n in 10000 100000 1000000; do looked_at "$n" > "$work/in"; measure "a list of $n in a condition" "$work/in"; done
 measure_machine "verify, a third framed" third
 measure_machine "verify, nearly all framed" each
-{ echo '{code,0,[],[load,{tuple,2,4},{field,2},answer,no_answer],[{4,0,[],[]}]}.'; yes '{1,true}.' | head -n 1000000; } > "$work/in"
+{ echo "[{{'_','\$1'},[],['\$1']}]."; yes '{1,true}.' | head -n 1000000; } > "$work/in"
+"$machine" objects < "$work/in"
+for n in 665 1330 2660; do nodes "$n" > "$work/in"; echo "$((n * 3)) nodes in a body"; "$machine" objects < "$work/in"; done
+{ awk 'BEGIN { printf "[{{'\''$1'\''},[],[['\''$1'\''"; for (i = 1; i < 7990; i++) printf ",'\''$1'\''"; print "]]}]." }'; yes '{1}.' | head -n 10000; } > "$work/in"
+echo "a list of 7,990 elements as the body"
 "$machine" objects < "$work/in"

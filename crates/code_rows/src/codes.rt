@@ -1,7 +1,7 @@
 //! Code that is built, its budget, and what the verifier says of it.
 use budget::{all_forward, longest};
 use mcode::Code;
-use prims::Primitive;
+use primitives::Primitive;
 use row_code::{Built, Part, Parts, build, code_of, instruction, is_code, parts_of};
 use row_terms::{Outcome, digits, function, primitive, short, truth_name, word};
 use std::alloc::{Allocator, Global};

@@ -4,11 +4,13 @@
 //! `stdin` has the rows, and at its head the form of each kind. The judge is proved once, and rows cost nothing but their run.
 //!
 //! - `specifications`: terms that are read as specifications, and what these answer.
+//! - `compiled`: the code of specifications, which answers what they do.
 //! - `codes`: code that is built and verified; `runs`: what it answers.
 //! - `sweeps`: the same with each request for memory refused in turn, and what takes no memory.
 #![tactic(auto)]
 
 mod codes;
+mod compiled;
 mod runs;
 mod specifications;
 mod sweeps;
@@ -25,6 +27,9 @@ struct CodeKinds;
 impl Kinds for CodeKinds {
     fn came(alloc: Global, kind: &str, parts: &[Term], _forms: usize) -> Option<Vec<u8>> {
         if let Some(out) = specifications::came(alloc, kind, parts) {
+            return Some(out);
+        }
+        if let Some(out) = compiled::came(alloc, kind, parts) {
             return Some(out);
         }
         if let Some(out) = codes::came(alloc, kind, parts) {

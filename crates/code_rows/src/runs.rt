@@ -1,11 +1,11 @@
 //! What code answers on objects.
+use crate::compiled::verified_of;
 use machine::{Machine, run, run_true};
-use row_code::code_of;
 use row_terms::{Outcome, elements, is_atom, text, word};
 use std::alloc::Global;
 use term_core::Term;
 use term_text::read_terms;
-use verifier::{Verified, verify};
+use verifier::Verified;
 
 /// The text of an answer and of the number of instructions that were executed.
 fn answer_text(alloc: Global, answer: Option<&Term>, executed: u32) -> Option<Vec<u8>> {
@@ -73,17 +73,18 @@ fn ran_each(alloc: Global, code: &Verified, objects: &[Term]) -> Option<Vec<u8>>
     for object in objects {
         out = with_ran_by(alloc, out, &mut machine, object);
     }
+    machine.finish();
     out.end()
 }
 
 /// The answer of the code that a term says.
 fn ran_code(alloc: Global, code: &Term, object: &Term) -> Option<Vec<u8>> {
-    ran(alloc, &verify(alloc, code_of(alloc, code)?).ok()?, object)
+    ran(alloc, &verified_of(alloc, code)?, object)
 }
 
 /// The answers of the code on each of a list of objects, by one machine.
 fn ran_code_on_each(alloc: Global, code: &Term, objects: &Term) -> Option<Vec<u8>> {
-    let code = verify(alloc, code_of(alloc, code)?).ok()?;
+    let code = verified_of(alloc, code)?;
     ran_each(alloc, &code, elements(objects)?)
 }
 

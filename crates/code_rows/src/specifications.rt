@@ -1,7 +1,8 @@
 //! Terms that are read as specifications, and what these answer.
+use crate::compiled::agrees;
 use mspec_meaning::evaluate;
 use mspec_syntax::{Spec, SpecFault, read_spec};
-use row_terms::{Outcome, elements, listed, numbered, text};
+use row_terms::{Outcome, elements, listed, numbered, text, word};
 use std::alloc::{Allocator, Global};
 use term_core::Term;
 use term_text::read_terms;
@@ -47,14 +48,19 @@ fn answers<A: Allocator + Copy>(
     listed(alloc, answers.as_slice())
 }
 
-/// The answers of the specification that a term is read as.
+/// The answers of the specification that a term is read as, where its code has the same.
 fn answers_of<A: Allocator + Copy>(
     alloc: Global,
     heap: A,
     term: &Term<A>,
     objects: &[Term<A>],
 ) -> Option<Vec<u8>> {
-    answers(alloc, heap, &read_spec(heap, term).ok()?, objects)
+    let specification = read_spec(heap, term).ok()?;
+    if agrees(heap, &specification, objects)? {
+        answers(alloc, heap, &specification, objects)
+    } else {
+        word(alloc, "code_differs")
+    }
 }
 
 /// The answers of the first term of a text on those behind it.

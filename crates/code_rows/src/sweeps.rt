@@ -1,5 +1,6 @@
 //! Calls with each request for memory refused in turn, and calls with each refused from the first one on that they make.
 use crate::codes;
+use crate::compiled::verified_of;
 use crate::specifications::answers_of_text;
 use failing_alloc::Failing;
 use machine::{run, run_true};
@@ -67,7 +68,7 @@ fn verdict<A: Allocator + Copy>(alloc: Global, heap: A, given: &[u8]) -> Option<
 /// The code of a text, and the terms of the text.
 fn loaded<A: Allocator + Copy>(heap: A, given: &[u8]) -> Option<(Verified<A>, Vec<Term<A>, A>)> {
     let terms = read_terms(heap, given).ok()?;
-    let code = verify(heap, code_of(heap, terms.first()?)?).ok()?;
+    let code = verified_of(heap, terms.first()?)?;
     Some((code, terms))
 }
 

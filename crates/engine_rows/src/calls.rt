@@ -3,7 +3,8 @@
 //! An operand is tried as the term that it is; as a plain integer or truth value, where it is one; and as the rest of a list that is
 //! all of it, where it is a list. A number says the forms of up to three operands.
 use operand::Operand;
-use prims::{Function, Gives, Primitive, call};
+use primitives::{Function, Gives, Primitive};
+use prims::call;
 use row_terms::{Outcome, canonical, elements, fields, is_atom, number, primitive, tagged, word};
 use std::alloc::Global;
 use std::cmp::Ordering;

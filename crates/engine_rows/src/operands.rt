@@ -2,7 +2,8 @@
 use crate::calls::operand;
 use crate::constructors::{refused, size_of};
 use operand::Operand;
-use prims::{Comparison, Function, Primitive, call};
+use primitives::{Comparison, Function, Primitive};
+use prims::call;
 use row_terms::{Outcome, canonical, elements, text, word};
 use std::alloc::Global;
 use term_core::{Term, copy_tail};

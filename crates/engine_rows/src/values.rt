@@ -2,7 +2,8 @@
 use crate::calls::{is_in_form, operand, operands};
 use crate::operands::with_values;
 use operand::{Operand, Value};
-use prims::{Primitive, call_values};
+use primitives::Primitive;
+use prims::call_values;
 use row_terms::{Outcome, elements, primitive, tagged, word};
 use std::alloc::Global;
 use term_core::Term;

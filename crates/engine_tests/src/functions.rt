@@ -1,9 +1,8 @@
 //! Functions: operands and values that are copied, and what takes no memory.
 use failing_alloc::Failing;
 use operand::{Operand, Value};
-use prims::{
-    BooleanFunction, Comparison, Extreme, Function, Primitive, TupleFunction, call, call_values,
-};
+use primitives::{BooleanFunction, Comparison, Extreme, Function, Primitive, TupleFunction};
+use prims::{call, call_values};
 use row_terms::is_atom;
 use std::alloc::{Allocator, Global};
 use std::test::*;

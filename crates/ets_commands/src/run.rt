@@ -4,6 +4,9 @@ ghost use Rattle.std.specs.Io.KnownBytes.{Appends};
 ghost use Rattle.std.specs.Str.{encode_utf8_all};
 ghost use Rattle.term_text.specs.Canonical.{canonical};
 ghost use Rattle.std.specs.Option.{option_copied};
+ghost use Rattle.term_core.specs.Datum.{Datum};
+ghost use Rattle.mcode.specs.Answer.{answer_of};
+ghost use Rattle.mspec_meaning.specs.Meaning.{Means};
 ghost use Rattle.ets_commands.specs.Run.{IsQuery, IsInputFault, answer_line, Puts, Passes, EndsBy};
 ghost use Rattle.ets_commands.specs.Run.{line, outcome_of, of_text, of_specification, OfInput};
 ghost use Rattle.ets_commands.specs.Run.{WritesOutput, StopsRun, WritesLines, StopsLines};
@@ -11,6 +14,8 @@ ghost use Rattle.ets_commands.specs.Run.{WritesOutput, StopsRun, WritesLines, St
 use crate::fault::ToolFault;
 use crate::input::read_whole;
 use crate::words::Request;
+use compiler::compile;
+use machine::Machine;
 use mspec_meaning::evaluate;
 use mspec_syntax::{Spec, SpecFault, read_spec};
 use std::alloc::{AllocError, Allocator};
@@ -152,9 +157,54 @@ fn write_answers<A: Allocator + Copy, W: Write>(
     ensures stopped { IfErr result (StopsLines request specification.now objects.now
         (W.contents writer.old) (W.contents writer.new)) }
 {
+    match request {
+        Request::Run => write_runs(alloc, specification, objects, writer),
+        Request::Test => write_outcomes(alloc, specification, objects, writer),
+    }
+}
+
+/// Writes the answers on these objects, by the code of the specification.
+fn write_runs<A: Allocator + Copy, W: Write>(
+    alloc: A,
+    specification: &Spec<A>,
+    objects: &[Term<A>],
+    writer: &mut W,
+) -> Result<(), ToolFault>
+    ensures ok { OnOk result (WritesLines Request.Run specification.now objects.now
+        (W.contents writer.old) (W.contents writer.new)) }
+    ensures stopped { IfErr result (StopsLines Request.Run specification.now objects.now
+        (W.contents writer.old) (W.contents writer.new)) }
+{
+    let Ok(code) = compile(alloc, specification) else {
+        return Err(ToolFault::Memory);
+    };
+    let heap = &alloc;
+    let Ok(mut machine) = Machine::new(heap, &code) else {
+        return Err(ToolFault::Memory);
+    };
+    let written = run_each(alloc, specification, &mut machine, objects, writer);
+    machine.finish();
+    written
+}
+
+/// Writes what a machine answers on these objects.
+fn run_each<'a, A: Allocator + Copy, W: Write>(
+    alloc: A,
+    specification: &Spec<A>,
+    machine: &mut Machine<'a, '_, A>,
+    objects: &'a [Term<A>],
+    writer: &mut W,
+) -> Result<(), ToolFault>
+    requires { (object : Datum)
+        → Means specification.now object (answer_of machine.old.code object) }
+    ensures ok { OnOk result (WritesLines Request.Run specification.now objects.now
+        (W.contents writer.old) (W.contents writer.new)) }
+    ensures stopped { IfErr result (StopsLines Request.Run specification.now objects.now
+        (W.contents writer.old) (W.contents writer.new)) }
+{
     let mut lines = Vec::new(alloc);
     for object in objects {
-        match put_report(alloc, request, specification, object, &mut lines) {
+        match put_run(machine, object, &mut lines) {
             Ok(()) => write_if_many(writer, &mut lines)?,
             Err(AllocError) => return Err(out_of_memory(writer, &mut lines)),
         }
@@ -162,23 +212,56 @@ fn write_answers<A: Allocator + Copy, W: Write>(
     write_lines(writer, &mut lines)
 }
 
-/// Puts the line on an object at the end, where there is one.
-fn put_report<A: Allocator + Copy>(
+/// Puts the line of a machine's answer on an object at the end, where there is one.
+fn put_run<'a, A: Allocator + Copy>(
+    machine: &mut Machine<'a, '_, A>,
+    object: &'a Term<A>,
+    lines: &mut Vec<u8, A>,
+) -> Result<(), AllocError>
+    ensures ok { OnOk result (lines.new.items
+        ≡ lines.old.items ++ answer_line (answer_of machine.old.code object.now)) }
+    ensures err { OnErr result (lines.new.items ≡ lines.old.items) }
+    ensures code { machine.new.code ≡ machine.old.code }
+{
+    let (answer, _) = machine.run(object)?;
+    put_answer(answer.as_ref(), lines)
+}
+
+/// Writes how these objects come out.
+fn write_outcomes<A: Allocator + Copy, W: Write>(
     alloc: A,
-    request: Request,
+    specification: &Spec<A>,
+    objects: &[Term<A>],
+    writer: &mut W,
+) -> Result<(), ToolFault>
+    ensures ok { OnOk result (WritesLines Request.Test specification.now objects.now
+        (W.contents writer.old) (W.contents writer.new)) }
+    ensures stopped { IfErr result (StopsLines Request.Test specification.now objects.now
+        (W.contents writer.old) (W.contents writer.new)) }
+{
+    let mut lines = Vec::new(alloc);
+    for object in objects {
+        match put_evaluated(alloc, specification, object, &mut lines) {
+            Ok(()) => write_if_many(writer, &mut lines)?,
+            Err(AllocError) => return Err(out_of_memory(writer, &mut lines)),
+        }
+    }
+    write_lines(writer, &mut lines)
+}
+
+/// Puts the line that says how an object comes out at the end.
+fn put_evaluated<A: Allocator + Copy>(
+    alloc: A,
     specification: &Spec<A>,
     object: &Term<A>,
     lines: &mut Vec<u8, A>,
 ) -> Result<(), AllocError>
     ensures ok { OnOk result
-        (Puts request specification.now object.now lines.old.items lines.new.items) }
+        (Puts Request.Test specification.now object.now lines.old.items lines.new.items) }
     ensures err { OnErr result (lines.new.items ≡ lines.old.items) }
 {
     let answer = evaluate(alloc, specification, object)?;
-    match request {
-        Request::Run => put_answer(answer.as_ref(), lines),
-        Request::Test => put_outcome(answer.as_ref(), lines),
-    }
+    put_outcome(answer.as_ref(), lines)
 }
 
 /// Puts the line of an answer at the end, where there is one.

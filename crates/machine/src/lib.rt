@@ -7,8 +7,8 @@
 //! verifier's typing: where a call below it tests that again, the arm of its failure is proved to be out of reach.
 //!
 //! - `runs`: a `Machine`, which is made once and runs on any number of objects, and runs on one object.
-//! - `execution`: what an instruction does to stack and slots, and a step; `step`: what a step comes to. What instructions do to the
-//!   stack alone is in `operand_stack`.
+//! - `execution`: what an instruction does to stack and slots, and a step; `stack`: which instructions go by the stack and the code
+//!   alone; `step`: what a step comes to. What instructions do to the stack alone is in `operand_stack`.
 //! - `laws`: that a run has one end, that typed code is never stuck and ends with its answer (`answer_of` of
 //!   `mcode/specs/Answer.antt`), and that no run passes the budget. What is
 //!   known of a state that is of the shape known to the verifier stands in `specs/Fits.antt`, and which code needs no memory in
@@ -18,6 +18,7 @@
 mod execution;
 mod laws;
 mod runs;
+mod stack;
 mod step;
 
 pub use laws::{

@@ -1,49 +1,58 @@
-//! Times the verifier and the machine from outside: `bench/run.sh` and `bench/against_erlang` run this program, once for each word.
+//! Times the compiler, the verifier and the machine from outside: `bench/run.sh` and `bench/against_erlang` run this program, once for each word.
 //!
 //! - `third`: verifies 65,535 instructions with 256 slots, a frame at every third.
 //! - `each`: verifies 65,535 instructions with 256 slots, a frame at nearly each one.
-//! - `objects`: runs the code that standard input has on the objects behind it.
+//! - `objects`: compiles the specification that standard input begins with, and runs and evaluates it on the objects behind it.
+//! - `code`: compiles it, and lists its code.
 //!
-//! It prints the budget of what it verified, or the time of an object.
+//! It prints the budget of what it verified, the time of a compilation and of an object, or the code.
 #![tactic(auto)]
 
 mod largest;
+mod listing;
 mod runs;
 
-use std::alloc::Global;
-use std::io::Write;
+use std::io::{Read, Write};
 use std::process::ExitCode;
 
-/// The lines of a word, none where there is no such word or it can't be done.
-fn lines_of(rt: &HostRuntime, word: &str) -> Option<String> {
-    let alloc = rt.alloc();
+/// What standard input has.
+fn input(rt: &HostRuntime) -> Option<Vec<u8>> {
+    let mut input = Vec::new(rt.alloc());
+    rt.stdin().read_to_end(&mut input).ok()?;
+    Some(input)
+}
+
+/// Writes the line of a budget.
+fn write_budget(budget: u64, lines: &mut String) -> Option<()> {
+    writeln!(lines, "{budget}").ok()
+}
+
+/// Writes the lines of a word. There are none where there is no such word or it can't be done.
+fn write_word(rt: &HostRuntime, word: &str, lines: &mut String) -> Option<()> {
     match word {
-        "third" => line(alloc, largest::budget_framed_at_each_third(alloc)?),
-        "each" => line(alloc, largest::budget_framed_at_each(alloc)?),
-        "objects" => runs::times(rt),
+        "third" => write_budget(largest::budget_framed_at_each_third(rt.alloc())?, lines),
+        "each" => write_budget(largest::budget_framed_at_each(rt.alloc())?, lines),
+        "objects" => runs::write(rt, input(rt)?.as_slice(), lines),
+        "code" => listing::write(rt.alloc(), input(rt)?.as_slice(), lines),
         _ => None,
     }
 }
 
-/// The line of a number.
-fn line(alloc: Global, number: u64) -> Option<String> {
-    format!(in alloc; "{number}\n").ok()
-}
-
 fn main(rt: HostRuntime) -> anyhow::Result<ExitCode> {
     let arguments: Vec<String> = std::env::args(&rt)?.collect(rt.alloc())?;
-    let lines = match arguments.get(1) {
-        Some(word) => lines_of(&rt, word.as_str()),
+    let mut lines = String::new(rt.alloc());
+    let written = match arguments.get(1) {
+        Some(word) => write_word(&rt, word.as_str(), &mut lines),
         None => None,
     };
-    match lines {
-        Some(lines) => {
+    match written {
+        Some(()) => {
             rt.stdout().write_all(lines.as_bytes())?;
             Ok(ExitCode::SUCCESS)
         }
         None => {
             let usage =
-                "usage: machine_bench third|each, or objects < TERMS, of which the first is code that verifies\n";
+                "usage: machine_bench third|each, or objects|code < TERMS, of which the first is a specification\n";
             rt.stderr().write_all(usage.as_bytes())?;
             Ok(ExitCode::FAILURE)
         }

@@ -1,48 +1,67 @@
-//! Runs of a machine that is made once: of the code of standard input on the objects behind it.
+//! What a specification costs: its compilation, and its code and the evaluator over the objects behind it.
+use compiler::compile;
 use machine::Machine;
-use row_code::code_of;
+use mspec_meaning::evaluate;
+use mspec_syntax::{Spec, read_spec};
 use std::alloc::Global;
-use std::io::Read;
 use std::time::Instant;
 use term_core::Term;
 use term_text::read_terms;
-use verifier::{Verified, verify};
+use verifier::Verified;
 
-/// How often runs on objects are timed.
+/// How often each is timed.
 const ROUNDS: usize = 5;
 
-/// What is run.
+/// How often the specification is compiled in one round.
+const COMPILATIONS: usize = 100;
+
+/// What is timed.
 #[derive(Clone, Copy)]
 enum Work {
-    /// Answers.
+    /// Compiling and verifying.
+    Compile,
+    /// Answers of the code.
     Run,
-    /// Whether the answers are `true`.
+    /// Whether the answers of the code are `true`.
     RunTrue,
+    /// Answers of the evaluator.
+    Evaluate,
 }
 
-/// The code of a text, and the terms of the text: the first says the code, in the form of rows of tests, and the others are objects.
-fn load(alloc: Global, text: &[u8]) -> Option<(Verified, Vec<Term>)> {
-    let terms = read_terms(alloc, text).ok()?;
-    let code = verify(alloc, code_of(alloc, terms.first()?)?).ok()?;
-    Some((code, terms))
+/// A specification, its code, and objects.
+#[derive(Clone, Copy)]
+struct Query<'a> {
+    specification: &'a Spec,
+    code: &'a Verified,
+    objects: &'a [Term],
 }
 
-/// How many objects code answers. The answers are kept until the last of them.
-fn answered(alloc: Global, code: &Verified, objects: &[Term]) -> Option<usize> {
-    let mut machine = Machine::new(&alloc, code).ok()?;
-    let mut answers = Vec::new(alloc);
+/// The answers of code.
+fn answer<'a>(
+    machine: &mut Machine<'a, '_>,
+    objects: &'a [Term],
+    answers: &mut Vec<Term>,
+) -> Option<()> {
     for object in objects {
         let (answer, _executed) = machine.run(object).ok()?;
         if let Some(answer) = answer {
             answers.push(answer).ok()?;
         }
     }
-    Some(answers.len())
+    Some(())
 }
 
-/// How many objects code answers with `true`.
-fn true_on(alloc: Global, code: &Verified, objects: &[Term]) -> Option<usize> {
+/// How many objects code answers. The answers are kept until the last of them.
+fn answered(alloc: Global, code: &Verified, objects: &[Term]) -> Option<usize> {
     let mut machine = Machine::new(&alloc, code).ok()?;
+    let mut answers = Vec::new(alloc);
+    let all = answer(&mut machine, objects, &mut answers);
+    machine.finish();
+    all.map(|()| answers.len())
+}
+
+/// How many objects a machine answers with `true`.
+fn count_true<'a>(machine: &mut Machine<'a, '_>, objects: &'a [Term]) -> Option<usize> {
     let mut count: usize = 0;
     for object in objects {
         let (holds, _executed) = machine.run_true(object).ok()?;
@@ -53,54 +72,126 @@ fn true_on(alloc: Global, code: &Verified, objects: &[Term]) -> Option<usize> {
     Some(count)
 }
 
-/// How many objects the work finds something for.
-fn found(alloc: Global, work: Work, code: &Verified, objects: &[Term]) -> Option<usize> {
-    match work {
-        Work::Run => answered(alloc, code, objects),
-        Work::RunTrue => true_on(alloc, code, objects),
-    }
+/// How many objects code answers with `true`.
+fn true_on(alloc: Global, code: &Verified, objects: &[Term]) -> Option<usize> {
+    let mut machine = Machine::new(&alloc, code).ok()?;
+    let count = count_true(&mut machine, objects);
+    machine.finish();
+    count
 }
 
-/// The median of the nanoseconds that the work takes, and how many objects it finds something for.
-fn timed(rt: &HostRuntime, work: Work, code: &Verified, objects: &[Term]) -> Option<(u64, usize)> {
-    let alloc = rt.alloc();
-    let mut rounds = Vec::new(alloc);
+/// How many objects the evaluator answers. The answers are kept until the last of them.
+fn evaluated(alloc: Global, specification: &Spec, objects: &[Term]) -> Option<usize> {
+    let mut answers = Vec::new(alloc);
+    for object in objects {
+        if let Some(answer) = evaluate(alloc, specification, object).ok()? {
+            answers.push(answer).ok()?;
+        }
+    }
+    Some(answers.len())
+}
+
+/// How many instructions the code of a specification has.
+fn instructions(alloc: Global, specification: &Spec) -> Option<usize> {
+    let code = compile(alloc, specification).ok()?;
+    Some(code.code().instructions().len())
+}
+
+/// Compiles a specification so many times, and gives how many instructions its code has.
+fn compiled(alloc: Global, specification: &Spec) -> Option<usize> {
     let mut count = 0;
-    for _round in 0..ROUNDS {
-        let began = Instant::now(rt).ok()?;
-        count = found(alloc, work, code, objects)?;
-        let took = began.elapsed(rt).ok()?;
-        rounds.push(u64::try_from(took.as_nanos()).ok()?).ok()?;
+    for _compilation in 0..COMPILATIONS {
+        count = instructions(alloc, specification)?;
     }
-    rounds.sort().ok()?;
-    Some((*rounds.get(ROUNDS / 2)?, count))
+    Some(count)
 }
 
-/// The line of what the work takes for an object.
-fn line(
+/// What the work finds: how many instructions, or for how many objects there is an answer.
+fn found(alloc: Global, work: Work, query: Query) -> Option<usize> {
+    match work {
+        Work::Compile => compiled(alloc, query.specification),
+        Work::Run => answered(alloc, query.code, query.objects),
+        Work::RunTrue => true_on(alloc, query.code, query.objects),
+        Work::Evaluate => evaluated(alloc, query.specification, query.objects),
+    }
+}
+
+/// The nanoseconds that the work takes once, and what it finds.
+fn once(rt: &HostRuntime, work: Work, query: Query) -> Option<(u64, usize)> {
+    let began = Instant::now(rt).ok()?;
+    let found = found(rt.alloc(), work, query)?;
+    let took = began.elapsed(rt).ok()?;
+    Some((u64::try_from(took.as_nanos()).ok()?, found))
+}
+
+/// The median of the nanoseconds that the work takes, and what it finds.
+fn timed(rt: &HostRuntime, work: Work, query: Query) -> Option<(u64, usize)> {
+    let mut rounds = [0; ROUNDS];
+    let mut count = 0;
+    for round in &mut rounds {
+        let (took, found) = once(rt, work, query)?;
+        *round = took;
+        count = found;
+    }
+    rounds.sort_unstable();
+    Some((rounds[ROUNDS / 2], count))
+}
+
+/// Writes the line of what compiling takes.
+fn write_compilation(rt: &HostRuntime, query: Query, lines: &mut String) -> Option<()> {
+    let (nanoseconds, instructions) = timed(rt, Work::Compile, query)?;
+    let each = nanoseconds / COMPILATIONS as u64;
+    writeln!(lines, "compile {each} ns, {instructions} instructions").ok()
+}
+
+/// Writes the line of what the work takes for an object.
+fn write_work(
     rt: &HostRuntime,
     name: &str,
     work: Work,
-    code: &Verified,
-    objects: &[Term],
-) -> Option<String> {
-    let (nanoseconds, found) = timed(rt, work, code, objects)?;
-    let count = u64::try_from(objects.len()).ok()?.max(1);
+    query: Query,
+    lines: &mut String,
+) -> Option<()> {
+    let (nanoseconds, found) = timed(rt, work, query)?;
+    let count = u64::try_from(query.objects.len()).ok()?.max(1);
     let each = nanoseconds / count;
-    format!(in rt.alloc(); "{name} {each} ns an object, {found} of {count} answered\n").ok()
+    writeln!(
+        lines,
+        "{name} {each} ns an object, {found} of {count} answered"
+    )
+    .ok()
 }
 
-/// The nanoseconds an object of `run`, and of how many objects there was an answer; below, those of `run_true`, and for how many the
-/// answer was `true`. Each time is the median of five.
-pub(crate) fn times(rt: &HostRuntime) -> Option<String> {
-    let alloc = rt.alloc();
-    let mut input = Vec::new(alloc);
-    rt.stdin().read_to_end(&mut input).ok()?;
-    let (code, terms) = load(alloc, input.as_slice())?;
-    let (_code, objects) = terms.as_slice().split_first()?;
-    let mut lines = line(rt, "run", Work::Run, &code, objects)?;
-    lines
-        .push_str(line(rt, "run_true", Work::RunTrue, &code, objects)?.as_str())
-        .ok()?;
-    Some(lines)
+/// Writes the lines of all that is timed.
+fn write_times(rt: &HostRuntime, query: Query, lines: &mut String) -> Option<()> {
+    write_compilation(rt, query, lines)?;
+    write_work(rt, "run", Work::Run, query, lines)?;
+    write_work(rt, "run_true", Work::RunTrue, query, lines)?;
+    write_work(rt, "evaluate", Work::Evaluate, query, lines)
+}
+
+/// Compiles a specification, and writes the lines of it over the objects.
+fn write_query(
+    rt: &HostRuntime,
+    specification: &Spec,
+    objects: &[Term],
+    lines: &mut String,
+) -> Option<()> {
+    let code = &compile(rt.alloc(), specification).ok()?;
+    let query = Query {
+        specification,
+        code,
+        objects,
+    };
+    write_times(rt, query, lines)
+}
+
+/// Writes the nanoseconds that the first term of a text takes to be compiled, as a specification, and how many instructions its code
+/// has; below, those of an object of `run`, `run_true` and `evaluate`, and of how many objects there was an answer, of `run_true` the
+/// answer `true`. Each time is the median of five.
+pub(crate) fn write(rt: &HostRuntime, text: &[u8], lines: &mut String) -> Option<()> {
+    let terms = read_terms(rt.alloc(), text).ok()?;
+    let (first, objects) = terms.as_slice().split_first()?;
+    let specification = read_spec(rt.alloc(), first).ok()?;
+    write_query(rt, &specification, objects, lines)
 }

@@ -9,7 +9,7 @@ use Rattle.mspec_meaning.specs.Slots.{AreFree, NeverMatches}
 use Rattle.mspec_meaning.proofs.MatchLemmas.{one-match}
 use Rattle.mspec_meaning.proofs.ValueLemmas.{split_at}
 use Rattle.mspec_meaning.specs.Meaning.{value_of, true_term, AllHold, Means, IsApplicable, Applies, body_value}
-use Rattle.mspec_meaning.specs.declared.value.Mode.TheVariants.{Condition, Body}
+use Rattle.mspec_syntax.specs.declared.mode.Mode.TheVariants.{Condition, Body}
 
 -- the conditions that are left decide for all
 pub record HoldFront (es : List Expression) (i : ℕ) (s : Substitution) (o : Datum) : Type 0 where

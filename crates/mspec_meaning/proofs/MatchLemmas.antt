@@ -51,7 +51,7 @@ one_bound m s t n h e =
       | inr z ↦ absurd (let q = sym (ap (λ b. b || false) (ne_eqb m n z)) ∙ e in cc)
     ]
 
-among-append : (xs ys : List ℕ) (n : ℕ) → is_among (xs ++ ys) n ≡ (is_among xs n || is_among ys n)
+pub among-append : (xs ys : List ℕ) (n : ℕ) → is_among (xs ++ ys) n ≡ (is_among xs n || is_among ys n)
 among-append [] ys n = refl
 among-append (x ∷ xs) ys n = ap (λ b. (x == n) || b) (among-append xs ys n) ∙ or_assoc (x == n) (is_among xs n) (is_among ys n)
 

@@ -5,7 +5,7 @@ use Rattle.std.specs.Option.{IsSome}
 use Rattle.std.proofs.lemmas.List.Elements.{All-nil, All-cons, All-head, All-tail}
 use Rattle.operand.specs.Operand.{boolean_of}
 use Rattle.prims.specs.Calls.{function_of}
-use Rattle.prims.specs.declared.prim.Primitive.{Primitive}
+use Rattle.primitives.specs.declared.prim.Primitive.{Primitive}
 use Rattle.term_core.specs.Datum.{Datum, Entries, cells, items_of}
 use Rattle.term_core.specs.Datum.Datum.{tuple, map as table, nil}
 use Rattle.term_core.specs.Limits.{within_limits}
@@ -17,9 +17,10 @@ use Rattle.mspec_syntax.specs.Expression.Assignments.{no_assignments, assignment
 use Rattle.mspec_syntax.specs.Specification.{Clause, Specification, clause_variables}
 use Rattle.mspec_syntax.specs.Sound.{IsSoundExpression, AreSoundExpressions, AreSoundAssignments, IsSoundClause}
 use Rattle.mspec_meaning.specs.Match.{Substitution, domain, values_of, lookup}
-use Rattle.mspec_meaning.specs.Meaning.{or_failed, made_of, called, and_at, and_step, or_at, or_step, before, at_key, joined, Position, made_list, value_at, argument_values, entry_values, all_true, any_true, body_value, Applies, IsApplicable, Means}
-use Rattle.mspec_meaning.specs.Meaning.Position.{by_itself, as_tail}
-use Rattle.mspec_meaning.specs.declared.value.Mode.TheVariants.{Body}
+use Rattle.mspec_meaning.specs.Meaning.{or_failed, made_of, called, and_at, and_step, or_at, or_step, before, at_key, joined, made_list, value_at, argument_values, entry_values, all_true, any_true, body_value, Applies, IsApplicable, Means}
+use Rattle.mspec_syntax.specs.Mode.{Position}
+use Rattle.mspec_syntax.specs.Mode.Position.{by_itself, as_tail}
+use Rattle.mspec_syntax.specs.declared.mode.Mode.TheVariants.{Body}
 use Rattle.mspec_meaning.proofs.MatchLemmas.{one-match}
 
 pub one-meaning : (spec : Specification) (o : Datum) (a b : Option Datum) → Means spec o a → Means spec o b → a ≡ b
@@ -88,7 +89,7 @@ or_step-some (Some d) rest h k = or_at-some (boolean_of d) rest k
 module _ (vs : List ℕ) (s : Substitution) (o : Datum) (known : (n : ℕ) → is_among vs n ≡ true → IsSome (lookup s n)) where
   mutual
     -- a sound expression of a body has a value
-    value-some : (e : Expression) (position : Position) → IsSoundExpression vs e → IsSome (value_at Body e position s o)
+    pub value-some : (e : Expression) (position : Position) → IsSoundExpression vs e → IsSome (value_at Body e position s o)
     value-some (bound n) position h = known n h
     value-some object position h = refl
     value-some bindings position h = or_failed-some (within_limits (cells (values_of s) nil))
@@ -132,7 +133,7 @@ module _ (vs : List ℕ) (s : Substitution) (o : Datum) (known : (n : ℕ) → i
       body-some (f ∷ es) (All-tail (IsSoundExpression vs) e (f ∷ es) sound) (omega arith)
 
 -- each variable of the domain has a value
-lookup-some : (s : Substitution) (n : ℕ) → is_among (domain s) n ≡ true → IsSome (lookup s n)
+pub lookup-some : (s : Substitution) (n : ℕ) → is_among (domain s) n ≡ true → IsSome (lookup s n)
 lookup-some [] n h = absurd (cc)
 lookup-some (e ∷ s) n h = by (e.0 == n) (λ k. lookup-some s n k) h
   where

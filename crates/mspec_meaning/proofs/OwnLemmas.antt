@@ -30,7 +30,7 @@ both-none [] ys h k = k
 both-none (x ∷ xs) ys h k = absurd (cc)
 
 mutual
-  own-variables : (p : Pattern) (d : Datum) → own_term p ≡ Some d → pattern_variables p ≡ []
+  pub own-variables : (p : Pattern) (d : Datum) → own_term p ≡ Some d → pattern_variables p ≡ []
   own-variables (variable n) d is = absurd (cc)
   own-variables anything d is = absurd (cc)
   own-variables (literal e) d is = refl
@@ -47,7 +47,7 @@ mutual
       both-none (pattern_variables p) (patterns_variables ps) (own-variables p parts.0 parts.2) (owns-variables ps parts.1 parts.3)
 
 mutual
-  own-fits : (p : Pattern) (d : Datum) (f : ℕ → Option Datum) → own_term p ≡ Some d → Fits p f d
+  pub own-fits : (p : Pattern) (d : Datum) (f : ℕ → Option Datum) → own_term p ≡ Some d → Fits p f d
   own-fits (variable n) d f is = absurd (cc)
   own-fits anything d f is = absurd (cc)
   own-fits (literal e) d f is = cc
@@ -72,7 +72,7 @@ mutual
       subst P parts.4 (own-fits p parts.0 f parts.2, owns-fit ps parts.1 f parts.3)
 
 mutual
-  fits-own : (p : Pattern) (d : Datum) (f : ℕ → Option Datum) (t : Datum) → own_term p ≡ Some d → Fits p f t → t ≡ d
+  pub fits-own : (p : Pattern) (d : Datum) (f : ℕ → Option Datum) (t : Datum) → own_term p ≡ Some d → Fits p f t → t ≡ d
   fits-own (variable n) d f t is h = absurd (cc)
   fits-own anything d f t is h = absurd (cc)
   fits-own (literal e) d f t is h = cc

@@ -1,66 +1,27 @@
 -- Values of expressions, part by part.
-use Rattle.std.proofs.Common.{◌≡◌, ℕ, zero, suc, ◌+◌, ◌<◌, ◌≤◌, Bool, true, false, not, IfSome, Option, Some, None, option_map, Box, List, [], ◌∷◌, ◌++◌, length, get_or, drop, refl, sym, ◌∙◌, ap, subst, arith, drop-cons, add-one}
+use Rattle.std.proofs.Common.{◌≡◌, ℕ, suc, ◌+◌, ◌<◌, ◌≤◌, Bool, true, false, not, IfSome, Option, Some, None, option_map, Box, List, [], ◌∷◌, ◌++◌, length, get_or, drop, refl, sym, ◌∙◌, ap, subst, arith, drop-cons, add-one}
 use Rattle.std.proofs.lemmas.List.{drop_all, append_assoc, append-nil}
 use Rattle.operand.specs.Operand.{boolean, operand_datum}
 use Rattle.term_core.specs.Datum.{Datum, Entries, entries_of}
 use Rattle.term_core.specs.Datum.Entries.{no_entries, entry}
 use Rattle.term_core.specs.MapPairs.{AreRising}
 use Rattle.term_core.specs.Order.{IsBelow, IsBelowFirst}
-use Rattle.mspec_syntax.specs.Expression.{Expression, Assignments, expressions_of, assignments_of, new_cells, expression_size, expressions_size, assignments_size, assignment_keys, IsNoListExpression}
+use Rattle.mspec_syntax.specs.Expression.{Expression, Assignments, expressions_of, assignments_of, new_cells, assignment_keys, IsNoListExpression}
 use Rattle.mspec_syntax.specs.Keys.{AreKeysRising, IsBelowNext}
 use Rattle.mspec_syntax.specs.Expression.Expression.{bound, object, bindings, constant, quoted, call, and_also, or_else, new_tuple, new_cell, new_map}
 use Rattle.mspec_syntax.specs.Expression.Assignments.{no_assignments, assignment}
 use Rattle.mspec_syntax.specs.ExpressionView.{tail_expression, IsTailExpression}
 use Rattle.mspec_meaning.specs.Match.{Substitution}
 use Rattle.mspec_meaning.specs.Meaning.{made_of, before, at_key, joined, value_at, value_of, argument_values, entry_values}
-use Rattle.mspec_meaning.specs.Meaning.Position.{as_tail}
+use Rattle.mspec_syntax.specs.Mode.Position.{as_tail}
 use Rattle.mspec_meaning.specs.Value.{joined_to, decided, decided_at}
 use Rattle.mspec_meaning.specs.Slots.{seen, known}
 use Rattle.operand.specs.declared.operand.Operand.{Operand}
-use Rattle.mspec_meaning.specs.declared.value.Mode.{Mode}
+use Rattle.mspec_syntax.specs.declared.mode.Mode.{Mode}
 
 -- what is left, from its first element
 pub split_at : {X : Type 0} (xs : List X) (i : ℕ) (x : X) → i < length xs → x ≡ get_or xs i x → drop i xs ≡ x ∷ drop (i + 1) xs
 split_at xs i x h e = drop-cons xs i x h ∙ ap (λ y. y ∷ drop (suc i) xs) (sym e) ∙ ap (λ j. x ∷ drop j xs) (sym (add-one i))
-
-expressions_size-get : (es : List Expression) (i : ℕ) (e : Expression) → i < length es → expression_size (get_or es i e) < expressions_size (expressions_of es)
-expressions_size-get [] i e h = absurd (omega arith)
-expressions_size-get (x ∷ es) zero e h = omega arith
-expressions_size-get (x ∷ es) (suc i) e h = omega (arith, expressions_size-get es i e (omega arith))
-
--- an argument is smaller than the arguments
-pub expressions_size-at : (es : List Expression) (i : ℕ) (e : Expression) → i < length es → e ≡ get_or es i e → expression_size e < expressions_size (expressions_of es)
-expressions_size-at es i e h is = omega (arith, expressions_size-get es i e h, ap expression_size is)
-
-assignments_size-get : (ms : List (Datum × Expression)) (i : ℕ) (m : Datum × Expression) → i < length ms → expression_size (get_or ms i m).1 < assignments_size (assignments_of ms)
-assignments_size-get [] i m h = absurd (omega arith)
-assignments_size-get (x ∷ ms) zero m h = omega arith
-assignments_size-get (x ∷ ms) (suc i) m h = omega (arith, assignments_size-get ms i m (omega arith))
-
-pub assignments_size-at : (ms : List (Datum × Expression)) (i : ℕ) (m : Datum × Expression) → i < length ms → m ≡ get_or ms i m → expression_size m.1 < assignments_size (assignments_of ms)
-assignments_size-at ms i m h is = omega (arith, assignments_size-get ms i m h, ap (λ x. expression_size x.1) is)
-
--- the size of a list
-pub cells-size : (es : List Expression) (t : Expression) → expression_size (new_cells es t) ≡ expressions_size (expressions_of es) + expression_size t
-cells-size [] t = omega arith
-cells-size (e ∷ es) t = omega (arith, cells-size es t)
-
-pub size-some : (e : Expression) → 0 < expression_size e
-size-some (bound n) = omega arith
-size-some object = omega arith
-size-some bindings = omega arith
-size-some (constant d) = omega arith
-size-some (quoted d) = omega arith
-size-some (call f es) = omega arith
-size-some (and_also es) = omega arith
-size-some (or_else es) = omega arith
-size-some (new_tuple es) = omega arith
-size-some (new_cell e f) = omega arith
-size-some (new_map ms) = omega arith
-
-pub some-size : (es : List Expression) → 0 < length es → 0 < expressions_size (expressions_of es)
-some-size [] h = absurd (omega arith)
-some-size (e ∷ es) h = omega arith
 
 -- pairs, and then those of a map
 abbrev pub entries_before : List (Datum × Datum) → Entries → Entries

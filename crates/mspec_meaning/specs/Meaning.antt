@@ -3,7 +3,7 @@
 use Rattle.std.specs.Prelude.{◌≡◌, ◌⊎◌, Bool, true, false, Option, Some, None, option_map, List, [], ◌∷◌, codes}
 use Rattle.operand.specs.Operand.{boolean_of, boolean}
 use Rattle.prims.specs.Calls.{function_of}
-use Rattle.prims.specs.declared.prim.Primitive.{Primitive}
+use Rattle.primitives.specs.declared.prim.Primitive.{Primitive}
 use Rattle.term_core.specs.Datum.{Datum, Entries, cells, items_of}
 use Rattle.term_core.specs.Datum.Entries.{no_entries, entry}
 use Rattle.term_core.specs.Datum.Datum.{atom, tuple, map, nil, cons}
@@ -12,15 +12,14 @@ use Rattle.mspec_syntax.specs.Expression.{Expression, Expressions, Assignments}
 use Rattle.mspec_syntax.specs.Expression.Expression.{bound, object, bindings, constant, quoted, call, and_also, or_else, new_tuple, new_cell, new_map}
 use Rattle.mspec_syntax.specs.Expression.Expressions.{no_expressions, expression}
 use Rattle.mspec_syntax.specs.Expression.Assignments.{no_assignments, assignment}
+use Rattle.mspec_syntax.specs.Mode.{exit_term, Position}
+use Rattle.mspec_syntax.specs.Mode.Position.{by_itself, as_tail}
 use Rattle.mspec_syntax.specs.Specification.{Clause, Specification}
 use Rattle.mspec_meaning.specs.Match.{Substitution, values_of, lookup, Matches}
-use Rattle.mspec_meaning.specs.declared.value.Mode.{Mode}
-use Rattle.mspec_meaning.specs.declared.value.Mode.TheVariants.{Condition, Body}
+use Rattle.mspec_syntax.specs.declared.mode.Mode.{Mode}
+use Rattle.mspec_syntax.specs.declared.mode.Mode.TheVariants.{Condition, Body}
 
--- the atoms 'EXIT' and true
-abbrev pub exit_term : Datum
-exit_term = atom (codes "EXIT")
-
+-- the atom true
 abbrev pub true_term : Datum
 true_term = atom (codes "true")
 
@@ -84,11 +83,6 @@ at_key k v es = None
 abbrev pub joined : Option Datum → Option Datum → Option Datum
 joined (Some head) (Some tail) = Some (cons head tail)
 joined head tail = None
-
--- where an expression stands: by itself, or as the tail of a list that is made
-pub data Position : Type 0 where
-  by_itself : Position
-  as_tail : Position
 
 -- a list that is made, of which the limits are looked at as a whole, and so not in its tail
 abbrev pub made_list : Mode → Position → Option Datum → Option Datum

@@ -7,7 +7,7 @@ use Rattle.mspec_meaning.specs.Match.{Substitution}
 use Rattle.mspec_meaning.specs.Meaning.{and_step, or_step, all_true, any_true}
 use Rattle.mspec_meaning.specs.declared.decided.Verdict.{Verdict}
 use Rattle.mspec_meaning.specs.declared.decided.Verdict.TheVariants as verdict
-use Rattle.mspec_meaning.specs.declared.value.Mode.{Mode}
+use Rattle.mspec_syntax.specs.declared.mode.Mode.{Mode}
 
 -- elements followed by a tail, where both are there
 abbrev pub joined_to : Option (List Datum) → Option Datum → Option Datum

@@ -1,7 +1,8 @@
 //! Calls of functions over values.
 use crate::scope::Scope;
 use operand::Value;
-use prims::{Primitive, call_values};
+use primitives::Primitive;
+use prims::call_values;
 use std::alloc::{AllocError, Allocator};
 
 impl<'s, 'a, A: Allocator + Copy> Scope<'s, 'a, A> {

@@ -4,13 +4,12 @@ ghost use Rattle.mspec_meaning.specs.Match.{Matches};
 ghost use Rattle.mspec_meaning.specs.Meaning.{AllHold, IsApplicable, Applies, Means, body_value};
 ghost use Rattle.mspec_meaning.specs.Applied.{AnswersBy};
 ghost use Rattle.mspec_meaning.specs.Slots.{seen, AreFree, NeverMatches, MatchesBy};
-ghost use Rattle.mspec_meaning.specs.declared.value.Mode.TheVariants.{Condition, Body};
+ghost use Rattle.mspec_syntax.specs.declared.mode.Mode.TheVariants.{Condition, Body};
 
 use crate::bind::{Slot, bind};
 use crate::made::into_term;
 use crate::scope::Scope;
-use crate::value::Mode;
-use mspec_syntax::{Clause, Expression, Spec};
+use mspec_syntax::{Clause, Expression, Mode, Spec};
 use operand::Operand;
 use std::alloc::{AllocError, Allocator};
 use term_core::Term;

@@ -26,4 +26,3 @@ pub use laws::{
     applicable_clauses_answer, empty_answers_nothing, first_clause_decides, one_answer_is_meant,
     one_substitution_matches, own_term_matches,
 };
-pub use value::Mode;

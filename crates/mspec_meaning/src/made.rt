@@ -2,24 +2,12 @@
 ghost use Rattle.std.specs.Prelude.{◌≡◌, ◌++◌, ◌∷◌, [], IfOk, OnOk};
 ghost use Rattle.std.specs.Option.{option_map};
 ghost use Rattle.operand.specs.Value.{value_datum};
-ghost use Rattle.mspec_meaning.specs.Meaning.{exit_term};
 
 use crate::scope::Scope;
-use crate::value::Mode;
+use mspec_syntax::{Mode, exit_term};
 use operand::Value;
 use std::alloc::{AllocError, Allocator};
 use term_core::{Term, make_list, make_map, make_tuple};
-
-/// The atom `'EXIT'`.
-fn exit<A: Allocator + Copy>(alloc: A) -> Result<Term<A>, AllocError>
-    ensures { IfOk result (λ term. term ≡ exit_term) }
-{
-    let characters = Vec::from_slice(alloc, &['E', 'X', 'I', 'T'])?;
-    match Term::from_characters(alloc, characters) {
-        Ok(exit) => Ok(exit),
-        Err(_) => Err(AllocError),
-    }
-}
 
 /// A value as a term in memory of its own, where there is one.
 pub(crate) fn into_term<A: Allocator + Copy>(
@@ -80,7 +68,7 @@ impl<'s, 'a, A: Allocator + Copy> Scope<'s, 'a, A> {
     {
         match self.mode() {
             Mode::Condition => Ok(None),
-            Mode::Body => Ok(Some(Value::made(self.heap(), exit(self.alloc())?)?)),
+            Mode::Body => Ok(Some(Value::made(self.heap(), exit_term(self.alloc())?)?)),
         }
     }
 

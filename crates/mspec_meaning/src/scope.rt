@@ -7,8 +7,7 @@ ghost use Rattle.operand.specs.Value.{value_datum};
 
 use crate::bind::Slot;
 use crate::made::push_element;
-use crate::value::Mode;
-use mspec_syntax::Variables;
+use mspec_syntax::{Mode, Variables};
 use operand::Value;
 use std::alloc::{AllocError, Allocator};
 use std::marker::Model;

@@ -7,15 +7,6 @@ use operand::Value;
 use std::alloc::{AllocError, Allocator};
 use term_core::Term;
 
-/// Where an expression stands.
-#[derive(Clone, Copy, Debug, PartialEq, Eq)]
-pub enum Mode {
-    /// In a condition, where what fails has no value.
-    Condition,
-    /// In a body, where what fails has the value `'EXIT'`.
-    Body,
-}
-
 impl<'s, 'a, A: Allocator + Copy> Scope<'s, 'a, A> {
     ghost use Rattle.std.specs.Prelude.{◌≡◌, map, IfOk};
     ghost use Rattle.std.specs.Option.{option_map};

@@ -3,6 +3,8 @@ pub mod GrammarLemmas
 pub mod PatternLemmas
 pub mod RisingLemmas
 pub mod ExpressionLemmas
+pub mod ExpressionSizes
 pub mod SizeLemmas
 pub mod ReadingLemmas
 pub mod SoundLemmas
+pub mod RankLemmas

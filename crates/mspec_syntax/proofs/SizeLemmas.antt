@@ -9,6 +9,7 @@ use Rattle.mspec_syntax.specs.PatternView.{tail_pattern, IsTailPattern}
 use Rattle.mspec_syntax.specs.Pattern.{literal_tail_nodes}
 use Rattle.mspec_syntax.specs.Expression.{Expression, expressions_of, assignments_of, new_cells, expression_size, expressions_size, assignments_size, expression_nodes, expressions_nodes, rest_nodes, IsNoListExpression}
 use Rattle.mspec_syntax.specs.Expression.Expression.{bound, object, bindings, constant, quoted, call, and_also, or_else, new_tuple, new_cell, new_map}
+use Rattle.mspec_syntax.proofs.ExpressionSizes.{size-some, new_cells-size}
 use Rattle.mspec_syntax.specs.ExpressionView.{tail_expression, IsTailExpression}
 use Rattle.mspec_syntax.specs.Specification.{Clause, clause_nodes, specification_nodes, Leaves}
 use Rattle.mspec_syntax.specs.Pattern.Pattern.{variable, anything, literal, tuple_of, cell_of, map_of}
@@ -30,7 +31,7 @@ fields_size-get (x ∷ xs) (suc i) f h = omega (arith, fields_size-get xs i f (o
 pub fields_size-at : (fs : List (Datum × Pattern)) (i : ℕ) (f : Datum × Pattern) → i < length fs → f ≡ get_or fs i f → pattern_size f.1 ≤ fields_size (fields_of fs)
 fields_size-at fs i f h e = omega (arith, fields_size-get fs i f h, ap (λ x. pattern_size x.1) e)
 
-pattern_size-some : (p : Pattern) → 0 < pattern_size p
+pub pattern_size-some : (p : Pattern) → 0 < pattern_size p
 pattern_size-some (variable n) = omega arith
 pattern_size-some anything = omega arith
 pattern_size-some (literal d) = omega arith
@@ -38,7 +39,12 @@ pattern_size-some (tuple_of ps) = omega arith
 pattern_size-some (cell_of p q) = omega arith
 pattern_size-some (map_of fs) = omega arith
 
-cells-size : (ps : List Pattern) (q : Pattern) → pattern_size (cells_of ps q) ≡ patterns_size (patterns_of ps) + pattern_size q
+pub patterns_size-some : (ps : List Pattern) → 0 < length ps → 0 < patterns_size (patterns_of ps)
+patterns_size-some [] h = absurd (omega arith)
+patterns_size-some (p ∷ ps) h = omega arith
+
+-- the size of a list
+pub cells-size : (ps : List Pattern) (q : Pattern) → pattern_size (cells_of ps q) ≡ patterns_size (patterns_of ps) + pattern_size q
 cells-size [] q = omega arith
 cells-size (p ∷ ps) q = omega (arith, cells-size ps q)
 
@@ -120,46 +126,12 @@ specification_nodes-step cs i c h e = ap specification_nodes (clauses-split cs i
 
 -- ---- expressions
 
-expressions_size-get : (es : List Expression) (i : ℕ) (e : Expression) → i < length es → expression_size (get_or es i e) ≤ expressions_size (expressions_of es)
-expressions_size-get [] i e h = absurd (omega arith)
-expressions_size-get (x ∷ xs) zero e h = omega arith
-expressions_size-get (x ∷ xs) (suc i) e h = omega (arith, expressions_size-get xs i e (omega arith))
-
--- an element is at most as large as the elements
-pub expressions_size-at : (es : List Expression) (i : ℕ) (e : Expression) → i < length es → e ≡ get_or es i e → expression_size e ≤ expressions_size (expressions_of es)
-expressions_size-at es i e h is = omega (arith, expressions_size-get es i e h, ap expression_size is)
-
-assignments_size-get : (ms : List (Datum × Expression)) (i : ℕ) (m : Datum × Expression) → i < length ms → expression_size (get_or ms i m).1 ≤ assignments_size (assignments_of ms)
-assignments_size-get [] i m h = absurd (omega arith)
-assignments_size-get (x ∷ xs) zero m h = omega arith
-assignments_size-get (x ∷ xs) (suc i) m h = omega (arith, assignments_size-get xs i m (omega arith))
-
-pub assignments_size-at : (ms : List (Datum × Expression)) (i : ℕ) (m : Datum × Expression) → i < length ms → m ≡ get_or ms i m → expression_size m.1 ≤ assignments_size (assignments_of ms)
-assignments_size-at ms i m h is = omega (arith, assignments_size-get ms i m h, ap (λ x. expression_size x.1) is)
-
-expression_size-some : (e : Expression) → 0 < expression_size e
-expression_size-some (bound n) = omega arith
-expression_size-some object = omega arith
-expression_size-some bindings = omega arith
-expression_size-some (constant d) = omega arith
-expression_size-some (quoted d) = omega arith
-expression_size-some (call f es) = omega arith
-expression_size-some (and_also es) = omega arith
-expression_size-some (or_else es) = omega arith
-expression_size-some (new_tuple es) = omega arith
-expression_size-some (new_cell e f) = omega arith
-expression_size-some (new_map ms) = omega arith
-
-new_cells-size : (es : List Expression) (f : Expression) → expression_size (new_cells es f) ≡ expressions_size (expressions_of es) + expression_size f
-new_cells-size [] f = omega arith
-new_cells-size (e ∷ es) f = omega (arith, new_cells-size es f)
-
 -- a list is larger than its elements and its tail
 pub new_cells-fall : (es : List Expression) (f e : Expression) → new_cells es f ≡ e → 0 < length es → (expressions_size (expressions_of es) < expression_size e) × (expression_size f < expression_size e)
 new_cells-fall [] f e is some = absurd (omega arith)
 new_cells-fall (x ∷ es) f e is some =
     let whole = new_cells-size (x ∷ es) f in
-    (omega (arith, whole, ap expression_size is, expression_size-some f), omega (arith, whole, ap expression_size is))
+    (omega (arith, whole, ap expression_size is, size-some f), omega (arith, whole, ap expression_size is))
 
 expression_nodes-some : (variables : ℕ) (e : Expression) → 0 < expression_nodes variables e
 expression_nodes-some variables (bound n) = omega arith

@@ -18,3 +18,4 @@ pub mod Faults
 pub mod Sound
 pub mod FaultNumbers
 pub mod Laws
+pub mod Mode

@@ -1,5 +1,5 @@
 -- The numbers of a list in rising order, each once.
-use Rattle.std.specs.Prelude.{ℕ, ◌==◌, nat_lt, if◌then◌else◌, List, [], ◌∷◌}
+use Rattle.std.specs.Prelude.{ℕ, zero, suc, ◌==◌, nat_lt, if◌then◌else◌, List, [], ◌∷◌}
 
 abbrev pub insert_rising : ℕ → List ℕ → List ℕ
 insert_rising n [] = n ∷ []
@@ -9,3 +9,8 @@ insert_rising n (m ∷ ms) =
 abbrev pub rising : List ℕ → List ℕ
 rising [] = []
 rising (n ∷ ns) = insert_rising n (rising ns)
+
+-- how many of these stand before a number, which is one of them
+abbrev pub rank_of : List ℕ → ℕ → ℕ
+rank_of [] n = zero
+rank_of (m ∷ ms) n = if m == n then zero else suc (rank_of ms n)

@@ -1,5 +1,5 @@
 //! What stands in conditions and bodies.
-use prims::Primitive;
+use primitives::Primitive;
 use std::alloc::{Allocator, Global};
 use std::marker::Model;
 use term_core::Term;

@@ -6,7 +6,8 @@
 //! `specs/Faults.antt`).
 //!
 //! - What is read: `specs/Specification.antt`, of `specs/Pattern.antt` and `specs/Expression.antt`;
-//!   `clause.rt`, `pattern.rt`, `expression.rt`, `variables.rt`.
+//!   `clause.rt`, `pattern.rt`, `expression.rt`, `variables.rt`. Where expressions stand: `mode.rt`,
+//!   `specs/Mode.antt`.
 //! - What is known of each part of it: `specs/Sound.antt`, by `Spec::clauses`.
 //! - What atoms say: `specs/Word.antt`; `word.rt`.
 //! - Reading: heads in `head.rt`, conditions and bodies in `body.rt`, clauses in `read.rt`, their
@@ -21,6 +22,7 @@ mod expression;
 mod fault;
 mod head;
 mod laws;
+mod mode;
 mod pattern;
 mod read;
 mod size;
@@ -31,6 +33,7 @@ pub use clause::{Clause, Spec};
 pub use expression::{Expression, ExpressionKind};
 pub use fault::SpecFault;
 pub use laws::one_specification_is_read;
+pub use mode::{Mode, exit_term};
 pub use pattern::{Pattern, PatternKind};
 pub use read::read_spec;
 pub use variables::Variables;

@@ -27,7 +27,7 @@ impl<A: Allocator> Model for Variables<A> {
 
 impl<A: Allocator> Variables<A> {
     ghost use Rattle.std.specs.Prelude.{◌≡◌, ◌==◌, length, false, IfOk, IfSome, IfNone, slice_get, Some};
-    ghost use Rattle.mspec_syntax.specs.Rising.{rising};
+    ghost use Rattle.mspec_syntax.specs.Rising.{rising, rank_of};
     ghost use Rattle.mspec_syntax.specs.Grammar.{is_among};
     ghost use Rattle.mspec_syntax.specs.Pattern.{pattern_variables};
     ghost use Rattle.mspec_syntax.specs.Specification.{specification_variables};
@@ -98,6 +98,16 @@ impl<A: Allocator> Variables<A> {
         match self.numbers.as_slice().binary_search(&number) {
             Ok(rank) => Some(rank),
             Err(_) => None,
+        }
+    }
+
+    /// How many of the variables stand before this one, all of them where it is none of them.
+    pub fn count_before(&self, number: u32) -> usize
+        ensures { result ≡ rank_of self.now number }
+    {
+        match self.rank(number) {
+            Some(rank) => rank,
+            None => self.len(),
         }
     }
 }

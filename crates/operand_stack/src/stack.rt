@@ -12,7 +12,8 @@ use crate::places::Places;
 use crate::values::{are_same, computed, field, head, tail, value_of};
 use mcode::{Code, Kind};
 use operand::Value;
-use prims::{Arithmetic, Function, Primitive, call_one, call_two, call_values};
+use primitives::{Arithmetic, Function, Primitive};
+use prims::{call_one, call_two, call_values};
 use std::alloc::{AllocError, Allocator};
 use term_core::{Term, make_tuple};
 

@@ -11,7 +11,8 @@ ghost use Rattle.prims.specs.Maps.{map_get_of};
 ghost use Rattle.mcode.specs.Machine.{field_of};
 
 use operand::{Operand, Value, compare};
-use prims::{Arithmetic, compute, map_get};
+use primitives::Arithmetic;
+use prims::{compute, map_get};
 use std::alloc::{AllocError, Allocator};
 use term_core::Term;
 

@@ -9,8 +9,5 @@ pub mod Lists
 pub mod Maps
 pub mod Sizes
 pub mod Calls
-pub mod Names
-pub mod Numbers
-pub mod PrimitiveCode
-pub mod Gives
+pub mod Given
 pub mod Bits

@@ -3,8 +3,8 @@ ghost use Rattle.std.specs.Prelude.{◌≡◌, map};
 ghost use Rattle.operand.specs.Operand.{operand_datum};
 ghost use Rattle.prims.specs.Booleans.{all_of, any_of, boolean_function_of};
 
-use crate::prim::BooleanFunction;
 use operand::Operand;
+use primitives::BooleanFunction;
 use std::alloc::Allocator;
 
 /// Whether all operands are `true`, where all are booleans.

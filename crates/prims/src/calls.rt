@@ -2,13 +2,14 @@
 ghost use Rattle.std.specs.Prelude.{◌≡◌, ◌∷◌, [], map, IfSome};
 ghost use Rattle.std.specs.Option.{option_map};
 ghost use Rattle.operand.specs.Operand.{operand_datum, integer_of};
-ghost use Rattle.prims.specs.Gives.{gives_of, IsGiven};
+ghost use Rattle.primitives.specs.Gives.{gives_of};
+ghost use Rattle.prims.specs.Given.{IsGiven};
 ghost use Rattle.prims.specs.Integers.{arithmetic_of};
 ghost use Rattle.prims.specs.Calls.{at_integers, unary_of, binary_of, ternary_of, value_of_function, value_of_arithmetic, function_of};
 
-use crate::prim::{Arithmetic, Function, ListFunction, MapFunction, Primitive, TupleFunction};
 use crate::{booleans, integers, kinds, lists, maps, order, sizes, tuples};
 use operand::Operand;
+use primitives::{Arithmetic, Function, ListFunction, MapFunction, Primitive, TupleFunction};
 use std::alloc::Allocator;
 
 /// What a function of one argument gives.
@@ -164,7 +165,7 @@ pub fn call_binary<'a, A: Allocator>(
 /// What the function gives for these operands, none where the call fails: where an operand is of the wrong kind, their
 /// number is another, or the result is an integer outside 64 bits. (ERTS User's Guide, "Match Specifications in
 /// Erlang".) Takes no memory.
-#[tactic(auto, using(crate::proofs::GivesLemmas::given_result))]
+#[tactic(auto, using(crate::proofs::GivenLemmas::given_result))]
 #[inline(always)]
 pub fn call<'a, A: Allocator>(
     prim: Primitive,

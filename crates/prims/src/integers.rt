@@ -3,8 +3,8 @@ ghost use Rattle.std.specs.Prelude.{◌≡◌};
 ghost use Rattle.prims.specs.Integers.{integer_function_of, arithmetic_of, quotient, remainder};
 
 use crate::bits::{band, bor, bxor};
-use crate::prim::{Arithmetic, IntegerFunction};
 use crate::shifts::{shift_left, shift_right};
+use primitives::{Arithmetic, IntegerFunction};
 
 /// What the function gives, none where that is outside 64 bits.
 pub(crate) fn of_one(function: IntegerFunction, value: i64) -> Option<i64>

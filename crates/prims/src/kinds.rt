@@ -3,8 +3,8 @@ ghost use Rattle.std.specs.Prelude.{◌≡◌};
 ghost use Rattle.operand.specs.Operand.{operand_datum};
 ghost use Rattle.prims.specs.Kinds.{test_of};
 
-use crate::prim::Test;
 use operand::{Operand, View};
+use primitives::Test;
 use std::alloc::Allocator;
 
 /// Whether the operand is of the kind.

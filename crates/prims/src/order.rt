@@ -3,8 +3,8 @@ ghost use Rattle.std.specs.Prelude.{◌≡◌};
 ghost use Rattle.operand.specs.Operand.{operand_datum};
 ghost use Rattle.prims.specs.Order as spec;
 
-use crate::prim::{Comparison, Extreme};
 use operand::{Operand, compare};
+use primitives::{Comparison, Extreme};
 use std::alloc::Allocator;
 use std::cmp::Ordering;
 

@@ -5,9 +5,9 @@ ghost use Rattle.term_core.specs.Datum.Datum.{tuple, binary};
 ghost use Rattle.operand.specs.Operand.{operand_datum};
 ghost use Rattle.prims.specs.Sizes.{size_of};
 
-use crate::prim::SizeFunction;
 use crate::tuples::element_count;
 use operand::{Operand, View};
+use primitives::SizeFunction;
 use std::alloc::Allocator;
 use term_core::{MAX_BINARY, MAX_TUPLE, Term};
 

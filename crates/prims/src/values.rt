@@ -7,8 +7,8 @@ ghost use Rattle.prims.specs.Calls.{function_of, inline_operands};
 
 use crate::calls::{call, call_binary, call_unary};
 use crate::order;
-use crate::prim::{Function, Primitive};
 use operand::{Operand, Value};
+use primitives::{Function, Primitive};
 use smallvec::SmallVec;
 use std::alloc::{AllocError, Allocator};
 

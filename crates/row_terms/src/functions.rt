@@ -1,6 +1,6 @@
 //! A function by its name. What the crates below call a function is said here alone.
 use crate::parts::characters;
-use prims::{Arithmetic, Function, Primitive};
+use primitives::{Arithmetic, Function, Primitive};
 use std::alloc::Allocator;
 use term_core::Term;
 

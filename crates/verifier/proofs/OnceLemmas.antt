@@ -168,7 +168,7 @@ module _ (p : Program) (pc : ℕ) (i : Instr) (s : Shape) where
 -- ---- states
 
 -- typed instructions have one state each
-shapes_once : (p : Program) (shapes again : ℕ → Shape) (n m pc : ℕ) (i : Instr) → AreTypedBelow p shapes n → AreTypedBelow p again m → pc < n → pc < m → slice_get p.instructions pc ≡ Some i → shapes pc ≡ again pc
+pub shapes_once : (p : Program) (shapes again : ℕ → Shape) (n m pc : ℕ) (i : Instr) → AreTypedBelow p shapes n → AreTypedBelow p again m → pc < n → pc < m → slice_get p.instructions pc ≡ Some i → shapes pc ≡ again pc
 shapes_once p shapes again n m pc i typed typed_again below below_again here =
     let falls : falling_into p shapes pc ≡ falling_into p again pc =
     same_falling p shapes pc (λ q j less there. typed q j (omega (arith, less, below)) there)

@@ -1,11 +1,11 @@
 -- What an instruction needs, and what it leaves.
 use Rattle.std.specs.Prelude.{ℕ, ◌<◌, nat_lt, nat_le, Bool, true, false, ◌&&◌, IsSome, if◌then◌else◌, Option, Some, None, option_map, List, [], ◌∷◌, ◌++◌, length, drop, set, slice_get, unwrap_or}
 use Rattle.std.specs.Option.{option_map_or, option_and_then}
-use Rattle.prims.specs.Gives.{gives_of}
-use Rattle.prims.specs.Names.{takes}
-use Rattle.prims.specs.declared.gives.Gives.{Gives}
-use Rattle.prims.specs.declared.gives.Gives.TheVariants as gives
-use Rattle.prims.specs.declared.prim.Primitive.TheVariants as prim
+use Rattle.primitives.specs.Gives.{gives_of}
+use Rattle.primitives.specs.Names.{takes}
+use Rattle.primitives.specs.declared.gives.Gives.{Gives}
+use Rattle.primitives.specs.declared.gives.Gives.TheVariants as gives
+use Rattle.primitives.specs.declared.prim.Primitive.TheVariants as prim
 use Rattle.mcode.specs.Instr.{goes_on}
 use Rattle.mcode.specs.Kind.{kind_of}
 use Rattle.mcode.specs.Machine.{map_keys}

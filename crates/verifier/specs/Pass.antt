@@ -2,8 +2,8 @@
 use Rattle.std.specs.Prelude.{ℕ, zero, suc, ◌≡◌, ◌<◌, ◌≤◌, nat_lt, nat_le, Bool, true, false, ◌&&◌, if◌then◌else◌, Option, Some, None, option_map, List, length, map, slice_get}
 use Rattle.std.specs.Option.{option_and_then}
 use Rattle.term_core.specs.Datum.{Datum}
-use Rattle.prims.specs.Names.{takes}
-use Rattle.prims.specs.declared.prim.Primitive.TheVariants as prim
+use Rattle.primitives.specs.Names.{takes}
+use Rattle.primitives.specs.declared.prim.Primitive.TheVariants as prim
 use Rattle.mcode.specs.Machine.{map_keys}
 use Rattle.mcode.specs.Program.{Program, Frame, frame_at}
 use Rattle.mcode.specs.declared.instr.Instr.{Instr}

@@ -1,7 +1,7 @@
 //! What an instruction needs, and what it leaves.
 ghost use Rattle.std.specs.Prelude.{◌≡◌, ◌<◌, ◌≤◌, ◌↔◌, IsTrue, OnOk, length, slice_get};
 ghost use Rattle.std.specs.Option.{option_map_or};
-ghost use Rattle.prims.specs.Gives.{gives_of};
+ghost use Rattle.primitives.specs.Gives.{gives_of};
 ghost use Rattle.mcode.specs.Kind.{kind_of as exact_kind};
 ghost use Rattle.verifier.specs.Effect.{needs, IsConstantFit, kinds_fit, slot_fits, left_shape, top_stays as top_is_kept, given_kind as kind_given};
 ghost use Rattle.verifier.specs.Pass.{AreCounts, tops_fit as tops_are_fit, pushed_count as count_pushed};

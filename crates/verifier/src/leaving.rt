@@ -13,7 +13,7 @@ use crate::effect::needed;
 use crate::shape::Shape;
 use mcode::{Code, Instr, Kind};
 use operand::Operand;
-use prims::Gives;
+use primitives::Gives;
 use std::alloc::{AllocError, Allocator};
 use term_core::{Term, View};
 

@@ -1,12 +1,13 @@
 use Rattle.std.proofs.Common.{suc, ap, arith}
 use Rattle.mspec_syntax.specs.Expression.{expression_size, expressions_size, expression_nodes, expressions_nodes, rest_nodes, expressions_of}
 use Rattle.mspec_syntax.specs.ExpressionView.{tail_expression}
-use Rattle.mspec_syntax.proofs.SizeLemmas.{expressions_size-at, assignments_size-at, new_cells-fall, no_room_expression, new_cells-nodes, rest-nodes, Leaves-more}
+use Rattle.mspec_syntax.proofs.ExpressionSizes.{size-at, assignments-at}
+use Rattle.mspec_syntax.proofs.SizeLemmas.{new_cells-fall, no_room_expression, new_cells-nodes, rest-nodes, Leaves-more}
 use Rattle.mspec_syntax.proofs.size.+expression.Goals as goal
 
 pub after_assignments-after_expression-requires : goal.after_assignments-after_expression-requires
 after_assignments-after_expression-requires g t c κs within =
-    (omega (arith, assignments_size-at _ _ _ c.loop-expression-test.true c.loop-expression-item.is, c.decreases), within)
+    (omega (arith, assignments-at _ _ _ c.loop-expression-test.true c.loop-expression-item.is, c.decreases), within)
 
 pub after_expression-returns-in_err-room : goal.after_expression-returns-in_err-room
 after_expression-returns-in_err-room g t c =
@@ -53,4 +54,4 @@ after_expression-returns-in-Some g t c =
 
 pub after_parts-after_expression-requires : goal.after_parts-after_expression-requires
 after_parts-after_expression-requires g t c κs within =
-    (omega (arith, expressions_size-at _ _ _ c.loop-part-test.true c.part-item.is, c.decreases), within)
+    (omega (arith, size-at _ _ _ c.loop-part-test.true c.part-item.is, c.decreases), within)

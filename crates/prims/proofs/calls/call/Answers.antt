@@ -1,7 +1,7 @@
 use Rattle.std.proofs.Common.{map, arith}
 use Rattle.std.proofs.lemmas.Grind.{common_steps}
 use Rattle.operand.specs.Operand.{operand_datum}
-use Rattle.prims.proofs.GivesLemmas.{given_result}
+use Rattle.prims.proofs.GivenLemmas.{given_result}
 use Rattle.prims.proofs.calls.call.Goals as goal
 
 pub returns-in-Function-clause-kind : goal.returns-in-Function-clause-kind

@@ -8,7 +8,8 @@ use Rattle.mspec_syntax.specs.ExpressionView.{tail_expression}
 use Rattle.mspec_meaning.specs.Meaning.{value_of, argument_values, entry_values, all_true, any_true, made_of, called}
 use Rattle.mspec_meaning.specs.Value.{joined_to, decided}
 use Rattle.operand.specs.Value.{value_datum}
-use Rattle.mspec_meaning.proofs.ValueLemmas.{expressions_size-at, assignments_size-at, cells-size, some-size, size-some, ValuesFront, ValuesFront-start, ValuesFront-more, ValuesFront-none, ValuesFront-all, EntriesFront, EntriesFront-start, EntriesFront-more, EntriesFront-none, EntriesFront-all, DecidedFront-step, DecidedFront-all, list-value, joined_to-none, pairs-rise}
+use Rattle.mspec_syntax.proofs.ExpressionSizes.{size-at, assignments-at, new_cells-size, size-some, some-size}
+use Rattle.mspec_meaning.proofs.ValueLemmas.{ValuesFront, ValuesFront-start, ValuesFront-more, ValuesFront-none, ValuesFront-all, EntriesFront, EntriesFront-start, EntriesFront-more, EntriesFront-none, EntriesFront-all, DecidedFront-step, DecidedFront-all, list-value, joined_to-none, pairs-rise}
 use Rattle.mspec_meaning.proofs.scope.Scope.+value.Goals as goal
 
 pub arguments-loop-argument-init : goal.arguments-loop-argument-init
@@ -19,7 +20,7 @@ arguments-loop-argument-init g t c =
 
 pub arguments-value-requires : goal.arguments-value-requires
 arguments-value-requires g t c κs within =
-    (omega (arith, expressions_size-at _ _ _ c.loop-argument-test.true c.argument-item.is, c.decreases), within)
+    (omega (arith, size-at _ _ _ c.loop-argument-test.true c.argument-item.is, c.decreases), within)
 
 pub arguments-returns-in_default : goal.arguments-returns-in_default
 arguments-returns-in_default g t c =
@@ -47,7 +48,7 @@ elements-loop-element-init g t c =
 
 pub elements-value-requires : goal.elements-value-requires
 elements-value-requires g t c κs within =
-    (omega (arith, expressions_size-at _ _ _ c.loop-element-test.true c.element-item.is, c.decreases), within)
+    (omega (arith, size-at _ _ _ c.loop-element-test.true c.element-item.is, c.decreases), within)
 
 pub elements-returns-in_default : goal.elements-returns-in_default
 elements-returns-in_default g t c =
@@ -75,7 +76,7 @@ entries-loop-key-init g t c =
 
 pub entries-value-requires : goal.entries-value-requires
 entries-value-requires g t c κs within =
-    (omega (arith, assignments_size-at _ _ _ c.loop-key-test.true c.loop-key-item.is, c.decreases), within)
+    (omega (arith, assignments-at _ _ _ c.loop-key-test.true c.loop-key-item.is, c.decreases), within)
 
 pub entries-returns-in_default : goal.entries-returns-in_default
 entries-returns-in_default g t c =
@@ -141,7 +142,7 @@ tail-returns g t c =
 
 pub decided-value-requires : goal.decided-value-requires
 decided-value-requires g t c κs within =
-    (omega (arith, expressions_size-at _ _ _ c.loop-argument-test.true c.argument-item.is, c.decreases), within)
+    (omega (arith, size-at _ _ _ c.loop-argument-test.true c.argument-item.is, c.decreases), within)
 
 pub decided-returns-in-Ends : goal.decided-returns-in-Ends
 decided-returns-in-Ends g t c =
@@ -192,7 +193,7 @@ value-cells-requires g t c κs within =
     let kept = rw c.in-List.is at c.kind.ensures.kept in
     let es = c.in-List.elements.items in
     let tail = tail_expression c.in-List.tail in
-    (omega (arith, ap expression_size is, cells-size es tail, some-size es kept.0, size-some tail, ap (λ l. expressions_size (expressions_of l)) c.as_slice-in-List.ensures.value, c.decreases), within)
+    (omega (arith, ap expression_size is, new_cells-size es tail, some-size es kept.0, size-some tail, ap (λ l. expressions_size (expressions_of l)) c.as_slice-in-List.ensures.value, c.decreases), within)
 
 pub value-entries-requires : goal.value-entries-requires
 value-entries-requires g t c κs within =

@@ -1,0 +1,4 @@
+pub mod PoolLemmas
+pub mod InstructionLemmas
+pub mod AssemblerLemmas
+pub mod StandLemmas

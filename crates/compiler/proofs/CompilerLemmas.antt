@@ -1,0 +1,62 @@
+-- What holds of the code of every specification.
+use Rattle.std.proofs.Common.{◌≡◌, ℕ, ◌+◌, ◌*◌, ◌≤◌, ◌<◌, List, length, sym, ◌∙◌, ap, subst, arith, Option, Some, None}
+use Rattle.std.specs.Prelude.{IfSome, All}
+use Rattle.term_core.specs.Datum.{Datum}
+use Rattle.mcode.specs.Answer.{answer_of}
+use Rattle.mcode.specs.Machine.{Runs}
+use Rattle.mcode.specs.Program.{Program, Frame, frame_at}
+use Rattle.machine.specs.Laws.{RunsEndWithTheAnswer}
+use Rattle.mspec_syntax.specs.Sound.{IsSoundClause}
+use Rattle.mspec_syntax.specs.Specification.{Specification, IsWithinLimits, specification_variables}
+use Rattle.mspec_meaning.specs.Meaning.{Means}
+use Rattle.mspec_meaning.proofs.MeaningLemmas.{one-meaning}
+use Rattle.verifier.specs.Typing.{IsFrameFit, IsTyped}
+use Rattle.assembly.specs.Assembled.{assembled}
+use Rattle.assembly.specs.Line.{Block}
+use Rattle.assembly.proofs.StandLemmas.{instruction_count}
+use Rattle.templates.specs.Clauses.{blocks_of, code_of}
+use Rattle.templates.proofs.CountLemmas.{code_size}
+use Rattle.template_meaning.specs.Laws.{AreFramesInside, CodeRunsAsMeant}
+use Rattle.template_typing.specs.Laws.{IsGoodCode, CodeIsTyped}
+use Rattle.template_typing.proofs.CodeFlow.{depth_within_nodes, found_frame}
+use Rattle.compiler.specs.Laws.{CodeAnswersAsMeant, CodeIsShort, CodeIsShallow}
+
+-- the code of a specification's blocks is its code
+pub code_is : (spec : Specification) (slots : ℕ) (names : List ℕ) (blocks : List Block) → slots ≡ length names → names ≡ specification_variables spec → blocks ≡ blocks_of (specification_variables spec) spec → assembled slots blocks ≡ code_of spec
+unfolding code_of
+code_is spec slots names blocks count named written =
+    ap (λ n. assembled n blocks) (count ∙ ap length named)
+    ∙ ap (assembled (length (specification_variables spec))) written
+
+-- in typed code each frame is at an instruction
+pub inside : (p : Program) → IsTyped p → AreFramesInside p
+inside p typed n f e =
+    let found = found_frame (IsFrameFit p) p.frames n f typed.1.frames e in omega (arith, found.0.inside, found.1)
+
+-- what good code's runs come to
+abbrev pub Ends : Specification → Type 0
+Ends spec =
+    (o : Datum) → (answer : Option Datum) × (n : ℕ) × Means spec o answer × Runs (code_of spec) o n answer
+
+pub good_ends : CodeRunsAsMeant → (spec : Specification) → All IsSoundClause spec → IsGoodCode spec → Ends spec
+good_ends runs spec sound good = runs spec sound (inside (code_of spec) good.typed)
+
+pub good_answers : RunsEndWithTheAnswer → (spec : Specification) → Ends spec → IsGoodCode spec → (o : Datum) → Means spec o (answer_of (code_of spec) o)
+good_answers last spec ends good o =
+    let run = ends o in
+    subst (Means spec o) (last (code_of spec) o good.typed run.1 run.0 run.3) run.2
+
+pub code_answers : CodeIsTyped → CodeRunsAsMeant → RunsEndWithTheAnswer → CodeAnswersAsMeant
+code_answers typed runs last spec o answer sound limits means =
+    let good = typed spec sound limits in
+    one-meaning spec o answer (answer_of (code_of spec) o) means
+    (good_answers last spec (good_ends runs spec sound good) good o)
+
+pub short : CodeIsShort
+unfolding code_of
+short spec sound =
+    let names = specification_variables spec in
+    omega (arith, code_size spec sound names, instruction_count (length names) (blocks_of names spec))
+
+pub shallow : CodeIsShallow
+shallow spec depth sound limits d = depth_within_nodes spec sound limits depth d

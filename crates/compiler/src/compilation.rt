@@ -1,0 +1,83 @@
+//! The code of specifications.
+ghost use Rattle.std.specs.Prelude.{ℕ, ◌≡◌, Option, IfOk};
+ghost use Rattle.term_core.specs.Datum.{Datum};
+ghost use Rattle.mcode.specs.Answer.{answer_of};
+ghost use Rattle.mcode.specs.Machine.{Runs};
+ghost use Rattle.mspec_meaning.specs.Meaning.{Means};
+ghost use Rattle.templates.specs.Clauses.{code_of};
+ghost use Rattle.template_typing.specs.Laws.{IsGoodCode};
+
+use assembly::assemble;
+use machine::runs_end_with_the_answer;
+use mcode::Code;
+use mspec_syntax::Spec;
+use std::alloc::{AllocError, Allocator};
+use template_meaning::code_runs_as_meant;
+use template_typing::code_of_specifications_is_typed;
+use templates::write_blocks;
+use verifier::{Fault, Verified, faulty_code_is_untyped, verify};
+
+/// That the code of a specification is within the limits of code, and typed.
+fn is_good<A: Allocator>(specification: &Spec<A>)
+    ensures { IsGoodCode specification.now }
+{
+    code_of_specifications_is_typed();
+    let _clauses = specification.clauses();
+}
+
+/// That the code of a specification answers what the specification means.
+fn answers_as_meant<A: Allocator>(specification: &Spec<A>)
+    ensures runs { (object : Datum) → (answer : Option Datum) × (n : ℕ)
+        × Means specification.now object answer × Runs (code_of specification.now) object n answer }
+    ensures answers { (object : Datum)
+        → Means specification.now object (answer_of (code_of specification.now) object) }
+{
+    is_good(specification);
+    code_runs_as_meant();
+    runs_end_with_the_answer();
+    let _clauses = specification.clauses();
+}
+
+/// The code of a specification, which was not verified.
+fn assembled<A: Allocator + Copy>(alloc: A, specification: &Spec<A>) -> Result<Code<A>, AllocError>
+    ensures { IfOk result (λ code. code ≡ code_of specification.now) }
+{
+    is_good(specification);
+    let _clauses = specification.clauses();
+    let blocks = write_blocks(alloc, specification)?;
+    let slots = specification.variables().len() as u16;
+    match assemble(alloc, slots, blocks) {
+        Ok(code) => Ok(code),
+        Err(fault) => match fault {
+            mcode::Fault::Memory => Err(AllocError),
+            _ => unreachable!(),
+        },
+    }
+}
+
+/// The code of a specification, verified: each run of it ends in what the specification means, and no other refusal exists
+/// than want of memory. Its slots are the variables of all clauses, by rising number; its constants stand once each, in order
+/// of first use.
+pub fn compile<A: Allocator + Copy>(
+    alloc: A,
+    specification: &Spec<A>,
+) -> Result<Verified<A>, AllocError>
+    ensures code { IfOk result (λ verified. verified ≡ code_of specification.now) }
+    ensures runs { IfOk result (λ verified. (object : Datum)
+        → (answer : Option Datum) × (n : ℕ) × Means specification.now object answer
+        × Runs verified object n answer) }
+    ensures answers { IfOk result (λ verified. (object : Datum)
+        → Means specification.now object (answer_of verified object)) }
+{
+    is_good(specification);
+    answers_as_meant(specification);
+    faulty_code_is_untyped();
+    let code = assembled(alloc, specification)?;
+    match verify(alloc, code) {
+        Ok(verified) => Ok(verified),
+        Err(refused) => match refused.fault {
+            Fault::Memory => Err(AllocError),
+            _ => unreachable!(),
+        },
+    }
+}

@@ -1,0 +1,41 @@
+use Rattle.std.proofs.Common.{◌<◌, ◌∙◌, refl, length, arith}
+use Rattle.mcode.specs.Answer.{answer_of}
+use Rattle.std.proofs.lemmas.List.{take_all}
+use Rattle.std.proofs.lemmas.Result.{on_ok_weaker, MatchResult-weaker}
+use Rattle.ets_commands.specs.Run.{Puts}
+use Rattle.ets_commands.specs.declared.words.Request.TheVariants.{Run}
+use Rattle.ets_commands.proofs.RunLemmas.{gathered-none, gathered-more, gathered-passed, gathered-written, stops-early}
+use Rattle.ets_commands.proofs.run.run_each.Goals as goal
+
+pub loop-object-init : goal.loop-object-init
+loop-object-init g c = (rw c.new-lines.ensures.items (gathered-none _ _ c.args.objects.now _), refl)
+
+pub loop-object-preserved : goal.loop-object-preserved
+loop-object-preserved g c =
+    let there : c.loop-object.object-index < length c.args.objects.now = omega arith in
+    let same = c.loop-object.invariant.1 in
+    let object = c.object-item.result in
+    let puts : Puts Run c.args.specification.now object c.loop-object.lines.items c.put_run.new.lines.items = record {
+      answer = answer_of c.loop-object.machine.code object;
+      means = rw (← same) at c.requires object;
+      grown = c.in-Ok.ensures.ok;
+    } in (
+      gathered-passed _ _ _ _ _ _ _ _
+          (gathered-more _ _ c.args.objects.now c.loop-object.object-index object _ _ _ _ there c.object-item.is c.loop-object.invariant.0 puts)
+          c.in_ok-write_if_many-in-Ok.ensures.ok,
+      c.put_run.ensures.code ∙ same,
+    )
+
+pub returns-clause-ok : goal.returns-clause-ok
+returns-clause-ok g c =
+    let gathered = rw (take_all c.loop-object.object-index c.args.objects.now c.loop-object-test.false) at c.loop-object.invariant.0 in
+    on_ok_weaker c.write_lines.result (λ p. gathered-written _ _ _ _ _ _ _ gathered p) c.write_lines.ensures.ok
+
+pub returns-in-Err-clause-stopped : goal.returns-in-Err-clause-stopped
+returns-in-Err-clause-stopped g c =
+    let same = c.in-Err.ensures.err in
+    let ends = rw same at c.out_of_memory.ensures in
+    stops-early _ _ c.args.objects.now c.loop-object.object-index _ _ _ _ c.out_of_memory.result c.loop-object.invariant.0 ends
+
+pub returns-clause-stopped : goal.returns-clause-stopped
+returns-clause-stopped g c = MatchResult-weaker c.write_lines.result c.write_lines.ensures.failed (λ x p. p) (λ y e. rw e tt)

@@ -1,0 +1,7 @@
+pub mod KeyLemmas
+pub mod LineLemmas
+pub mod WriteLemmas
+pub mod LengthLemmas
+pub mod SoundLemmas
+pub mod EndLemmas
+pub mod ListedLemmas

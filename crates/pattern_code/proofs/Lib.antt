@@ -1,0 +1,4 @@
+pub mod SpelledLemmas
+pub mod WrittenLemmas
+pub mod WritableLemmas
+pub mod WriteLemmas

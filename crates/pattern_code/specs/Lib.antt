@@ -1,0 +1,4 @@
+pub mod Patterns
+pub mod Spelled
+pub mod Writable
+pub mod Written

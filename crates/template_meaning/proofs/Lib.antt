@@ -1,0 +1,12 @@
+pub mod ReachLemmas
+pub mod FailLemmas
+pub mod PushLemmas
+pub mod ListLemmas
+pub mod MadeLemmas
+pub mod ArithmeticLemmas
+pub mod ChoiceLemmas
+pub mod BindingLemmas
+pub mod ExpressionLemmas
+pub mod KnownLemmas
+pub mod PatternLemmas
+pub mod ClauseLemmas

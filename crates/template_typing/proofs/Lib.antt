@@ -1,0 +1,10 @@
+pub mod FlowLemmas
+pub mod ReadyLemmas
+pub mod StepLemmas
+pub mod ChoiceFlow
+pub mod ArithmeticFlow
+pub mod ExpressionFlow
+pub mod PatternFlow
+pub mod ClauseFlow
+pub mod ProgramFlow
+pub mod CodeFlow

@@ -1,0 +1,4 @@
+pub mod Flow
+pub mod Ready
+pub mod Marked
+pub mod Laws
