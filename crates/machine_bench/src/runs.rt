@@ -186,12 +186,22 @@ fn write_query(
     write_times(rt, query, lines)
 }
 
+/// Reads a specification, and writes the lines of it over the objects.
+fn write_specification(
+    rt: &HostRuntime,
+    specification: &Term,
+    objects: &[Term],
+    lines: &mut String,
+) -> Option<()> {
+    let specification = read_spec(rt.alloc(), specification).ok()?;
+    write_query(rt, &specification, objects, lines)
+}
+
 /// Writes the nanoseconds that the first term of a text takes to be compiled, as a specification, and how many instructions its code
 /// has; below, those of an object of `run`, `run_true` and `evaluate`, and of how many objects there was an answer, of `run_true` the
 /// answer `true`. Each time is the median of five.
 pub(crate) fn write(rt: &HostRuntime, text: &[u8], lines: &mut String) -> Option<()> {
     let terms = read_terms(rt.alloc(), text).ok()?;
-    let (first, objects) = terms.as_slice().split_first()?;
-    let specification = read_spec(rt.alloc(), first).ok()?;
-    write_query(rt, &specification, objects, lines)
+    let (specification, objects) = terms.as_slice().split_first()?;
+    write_specification(rt, specification, objects, lines)
 }
