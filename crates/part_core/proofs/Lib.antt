@@ -1,0 +1,9 @@
+mod WorkedRows
+pub mod KeyLemmas
+pub mod RowLemmas
+pub mod VisitLemmas
+pub mod StateLemmas
+pub mod StepLemmas
+pub mod HistoryLemmas
+pub mod CoverLemmas
+pub mod StayLemmas

@@ -1,0 +1,16 @@
+pub mod Settings
+pub mod Acts
+pub mod Rows
+pub mod Visits
+pub mod Replies
+pub mod After
+pub mod States
+pub mod Legal
+pub mod LegalFacts
+pub mod Content
+pub mod Covers
+pub mod Yields
+pub mod Laws
+pub mod FaultNumbers
+pub mod Ops
+pub mod Served

@@ -1,0 +1,88 @@
+-- What operations, replies and refusals of a part stand for in its history.
+use Rattle.std.specs.Prelude.{ℕ, Bool, true, false, Option, Some, None, option_map, Result, Ok, Err, List, [], ◌∷◌}
+use Rattle.part_core.specs.declared.op.Cursor as cursor_type
+use Rattle.part_core.specs.declared.op.Cursor.TheVariants as cursor
+use Rattle.part_core.specs.declared.op.Scope as scope_type
+use Rattle.part_core.specs.declared.op.Scope.TheVariants as scope
+use Rattle.part_core.specs.declared.op.PartOp.{PartOp}
+use Rattle.part_core.specs.declared.op.PartOp.TheVariants as op
+use Rattle.part_core.specs.declared.reply.Reply.{Reply}
+use Rattle.part_core.specs.declared.reply.Reply.TheVariants as reply
+use Rattle.part_core.specs.declared.fault.Fault.{Fault}
+use Rattle.part_core.specs.declared.fault.Fault.TheVariants as fault
+use Rattle.part_core.specs.Acts.{Cursor, Scope, Act, Said, Refusal, Entry}
+use Rattle.part_core.specs.Acts.Purpose.{Answers, Counts, Deletes}
+use Rattle.part_core.specs.Acts.Cursor.{Class, Behind}
+use Rattle.part_core.specs.Acts.Scope.{Begin, After, Named}
+use Rattle.part_core.specs.Acts.Act.{Insert, InsertNew, Lookup, Member, Delete, DeleteObject, Take, Fix, Unfix, Release, Visit, First, Next}
+use Rattle.part_core.specs.Acts.Said.{Nothing, Flag, Objects, AtKey, Found, Counted}
+use Rattle.part_core.specs.Acts.Answer.{Replied, Refused}
+use Rattle.part_core.specs.Acts.Refusal.{TooSmall, FixLimit, NotFixed, BadKey, CursorOutside}
+
+-- the cursor of a history
+abbrev pub cursor_of : {A : Type 0} → cursor_type.Cursor A → Cursor
+cursor_of (cursor.Class base class) = Class base class
+cursor_of (cursor.Behind k) = Behind k
+
+-- what a visit looks at
+abbrev pub scope_of : {A : Type 0} → scope_type.Scope A → Scope
+scope_of scope.Begin = Begin
+scope_of (scope.After c) = After (cursor_of c.now)
+scope_of (scope.Named k) = Named k.now
+
+-- what an operation does
+abbrev pub act_of : {A : Type 0} → PartOp A → Act
+act_of (op.Insert t) = Insert t
+act_of (op.InsertNew t) = InsertNew t
+act_of (op.Lookup k) = Lookup k.now
+act_of (op.Member k) = Member k.now
+act_of (op.Delete k) = Delete k.now
+act_of (op.DeleteObject t) = DeleteObject t.now
+act_of (op.Take k) = Take k.now
+act_of op.Fix = Fix
+act_of op.Unfix = Unfix
+act_of op.Release = Release
+act_of (op.Visit code scope wanted) = Visit Answers code.now (scope_of scope) wanted
+act_of (op.VisitCount code scope wanted) = Visit Counts code.now (scope_of scope) wanted
+act_of (op.VisitDelete code scope wanted) = Visit Deletes code.now (scope_of scope) wanted
+act_of op.First = First
+act_of (op.Next k) = Next k.now
+
+-- what a reply says
+abbrev pub said_of : {A : Type 0} → Reply A → Said
+said_of reply.Done = Nothing
+said_of (reply.Flag b) = Flag b
+said_of (reply.Objects xs) = Objects xs.items
+said_of (reply.AtKey k) = AtKey k
+said_of (reply.Found xs next) = Found xs.items (option_map cursor_of next)
+said_of (reply.Counted count next) = Counted count (option_map cursor_of next)
+
+-- the refusal of a history, none for want of memory
+abbrev pub refusal_of : Fault → Option Refusal
+refusal_of fault.Memory = None
+refusal_of fault.TooSmall = Some TooSmall
+refusal_of fault.FixLimit = Some FixLimit
+refusal_of fault.NotFixed = Some NotFixed
+refusal_of fault.BadKey = Some BadKey
+refusal_of fault.CursorOutside = Some CursorOutside
+
+-- the entry of a refusal, none for want of memory
+abbrev pub refused_entries : ℕ → Act → Option Refusal → List Entry
+refused_entries n act None = []
+refused_entries n act (Some refusal) = record { session = n; act = act; answer = Refused refusal } ∷ []
+
+-- What an operation adds to the history: its entry with the answer, none for want of memory. What is refused is handed back
+-- beside the fault.
+abbrev pub entries_made : {A P : Type 0} → ℕ → Act → Result (Reply A) (P × Fault) → List Entry
+entries_made n act (Ok r) = record { session = n; act = act; answer = Replied (said_of r) } ∷ []
+entries_made n act (Err e) = refused_entries n act (refusal_of e.1)
+
+-- operations for which no memory is taken
+abbrev pub takes_no_memory : Act → Bool
+takes_no_memory (Member k) = true
+takes_no_memory (Delete k) = true
+takes_no_memory (DeleteObject t) = true
+takes_no_memory Fix = true
+takes_no_memory Unfix = true
+takes_no_memory Release = true
+takes_no_memory act = false

@@ -1,0 +1,16 @@
+-- Which settings a part is made for.
+use Rattle.std.specs.Prelude.{ℕ, ◌≤◌, Bool, IsTrue}
+use Rattle.part_core.specs.declared.kind.Kind.{Kind}
+use Rattle.part_core.specs.declared.settings.Settings.{Settings}
+
+-- settings from their parts
+abbrev pub settings_with : Kind → ℕ → ℕ → ℕ → Settings
+settings_with kind keypos parts sessions =
+    record { kind = kind; keypos = keypos; parts = parts; sessions = sessions }
+
+-- the place of the key from 1 to 65,535, one to 64 parts, one to 16 sessions, and a kind that is served
+pub record IsServed (serves : Kind → Bool) (o : Settings) : Type 0 where
+  pub kind : IsTrue (serves o.kind)
+  pub keypos : (1 ≤ o.keypos) × (o.keypos ≤ 65535)
+  pub parts : (1 ≤ o.parts) × (o.parts ≤ 64)
+  pub sessions : (1 ≤ o.sessions) × (o.sessions ≤ 16)

@@ -1,0 +1,37 @@
+-- What is settled of a table: what it holds of a key, where an object's key stands, and how keys are spread over parts
+-- and classes. (STDLIB Reference Manual, ets:new/2.)
+use Rattle.std.specs.Prelude.{ℕ, ◌/◌, ◌%◌, Bool, true, false, is_some, unwrap_or}
+use Rattle.term_core.specs.Datum.{Datum}
+use Rattle.term_core.specs.Datum.Datum.{nil}
+use Rattle.term_core.specs.KeyHash.{key_hash}
+use Rattle.mcode.specs.Machine.{field_of}
+use Rattle.part_core.specs.declared.kind.Kind.{Kind}
+use Rattle.part_core.specs.declared.kind.Kind.TheVariants.{Set, OrderedSet}
+use Rattle.part_core.specs.declared.settings.Settings.{Settings}
+
+-- the table is walked by key
+abbrev pub is_ordered : Kind → Bool
+is_ordered OrderedSet = true
+is_ordered kind = false
+
+-- the table holds at most one object a key
+abbrev pub is_set : Kind → Bool
+is_set Set = true
+is_set OrderedSet = true
+is_set kind = false
+
+-- an object is a tuple with an element at keypos, which is counted from 1
+abbrev pub is_object : Settings → Datum → Bool
+is_object o t = is_some (field_of o.keypos t)
+
+-- the key of an object is that element
+abbrev pub key_of : Settings → Datum → Datum
+key_of o t = unwrap_or (field_of o.keypos t) nil
+
+-- the part at which a key stands
+abbrev pub part_of : Settings → Datum → ℕ
+part_of o k = key_hash k % o.parts
+
+-- the class of a key among so many as the base counts
+abbrev pub class_at : Settings → ℕ → Datum → ℕ
+class_at o base k = (key_hash k / o.parts) % base

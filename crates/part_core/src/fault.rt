@@ -1,0 +1,70 @@
+//! Why a part refuses.
+use thiserror::Error;
+
+/// Why an operation is refused.
+#[derive(Clone, Copy, Debug, PartialEq, Eq, Error)]
+pub enum Fault {
+    /// No memory was given.
+    #[error("out of memory")]
+    Memory,
+    /// The object is no tuple with an element at the key's place.
+    #[error("the object is too small")]
+    TooSmall,
+    /// The session fixes the part 65,535 times.
+    #[error("the part is fixed too often")]
+    FixLimit,
+    /// The session doesn't fix the part.
+    #[error("the part isn't fixed by the session")]
+    NotFixed,
+    /// The key has no row.
+    #[error("the key has no row")]
+    BadKey,
+    /// The cursor is of the other kind, its base is none that the part has had, or its class isn't below the base.
+    #[error("the cursor isn't the part's")]
+    CursorOutside,
+}
+
+/// Why a part can't be made.
+#[derive(Clone, Copy, Debug, PartialEq, Eq, Error)]
+pub enum OpenFault {
+    /// No memory was given.
+    #[error("out of memory")]
+    Memory,
+    /// A number is outside its range, or the part doesn't serve the kind.
+    #[error("the options don't fit")]
+    BadOptions,
+}
+
+impl Fault {
+    ghost use Rattle.std.specs.Prelude.{◌≡◌};
+    ghost use Rattle.part_core.specs.FaultNumbers.{fault_number};
+
+    /// The number that the fault has in what programs print.
+    pub const fn number(self) -> u8
+        ensures { result ≡ fault_number self }
+    {
+        match self {
+            Fault::Memory => 1,
+            Fault::TooSmall => 50,
+            Fault::FixLimit => 51,
+            Fault::NotFixed => 52,
+            Fault::BadKey => 53,
+            Fault::CursorOutside => 54,
+        }
+    }
+}
+
+impl OpenFault {
+    ghost use Rattle.std.specs.Prelude.{◌≡◌};
+    ghost use Rattle.part_core.specs.FaultNumbers.{open_fault_number};
+
+    /// The number that the fault has in what programs print.
+    pub const fn number(self) -> u8
+        ensures { result ≡ open_fault_number self }
+    {
+        match self {
+            OpenFault::Memory => 1,
+            OpenFault::BadOptions => 60,
+        }
+    }
+}

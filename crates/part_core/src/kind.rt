@@ -1,0 +1,25 @@
+//! The kinds of tables.
+ghost use Rattle.std.specs.Prelude.{◌≡◌};
+ghost use Rattle.part_core.specs.Settings.{is_ordered};
+
+/// What a table holds of a key, and the order in which it is walked (STDLIB Reference Manual, ets:new/2).
+#[derive(Clone, Copy, Debug, PartialEq, Eq)]
+pub enum Kind {
+    /// At most one object a key; walked by class, then by the age of rows.
+    Set,
+    /// At most one object a key; walked by rising key.
+    OrderedSet,
+    /// Any number of objects a key, no two of them equal.
+    Bag,
+    /// Any number of objects a key.
+    DuplicateBag,
+}
+
+impl Kind {
+    /// Whether the table is walked by key.
+    pub fn is_ordered(self) -> bool
+        ensures { result ≡ is_ordered self }
+    {
+        matches!(self, Kind::OrderedSet)
+    }
+}

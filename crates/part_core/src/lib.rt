@@ -1,0 +1,34 @@
+//! One part of a table: its definitions, and the contract that every part keeps.
+//!
+//! The one contract: each `apply` of a `Part` adds an entry to the part's history, and the history stays legal
+//! (`specs/Legal.antt`): each answer is that of the state before it (`reply_of` of `specs/Replies.antt`), and `after` of
+//! `specs/After.antt` says what it leaves. What is refused is handed back, and want of memory leaves no entry.
+//!
+//! - `kind`, `settings`: what a table holds of a key, and what all its parts have in common.
+//! - `op`, `reply`, `fault`: what a session asks of a part, and what it is answered; `specs/Ops.antt` says what these stand
+//!   for in a history. `entry`: an entry, as contracts see it.
+//! - `part`: the trait.
+//! - `laws`: that the content of a history is that of the rows, that a visit answers for the keys that it covers, what
+//!   holds of every state and what stays while a part is fixed.
+#![tactic(auto)]
+
+mod entry;
+mod fault;
+mod kind;
+mod laws;
+mod op;
+mod part;
+mod reply;
+mod settings;
+
+pub use entry::Entry;
+pub use fault::{Fault, OpenFault};
+pub use kind::Kind;
+pub use laws::{
+    base_never_falls, content_is_that_of_the_rows, fixed_rows_stay, fixes_are_counted, legal_front,
+    legal_goes_on, legal_last, states_are_kept, visits_answer_their_cover, visits_move_on,
+};
+pub use op::{Cursor, PartOp, Scope};
+pub use part::Part;
+pub use reply::Reply;
+pub use settings::Settings;

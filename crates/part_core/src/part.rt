@@ -1,0 +1,53 @@
+//! The contract that every part of a table keeps.
+ghost use Rattle.std.specs.Prelude.{ℕ, ◌≡◌, ◌≢◌, ◌<◌, ◌++◌, Bool, IsTrue, IfOk, IfErr, IsErrOf, List, []};
+ghost use Rattle.part_core.specs.Acts.{Entry as PastEntry, IsAsked};
+ghost use Rattle.part_core.specs.Legal.{IsLegal};
+ghost use Rattle.part_core.specs.Ops.{act_of, entries_made, takes_no_memory};
+ghost use Rattle.part_core.specs.declared.kind.Kind.{Kind};
+ghost use Rattle.part_core.specs.declared.settings.Settings.{Settings};
+ghost use Rattle.part_core.specs.Served.{settings_with, IsServed};
+
+use crate::fault::{Fault, OpenFault};
+use crate::kind::Kind;
+use crate::op::PartOp;
+use crate::reply::Reply;
+use crate::settings::Settings;
+use std::alloc::Allocator;
+
+/// One part of a table. Each operation adds its entry to the part's history, which is legal: the answer is that of the
+/// state before it.
+pub trait Part<A: Allocator>: Sized {
+    /// The kinds of table that the part is made for.
+    ghost serves: { Kind → Bool };
+    /// What was settled when it was made.
+    ghost settings: { Self → Settings };
+    /// The part is in the state after this history.
+    ghost is_after: { Self → List PastEntry → Type 0 };
+
+    /// A part without rows. Refused where the part doesn't serve the kind or a number is outside its range: keypos from 1
+    /// to 65,535, 1 to 64 parts, 1 to 16 sessions.
+    fn make(alloc: A, kind: Kind, keypos: u16, parts: u8, sessions: u8) -> Result<Self, OpenFault>
+        ensures made { IfOk result (λ p. IsServed serves (settings_with kind keypos parts sessions)
+            × (settings p ≡ settings_with kind keypos parts sessions) × is_after p []) }
+        ensures refused { IsErrOf result OpenFault.BadOptions
+            → ¬ (IsServed serves (settings_with kind keypos parts sessions)) };
+
+    /// Does an operation for a session. What is refused is handed back, and all stands as before; want of memory leaves no
+    /// entry.
+    fn apply<'a>(
+        &mut self,
+        session: u8,
+        op: PartOp<'a, A>,
+    ) -> Result<Reply<A>, (PartOp<'a, A>, Fault)>
+        requires session { session < (settings self.old).sessions }
+        requires asked { IsAsked (act_of op) }
+        ensures settings { settings self.new ≡ settings self.old }
+        ensures entry { (log : List PastEntry) → is_after self.old log
+            → is_after self.new (log ++ entries_made session (act_of op.entry) result) }
+        ensures back { IfErr result (λ r. act_of r.0 ≡ act_of op.entry) }
+        ensures sure { IsTrue (takes_no_memory (act_of op.entry))
+            → IfErr result (λ r. r.1 ≢ Fault.Memory) };
+
+    /// Each history that a part is after is legal.
+    ghost legal: { (p : Self) (log : List PastEntry) → is_after p log → IsLegal (settings p) log };
+}
