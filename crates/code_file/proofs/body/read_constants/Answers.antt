@@ -1,0 +1,10 @@
+use Rattle.std.proofs.lemmas.Result.{IfErr-weaker}
+use Rattle.term_core.specs.Sizes.{depth_limit}
+use Rattle.code_file.specs.Formats.{constant_format}
+use Rattle.code_file.proofs.NumberLemmas.{u16_free}
+use Rattle.code_file.proofs.BodyLemmas.{counted_stop}
+use Rattle.code_file.proofs.body.read_constants.Goals as goal
+
+pub returns-clause-refused : goal.returns-clause-refused
+returns-clause-refused g c =
+    IfErr-weaker c.read_constant_rows.result _ _ (λ stop h. counted_stop (constant_format depth_limit) u16_free c.args.bytes.now c.in_ok-count.count c.in_ok-count.rest.now stop c.in_ok-count.ensures h) c.read_constant_rows.ensures.refused

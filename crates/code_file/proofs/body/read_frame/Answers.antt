@@ -1,0 +1,38 @@
+use Rattle.std.proofs.lemmas.Result.{err_from_is_err_and}
+use Rattle.std.proofs.Common.{◌<◌, refl, sym, subst}
+use Rattle.std.specs.Prelude.{IfSome}
+use Rattle.mcode.specs.Frame.{frame_of}
+use Rattle.code_file.specs.Format.{Begins}
+use Rattle.code_file.specs.Formats.{u16_format}
+use Rattle.code_file.proofs.RowLemmas.{not_so}
+use Rattle.code_file.proofs.BodyLemmas.{frame_short, frame_rest_stop, frame_unordered, next_begins, frame_memory}
+use Rattle.code_file.proofs.body.read_frame.Goals as goal
+
+pub returns-in_err-pc-clause-refused : goal.returns-in_err-pc-clause-refused
+returns-in_err-pc-clause-refused g c =
+    let p = err_from_is_err_and c.from_residual.result c.from_residual.ensures.1 in
+    rw (p.1, p.2) (frame_short c.args.builder.now.frames c.args.bytes.now _ c.in_err-pc.ensures)
+
+pub returns-then-not-is_above-clause-refused : goal.returns-then-not-is_above-clause-refused
+returns-then-not-is_above-clause-refused g c = frame_unordered c.args.builder.now.frames c.args.last c.args.bytes.now c.in_ok-pc.pc c.in_ok-pc.rest.now c.requires.last c.requires.rise c.in_ok-pc.ensures (not_so c.if-not-is_above.ensures.1)
+
+pub returns-in_err-frame-clause-refused : goal.returns-in_err-frame-clause-refused
+returns-in_err-frame-clause-refused g c =
+    let p = err_from_is_err_and c.from_residual-in_err-frame.result c.from_residual-in_err-frame.ensures.1 in
+    rw (p.1, p.2) (frame_rest_stop c.args.builder.now.frames c.args.bytes.now c.in_ok-pc.pc c.in_ok-pc.rest.now _ c.in_ok-pc.ensures c.in_err-frame.ensures.rest)
+
+pub memory_alone-requires : goal.memory_alone-requires
+memory_alone-requires g c =
+    let f = frame_of c.in_ok-frame.frame in
+    let at = subst (λ n. Begins u16_format c.args.bytes.now n c.in_ok-pc.rest.now) (sym c.in_ok-frame.ensures.pc) c.in_ok-pc.ensures in
+    let above = subst (λ n. IfSome c.args.last (λ l. l < n)) (sym c.in_ok-frame.ensures.pc) (c.if-not-is_above.ensures.0 refl) in
+    let begun = next_begins c.args.builder.now.frames c.args.last c.args.bytes.now f c.in_ok-pc.rest.now c.in_ok-frame.rest.now c.requires.last c.requires.rise above at c.in_ok-frame.ensures.rest in
+    frame_memory c.args.builder.now.frames c.args.bytes.now f c.in_ok-frame.rest.now c.in-Err.refused.fault c.requires.few begun c.in-Err.ensures.refused.1
+
+pub returns-in-Ok-clause-ok : goal.returns-in-Ok-clause-ok
+returns-in-Ok-clause-ok g c =
+    let f = frame_of c.in_ok-frame.frame in
+    let at = subst (λ n. Begins u16_format c.args.bytes.now n c.in_ok-pc.rest.now) (sym c.in_ok-frame.ensures.pc) c.in_ok-pc.ensures in
+    let above = subst (λ n. IfSome c.args.last (λ l. l < n)) (sym c.in_ok-frame.ensures.pc) (c.if-not-is_above.ensures.0 refl) in
+    let begun = next_begins c.args.builder.now.frames c.args.last c.args.bytes.now f c.in_ok-pc.rest.now c.in_ok-frame.rest.now c.requires.last c.requires.rise above at c.in_ok-frame.ensures.rest in
+    record { frame = f; begins = begun; new_is = c.in-Ok.ensures.ok; pc_is = c.in_ok-frame.ensures.pc }

@@ -1,0 +1,8 @@
+use Rattle.std.proofs.Common.{◌≡◌}
+use Rattle.code_file.specs.Formats.{instruction_format}
+use Rattle.code_file.specs.Reads.{with_instructions}
+use Rattle.code_file.proofs.RowLemmas.{IsRowSoFar}
+use Rattle.code_file.proofs.body.read_instr_rows.Given as goal
+
+abbrev pub invariant-loop-read : goal.invariant-loop-read
+invariant-loop-read g l = IsRowSoFar instruction_format (λ _. Unit {0}) l.bytes l.builder.instructions l.rest l._read × (l.builder ≡ with_instructions l.fn.builder l.builder.instructions)

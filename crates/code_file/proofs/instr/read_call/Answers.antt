@@ -1,0 +1,8 @@
+use Rattle.std.proofs.lemmas.Result.{err_from_is_err_and}
+use Rattle.code_file.proofs.InstructionLemmas.{call_stop_arguments}
+use Rattle.code_file.proofs.instr.read_call.Goals as goal
+
+pub returns-in_err-arguments : goal.returns-in_err-arguments
+returns-in_err-arguments c =
+    let p = err_from_is_err_and c.from_residual-in_err-arguments.result c.from_residual-in_err-arguments.ensures.1 in
+    rw (p.1, p.2) (call_stop_arguments c.args.bytes.now c.args.rest.now c.in_ok-function.function c.in_ok-function.rest.now _ c.requires c.in_ok-function.ensures c.in_err-arguments.ensures)

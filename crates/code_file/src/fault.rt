@@ -1,0 +1,103 @@
+//! Why a code file can't be read.
+ghost use Rattle.std.specs.Prelude.{◌≡◌};
+ghost use Rattle.code_file.specs.declared.fault.Stop.TheVariants.{Memory};
+
+use std::alloc::{AllocError, AllocFailed};
+use thiserror::Error;
+
+/// Why a code file can't be read. Places are bytes of the file, counted from 0.
+#[derive(Clone, Copy, Debug, PartialEq, Eq, Error)]
+pub enum FileFault {
+    /// No memory was given.
+    #[error("out of memory")]
+    Memory,
+    /// The first bytes aren't those of a code file.
+    #[error("no code file")]
+    BadMagic,
+    /// The file is of another version of the format.
+    #[error("a code file of another version")]
+    BadVersion,
+    /// The file ends too early, at its length.
+    #[error("at byte {0}: the code file ends too early")]
+    Truncated(usize),
+    /// A byte names no tag, opcode, function or kind.
+    #[error("at byte {0}: the byte names nothing")]
+    BadOpcode(usize),
+    /// A key, frame, place or slot isn't above the one before it, a list has no elements or a list for its tail, or an
+    /// atom isn't UTF-8. The byte is the item's first.
+    #[error("at byte {0}: not as code files are written")]
+    NotCanonical(usize),
+    /// Bytes stand behind the code, of which this is the first.
+    #[error("at byte {0}: the code file goes on behind its end")]
+    Trailing(usize),
+    /// There are too many slots, or a term is past a limit of terms.
+    #[error("past a limit")]
+    Limit,
+}
+
+impl FileFault {
+    ghost use Rattle.std.specs.Prelude.{◌≡◌};
+    ghost use Rattle.code_file.specs.FaultNumbers.{number_of, place_of};
+
+    /// The number that the fault has in what programs print.
+    pub const fn number(self) -> u8
+        ensures { result ≡ number_of self }
+    {
+        match self {
+            FileFault::Memory => 1,
+            FileFault::BadMagic => 30,
+            FileFault::BadVersion => 31,
+            FileFault::Truncated(_) => 32,
+            FileFault::BadOpcode(_) => 33,
+            FileFault::NotCanonical(_) => 34,
+            FileFault::Trailing(_) => 35,
+            FileFault::Limit => 36,
+        }
+    }
+
+    /// The byte of the file where the fault is met, counted from 0, where the fault names one.
+    pub const fn at(self) -> Option<usize>
+        ensures { result ≡ place_of self }
+    {
+        match self {
+            FileFault::Memory | FileFault::BadMagic | FileFault::BadVersion | FileFault::Limit =>
+                None,
+            FileFault::Truncated(at)
+            | FileFault::BadOpcode(at)
+            | FileFault::NotCanonical(at)
+            | FileFault::Trailing(at) => Some(at),
+        }
+    }
+}
+
+/// What is wrong at a place of a file.
+#[derive(Clone, Copy, PartialEq, Eq)]
+pub(crate) enum Cause {
+    Truncated,
+    BadOpcode,
+    NotCanonical,
+    Limit,
+}
+
+/// Why reading stops: for want of memory, or at a place that is counted in the bytes from there to the end.
+#[derive(Clone, Copy)]
+pub(crate) enum Stop {
+    Memory,
+    At(Cause, usize),
+}
+
+impl From<AllocError> for Stop {
+    ghost from_gives = { λ _ e. e ≡ Memory };
+
+    fn from(_refused: AllocError) -> Stop {
+        Stop::Memory
+    }
+}
+
+impl<T: Drop> From<AllocFailed<T>> for Stop {
+    ghost from_gives = { λ _ e. e ≡ Memory };
+
+    fn from(_refused: AllocFailed<T>) -> Stop {
+        Stop::Memory
+    }
+}

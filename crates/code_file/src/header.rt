@@ -1,0 +1,63 @@
+//! The front of a code file: the magic, the version and the number of slots.
+ghost use Rattle.std.specs.Prelude.{◌≡◌, ◌≢◌, ◌++◌, IfOk, IfErr};
+ghost use Rattle.code_file.specs.File.{magic};
+ghost use Rattle.code_file.specs.Faults.{IsNoFile, IsHeader, fault_of};
+ghost use Rattle.code_file.specs.declared.fault.FileFault.TheVariants.{Memory as OutOfMemory};
+
+use crate::fault::{Cause, FileFault, Stop};
+use crate::number::read_u16;
+
+/// EMSC, with which each code file begins.
+const MAGIC: [u8; 4] = [69, 77, 83, 67];
+/// The version of the format.
+const VERSION: u16 = 1;
+
+/// Why reading a file of so many bytes stopped.
+pub(crate) fn file_fault(stop: Stop, size: usize) -> FileFault
+    ensures { result ≡ fault_of stop size }
+{
+    let Stop::At(cause, left) = stop else {
+        return FileFault::Memory;
+    };
+    let at = size.saturating_sub(left);
+    match cause {
+        Cause::Truncated => FileFault::Truncated(at),
+        Cause::BadOpcode => FileFault::BadOpcode(at),
+        Cause::NotCanonical => FileFault::NotCanonical(at),
+        Cause::Limit => FileFault::Limit,
+    }
+}
+
+/// What follows the magic.
+fn read_magic(bytes: &[u8]) -> Result<&[u8], FileFault>
+    ensures ok { IfOk result (λ rest. bytes.now ≡ magic ++ rest.now) }
+    ensures refused { IfErr result (λ fault. IsNoFile bytes.now fault) }
+{
+    let (front, rest) = bytes.split_at(bytes.len().min(4));
+    if !MAGIC.starts_with(front) {
+        return Err(FileFault::BadMagic);
+    }
+    if bytes.len() < 4 {
+        return Err(FileFault::Truncated(bytes.len()));
+    }
+    Ok(rest)
+}
+
+/// The number of slots, and what follows it.
+pub(crate) fn read_header(bytes: &[u8]) -> Result<(u16, &[u8]), FileFault>
+    ensures ok { IfOk result (λ r. IsHeader bytes.now r.0 r.1.now) }
+    ensures refused { IfErr result (λ fault. fault ≢ OutOfMemory → IsNoFile bytes.now fault) }
+{
+    let rest = read_magic(bytes)?;
+    let (version, rest) = match read_u16(rest) {
+        Ok(read) => read,
+        Err(stop) => return Err(file_fault(stop, bytes.len())),
+    };
+    if version != VERSION {
+        return Err(FileFault::BadVersion);
+    }
+    match read_u16(rest) {
+        Ok(read) => Ok(read),
+        Err(stop) => Err(file_fault(stop, bytes.len())),
+    }
+}

@@ -1,0 +1,111 @@
+//! Instructions at the front of a file's rest.
+ghost use Rattle.code_file.specs.declared.opcode.Opcode.TheVariants as Opcode;
+ghost use Rattle.code_file.specs.Format.{Begins, both};
+ghost use Rattle.code_file.specs.Formats.{u16_format, opcode_format, function_format, arithmetic_format, instruction_format};
+ghost use Rattle.code_file.specs.Reads.{Reads, Blames};
+
+use crate::fault::{Cause, Stop};
+use crate::number::{read_u8, read_u16};
+use crate::opcode::Opcode;
+use mcode::Instr;
+use primitives::{Arithmetic, Function};
+
+/// An opcode.
+fn read_opcode(bytes: &[u8]) -> Result<(Opcode, &[u8]), Stop>
+    ensures { Reads opcode_format (Blames bytes.now) (λ r. (r.0, r.1.now)) bytes.now result }
+{
+    let (byte, rest) = read_u8(bytes)?;
+    match Opcode::numbered(byte) {
+        Some(opcode) => Ok((opcode, rest)),
+        None => Err(Stop::At(Cause::BadOpcode, bytes.len())),
+    }
+}
+
+/// Two numbers.
+fn read_two(bytes: &[u8]) -> Result<((u16, u16), &[u8]), Stop>
+    ensures { Reads (both u16_format u16_format) (Blames bytes.now) (λ r. (r.0, r.1.now)) bytes.now
+        result }
+{
+    let (first, rest) = read_u16(bytes)?;
+    let (second, rest) = read_u16(rest)?;
+    Ok(((first, second), rest))
+}
+
+/// A function of the table of calls, behind the opcode of a call, with which these bytes begin.
+fn read_function<'a>(bytes: &[u8], rest: &'a [u8]) -> Result<(Function, &'a [u8]), Stop>
+    requires { Begins opcode_format bytes.now Opcode.Call rest.now }
+    ensures { Reads function_format (Blames bytes.now) (λ r. (r.0, r.1.now)) rest.now result }
+{
+    let (byte, behind) = read_u8(rest)?;
+    match Function::numbered(byte) {
+        Some(function) => Ok((function, behind)),
+        None => Err(Stop::At(Cause::BadOpcode, rest.len())),
+    }
+}
+
+/// A function of two integers, behind the opcode of one, with which these bytes begin.
+fn read_arithmetic<'a>(bytes: &[u8], rest: &'a [u8]) -> Result<(Arithmetic, &'a [u8]), Stop>
+    requires { Begins opcode_format bytes.now Opcode.Arith rest.now }
+    ensures { Reads arithmetic_format (Blames bytes.now) (λ r. (r.0, r.1.now)) rest.now result }
+{
+    let (byte, behind) = read_u8(rest)?;
+    match Arithmetic::numbered(byte) {
+        Some(arithmetic) => Ok((arithmetic, behind)),
+        None => Err(Stop::At(Cause::BadOpcode, rest.len())),
+    }
+}
+
+/// A call, behind its opcode.
+fn read_call<'a>(bytes: &[u8], rest: &'a [u8]) -> Result<(Instr, &'a [u8]), Stop>
+    requires { Begins opcode_format bytes.now Opcode.Call rest.now }
+    ensures { Reads instruction_format (Blames bytes.now) (λ r. (r.0, r.1.now)) bytes.now result }
+{
+    let (function, rest) = read_function(bytes, rest)?;
+    let ((arguments, otherwise), rest) = read_two(rest)?;
+    let instr = Instr::Call {
+        function,
+        arguments,
+        otherwise,
+    };
+    Ok((instr, rest))
+}
+
+/// A function of two integers with where to go otherwise, behind its opcode.
+fn read_arith<'a>(bytes: &[u8], rest: &'a [u8]) -> Result<(Instr, &'a [u8]), Stop>
+    requires { Begins opcode_format bytes.now Opcode.Arith rest.now }
+    ensures { Reads instruction_format (Blames bytes.now) (λ r. (r.0, r.1.now)) bytes.now result }
+{
+    let (function, rest) = read_arithmetic(bytes, rest)?;
+    let (otherwise, rest) = read_u16(rest)?;
+    Ok((
+        Instr::Arith {
+            function,
+            otherwise,
+        },
+        rest,
+    ))
+}
+
+/// An instruction.
+pub(crate) fn read_instr(bytes: &[u8]) -> Result<(Instr, &[u8]), Stop>
+    ensures { Reads instruction_format (Blames bytes.now) (λ r. (r.0, r.1.now)) bytes.now result }
+{
+    let (opcode, rest) = read_opcode(bytes)?;
+    match opcode {
+        Opcode::Bare(bare) => Ok((bare.instr(), rest)),
+        Opcode::Slotted(slotted) => {
+            let (slot, rest) = read_u8(rest)?;
+            Ok((slotted.instr(slot), rest))
+        }
+        Opcode::Single(single) => {
+            let (number, rest) = read_u16(rest)?;
+            Ok((single.instr(number), rest))
+        }
+        Opcode::Double(double) => {
+            let ((number, otherwise), rest) = read_two(rest)?;
+            Ok((double.instr(number, otherwise), rest))
+        }
+        Opcode::Call => read_call(bytes, rest),
+        Opcode::Arith => read_arith(bytes, rest),
+    }
+}
