@@ -1,14 +1,2 @@
-pub mod KindLemmas
-pub mod SlotLemmas
-pub mod FrameLemmas
-pub mod WayLemmas
-pub mod FindLemmas
-pub mod StepLemmas
 pub mod EdgeLemmas
 pub mod RunLemmas
-pub mod ComeLemmas
-pub mod JumpLemmas
-pub mod LeadLemmas
-pub mod MemoryLemmas
-pub mod TableLemmas
-pub mod AskLemmas

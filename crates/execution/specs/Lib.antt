@@ -1,0 +1,5 @@
+pub mod Fits
+pub mod Slots
+pub mod Flow
+pub mod Way
+pub mod Memory
