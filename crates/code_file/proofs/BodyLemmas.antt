@@ -1,30 +1,34 @@
 -- The parts of code that are read into a builder.
-use Rattle.std.proofs.Common.{◌≡◌, ℕ, ◌+◌, ◌<◌, List, [], ◌∷◌, ◌++◌, length, refl, sym, ap, subst, ◌∙◌, append_assoc, arith, inl, inr}
 use Rattle.std.specs.Prelude.{Result, Ok, Err, Option, Some, None, IfSome}
 use Rattle.std.specs.List.{flat_map, AllByRecursion}
+use Rattle.std.proofs.Common.{◌≡◌, ℕ, ◌+◌, ◌<◌, List, [], ◌∷◌, ◌++◌, length, refl, sym, ap, subst, ◌∙◌, append_assoc, arith, inl, inr}
+use Rattle.std.proofs.lemmas.List.Elements.{All-from_recursion}
 use Rattle.term_core.specs.Datum.{Datum}
 use Rattle.term_core.specs.Sizes.{depth_limit}
 use Rattle.mcode.specs.Program.{Program, Frame, Rise, frame_number, most_parts, IsTelling}
 use Rattle.mcode.specs.Building.{IsPartRefused, IsFrameRefused}
 use Rattle.mcode.specs.declared.fault.Fault.{Fault}
 use Rattle.mcode.specs.declared.fault.Fault.TheVariants as refusal
-use Rattle.code_file.specs.declared.fault.Cause.{Cause}
-use Rattle.code_file.specs.declared.fault.Cause.TheVariants as causes
-use Rattle.code_file.specs.declared.fault.Stop.{Stop}
-use Rattle.code_file.specs.declared.fault.Stop.TheVariants as stops
-use Rattle.code_file.specs.Format.{Format, Begins, BeginsNone, rows, counted, such}
-use Rattle.code_file.specs.Spelling.{u16_bytes, frame_bytes}
-use Rattle.code_file.specs.Formats.{u16_format, constant_format, place_format, frame_format, frame_rest_format}
-use Rattle.code_file.specs.Causes.{IsPastLimit, IsUnordered}
-use Rattle.code_file.specs.Rising.{LastIs}
 use Rattle.mcode.specs.declared.kind.Kind.{Kind}
-use Rattle.std.proofs.lemmas.List.Elements.{All-from_recursion}
-use Rattle.code_file.proofs.NumberLemmas.{u16_free}
-use Rattle.code_file.proofs.FrameLemmas.{frame_parts, frame_from, frame_begins, ends_with_last}
-use Rattle.code_file.specs.Reads.{Blames, BlamesWithin, IsRefuted, IsStop, Reads, with_frames, IsNextRead}
-use Rattle.code_file.proofs.FormatLemmas.{IsPrefixFree, both_first, both_rest, counted_first, counted_rest}
-use Rattle.code_file.proofs.StopLemmas.{stop_none, stop_behind, stop_before}
-use Rattle.code_file.proofs.RowLemmas.{IsRowSoFar, row_start, row_step, rows_none, rise_above, not_above}
+use Rattle.mcode.specs.declared.instr.Instr.{Instr}
+use Rattle.file_format.specs.Format.{Format, Begins, BeginsNone, rows, counted, such, both}
+use Rattle.file_format.specs.Spelling.{u16_bytes, frame_bytes}
+use Rattle.file_format.specs.Formats.{u16_format, constant_format, place_format, frame_format, frame_rest_format, constants_format, instructions_format, frames_format, body_format, body_of}
+use Rattle.file_format.proofs.NumberLemmas.{u16_free}
+use Rattle.file_format.proofs.FrameLemmas.{frame_parts, frame_from}
+use Rattle.file_format.proofs.FormatLemmas.{IsPrefixFree, both_first, both_rest, counted_first, counted_rest, both_begins}
+use Rattle.file_terms.specs.declared.stop.Cause.{Cause}
+use Rattle.file_terms.specs.declared.stop.Cause.TheVariants as causes
+use Rattle.file_terms.specs.declared.stop.Stop.{Stop}
+use Rattle.file_terms.specs.declared.stop.Stop.TheVariants as stops
+use Rattle.file_terms.specs.Causes.{IsPastLimit, IsUnordered}
+use Rattle.file_terms.specs.Reads.{Blames, BlamesWithin, IsRefuted, IsStop, Reads}
+use Rattle.file_terms.proofs.RowLemmas.{ends_with_last, IsRowSoFar, row_start, row_step, rows_none}
+use Rattle.file_terms.proofs.StopLemmas.{stop_none, stop_behind, stop_before}
+use Rattle.code_file.specs.Rising.{LastIs}
+use Rattle.code_file.specs.Parts.{with_frames, IsNextRead, with_instructions}
+use Rattle.code_file.proofs.FrameLemmas.{frame_begins}
+use Rattle.code_file.proofs.RiseLemmas.{rise_above, not_above}
 
 -- with all levels a term too deep is past the limit
 flat : (bytes : List ℕ) (cause : Cause) (left : ℕ) → BlamesWithin depth_limit bytes cause left → Blames bytes cause left
@@ -142,3 +146,12 @@ frames_step start bytes old new rest n pc last r h k =
       kept = k.new_is ∙ ap (λ (p : Program). with_frames p (old.frames ++ k.frame ∷ [])) h.kept ∙ ap (with_frames start) (sym fs_is);
       last_is = (old.frames, k.frame, fs_is, k.pc_is);
     }
+
+pub body_begins : (bytes r t u : List ℕ) (old one two three : Program) → Begins constants_format bytes one.constants r → Begins instructions_format r two.instructions t → Begins frames_format t three.frames u
+    → two ≡ with_instructions one two.instructions → three ≡ with_frames two three.frames → Begins body_format bytes (body_of three) u
+body_begins bytes r t u old one two three h k l first second =
+    let is_same : two.instructions ≡ three.instructions = sym (ap (λ (p : Program). p.instructions) second) in
+    let ds_same : one.constants ≡ three.constants = sym (ap (λ (p : Program). p.constants) first) ∙ sym (ap (λ (p : Program). p.constants) second) in
+    let begun = both_begins constants_format (both instructions_format frames_format) bytes one.constants r (two.instructions, three.frames) u h (both_begins instructions_format frames_format r two.instructions t three.frames u k l) in
+    subst (λ (ds : List Datum). Begins body_format bytes (ds, (three.instructions, three.frames)) u) ds_same
+    (subst (λ (is : List Instr). Begins body_format bytes (one.constants, (is, three.frames)) u) is_same begun)

@@ -1,6 +1,6 @@
 -- Code that was read from a file, and what follows it.
-use Rattle.std.proofs.Common.{◌≡◌, ◌≢◌, ℕ, ◌<◌, ◌-◌, List, [], ◌∷◌, ◌++◌, length, refl, sym, ap, ◌∙◌, append_assoc, arith, inl}
 use Rattle.std.specs.List.{AllByRecursion}
+use Rattle.std.proofs.Common.{◌≡◌, ◌≢◌, ℕ, ◌<◌, ◌-◌, List, [], ◌∷◌, ◌++◌, length, refl, sym, ap, ◌∙◌, append_assoc, arith, inl}
 use Rattle.std.proofs.lemmas.List.{append-nil, length-append}
 use Rattle.std.proofs.lemmas.List.Elements.{All-from_recursion}
 use Rattle.term_core.specs.Datum.{Datum}
@@ -8,17 +8,17 @@ use Rattle.term_core.specs.Limits.{IsTerm}
 use Rattle.term_core.specs.Sizes.{depth_limit}
 use Rattle.mcode.specs.Program.{Program, Frame, IsFrame, IsTelling, most_slots}
 use Rattle.mcode.specs.declared.kind.Kind.{Kind}
-use Rattle.code_file.specs.declared.fault.Stop.{Stop}
+use Rattle.file_format.specs.Spelling.{u16_bytes}
+use Rattle.file_format.specs.File.{IsU8, HoldsArguments, HoldsPlace, HoldsFrame, Spells, magic, version, file_bytes}
+use Rattle.file_format.specs.Format.{Begins}
+use Rattle.file_format.specs.Formats.{u16_format, constant_format, place_format, frame_format, body_format, body_of}
+use Rattle.file_format.proofs.FormatLemmas.{both_rest}
+use Rattle.file_format.proofs.NumberLemmas.{u16_free}
+use Rattle.file_format.proofs.FileLemmas.{body_free, rest_begins}
+use Rattle.file_terms.specs.declared.stop.Stop.{Stop}
+use Rattle.file_terms.specs.Reads.{Blames, IsStop}
 use Rattle.code_file.specs.declared.fault.FileFault.TheVariants as faults
-use Rattle.code_file.specs.Spelling.{u16_bytes}
-use Rattle.code_file.specs.File.{IsU8, HoldsArguments, HoldsPlace, HoldsFrame, Spells, magic, version, file_bytes}
-use Rattle.code_file.specs.Format.{Begins}
-use Rattle.code_file.specs.Formats.{u16_format, constant_format, place_format, frame_format, body_format}
-use Rattle.code_file.specs.Reads.{Blames, IsStop, body_of}
 use Rattle.code_file.specs.Faults.{IsNoFile, IsHeader, IsRead, fault_of}
-use Rattle.code_file.proofs.FormatLemmas.{both_rest}
-use Rattle.code_file.proofs.NumberLemmas.{u16_free}
-use Rattle.code_file.proofs.FileLemmas.{body_free, rest_begins}
 use Rattle.code_file.proofs.HeaderLemmas.{slots_format, stopped}
 
 pub nothing_left : (rest : List ℕ) → length rest ≡ 0 → rest ≡ []

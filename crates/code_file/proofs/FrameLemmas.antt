@@ -1,79 +1,28 @@
--- Frames: their kinds, places and slots.
-use Rattle.std.proofs.Common.{◌≡◌, ◌≢◌, ℕ, ◌<◌, List, [], ◌∷◌, ◌++◌, length, refl, sym, ap, subst, ◌∙◌, append_assoc, arith, Option}
+-- Kinds, places, slots and frames that are read, and what refuses them.
 use Rattle.std.specs.Prelude.{IfSome}
 use Rattle.std.specs.List.{flat_map}
-use Rattle.std.proofs.lemmas.List.{append-nil}
-use Rattle.std.proofs.lemmas.List.Concat.{flat_map-append}
+use Rattle.std.proofs.Common.{◌≡◌, ◌≢◌, ℕ, ◌<◌, List, [], ◌∷◌, ◌++◌, length, refl, sym, ap, subst, ◌∙◌, append_assoc, arith, Option}
 use Rattle.mcode.specs.Program.{Frame, Rise, place_number}
 use Rattle.mcode.specs.declared.kind.Kind.{Kind}
 use Rattle.mcode.specs.declared.kind.Kind.TheVariants as kind
-use Rattle.code_file.specs.declared.fault.Cause.TheVariants.{BadOpcode, NotCanonical}
-use Rattle.code_file.specs.declared.fault.Stop.{Stop}
-use Rattle.code_file.specs.Spelling.{u16_bytes, kind_bytes, place_bytes}
-use Rattle.code_file.specs.File.{IsU8, HoldsSize}
-use Rattle.code_file.specs.Format.{Format, Begins, BeginsNone, both, rows, counted, such}
-use Rattle.code_file.specs.Formats.{u8_format, u16_format, kind_format, place_format, places_format, slots_format, frame_rest_format, frame_format}
-use Rattle.code_file.specs.Causes.{EndsWith, BeginsWith, IsNameless, IsUnordered}
-use Rattle.code_file.specs.Reads.{Blames, IsRefuted, IsStop}
+use Rattle.file_format.specs.Spelling.{u16_bytes, kind_bytes, place_bytes}
+use Rattle.file_format.specs.File.{IsU8}
+use Rattle.file_format.specs.Format.{Begins, BeginsNone, both, rows, such}
+use Rattle.file_format.specs.Formats.{u8_format, u16_format, kind_format, place_format, places_format, slots_format, frame_rest_format, frame_format}
+use Rattle.file_format.proofs.FormatLemmas.{both_begins, both_rest}
+use Rattle.file_format.proofs.NumberLemmas.{u8_free, u16_free}
+use Rattle.file_format.proofs.InstructionLemmas.{head_is}
+use Rattle.file_format.proofs.FrameLemmas.{KindOpened, RisingSlots, flat_bytes, frame_to, kind_opened, kind_rest, kind_spelled, kind_tag, places_free, slot_rows, slots_from, slots_to}
+use Rattle.file_terms.specs.declared.stop.Cause.TheVariants.{BadOpcode, NotCanonical}
+use Rattle.file_terms.specs.declared.stop.Stop.{Stop}
+use Rattle.file_terms.specs.Causes.{BeginsWith, IsNameless, IsUnordered}
+use Rattle.file_terms.specs.Reads.{Blames, IsRefuted, IsStop}
+use Rattle.file_terms.proofs.StopLemmas.{stop_none, stop_behind, stop_before, both_stop_first, both_stop_second}
+use Rattle.file_terms.proofs.RowLemmas.{such_stop, IsRowSoFar, row_stop, such_counted_begins, such_counted_stop, such_counted_stop_first, ends_with_last}
 use Rattle.code_file.specs.Rising.{LastIs}
-use Rattle.code_file.proofs.FormatLemmas.{IsPrefixFree, both_begins, both_prefix_free, both_rest, such_prefix_free, counted_prefix_free}
-use Rattle.code_file.proofs.NumberLemmas.{u8_free, u16_free}
-use Rattle.code_file.proofs.InstructionLemmas.{head_is, tail_is}
-use Rattle.code_file.proofs.StopLemmas.{stop_none, stop_behind, stop_before, both_stop_first, both_stop_second}
-use Rattle.code_file.proofs.RowLemmas.{rise_above, not_above, rise_front, such_stop, IsRowSoFar, row_stop, such_counted_begins, such_counted_stop, such_counted_stop_first}
+use Rattle.code_file.proofs.RiseLemmas.{rise_above, not_above, rise_front}
 
 -- ---- kinds
-
-abbrev kind_tag : Kind → ℕ
-kind_tag kind.Any = 0
-kind_tag kind.Int = 1
-kind_tag kind.Bool = 2
-kind_tag kind.Cons = 3
-kind_tag kind.Map = 4
-kind_tag (kind.Tuple n) = 5
-
-abbrev kind_rest : Kind → List ℕ
-kind_rest (kind.Tuple n) = u16_bytes n
-kind_rest k = []
-
-kind_spelled : (k : Kind) → k ≢ kind.Any → kind_bytes k ≡ kind_tag k ∷ kind_rest k
-kind_spelled kind.Any some = absurd (some refl)
-kind_spelled kind.Int some = refl
-kind_spelled k some = refl
-
-record KindOpened (b : ℕ) (r : List ℕ) (k : Kind) (s : List ℕ) : Type 0 where
-  pub tag_is : kind_tag k ≡ b
-  pub rest_is : r ≡ kind_rest k ++ s
-  pub size : HoldsSize k
-  pub some : k ≢ kind.Any
-
-kind_opened : (bytes : List ℕ) (b : ℕ) (r : List ℕ) (k : Kind) (s : List ℕ) → bytes ≡ b ∷ r → Begins kind_format bytes k s → KindOpened b r k s
-kind_opened bytes b r k s is h =
-    let same = sym is ∙ h.parts ∙ ap (λ (bs : List ℕ). bs ++ s) (kind_spelled k h.fits.1) in
-    record {
-      tag_is = sym (head_is b (kind_tag k) r (kind_rest k ++ s) same);
-      rest_is = tail_is b (kind_tag k) r (kind_rest k ++ s) same;
-      size = h.fits.0;
-      some = h.fits.1;
-    }
-
-kinds_one : (k l : Kind) (t r s : List ℕ) → KindOpened (kind_tag k) t k r → KindOpened (kind_tag k) t l s → (k ≡ l) × (r ≡ s)
-kinds_one (kind.Tuple n) (kind.Tuple m) t r s h g =
-    let same = u16_free.one t n m r s (record { fits = h.size; parts = h.rest_is }) (record { fits = g.size; parts = g.rest_is }) in
-    (ap kind.Tuple same.0, same.1)
-kinds_one kind.Any kind.Any t r s h g = absurd (h.some refl)
-kinds_one kind.Int kind.Int t r s h g = (refl, sym h.rest_is ∙ g.rest_is)
-kinds_one kind.Bool kind.Bool t r s h g = (refl, sym h.rest_is ∙ g.rest_is)
-kinds_one kind.Cons kind.Cons t r s h g = (refl, sym h.rest_is ∙ g.rest_is)
-kinds_one kind.Map kind.Map t r s h g = (refl, sym h.rest_is ∙ g.rest_is)
-kinds_one k l t r s h g = absurd (omega (arith, g.tag_is))
-
-pub kind_free : IsPrefixFree kind_format
-kind_free = record {
-  one = λ bytes k l r s h g.
-      let is = h.parts ∙ ap (λ (bs : List ℕ). bs ++ r) (kind_spelled k h.fits.1) in
-      kinds_one k l (kind_rest k ++ r) r s (kind_opened bytes (kind_tag k) (kind_rest k ++ r) k r is h) (kind_opened bytes (kind_tag k) (kind_rest k ++ r) l s is g);
-}
 
 pub kind_short : (bytes : List ℕ) (stop : Stop) → IsStop u8_format bytes (Blames bytes) stop → IsStop kind_format bytes (Blames bytes) stop
 kind_short bytes stop h = stop_none u8_format kind_format bytes bytes (Blames bytes) stop (λ none k s l. none (kind_tag k) (kind_rest k ++ s) (record {
@@ -128,9 +77,6 @@ tuple_begins bytes b r n s h five k = record {
 
 -- ---- places
 
-pub place_free : IsPrefixFree place_format
-place_free = both_prefix_free u16_format kind_format u16_free kind_free
-
 abbrev AbovePlaces : List (ℕ × Kind) → ℕ × Kind → Type 0
 AbovePlaces before p = Rise place_number (before ++ p ∷ [])
 
@@ -143,10 +89,6 @@ pub place_kind : (before : List (ℕ × Kind)) (bytes : List ℕ) (n : ℕ) (r :
 place_kind before bytes n r stop h k =
     such_stop place_format (AbovePlaces before) bytes (Blames (flat_map place_bytes before ++ bytes)) stop
     (stop_before place_format (flat_map place_bytes before) bytes (flat_map place_bytes before ++ bytes) stop refl (both_stop_second u16_format kind_format u16_free bytes n r stop h k))
-
--- what ends with the last of some
-pub ends_with_last : {X : Type 0} (spell : X → List ℕ) (xs front : List X) (x : X) → xs ≡ front ++ x ∷ [] → EndsWith (spell x) (flat_map spell xs)
-ends_with_last spell xs front x is = (flat_map spell front, ap (flat_map spell) is ∙ flat_map-append spell front (x ∷ []) ∙ ap (λ (t : List ℕ). flat_map spell front ++ t) (append-nil (spell x)))
 
 pub place_unordered : (before : List (ℕ × Kind)) (last : Option ℕ) (bytes : List ℕ) (n : ℕ) (r : List ℕ) → LastIs place_number before last → Rise place_number before → Begins u16_format bytes n r → ¬ IfSome last (λ l. l < n)
     → IsRefuted (such place_format (AbovePlaces before)) bytes (Blames (flat_map place_bytes before ++ bytes) NotCanonical (length bytes))
@@ -202,26 +144,10 @@ slot_unordered before last bytes v r is up h low =
 pub slot_begins : (before : List ℕ) (last : Option ℕ) (bytes : List ℕ) (v : ℕ) (r : List ℕ) → LastIs (λ slot. slot) before last → Rise (λ slot. slot) before → IfSome last (λ l. l < v) → Begins u8_format bytes v r → Begins (such u8_format (AboveSlots before)) bytes v r
 slot_begins before last bytes v r is up above h = record { fits = (h.fits, (rise_above (λ slot. slot) before last v is up).0 above); parts = h.parts }
 
-flat_bytes : (xs : List ℕ) → flat_map (λ n. n ∷ []) xs ≡ xs
-flat_bytes [] = refl
-flat_bytes (x ∷ xs) = ap (λ ys. x ∷ ys) (flat_bytes xs)
-
-abbrev RisingSlots : List ℕ → Type 0
-RisingSlots vs = Rise (λ slot. slot) vs
-
 pub slot_row_stop : (bytes xs rest : List ℕ) (i n : ℕ) (stop : Stop) → IsRowSoFar u8_format RisingSlots bytes xs rest i → i < n
     → IsStop (such u8_format (AboveSlots xs)) rest (Blames (xs ++ rest)) stop → IsStop (such (rows u8_format n) RisingSlots) bytes (Blames bytes) stop
 slot_row_stop bytes xs rest i n stop h fewer k =
     row_stop u8_format RisingSlots u8_free (rise_front (λ slot. slot)) bytes xs rest i n stop h fewer (subst (λ (t : List ℕ). IsStop (such u8_format (AboveSlots xs)) rest (Blames (t ++ rest)) stop) (sym (flat_bytes xs)) k)
-
-abbrev slot_rows : Format (List ℕ)
-slot_rows = such (counted u16_format u8_format) RisingSlots
-
-slots_to : (bytes vs s : List ℕ) → Begins slot_rows bytes vs s → Begins slots_format bytes vs s
-slots_to bytes vs s h = record { fits = h.fits; parts = h.parts ∙ ap (λ (t : List ℕ). (u16_bytes (length vs) ++ t) ++ s) (flat_bytes vs) }
-
-slots_from : (bytes vs s : List ℕ) → Begins slots_format bytes vs s → Begins slot_rows bytes vs s
-slots_from bytes vs s h = record { fits = h.fits; parts = h.parts ∙ ap (λ (t : List ℕ). (u16_bytes (length vs) ++ t) ++ s) (sym (flat_bytes vs)) }
 
 slots_stop : (bytes : List ℕ) (stop : Stop) → IsStop slot_rows bytes (Blames bytes) stop → IsStop slots_format bytes (Blames bytes) stop
 slots_stop bytes stop h = stop_none slot_rows slots_format bytes bytes (Blames bytes) stop (λ none vs s k. none vs s (slots_from bytes vs s k)) h
@@ -235,14 +161,6 @@ slots_short bytes stop h = slots_stop bytes stop (such_counted_stop_first u16_fo
 pub slots_row_stop : (bytes : List ℕ) (n : ℕ) (r : List ℕ) (stop : Stop) → Begins u16_format bytes n r → IsStop (such (rows u8_format n) RisingSlots) r (Blames r) stop → IsStop slots_format bytes (Blames bytes) stop
 slots_row_stop bytes n r stop h k = slots_stop bytes stop (such_counted_stop u16_format u8_format RisingSlots u16_free bytes n r stop h k)
 
-pub slots_free : IsPrefixFree slots_format
-slots_free = record {
-  one = λ bytes vs ws r s h k. (such_prefix_free (counted u16_format u8_format) RisingSlots (counted_prefix_free u16_format u8_format u16_free u8_free)).one bytes vs ws r s (slots_from bytes vs r h) (slots_from bytes ws s k);
-}
-
-pub places_free : IsPrefixFree places_format
-places_free = such_prefix_free (counted u16_format place_format) (Rise place_number) (counted_prefix_free u16_format place_format u16_free place_free)
-
 -- ---- frames
 
 pub frame_rest_places : (bytes : List ℕ) (n : ℕ) (r : List ℕ) (stop : Stop) → Begins u16_format bytes n r → IsStop places_format r (Blames r) stop → IsStop frame_rest_format bytes (Blames bytes) stop
@@ -250,28 +168,6 @@ frame_rest_places bytes n r stop h k = both_stop_second u16_format (both places_
 
 pub frame_rest_slots : (bytes : List ℕ) (n : ℕ) (r : List ℕ) (ps : List (ℕ × Kind)) (t : List ℕ) (stop : Stop) → Begins u16_format bytes n r → Begins places_format r ps t → IsStop slots_format t (Blames t) stop → IsStop frame_rest_format bytes (Blames bytes) stop
 frame_rest_slots bytes n r ps t stop h g k = both_stop_second u16_format (both places_format slots_format) u16_free bytes n r stop h (both_stop_second places_format slots_format places_free r ps t stop g k)
-
-pub frame_rest_free : IsPrefixFree frame_rest_format
-frame_rest_free = both_prefix_free u16_format (both places_format slots_format) u16_free (both_prefix_free places_format slots_format places_free slots_free)
-
-abbrev pub frame_parts : Frame → ℕ × (ℕ × (List (ℕ × Kind) × List ℕ))
-frame_parts f = (f.pc, (f.depth, (f.places, f.slots)))
-
-abbrev parts_format : Format (ℕ × (ℕ × (List (ℕ × Kind) × List ℕ)))
-parts_format = both u16_format frame_rest_format
-
-frame_to : (bytes : List ℕ) (f : Frame) (s : List ℕ) → Begins parts_format bytes (frame_parts f) s → Begins frame_format bytes f s
-frame_to bytes f s h = record { fits = h.fits; parts = h.parts }
-
-pub frame_from : (bytes : List ℕ) (f : Frame) (s : List ℕ) → Begins frame_format bytes f s → Begins parts_format bytes (frame_parts f) s
-frame_from bytes f s h = record { fits = h.fits; parts = h.parts }
-
-pub frame_free : IsPrefixFree frame_format
-frame_free = record {
-  one = λ bytes f g r s h k.
-      let same = (both_prefix_free u16_format frame_rest_format u16_free frame_rest_free).one bytes (frame_parts f) (frame_parts g) r s (frame_from bytes f r h) (frame_from bytes g s k) in
-      (ap (λ (p : ℕ × (ℕ × (List (ℕ × Kind) × List ℕ))). record { pc = p.0; depth = p.1.0; places = p.1.1.0; slots = p.1.1.1 }) same.0, same.1);
-}
 
 pub frame_begins : (bytes : List ℕ) (f : Frame) (r s : List ℕ) → Begins u16_format bytes f.pc r → Begins frame_rest_format r (f.depth, (f.places, f.slots)) s → Begins frame_format bytes f s
 frame_begins bytes f r s h k = frame_to bytes f s (both_begins u16_format frame_rest_format bytes f.pc r (f.depth, (f.places, f.slots)) s h k)

@@ -1,7 +1,6 @@
--- Instructions by their opcodes: no spelling of one begins another, and what is refused behind an opcode.
-use Rattle.std.proofs.Common.{◌≡◌, ◌≢◌, ℕ, ◌-◌, ◌<◌, ◌^◌, List, [], ◌∷◌, ◌++◌, length, get_or, drop, refl, sym, ap, ◌∙◌, arith, Some, None}
-use Rattle.std.specs.Prelude.{slice_get, ◌↔◌}
-use Rattle.std.proofs.lemmas.Option.{same_Some}
+-- What is read behind an opcode, and what refuses it.
+use Rattle.std.specs.Prelude.{◌↔◌}
+use Rattle.std.proofs.Common.{◌≡◌, ◌≢◌, ℕ, ◌<◌, ◌^◌, List, [], ◌∷◌, ◌++◌, length, refl, sym, ap, ◌∙◌, arith, Some, None}
 use Rattle.primitives.specs.Numbers.{function_number, arithmetic_number}
 use Rattle.primitives.specs.declared.prim.Function.{Function}
 use Rattle.primitives.specs.declared.prim.Function.TheVariants as function
@@ -16,204 +15,27 @@ use Rattle.primitives.specs.declared.prim.MapFunction.TheVariants as map
 use Rattle.primitives.specs.declared.prim.SizeFunction.TheVariants as size
 use Rattle.primitives.specs.declared.prim.Arithmetic.{Arithmetic}
 use Rattle.primitives.specs.declared.prim.Arithmetic.TheVariants as arithmetic
-use Rattle.mcode.specs.declared.instr.Instr.{Instr}
 use Rattle.mcode.specs.declared.instr.Instr.TheVariants as instr
-use Rattle.code_file.specs.declared.opcode.Opcode.{Opcode}
-use Rattle.code_file.specs.declared.opcode.Opcode.TheVariants as opcode
-use Rattle.code_file.specs.declared.opcode.Bare.{Bare}
-use Rattle.code_file.specs.declared.opcode.Bare.TheVariants as bare
-use Rattle.code_file.specs.declared.opcode.Slotted.{Slotted}
-use Rattle.code_file.specs.declared.opcode.Slotted.TheVariants as slotted
-use Rattle.code_file.specs.declared.opcode.Single.{Single}
-use Rattle.code_file.specs.declared.opcode.Single.TheVariants as single
-use Rattle.code_file.specs.declared.opcode.Double.{Double}
-use Rattle.code_file.specs.declared.opcode.Double.TheVariants as double
-use Rattle.code_file.specs.Opcodes.{bare_instr, slotted_instr, single_instr, double_instr, opcode_number}
-use Rattle.code_file.specs.Spelling.{u16_bytes, instruction_bytes}
-use Rattle.code_file.specs.File.{IsU8, IsU16, HoldsArguments}
-use Rattle.code_file.specs.Format.{Format, Begins, BeginsNone, both}
-use Rattle.code_file.specs.Formats.{u8_format, u16_format, opcode_format, function_format, arithmetic_format, instruction_format}
-use Rattle.code_file.specs.declared.fault.Cause.{Cause}
-use Rattle.code_file.specs.declared.fault.Cause.TheVariants.{BadOpcode}
-use Rattle.code_file.specs.declared.fault.Stop.{Stop}
-use Rattle.code_file.specs.Causes.{IsNameless}
-use Rattle.code_file.specs.Reads.{Blames, IsRefuted, IsStop}
-use Rattle.code_file.proofs.FormatLemmas.{IsPrefixFree, both_prefix_free}
-use Rattle.code_file.proofs.StopLemmas.{stop_none, stop_behind, stop_before, both_stop_first, both_stop_second}
-use Rattle.code_file.proofs.NumberLemmas.{u8_free, u16_free}
-use Rattle.code_file.proofs.OpcodeLemmas.{one_opcode}
-
--- ---- functions
-
--- in the order of their numbers
-abbrev functions : List Function
-functions =
-    function.Test test.IsAtom ∷ function.Test test.IsInteger ∷ function.Test test.IsList ∷
-    function.Test test.IsNumber ∷ function.Test test.IsTuple ∷ function.Test test.IsMap ∷
-    function.Map map.IsMapKey ∷ function.Test test.IsBinary ∷ function.Test test.IsBitstring ∷
-    function.Test test.IsBoolean ∷ function.Tuple tuple.IsRecord ∷ function.Test test.IsFloat ∷
-    function.Test test.IsPid ∷ function.Test test.IsPort ∷ function.Test test.IsReference ∷
-    function.Test test.IsFunction ∷ function.Boolean boolean.Not ∷ function.Boolean boolean.And ∷
-    function.Boolean boolean.Or ∷ function.Boolean boolean.Xor ∷ function.Integer integer.Abs ∷
-    function.Tuple tuple.Element ∷ function.List list.Hd ∷ function.List list.Tl ∷ function.List list.Length ∷
-    function.Size size.Size ∷ function.Size size.TupleSize ∷ function.Size size.ByteSize ∷
-    function.Size size.BitSize ∷ function.Map map.MapSize ∷ function.Map map.MapGet ∷
-    function.Integer integer.Round ∷ function.Integer integer.Trunc ∷ function.Integer integer.Plus ∷
-    function.Integer integer.Negate ∷ function.Integer integer.Bnot ∷ function.Comparison comparison.Greater ∷
-    function.Comparison comparison.GreaterOrEqual ∷ function.Comparison comparison.Less ∷
-    function.Comparison comparison.LessOrEqual ∷ function.Comparison comparison.ExactlyEqual ∷
-    function.Comparison comparison.ExactlyUnequal ∷ function.Comparison comparison.Equal ∷
-    function.Comparison comparison.Unequal ∷ function.Extreme extreme.Max ∷ function.Extreme extreme.Min ∷ []
-
-abbrev arithmetics : List Arithmetic
-arithmetics =
-    arithmetic.Add ∷ arithmetic.Subtract ∷ arithmetic.Multiply ∷ arithmetic.Div ∷ arithmetic.Rem ∷
-    arithmetic.Band ∷ arithmetic.Bor ∷ arithmetic.Bxor ∷ arithmetic.Bsl ∷ arithmetic.Bsr ∷ []
-
-function_stands : (f : Function) → slice_get functions (function_number f - 1) ≡ Some f
-function_stands (function.Test test.IsAtom) = refl
-function_stands (function.Boolean boolean.Not) = refl
-function_stands (function.Comparison comparison.Greater) = refl
-function_stands (function.Extreme extreme.Max) = refl
-function_stands (function.Integer integer.Abs) = refl
-function_stands (function.Tuple tuple.IsRecord) = refl
-function_stands (function.List list.Hd) = refl
-function_stands (function.Map map.IsMapKey) = refl
-function_stands (function.Size size.Size) = refl
-function_stands f = refl
-
-arithmetic_stands : (a : Arithmetic) → slice_get arithmetics (arithmetic_number a - 1) ≡ Some a
-arithmetic_stands arithmetic.Add = refl
-arithmetic_stands a = refl
-
-one_function : (f g : Function) → function_number f ≡ function_number g → f ≡ g
-one_function f g same = same_Some f g (sym (function_stands f) ∙ ap (λ n. slice_get functions (n - 1)) same ∙ function_stands g)
-
-one_arithmetic : (a b : Arithmetic) → arithmetic_number a ≡ arithmetic_number b → a ≡ b
-one_arithmetic a b same = same_Some a b (sym (arithmetic_stands a) ∙ ap (λ n. slice_get arithmetics (n - 1)) same ∙ arithmetic_stands b)
-
-pub head_is : (a b : ℕ) (xs ys : List ℕ) → a ∷ xs ≡ b ∷ ys → a ≡ b
-head_is a b xs ys same = ap (λ bs. get_or bs 0 0) same
-
-pub tail_is : (a b : ℕ) (xs ys : List ℕ) → a ∷ xs ≡ b ∷ ys → xs ≡ ys
-tail_is a b xs ys same = ap (drop 1) same
-
--- values of one byte each
-by_number : {X : Type 0} (number : X → ℕ) → ((x y : X) → number x ≡ number y → x ≡ y) → IsPrefixFree (record { spell = λ x. number x ∷ []; Fits = λ _. Unit {0} })
-by_number number one = record {
-  one = λ bytes x y r s h k.
-      let same = sym h.parts ∙ k.parts in
-      (one x y (head_is (number x) (number y) r s same), tail_is (number x) (number y) r s same);
-}
-
-pub function_free : IsPrefixFree function_format
-function_free = by_number function_number one_function
-
-pub arithmetic_free : IsPrefixFree arithmetic_format
-arithmetic_free = by_number arithmetic_number one_arithmetic
-
-pub opcode_free : IsPrefixFree opcode_format
-opcode_free = by_number opcode_number one_opcode
-
--- ---- the parts of an instruction
-
-pub data Parts : Type 0 where
-  of_bare : Bare → Parts
-  of_slot : Slotted → ℕ → Parts
-  of_one : Single → ℕ → Parts
-  of_two : Double → ℕ → ℕ → Parts
-  of_call : Function → ℕ → ℕ → Parts
-  of_arith : Arithmetic → ℕ → Parts
-
-abbrev pub parts_of : Instr → Parts
-parts_of instr.Load = of_bare bare.Load
-parts_of (instr.Const n) = of_one single.Const n
-parts_of (instr.Get v) = of_slot slotted.Get v
-parts_of (instr.Bind v) = of_slot slotted.Bind v
-parts_of instr.Dup = of_bare bare.Dup
-parts_of instr.Drop = of_bare bare.Drop
-parts_of (instr.Tuple n l) = of_two double.Tuple n l
-parts_of (instr.Field n) = of_one single.Field n
-parts_of (instr.Cons l) = of_one single.Cons l
-parts_of instr.Head = of_bare bare.Head
-parts_of instr.Tail = of_bare bare.Tail
-parts_of (instr.Map l) = of_one single.Map l
-parts_of (instr.Value n l) = of_two double.Value n l
-parts_of (instr.Equal l) = of_one single.Equal l
-parts_of (instr.Jump l) = of_one single.Jump l
-parts_of (instr.Call f n l) = of_call f n l
-parts_of (instr.Int l) = of_one single.Int l
-parts_of (instr.Arith a l) = of_arith a l
-parts_of (instr.Bool l) = of_one single.Bool l
-parts_of (instr.Branch l) = of_one single.Branch l
-parts_of (instr.MakeTuple n l) = of_two double.MakeTuple n l
-parts_of (instr.MakeCons l) = of_one single.MakeCons l
-parts_of (instr.MakeMap n l) = of_two double.MakeMap n l
-parts_of instr.Answer = of_bare bare.Answer
-parts_of instr.NoAnswer = of_bare bare.NoAnswer
-
-abbrev whole : Parts → Instr
-whole (of_bare o) = bare_instr o
-whole (of_slot o v) = slotted_instr o v
-whole (of_one o n) = single_instr o n
-whole (of_two o n l) = double_instr o n l
-whole (of_call f n l) = instr.Call f n l
-whole (of_arith a l) = instr.Arith a l
-
-abbrev pub opcode_of : Parts → Opcode
-opcode_of (of_bare o) = opcode.Bare o
-opcode_of (of_slot o v) = opcode.Slotted o
-opcode_of (of_one o n) = opcode.Single o
-opcode_of (of_two o n l) = opcode.Double o
-opcode_of (of_call f n l) = opcode.Call
-opcode_of (of_arith a l) = opcode.Arith
-
-abbrev pub rest_bytes : Parts → List ℕ
-rest_bytes (of_bare o) = []
-rest_bytes (of_slot o v) = v ∷ []
-rest_bytes (of_one o n) = u16_bytes n
-rest_bytes (of_two o n l) = u16_bytes n ++ u16_bytes l
-rest_bytes (of_call f n l) = function_number f ∷ u16_bytes n ++ u16_bytes l
-rest_bytes (of_arith a l) = arithmetic_number a ∷ u16_bytes l
-
-abbrev pub HoldsParts : Parts → Type 0
-HoldsParts (of_bare o) = Unit {0}
-HoldsParts (of_slot o v) = IsU8 v
-HoldsParts (of_one o n) = IsU16 n
-HoldsParts (of_two o n l) = IsU16 n × IsU16 l
-HoldsParts (of_call f n l) = IsU16 n × IsU16 l
-HoldsParts (of_arith a l) = IsU16 l
-
-back : (i : Instr) → whole (parts_of i) ≡ i
-back instr.Load = refl
-back i = refl
-
-spelled : (i : Instr) → instruction_bytes i ≡ opcode_number (opcode_of (parts_of i)) ∷ rest_bytes (parts_of i)
-spelled instr.Load = refl
-spelled i = refl
-
-held : (i : Instr) → HoldsArguments i → HoldsParts (parts_of i)
-held instr.Load h = h
-held i h = h
-
--- behind an opcode stand the other parts
-pub record Opened (o : Opcode) (r : List ℕ) (p : Parts) (s : List ℕ) : Type 0 where
-  pub opcode_is : opcode_of p ≡ o
-  pub rest_is : r ≡ rest_bytes p ++ s
-  pub fits : HoldsParts p
-
-pub opened : (bytes : List ℕ) (o : Opcode) (r : List ℕ) (i : Instr) (s : List ℕ) → Begins opcode_format bytes o r → Begins instruction_format bytes i s → Opened o r (parts_of i) s
-opened bytes o r i s h k =
-    let same = sym h.parts ∙ k.parts ∙ ap (λ bs. bs ++ s) (spelled i) in
-    record {
-      opcode_is = sym (one_opcode o (opcode_of (parts_of i)) (head_is (opcode_number o) (opcode_number (opcode_of (parts_of i))) r (rest_bytes (parts_of i) ++ s) same));
-      rest_is = tail_is (opcode_number o) (opcode_number (opcode_of (parts_of i))) r (rest_bytes (parts_of i) ++ s) same;
-      fits = held i k.fits;
-    }
-
--- the same from any opcode
-self_opened : (bytes : List ℕ) (i : Instr) (s : List ℕ) → Begins instruction_format bytes i s → Begins opcode_format bytes (opcode_of (parts_of i)) (rest_bytes (parts_of i) ++ s)
-self_opened bytes i s h = record { fits = tt; parts = h.parts ∙ ap (λ bs. bs ++ s) (spelled i) }
+use Rattle.file_format.specs.declared.opcode.Opcode.{Opcode}
+use Rattle.file_format.specs.declared.opcode.Opcode.TheVariants as opcode
+use Rattle.file_format.specs.declared.opcode.Bare.{Bare}
+use Rattle.file_format.specs.declared.opcode.Bare.TheVariants as bare
+use Rattle.file_format.specs.declared.opcode.Slotted.{Slotted}
+use Rattle.file_format.specs.declared.opcode.Slotted.TheVariants as slotted
+use Rattle.file_format.specs.declared.opcode.Single.{Single}
+use Rattle.file_format.specs.declared.opcode.Single.TheVariants as single
+use Rattle.file_format.specs.declared.opcode.Double.{Double}
+use Rattle.file_format.specs.declared.opcode.Double.TheVariants as double
+use Rattle.file_format.specs.Opcodes.{bare_instr, slotted_instr, single_instr, double_instr, opcode_number}
+use Rattle.file_format.specs.Format.{Format, Begins, BeginsNone, both}
+use Rattle.file_format.specs.Formats.{u8_format, u16_format, opcode_format, function_format, arithmetic_format, instruction_format}
+use Rattle.file_format.proofs.InstructionLemmas.{arith_in, arithmetic_free, call_in, function_free, head_is, one_in, opcode_of, opened, parts_of, rest_bytes, self_opened, slot_in, spelled, two_in}
+use Rattle.file_terms.specs.declared.stop.Cause.{Cause}
+use Rattle.file_terms.specs.declared.stop.Cause.TheVariants.{BadOpcode}
+use Rattle.file_terms.specs.declared.stop.Stop.{Stop}
+use Rattle.file_terms.specs.Causes.{IsNameless}
+use Rattle.file_terms.specs.Reads.{Blames, IsRefuted, IsStop}
+use Rattle.file_terms.proofs.StopLemmas.{stop_none, stop_behind, stop_before, both_stop_first, both_stop_second}
 
 -- ---- what is read behind an opcode
 
@@ -238,69 +60,6 @@ call_begins bytes r p s h k = record { fits = k.fits.1; parts = h.parts ∙ ap (
 
 pub arith_begins : (bytes : List ℕ) (r : List ℕ) (p : Arithmetic × ℕ) (s : List ℕ) → Begins opcode_format bytes opcode.Arith r → Begins (both arithmetic_format u16_format) r p s → Begins instruction_format bytes (instr.Arith p.0 p.1) s
 arith_begins bytes r p s h k = record { fits = k.fits.1; parts = h.parts ∙ ap (λ bs. 18 ∷ bs) k.parts }
-
--- ---- the parts behind an opcode, as values of a format
-
-pub slot_in : (o : Slotted) (r : List ℕ) (p : Parts) (s : List ℕ) → Opened (opcode.Slotted o) r p s → (v : ℕ) × (p ≡ of_slot o v) × Begins u8_format r v s
-slot_in o r (of_slot q v) s h = (v, ap (λ (x : Slotted). of_slot x v) (cc (h.opcode_is)), record { fits = h.fits; parts = h.rest_is })
-slot_in o r p s h = absurd (cc (h.opcode_is))
-
-pub one_in : (o : Single) (r : List ℕ) (p : Parts) (s : List ℕ) → Opened (opcode.Single o) r p s → (n : ℕ) × (p ≡ of_one o n) × Begins u16_format r n s
-one_in o r (of_one q n) s h = (n, ap (λ (x : Single). of_one x n) (cc (h.opcode_is)), record { fits = h.fits; parts = h.rest_is })
-one_in o r p s h = absurd (cc (h.opcode_is))
-
-pub two_in : (o : Double) (r : List ℕ) (p : Parts) (s : List ℕ) → Opened (opcode.Double o) r p s → (n : ℕ × ℕ) × (p ≡ of_two o n.0 n.1) × Begins (both u16_format u16_format) r n s
-two_in o r (of_two q n l) s h = ((n, l), ap (λ (x : Double). of_two x n l) (cc (h.opcode_is)), record { fits = h.fits; parts = h.rest_is })
-two_in o r p s h = absurd (cc (h.opcode_is))
-
-pub call_in : (r : List ℕ) (p : Parts) (s : List ℕ) → Opened opcode.Call r p s → (c : Function × (ℕ × ℕ)) × (p ≡ of_call c.0 c.1.0 c.1.1) × Begins (both function_format (both u16_format u16_format)) r c s
-call_in r (of_call f n l) s h = ((f, (n, l)), refl, record { fits = (tt, h.fits); parts = h.rest_is })
-call_in r p s h = absurd (cc (h.opcode_is))
-
-pub arith_in : (r : List ℕ) (p : Parts) (s : List ℕ) → Opened opcode.Arith r p s → (c : Arithmetic × ℕ) × (p ≡ of_arith c.0 c.1) × Begins (both arithmetic_format u16_format) r c s
-arith_in r (of_arith a l) s h = ((a, l), refl, record { fits = (tt, h.fits); parts = h.rest_is })
-arith_in r p s h = absurd (cc (h.opcode_is))
-
--- ---- no instruction begins another
-
-parts_one : (p q : Parts) (r s t : List ℕ) → Opened (opcode_of p) t p r → Opened (opcode_of p) t q s → (p ≡ q) × (r ≡ s)
-parts_one (of_bare o) (of_bare o') r s t h k = (ap of_bare (cc (k.opcode_is)), sym h.rest_is ∙ k.rest_is)
-parts_one (of_bare o) q r s t h k = absurd (cc (k.opcode_is))
-parts_one (of_slot o v) q r s t h k =
-    let a = slot_in o t (of_slot o v) r h in
-    let b = slot_in o t q s k in
-    let same = u8_free.one t a.0 b.0 r s a.2 b.2 in
-    (a.1 ∙ ap (λ x. of_slot o x) same.0 ∙ sym b.1, same.1)
-parts_one (of_one o n) q r s t h k =
-    let a = one_in o t (of_one o n) r h in
-    let b = one_in o t q s k in
-    let same = u16_free.one t a.0 b.0 r s a.2 b.2 in
-    (a.1 ∙ ap (λ x. of_one o x) same.0 ∙ sym b.1, same.1)
-parts_one (of_two o n l) q r s t h k =
-    let a = two_in o t (of_two o n l) r h in
-    let b = two_in o t q s k in
-    let same = (both_prefix_free u16_format u16_format u16_free u16_free).one t a.0 b.0 r s a.2 b.2 in
-    (a.1 ∙ ap (λ (x : ℕ × ℕ). of_two o x.0 x.1) same.0 ∙ sym b.1, same.1)
-parts_one (of_call f n l) q r s t h k =
-    let a = call_in t (of_call f n l) r h in
-    let b = call_in t q s k in
-    let free = both_prefix_free function_format (both u16_format u16_format) function_free (both_prefix_free u16_format u16_format u16_free u16_free) in
-    let same = free.one t a.0 b.0 r s a.2 b.2 in
-    (a.1 ∙ ap (λ (x : Function × (ℕ × ℕ)). of_call x.0 x.1.0 x.1.1) same.0 ∙ sym b.1, same.1)
-parts_one (of_arith a l) q r s t h k =
-    let x = arith_in t (of_arith a l) r h in
-    let y = arith_in t q s k in
-    let same = (both_prefix_free arithmetic_format u16_format arithmetic_free u16_free).one t x.0 y.0 r s x.2 y.2 in
-    (x.1 ∙ ap (λ (z : Arithmetic × ℕ). of_arith z.0 z.1) same.0 ∙ sym y.1, same.1)
-
-pub instruction_free : IsPrefixFree instruction_format
-instruction_free = record {
-  one = λ bytes i j r s h k.
-      let begun = self_opened bytes i r h in
-      let t : List ℕ = rest_bytes (parts_of i) ++ r in
-      let same = parts_one (parts_of i) (parts_of j) r s t (opened bytes (opcode_of (parts_of i)) t i r begun h) (opened bytes (opcode_of (parts_of i)) t j s begun k) in
-      (sym (back i) ∙ ap whole same.0 ∙ back j, same.1);
-}
 
 -- ---- refusals
 

@@ -1,14 +1,6 @@
-pub mod FormatLemmas
-pub mod NumberLemmas
-pub mod OpcodeLemmas
-pub mod StopLemmas
+pub mod RiseLemmas
 pub mod InstructionLemmas
-pub mod RowLemmas
 pub mod FrameLemmas
-pub mod LeafLemmas
-pub mod ConstantLemmas
-pub mod LevelLemmas
 pub mod BodyLemmas
-pub mod FileLemmas
 pub mod HeaderLemmas
 pub mod DecodeLemmas

@@ -1,11 +1,4 @@
-pub mod Spelling
-pub mod File
-pub mod Format
-pub mod Formats
-pub mod Causes
-pub mod Reads
-pub mod Opcodes
-pub mod Laws
 pub mod FaultNumbers
 pub mod Rising
 pub mod Faults
+pub mod Parts

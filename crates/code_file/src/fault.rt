@@ -1,8 +1,5 @@
 //! Why a code file can't be read.
-ghost use Rattle.std.specs.Prelude.{◌≡◌};
-ghost use Rattle.code_file.specs.declared.fault.Stop.TheVariants.{Memory};
 
-use std::alloc::{AllocError, AllocFailed};
 use thiserror::Error;
 
 /// Why a code file can't be read. Places are bytes of the file, counted from 0.
@@ -67,37 +64,5 @@ impl FileFault {
             | FileFault::NotCanonical(at)
             | FileFault::Trailing(at) => Some(at),
         }
-    }
-}
-
-/// What is wrong at a place of a file.
-#[derive(Clone, Copy, PartialEq, Eq)]
-pub(crate) enum Cause {
-    Truncated,
-    BadOpcode,
-    NotCanonical,
-    Limit,
-}
-
-/// Why reading stops: for want of memory, or at a place that is counted in the bytes from there to the end.
-#[derive(Clone, Copy)]
-pub(crate) enum Stop {
-    Memory,
-    At(Cause, usize),
-}
-
-impl From<AllocError> for Stop {
-    ghost from_gives = { λ _ e. e ≡ Memory };
-
-    fn from(_refused: AllocError) -> Stop {
-        Stop::Memory
-    }
-}
-
-impl<T: Drop> From<AllocFailed<T>> for Stop {
-    ghost from_gives = { λ _ e. e ≡ Memory };
-
-    fn from(_refused: AllocFailed<T>) -> Stop {
-        Stop::Memory
     }
 }

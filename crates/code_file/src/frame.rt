@@ -1,16 +1,14 @@
 //! Frames at the front of a file's rest.
 ghost use Rattle.std.specs.Prelude.{◌≡◌, ◌<◌, ◌↔◌, ◌++◌, ◌∷◌, [], IsTrue, IfSome, IfOk};
 ghost use Rattle.std.specs.List.{flat_map};
-ghost use Rattle.mcode.specs.Frame.{frame_of};
 ghost use Rattle.mcode.specs.Program.{Rise, place_number};
-ghost use Rattle.code_file.specs.Spelling.{place_bytes};
-ghost use Rattle.code_file.specs.Format.{rows, such};
-ghost use Rattle.code_file.specs.Formats.{u8_format, kind_format, place_format, places_format, slots_format, frame_format, frame_rest_format};
-ghost use Rattle.code_file.specs.Reads.{Reads, Blames};
+ghost use Rattle.file_format.specs.Spelling.{place_bytes};
+ghost use Rattle.file_format.specs.Format.{rows, such};
+ghost use Rattle.file_format.specs.Formats.{u8_format, kind_format, place_format, places_format, slots_format, frame_rest_format};
+ghost use Rattle.file_terms.specs.Reads.{Reads, Blames};
 ghost use Rattle.code_file.specs.Rising.{LastIs};
 
-use crate::fault::{Cause, Stop};
-use crate::number::{read_u8, read_u16};
+use file_terms::{Cause, Stop, read_u8, read_u16};
 use mcode::{Frame, Kind, Places, Slots};
 use std::alloc::Allocator;
 

@@ -1,8 +1,0 @@
-use Rattle.code_file.proofs.RowLemmas.{last_is}
-use Rattle.code_file.proofs.LevelLemmas.{key_above}
-use Rattle.code_file.proofs.constant.is_key_above.Goals as goal
-
-pub returns-in-Some : goal.returns-in-Some
-returns-in-Some g c =
-    let end = last_is c.args.before.now c.in-Some.last.now c.in-Some.ensures.value in
-    key_above c.args.before.now end.0 c.in-Some.last.now c.args.key.now c.lt.result end.1 c.lt.ensures

@@ -1,0 +1,9 @@
+pub mod FormatLemmas
+pub mod NumberLemmas
+pub mod WriteLemmas
+pub mod OpcodeLemmas
+pub mod InstructionLemmas
+pub mod FrameLemmas
+pub mod LeafLemmas
+pub mod ConstantLemmas
+pub mod FileLemmas

@@ -1,0 +1,324 @@
+//! Constants at the front of a file's rest.
+ghost use Rattle.std.specs.Prelude.{◌≡◌, ◌≢◌, ◌<◌, ◌↔◌, ◌++◌, ◌∷◌, [], IsTrue};
+ghost use Rattle.std.specs.List.{flat_map, AllByRecursion};
+ghost use Rattle.term_core.specs.declared.fault.Fault.TheVariants as Refusal;
+ghost use Rattle.file_format.specs.Spelling.{pair_bytes};
+ghost use Rattle.file_format.specs.Format.{Begins, rows, such};
+ghost use Rattle.file_format.specs.Formats.{u8_format, length_format, constant_format, utf8_format, binary_format, pair_format, RisingPairs};
+ghost use Rattle.file_terms.specs.Causes.{BeginsWith};
+ghost use Rattle.file_terms.specs.Reads.{Reads, Blames, BlamesWithin, BlamesBehind, AtTerm, BehindPairs, InPairs, limit_stop};
+ghost use Rattle.file_terms.specs.Keys.{IsAboveKeys};
+ghost use Rattle.file_terms.specs.declared.stop.Stop.TheVariants.{Memory as OutOfMemory};
+
+use crate::number::{read_i64, read_u8, read_u16, read_u32, take};
+use crate::stop::{Cause, Stop};
+use std::alloc::Allocator;
+use std::str::from_utf8;
+use term_core::{Fault, MAX_BINARY, MAX_LIST, Term};
+
+/// The tag of a list.
+const LIST: u8 = 6;
+
+/// Why a term wasn't made whose parts are within the limits.
+fn memory_alone(fault: Fault) -> Stop
+    requires { fault ≡ Refusal.Memory }
+    ensures { result ≡ OutOfMemory }
+{
+    match fault {
+        Fault::Memory => Stop::Memory,
+        Fault::TooDeep | Fault::TooLong | Fault::DuplicateKey => unreachable!(),
+    }
+}
+
+/// Why an atom wasn't made whose characters stand where so many bytes are left.
+fn atom_stop(fault: Fault, left: usize) -> Stop
+    requires deep { fault ≢ Refusal.TooDeep }
+    requires twice { fault ≢ Refusal.DuplicateKey }
+    ensures { result ≡ limit_stop fault left }
+{
+    match fault {
+        Fault::Memory => Stop::Memory,
+        Fault::TooLong => Stop::At(Cause::Limit, left),
+        Fault::TooDeep | Fault::DuplicateKey => unreachable!(),
+    }
+}
+
+/// The text of an atom, behind the tag with which these bytes begin.
+fn read_text<'a>(bytes: &[u8], rest: &'a [u8]) -> Result<(&'a str, &'a [u8]), Stop>
+    requires { Begins u8_format bytes.now 2 rest.now }
+    ensures { Reads utf8_format (Blames bytes.now) (λ r. (r.0.now, r.1.now)) rest.now result }
+{
+    let (count, behind) = read_u16(rest)?;
+    let (text, next) = take(behind, usize::from(count))?;
+    match from_utf8(text) {
+        Ok(text) => Ok((text, next)),
+        Err(_) => Err(Stop::At(Cause::NotCanonical, behind.len())),
+    }
+}
+
+/// The bytes of a binary, behind the tag with which these bytes begin.
+fn read_binary_bytes<'a>(bytes: &[u8], rest: &'a [u8]) -> Result<(&'a [u8], &'a [u8]), Stop>
+    requires { Begins u8_format bytes.now 7 rest.now }
+    ensures { Reads binary_format (Blames bytes.now) (λ r. (r.0.now, r.1.now)) rest.now result }
+{
+    let (count, behind) = read_u32(rest)?;
+    let count = count as usize;
+    if count > MAX_BINARY {
+        return Err(Stop::At(Cause::Limit, rest.len()));
+    }
+    let (content, next) = take(behind, count)?;
+    Ok((content, next))
+}
+
+/// How many elements a list has, behind the tag with which these bytes begin.
+fn read_length<'a>(bytes: &[u8], rest: &'a [u8]) -> Result<(u32, &'a [u8]), Stop>
+    requires { Begins u8_format bytes.now 6 rest.now }
+    ensures { Reads length_format (Blames bytes.now) (λ r. (r.0, r.1.now)) rest.now result }
+{
+    let (count, behind) = read_u32(rest)?;
+    if count == 0 {
+        return Err(Stop::At(Cause::NotCanonical, rest.len()));
+    }
+    if count as usize > MAX_LIST {
+        return Err(Stop::At(Cause::Limit, rest.len()));
+    }
+    Ok((count, behind))
+}
+
+/// An integer, behind its tag.
+fn read_integer<'a, A: Allocator>(
+    bytes: &[u8],
+    rest: &'a [u8],
+    room: u8,
+) -> Result<(Term<A>, &'a [u8]), Stop>
+    requires tag { Begins u8_format bytes.now 1 rest.now }
+    requires room { 0 < room }
+    ensures { Reads (constant_format room) (BlamesWithin room bytes.now) (λ r. (r.0, r.1.now))
+        bytes.now result }
+{
+    let (value, behind) = read_i64(rest)?;
+    Ok((Term::int(value), behind))
+}
+
+/// An atom, behind its tag.
+fn read_atom<'a, A: Allocator + Copy>(
+    alloc: A,
+    bytes: &[u8],
+    rest: &'a [u8],
+    room: u8,
+) -> Result<(Term<A>, &'a [u8]), Stop>
+    requires tag { Begins u8_format bytes.now 2 rest.now }
+    requires room { 0 < room }
+    ensures { Reads (constant_format room) (BlamesWithin room bytes.now) (λ r. (r.0, r.1.now))
+        bytes.now result }
+{
+    let (text, behind) = read_text(bytes, rest)?;
+    match Term::atom(alloc, text) {
+        Ok(atom) => {
+            // Asked for the proof: a term is within its limits.
+            let _depth = atom.depth();
+            Ok((atom, behind))
+        }
+        Err(fault) => Err(atom_stop(fault, rest.len() - 2)),
+    }
+}
+
+/// A binary, behind its tag.
+fn read_binary<'a, A: Allocator + Copy>(
+    alloc: A,
+    bytes: &[u8],
+    rest: &'a [u8],
+    room: u8,
+) -> Result<(Term<A>, &'a [u8]), Stop>
+    requires tag { Begins u8_format bytes.now 7 rest.now }
+    requires room { 0 < room }
+    ensures { Reads (constant_format room) (BlamesWithin room bytes.now) (λ r. (r.0, r.1.now))
+        bytes.now result }
+{
+    let (content, behind) = read_binary_bytes(bytes, rest)?;
+    match Term::binary(alloc, Vec::from_slice(alloc, content)?) {
+        Ok(binary) => {
+            // Asked for the proof: a term is within its limits.
+            let _depth = binary.depth();
+            Ok((binary, behind))
+        }
+        Err(refused) => Err(memory_alone(refused.fault)),
+    }
+}
+
+/// Whether these bytes begin with the tag of a list.
+fn begins_list(bytes: &[u8]) -> bool
+    ensures { IsTrue result ↔ BeginsWith (6 ∷ []) bytes.now }
+{
+    match bytes.first() {
+        Some(tag) => *tag == LIST,
+        None => false,
+    }
+}
+
+/// Whether a key stands above the last of these pairs.
+fn is_key_above<A: Allocator>(before: &[(Term<A>, Term<A>)], key: &Term<A>) -> bool
+    ensures { IsTrue result ↔ IsAboveKeys before.now key.now }
+{
+    match before.last() {
+        Some(last) => last.0 < *key,
+        None => true,
+    }
+}
+
+/// A term at most so many levels deep. The recursion goes no deeper than that, whatever the file.
+#[cycle(constant)]
+pub fn read_constant<A: Allocator + Copy>(
+    alloc: A,
+    bytes: &[u8],
+    room: u8,
+) -> Result<(Term<A>, &[u8]), Stop>
+    ensures { Reads (constant_format room) (BlamesWithin room bytes.now) (λ r. (r.0, r.1.now))
+        bytes.now result }
+{
+    let (tag, rest) = read_u8(bytes)?;
+    if room == 0 {
+        return Err(Stop::At(Cause::Limit, bytes.len()));
+    }
+    match tag {
+        1 => read_integer(bytes, rest, room),
+        2 => read_atom(alloc, bytes, rest, room),
+        3 => read_tuple(alloc, bytes, rest, room),
+        4 => read_map(alloc, bytes, rest, room),
+        5 => Ok((Term::nil(), rest)),
+        LIST => read_list(alloc, bytes, rest, room),
+        7 => read_binary(alloc, bytes, rest, room),
+        _ => Err(Stop::At(Cause::BadOpcode, bytes.len())),
+    }
+}
+
+/// So many terms, one after the other.
+#[cycle(constant)]
+fn read_elements<A: Allocator + Copy>(
+    alloc: A,
+    count: u32,
+    bytes: &[u8],
+    room: u8,
+) -> Result<(Vec<Term<A>, A>, &[u8]), Stop>
+    ensures { Reads (rows (constant_format room) count) (BlamesBehind (AtTerm count) room bytes.now)
+        (λ r. (r.0.items, r.1.now)) bytes.now result }
+{
+    let mut elements = Vec::new(alloc);
+    let mut rest = bytes;
+    for _read in 0..count {
+        let (element, behind) = read_constant(alloc, rest, room)?;
+        elements.push(element)?;
+        rest = behind;
+    }
+    Ok((elements, rest))
+}
+
+/// A tuple, behind its tag.
+#[cycle(constant)]
+fn read_tuple<'a, A: Allocator + Copy>(
+    alloc: A,
+    bytes: &[u8],
+    rest: &'a [u8],
+    room: u8,
+) -> Result<(Term<A>, &'a [u8]), Stop>
+    requires tag { Begins u8_format bytes.now 3 rest.now }
+    requires room { 0 < room }
+    ensures { Reads (constant_format room) (BlamesWithin room bytes.now) (λ r. (r.0, r.1.now))
+        bytes.now result }
+{
+    let (count, behind) = read_u16(rest)?;
+    let (elements, behind) = read_elements(alloc, u32::from(count), behind, room - 1)?;
+    match Term::tuple(alloc, elements) {
+        Ok(tuple) => Ok((tuple, behind)),
+        Err(refused) => Err(memory_alone(refused.fault)),
+    }
+}
+
+/// A pair whose key stands above those before it.
+#[cycle(constant)]
+fn read_pair<'a, A: Allocator + Copy>(
+    alloc: A,
+    before: &[(Term<A>, Term<A>)],
+    bytes: &'a [u8],
+    room: u8,
+) -> Result<((Term<A>, Term<A>), &'a [u8]), Stop>
+    requires fits { AllByRecursion (pair_format room).Fits before.now }
+    requires rising { RisingPairs before.now }
+    ensures { Reads (such (pair_format room) (λ p. RisingPairs (before.now ++ p ∷ [])))
+        (BlamesBehind (BehindPairs before.now) room (flat_map pair_bytes before.now ++ bytes.now))
+        (λ r. (r.0, r.1.now)) bytes.now result }
+{
+    let (key, rest) = read_constant(alloc, bytes, room)?;
+    if !is_key_above(before, &key) {
+        return Err(Stop::At(Cause::NotCanonical, bytes.len()));
+    }
+    let (value, rest) = read_constant(alloc, rest, room)?;
+    Ok(((key, value), rest))
+}
+
+/// So many pairs, whose keys rise.
+#[cycle(constant)]
+fn read_pairs<A: Allocator + Copy>(
+    alloc: A,
+    count: u16,
+    bytes: &[u8],
+    room: u8,
+) -> Result<(Vec<(Term<A>, Term<A>), A>, &[u8]), Stop>
+    ensures { Reads (such (rows (pair_format room) count) RisingPairs)
+        (BlamesBehind (InPairs count) room bytes.now) (λ r. (r.0.items, r.1.now)) bytes.now result }
+{
+    let mut pairs = Vec::new(alloc);
+    let mut rest = bytes;
+    for _read in 0..count {
+        let (pair, behind) = read_pair(alloc, pairs.as_slice(), rest, room)?;
+        pairs.push(pair)?;
+        rest = behind;
+    }
+    Ok((pairs, rest))
+}
+
+/// A map, behind its tag.
+#[cycle(constant)]
+fn read_map<'a, A: Allocator + Copy>(
+    alloc: A,
+    bytes: &[u8],
+    rest: &'a [u8],
+    room: u8,
+) -> Result<(Term<A>, &'a [u8]), Stop>
+    requires tag { Begins u8_format bytes.now 4 rest.now }
+    requires room { 0 < room }
+    ensures { Reads (constant_format room) (BlamesWithin room bytes.now) (λ r. (r.0, r.1.now))
+        bytes.now result }
+{
+    let (count, behind) = read_u16(rest)?;
+    let (pairs, behind) = read_pairs(alloc, count, behind, room - 1)?;
+    match Term::map(alloc, pairs) {
+        Ok(map) => Ok((map, behind)),
+        Err(refused) => Err(memory_alone(refused.fault)),
+    }
+}
+
+/// A list, behind its tag.
+#[cycle(constant)]
+fn read_list<'a, A: Allocator + Copy>(
+    alloc: A,
+    bytes: &[u8],
+    rest: &'a [u8],
+    room: u8,
+) -> Result<(Term<A>, &'a [u8]), Stop>
+    requires tag { Begins u8_format bytes.now 6 rest.now }
+    requires room { 0 < room }
+    ensures { Reads (constant_format room) (BlamesWithin room bytes.now) (λ r. (r.0, r.1.now))
+        bytes.now result }
+{
+    let (count, behind) = read_length(bytes, rest)?;
+    let (elements, behind) = read_elements(alloc, count, behind, room - 1)?;
+    if begins_list(behind) {
+        return Err(Stop::At(Cause::NotCanonical, behind.len()));
+    }
+    let (tail, behind) = read_constant(alloc, behind, room - 1)?;
+    match Term::list(alloc, elements, Some(tail)) {
+        Ok(list) => Ok((list, behind)),
+        Err(refused) => Err(memory_alone(refused.fault)),
+    }
+}
