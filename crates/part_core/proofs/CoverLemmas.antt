@@ -131,7 +131,8 @@ next_holds P o s purpose p Begin wanted k a e =
         none true h = cc
         none false h = cc
 
-rows_there : (rows : List Row) → All (λ (r : Row). IsTrue (has_row rows r.0)) rows
+-- each key of the rows has one
+pub rows_there : (rows : List Row) → All (λ (r : Row). IsTrue (has_row rows r.0)) rows
 rows_there [] = All-nil (λ (v : Row). IsTrue (has_row [] v.0))
 rows_there (r ∷ rows) =
     All-cons (λ (v : Row). IsTrue (has_row (r ∷ rows) v.0)) r rows (rw (same_from r.0 r.0 refl) refl)

@@ -1,0 +1,9 @@
+use Rattle.part_plain.proofs.ActLemmas.{lookup_leads}
+use Rattle.part_plain.proofs.reading.lookup.Goals as goal
+
+pub returns-in-Ok : goal.returns-in-Ok
+returns-in-Ok g c = λ o fixes n. record {
+  leads = lookup_leads o c.args.rows.now fixes n c.args.key.now c.in-Ok.objects.items c.in-Ok.ensures;
+  back = tt;
+  sure = λ h. tt;
+}

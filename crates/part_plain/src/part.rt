@@ -1,0 +1,125 @@
+//! A part whose rows stand in one list.
+ghost use Rattle.std.specs.Prelude.{◌≡◌, ◌↔◌, IsTrue, IfOk, replicate};
+ghost use Rattle.part_core.specs.Served.{settings_with, IsServed};
+ghost use Rattle.part_plain.specs.Plain.{serves};
+
+use crate::answering::answered;
+use crate::row::Row;
+use part_core::{Fault, Kind, OpenFault, PartOp, Reply, Settings, legal_goes_on, states_are_kept};
+use std::alloc::{AllocError, Allocator, Global};
+use std::marker::Model;
+
+/// A part of a set whose rows stand in one list, as they were made: each operation looks through them for its key, by hashes.
+#[derive(Drop)]
+pub struct PlainPart<A: Allocator = Global> {
+    alloc: A,
+    settings: Settings,
+    rows: Vec<Row<A>, A>,
+    fixes: Vec<u16, A>,
+}
+
+impl<A: Allocator> Model for PlainPart<A> {
+    ghost use Rattle.std.specs.Prelude.{◌≡◌, ◌<◌, length};
+    ghost use Rattle.std.specs.Coded.{codes};
+    ghost use Rattle.term_core.specs.DatumCode.{datum_code};
+    ghost use Rattle.part_plain.specs.Plain.{Plain};
+
+    ghost Value = { Plain };
+
+    ghost coded = { Prim.hlevel (codes, datum_code) };
+
+    ghost view = { λ p. record { settings = p.settings; rows = p.rows.items; fixes = p.fixes.items } };
+
+    ghost invariant = { λ p. (0 < p.settings.parts)
+        × (length p.fixes.items ≡ p.settings.sessions) };
+}
+
+/// Whether a part is made for these settings.
+fn is_served(kind: Kind, keypos: u16, parts: u8, sessions: u8) -> bool
+    ensures { IsTrue result ↔ IsServed serves (settings_with kind keypos parts sessions) }
+{
+    matches!(kind, Kind::Set)
+        && keypos > 0
+        && 0 < parts
+        && parts <= 64
+        && 0 < sessions
+        && sessions <= 16
+}
+
+/// No fixes of so many sessions.
+fn no_fixes<A: Allocator>(alloc: A, sessions: u8) -> Result<Vec<u16, A>, AllocError>
+    ensures { IfOk result (λ fixes. fixes.items ≡ replicate sessions 0) }
+{
+    vec![in alloc; 0; usize::from(sessions)]
+}
+
+impl<A: Allocator + Copy> PlainPart<A> {
+    ghost use Rattle.std.specs.Prelude.{◌≡◌, ◌≢◌, ◌<◌, ◌++◌, IsTrue, IfOk, IfErr, IsErrOf, List, []};
+    ghost use Rattle.part_core.specs.Acts.{Entry as PastEntry, IsAsked};
+    ghost use Rattle.part_core.specs.Ops.{act_of, entries_made, takes_no_memory};
+    ghost use Rattle.part_core.specs.Served.{settings_with, IsServed};
+    ghost use Rattle.part_plain.specs.Plain.{serves, IsAfter};
+
+    /// A part without rows. Refused where the kind isn't `Set` or a number is outside its range: keypos from 1 to 65,535,
+    /// 1 to 64 parts, 1 to 16 sessions.
+    pub fn make(
+        alloc: A,
+        kind: Kind,
+        keypos: u16,
+        parts: u8,
+        sessions: u8,
+    ) -> Result<Self, OpenFault>
+        ensures made { IfOk result (λ p. IsServed serves
+            (settings_with kind keypos parts sessions)
+            × (p.settings ≡ settings_with kind keypos parts sessions) × IsAfter p []) }
+        ensures refused { IsErrOf result OpenFault.BadOptions
+            → ¬ (IsServed serves (settings_with kind keypos parts sessions)) }
+    {
+        if !is_served(kind, keypos, parts, sessions) {
+            return Err(OpenFault::BadOptions);
+        }
+        let settings = Settings {
+            kind,
+            keypos,
+            parts,
+            sessions,
+        };
+        let Ok(fixes) = no_fixes(alloc, sessions) else {
+            return Err(OpenFault::Memory);
+        };
+        Ok(PlainPart {
+            alloc,
+            settings,
+            rows: Vec::new(alloc),
+            fixes,
+        })
+    }
+
+    /// Does an operation for a session. What is refused is handed back, and all stands as before; want of memory leaves no
+    /// entry.
+    pub fn apply<'a>(
+        &mut self,
+        session: u8,
+        op: PartOp<'a, A>,
+    ) -> Result<Reply<A>, (PartOp<'a, A>, Fault)>
+        requires session { session < self.old.settings.sessions }
+        requires asked { IsAsked (act_of op) }
+        ensures settings { self.new.settings ≡ self.old.settings }
+        ensures entry { (log : List PastEntry) → IsAfter self.old log
+            → IsAfter self.new (log ++ entries_made session (act_of op.entry) result) }
+        ensures back { IfErr result (λ r. act_of r.0 ≡ act_of op.entry) }
+        ensures sure { IsTrue (takes_no_memory (act_of op.entry))
+            → IfErr result (λ r. r.1 ≢ Fault.Memory) }
+    {
+        states_are_kept();
+        legal_goes_on();
+        answered(
+            self.alloc,
+            self.settings,
+            &mut self.rows,
+            self.fixes.as_mut_slice(),
+            session,
+            op,
+        )
+    }
+}
