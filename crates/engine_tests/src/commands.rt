@@ -4,8 +4,10 @@
 //! - `program`: with both streams.
 mod program;
 
-use ets_commands::{Request, ToolFault, read_within, tool_run, tool_test};
+use command_io::{ToolFault, read_within};
+use ets_commands::Request;
 use failing_alloc::sweep;
+use query_commands::{tool_compile, tool_run, tool_test, tool_verify};
 use std::alloc::Global;
 use std::io::{self, ErrorKind, Read, Write};
 
@@ -161,6 +163,8 @@ fn passed_on(alloc: Global, request: Request, input: &str) -> Vec<u8> {
     let _ = match request {
         Request::Run => tool_run(alloc, &mut reader, &mut writer),
         Request::Test => tool_test(alloc, &mut reader, &mut writer),
+        Request::Compile => tool_compile(alloc, &mut reader, &mut writer),
+        Request::Verify => tool_verify(alloc, &mut reader, &mut writer),
     };
     writer.passed
 }
@@ -172,7 +176,15 @@ fn all_lines_are_passed_on(rt: HostRuntime) {
     assert!(rt; run.as_slice() == b"1.\n".as_slice());
     let test = passed_on(rt.alloc(), Request::Test, input);
     assert!(rt; test.as_slice() == b"{ok,1}.\nfalse.\n".as_slice());
+    let file = passed_on(rt.alloc(), Request::Compile, "[].");
+    assert!(rt; file.as_slice() == b"<<69,77,83,67,0,1,0,0,0,0,0,1,25,0,0>>.\n".as_slice());
+    let verdict = passed_on(rt.alloc(), Request::Verify, FILE);
+    assert!(rt; verdict.as_slice() == b"{ok,2,1}.\n".as_slice());
 }
+
+/// The file of the specification that answers `true` on each object.
+const FILE: &str =
+    "<<69,77,83,67,0,1,0,0,0,1,2,0,4,116,114,117,101,0,3,2,0,0,24,25,0,1,0,2,0,0,0,0,0,0>>.\n";
 
 const INPUT: &str = "[{{'$1'},[],['$1']}]. {1}. {2}.";
 

@@ -1,6 +1,7 @@
 //! The texts of refusals, which say in words what their numbers and arguments say. Those of terms and of code stand behind their numbers,
 //! and those of code that is not verified also behind the number of the instruction.
-use ets_commands::ToolFault;
+use code_file::FileFault;
+use command_io::ToolFault;
 use mcode::Fault as BuildFault;
 use mspec_syntax::SpecFault;
 use std::alloc::Global;
@@ -86,7 +87,10 @@ fn faults_of_texts_are_told(rt: HostRuntime) {
 const OF_COMMANDS: &str = "\
 out of memory
 at byte 3: syntax error
+other terms than the command reads
 clause 0 names the variable 7, which its head does not bind
+at byte 9: the code file ends too early
+instruction 2 finds too few operands
 the input can't be read
 the output can't be written
 ";
@@ -95,10 +99,13 @@ fn texts_of_commands(alloc: Global) -> Option<Vec<u8>> {
     let mut lines = Vec::new(alloc);
     put(&mut lines, ToolFault::Memory)?;
     put(&mut lines, ToolFault::Text(TextFault::Syntax(3)))?;
+    put(&mut lines, ToolFault::BadInput)?;
     put(
         &mut lines,
         ToolFault::Specification(SpecFault::Unbound(0, 7)),
     )?;
+    put(&mut lines, ToolFault::File(FileFault::Truncated(9)))?;
+    put(&mut lines, ToolFault::Code(CodeFault::Underflow(2)))?;
     put(&mut lines, ToolFault::ReadFailed)?;
     put(&mut lines, ToolFault::WriteFailed)?;
     Some(lines)

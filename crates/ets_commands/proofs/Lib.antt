@@ -1,5 +1,1 @@
-pub mod RunLemmas
-pub mod OutcomeLemmas
-pub mod InputLemmas
-pub mod OutputLemmas
 pub mod WordsLemmas

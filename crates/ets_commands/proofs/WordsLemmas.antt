@@ -303,6 +303,12 @@ behind_command request.Run p rest =
 behind_command request.Test p rest =
     rw (no_fault_past_stop top top_names (codes "test") [] rest, past_stop top.rules top_names (codes "test") [] rest)
     (no_more (fault_behind request.Test rest))
+behind_command request.Compile p rest =
+    rw (no_fault_past_stop top top_names (codes "compile") [] rest, past_stop top.rules top_names (codes "compile") [] rest)
+    (no_more (fault_behind request.Compile rest))
+behind_command request.Verify p rest =
+    rw (no_fault_past_stop top top_names (codes "verify") [] rest, past_stop top.rules top_names (codes "verify") [] rest)
+    (no_more (fault_behind request.Verify rest))
 
 command_entered : (r : Request) (p : Text) (rest : List Text) → entered_name (p ∷ name_of r ∷ rest) ≡ Some (name_of r)
 unfolding walked
@@ -310,6 +316,10 @@ command_entered request.Run p rest =
     ap (λ w. option_map (λ s. s.0) (entered (built tool_app) w.stopped)) (past_stop top.rules top_names (codes "run") [] rest)
 command_entered request.Test p rest =
     ap (λ w. option_map (λ s. s.0) (entered (built tool_app) w.stopped)) (past_stop top.rules top_names (codes "test") [] rest)
+command_entered request.Compile p rest =
+    ap (λ w. option_map (λ s. s.0) (entered (built tool_app) w.stopped)) (past_stop top.rules top_names (codes "compile") [] rest)
+command_entered request.Verify p rest =
+    ap (λ w. option_map (λ s. s.0) (entered (built tool_app) w.stopped)) (past_stop top.rules top_names (codes "verify") [] rest)
 
 words_behind_lead : (r : Request) (rest : List Text) (name : Option Text) → name ≡ Some (name_of r)
     → Leads (asked_behind r rest) (fault_behind r rest) name
@@ -343,6 +353,8 @@ topic_leads p rest = refl
 record IsNoCommand (word : Text) : Type 0 where
   run : bytes_eq (name_of request.Run) word ≡ false
   test : bytes_eq (name_of request.Test) word ≡ false
+  compile : bytes_eq (name_of request.Compile) word ≡ false
+  verify : bytes_eq (name_of request.Verify) word ≡ false
   help : bytes_eq (codes "help") word ≡ false
 
 dashes_lead : (p : Text) (rest : List Text) → Leads mistake (fault_of tool_app (p ∷ codes "--" ∷ rest)) (entered_name (p ∷ codes "--" ∷ rest))
@@ -359,7 +371,7 @@ other_leads p word rest other =
     (λ e. first_decides (asked_by_flag word) _ _ _ (entered_name (p ∷ word ∷ rest)) (first e))
   where
     first : bytes_eq (codes "--") word ≡ false → Refuses (asked_by_flag word) (turn_fault top top_names start word)
-    first e = rw (other.run, other.test, other.help) (flagged (codes "ets_tool") false true word e)
+    first e = rw (other.run, other.test, other.compile, other.verify, other.help) (flagged (codes "ets_tool") false true word e)
 
 words_lead : (words : List Text) → LeadsAt words
 unfolding clap_on_literals
@@ -370,13 +382,17 @@ words_lead (p ∷ word ∷ rest) =
     (λ e. subst (λ w. LeadsAt (p ∷ w ∷ rest)) (same_text (name_of request.Run) word e) (command_leads request.Run p rest))
     (λ run. by_test (bytes_eq (name_of request.Test) word) (LeadsAt (p ∷ word ∷ rest))
     (λ e. subst (λ w. LeadsAt (p ∷ w ∷ rest)) (same_text (name_of request.Test) word e) (command_leads request.Test p rest))
-    (λ test. by_test (bytes_eq (codes "help") word) (LeadsAt (p ∷ word ∷ rest))
+    (λ test. by_test (bytes_eq (name_of request.Compile) word) (LeadsAt (p ∷ word ∷ rest))
+    (λ e. subst (λ w. LeadsAt (p ∷ w ∷ rest)) (same_text (name_of request.Compile) word e) (command_leads request.Compile p rest))
+    (λ compile. by_test (bytes_eq (name_of request.Verify) word) (LeadsAt (p ∷ word ∷ rest))
+    (λ e. subst (λ w. LeadsAt (p ∷ w ∷ rest)) (same_text (name_of request.Verify) word e) (command_leads request.Verify p rest))
+    (λ verify. by_test (bytes_eq (codes "help") word) (LeadsAt (p ∷ word ∷ rest))
     (λ e. subst (λ w. LeadsAt (p ∷ w ∷ rest)) (same_text (codes "help") word e) (topic_leads p rest))
-    (λ e. other (record { run = run; test = test; help = e }))))
+    (λ e. other (record { run = run; test = test; compile = compile; verify = verify; help = e }))))))
   where
     other : IsNoCommand word → LeadsAt (p ∷ word ∷ rest)
     other h =
-        let by_flag : asked (p ∷ word ∷ rest) ≡ asked_by_flag word = rw (h.run, h.test, h.help) refl in
+        let by_flag : asked (p ∷ word ∷ rest) ≡ asked_by_flag word = rw (h.run, h.test, h.compile, h.verify, h.help) refl in
         subst (λ a. Leads a (fault_of tool_app (p ∷ word ∷ rest)) (entered_name (p ∷ word ∷ rest))) (sym by_flag) (other_leads p word rest h)
 
 -- ---- what is read
@@ -387,8 +403,20 @@ asked_answered words q none is = answered (asked words) (words_lead words)
     same : (q r : Request) → Some (name_of q) ≡ Some (name_of r) → q ≡ r
     same request.Run request.Run e = refl
     same request.Test request.Test e = refl
+    same request.Compile request.Compile e = refl
+    same request.Verify request.Verify e = refl
     same request.Run request.Test e = absurd (cc)
+    same request.Run request.Compile e = absurd (cc)
+    same request.Run request.Verify e = absurd (cc)
     same request.Test request.Run e = absurd (cc)
+    same request.Test request.Compile e = absurd (cc)
+    same request.Test request.Verify e = absurd (cc)
+    same request.Compile request.Run e = absurd (cc)
+    same request.Compile request.Test e = absurd (cc)
+    same request.Compile request.Verify e = absurd (cc)
+    same request.Verify request.Run e = absurd (cc)
+    same request.Verify request.Test e = absurd (cc)
+    same request.Verify request.Compile e = absurd (cc)
 
     answered : (a : Asked) → Leads a (fault_of tool_app words) (entered_name words) → Reads a (Ok q)
     answered (command r) h = same q r (sym is ∙ h.1)
@@ -396,13 +424,20 @@ asked_answered words q none is = answered (asked words) (words_lead words)
     answered topic h = absurd (cc)
     answered mistake h = absurd (true≢false (sym (rw none at h)))
 
--- a command that is entered is `run` where it isn't `test`
-run_left : (words : List Text) → fault_of tool_app words ≡ [] → entered_name words ≢ Some (name_of request.Test) → entered_name words ≡ Some (name_of request.Run)
+-- a command that is entered is `run` where it is none of the others
+record IsNoOther (name : Option Text) : Type 0 where
+  test : name ≢ Some (name_of request.Test)
+  compile : name ≢ Some (name_of request.Compile)
+  verify : name ≢ Some (name_of request.Verify)
+
+run_left : (words : List Text) → fault_of tool_app words ≡ [] → IsNoOther (entered_name words) → entered_name words ≡ Some (name_of request.Run)
 run_left words none other = left (asked words) (words_lead words)
   where
     left : (a : Asked) → Leads a (fault_of tool_app words) (entered_name words) → entered_name words ≡ Some (name_of request.Run)
     left (command request.Run) h = h.1
-    left (command request.Test) h = absurd (other h.1)
+    left (command request.Test) h = absurd (other.test h.1)
+    left (command request.Compile) h = absurd (other.compile h.1)
+    left (command request.Verify) h = absurd (other.verify h.1)
     left help h = absurd (cc)
     left topic h = absurd (cc)
     left mistake h = absurd (true≢false (sym (rw none at h)))
@@ -452,19 +487,25 @@ name_entered words m h = name_of_rows (out-ArgMatches m).subcommand ∙ ap (opti
     name_of_rows None = refl
     name_of_rows (Some b) = refl
 
-pub test_read : (app : App) (words : List Text) (m : ArgMatches) → app ≡ tool_app → (is_simple_and_free app ≡ true → fault_of app words ≡ [])
-    → HasMatchesOf app words m → subcommand_name_of m ≡ Some (name_of request.Test) → Reads (asked words) (Ok request.Test)
-test_read app words m is none matches named =
+pub named_read : (r : Request) (app : App) (words : List Text) (m : ArgMatches) → app ≡ tool_app → (is_simple_and_free app ≡ true → fault_of app words ≡ [])
+    → HasMatchesOf app words m → subcommand_name_of m ≡ Some (name_of r) → Reads (asked words) (Ok r)
+named_read r app words m is none matches named =
     let free = rw is at none in
     let found = rw is at matches in
-    asked_answered words request.Test (free simple_and_free) (sym (name_entered words m found) ∙ named)
+    asked_answered words r (free simple_and_free) (sym (name_entered words m found) ∙ named)
 
 pub run_read : (app : App) (words : List Text) (m : ArgMatches) → app ≡ tool_app → (is_simple_and_free app ≡ true → fault_of app words ≡ [])
-    → HasMatchesOf app words m → subcommand_name_of m ≢ Some (name_of request.Test) → Reads (asked words) (Ok request.Run)
-run_read app words m is none matches other =
+    → HasMatchesOf app words m → subcommand_name_of m ≢ Some (name_of request.Test) → subcommand_name_of m ≢ Some (name_of request.Compile)
+    → subcommand_name_of m ≢ Some (name_of request.Verify) → Reads (asked words) (Ok request.Run)
+run_read app words m is none matches no_test no_compile no_verify =
     let free = rw is at none in
     let found = rw is at matches in
-    asked_answered words request.Run (free simple_and_free) (run_left words (free simple_and_free) (λ named. other (name_entered words m found ∙ named)))
+    let entered = name_entered words m found in
+    asked_answered words request.Run (free simple_and_free) (run_left words (free simple_and_free) (record {
+      test = λ named. no_test (entered ∙ named);
+      compile = λ named. no_compile (entered ∙ named);
+      verify = λ named. no_verify (entered ∙ named);
+    }))
 
 pub words_refused : (app : App) (words : List Text) (e : Error) → app ≡ tool_app
     → (is_simple_and_free app ≡ true → HasKind (fault_of app words) e) → Reads (asked words) (Err e)

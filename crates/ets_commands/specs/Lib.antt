@@ -1,6 +1,2 @@
-pub mod Fault
-pub mod Input
-pub mod Run
-pub mod Program
-pub mod Laws
 pub mod Words
+pub mod Program

@@ -1,12 +1,17 @@
 -- How the program ends: what its two streams gain, and its status.
 use Rattle.std.specs.Prelude.{ℕ, ◌≡◌, ◌⊎◌, Option, Result, Ok, Err, List}
+use Rattle.term_core.specs.Datum.{Datum}
 use Rattle.std.specs.Io.KnownBytes.{Keeps}
-use Rattle.ets_commands.specs.Fault.{status_of}
-use Rattle.ets_commands.specs.Run.{OfInput, WritesOutput, StopsRun}
+use Rattle.command_io.specs.Fault.{status_of}
+use Rattle.command_io.specs.Terms.{OfTerms}
+use Rattle.command_io.specs.declared.fault.ToolFault.{ToolFault}
+use Rattle.command_io.specs.declared.fault.ToolFault.TheVariants as fault
+use Rattle.query_commands.specs.Answers.Report.{answers, outcomes}
+use Rattle.query_commands.specs.Code.{WritesFile, StopsFile, WritesVerdict, StopsVerdict}
+use Rattle.query_commands.specs.Run.{WritesAnswers, StopsAnswers, Stops}
 use Rattle.ets_commands.specs.Words.{Asked, command, help, topic, mistake}
 use Rattle.ets_commands.specs.declared.words.Request.{Request}
-use Rattle.ets_commands.specs.declared.fault.ToolFault.{ToolFault}
-use Rattle.ets_commands.specs.declared.fault.ToolFault.TheVariants as fault
+use Rattle.ets_commands.specs.declared.words.Request.TheVariants as request
 
 -- The program ends for this refusal: with its status; or with 3 where there was no memory for its line, and then with
 -- nothing on standard error.
@@ -18,11 +23,26 @@ abbrev pub EndsWith : Result (Unit {0}) ToolFault → (err err' : Option (List �
 EndsWith (Ok x) err err' status = (status ≡ 0) × Keeps err err'
 EndsWith (Err f) err err' status = EndsBy f err err' status
 
+-- what a command writes for terms
+abbrev pub Writes : Request → List Datum → (old new : Option (List ℕ)) → Type 0
+Writes request.Run terms old new = WritesAnswers answers terms old new
+Writes request.Test terms old new = WritesAnswers outcomes terms old new
+Writes request.Compile terms old new = WritesFile terms old new
+Writes request.Verify terms old new = WritesVerdict terms old new
+
+-- how it ends early
+abbrev pub StopsOn : Request → List Datum → (old new : Option (List ℕ)) → ToolFault → Type 0
+StopsOn request.Run terms old new f = StopsAnswers answers terms old new f
+StopsOn request.Test terms old new f = StopsAnswers outcomes terms old new f
+StopsOn request.Compile terms old new f = StopsFile terms old new f
+StopsOn request.Verify terms old new f = StopsVerdict terms old new f
+
 -- what a command's outcome says of standard output
 abbrev pub HasOutcome : Request → (known old new : Option (List ℕ)) → Result (Unit {0}) ToolFault
     → Type 0
-HasOutcome r known old new (Ok x) = OfInput known (λ input. WritesOutput r input old new)
-HasOutcome r known old new (Err f) = OfInput known (λ input. StopsRun r input old new f)
+HasOutcome r known old new (Ok x) = OfTerms known (λ terms. Writes r terms old new)
+HasOutcome r known old new (Err f) =
+    Stops known old new f (λ terms. StopsOn r terms old new f)
 
 -- a command ran, and its outcome ends the program
 pub record EndsRequest (r : Request) (known out out' err err' : Option (List ℕ))

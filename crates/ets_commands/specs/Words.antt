@@ -13,6 +13,8 @@ use Rattle.ets_commands.specs.declared.words.Request.TheVariants as request
 abbrev pub name_of : Request → Text
 name_of request.Run = codes "run"
 name_of request.Test = codes "test"
+name_of request.Compile = codes "compile"
+name_of request.Verify = codes "verify"
 
 -- Words ask for a command; for help by a flag; for help by the word `help`, on what stands behind it; or for nothing
 -- that is understood.
@@ -44,7 +46,9 @@ asked_by [] = mistake
 asked_by (word ∷ rest) =
     if bytes_eq (name_of request.Run) word then asked_behind request.Run rest
     else (if bytes_eq (name_of request.Test) word then asked_behind request.Test rest
-    else (if bytes_eq (codes "help") word then topic else asked_by_flag word))
+    else (if bytes_eq (name_of request.Compile) word then asked_behind request.Compile rest
+    else (if bytes_eq (name_of request.Verify) word then asked_behind request.Verify rest
+    else (if bytes_eq (codes "help") word then topic else asked_by_flag word))))
 
 -- all words, the program's name first
 abbrev pub asked : List Text → Asked
@@ -72,5 +76,9 @@ command_shape r = (new_app (name_of r)).top
 abbrev pub tool_app : App
 tool_app =
     with_subcommand
+    (with_subcommand
+    (with_subcommand
     (with_subcommand (record { top = tool_shape; subs = [] }) (command_shape request.Run))
-    (command_shape request.Test)
+    (command_shape request.Test))
+    (command_shape request.Compile))
+    (command_shape request.Verify)

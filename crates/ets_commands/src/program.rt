@@ -6,10 +6,10 @@ ghost use Rattle.std.specs.IoError.{error_kind};
 ghost use Rattle.ets_commands.specs.Program.{EndsWith, EndsRequest, EndsHelp, EndsAsked, EndsProgram};
 ghost use Rattle.ets_commands.specs.Words.{asked};
 
-use crate::fault::{ToolFault, fault_line};
-use crate::run::{tool_run, tool_test};
 use crate::words::{Request, read_words};
 use clap::error::ErrorKind as WordsErrorKind;
+use command_io::{ToolFault, fault_line};
+use query_commands::{tool_compile, tool_run, tool_test, tool_verify};
 use std::alloc::{AllocError, Allocator, Global};
 use std::convert::AsStr;
 use std::env::{self, Env};
@@ -25,7 +25,7 @@ const BAD_WORDS: u8 = 64;
 /// Runs the program on the words that it was started with, and answers its status. It reads from `reader`, writes what
 /// it was asked for to `out` and why it ends early to `err`; a writer that fails changes the status only where it is
 /// `out`.
-#[tactic(auto, using(crate::proofs::RunLemmas::kept))]
+#[tactic(auto, using(query_commands::proofs::RunLemmas::kept))]
 pub fn run_program<H: Env + AllocGlobal, R: Read, O: Write, E: Write>(
     rt: &H,
     reader: &mut R,
@@ -79,6 +79,8 @@ pub fn run_request<A: Allocator + Copy, R: Read, O: Write, E: Write>(
     let outcome = match request {
         Request::Run => tool_run(alloc, reader, out),
         Request::Test => tool_test(alloc, reader, out),
+        Request::Compile => tool_compile(alloc, reader, out),
+        Request::Verify => tool_verify(alloc, reader, out),
     };
     end(alloc, outcome, err)
 }

@@ -10,10 +10,14 @@ use std::convert::AsStr;
 /// What the program is asked to do.
 #[derive(Clone, Copy, Debug, PartialEq, Eq)]
 pub enum Request {
-    /// Answer a specification on objects.
+    /// Answer a specification or a code file on objects.
     Run,
     /// Show how each object comes out.
     Test,
+    /// Write the code file of a specification.
+    Compile,
+    /// Say what is in a code file.
+    Verify,
 }
 
 const ABOUT: &str = "Runs match specifications of ets over terms.";
@@ -21,6 +25,7 @@ const ABOUT: &str = "Runs match specifications of ets over terms.";
 const EXAMPLE: &str = "\
 A text is terms, each followed by a dot. A refusal is one line on standard
 error, as `error E16 0 3`: the number of the refusal and its arguments.
+A code file is a term too: a binary, as `compile` writes it.
 
 Status:
   0   done
@@ -34,11 +39,12 @@ Example:
 writes
   b.";
 
-const RUN_ABOUT: &str = "Reads a specification and then objects, and writes each answer";
+const RUN_ABOUT: &str =
+    "Reads a specification or a code file and then objects, and writes each answer";
 
 const RUN_EXAMPLE: &str = "\
-Reads from standard input, as term text: a match specification, then the
-objects, each term followed by a dot.
+Reads from standard input, as term text: a match specification, or a code file
+as a binary, then the objects, each term followed by a dot.
 Writes to standard output: for each object that the specification answers on
 the answer, a dot and a line feed, in the order of the objects. Where the
 input is refused nothing is written.
@@ -64,6 +70,31 @@ writes
   false.
   {ok,b}.";
 
+const COMPILE_ABOUT: &str = "Reads a specification and writes its code file";
+
+const COMPILE_EXAMPLE: &str = "\
+Reads from standard input, as term text: one match specification and a dot.
+Writes to standard output: its code file as a binary, a dot and a line feed,
+which `verify` and `run` read. Where the input is refused nothing is written.
+
+Example:
+  printf \"[{'_',[],[true]}].\" | ets_tool compile
+writes
+  <<69,77,83,67,0,1,0,0,0,1,2,0,4,116,114,117,101,0,3,2,0,0,24,25,0,1,0,2,0,0,0,0,0,0>>.";
+
+const VERIFY_ABOUT: &str = "Reads a code file and writes what it takes";
+
+const VERIFY_EXAMPLE: &str = "\
+Reads from standard input, as term text: one code file as a binary and a dot.
+Writes to standard output, where the file is code that can be run, {ok,B,D}.
+with B the most instructions that a run executes and D the greatest depth of
+its stack. Where the input is refused nothing is written.
+
+Example:
+  printf \"[{'_',[],[true]}].\" | ets_tool compile | ets_tool verify
+writes
+  {ok,2,1}.";
+
 /// The program's commands, as `clap` reads them.
 fn program<'a>(alloc: Global) -> Result<Command<'a>, AllocError>
     ensures { IfOk result (λ command. app_of command ≡ tool_app) }
@@ -74,12 +105,20 @@ fn program<'a>(alloc: Global) -> Result<Command<'a>, AllocError>
     let test = Command::new(alloc, "test")
         .about(TEST_ABOUT)
         .after_help(TEST_EXAMPLE);
+    let compile = Command::new(alloc, "compile")
+        .about(COMPILE_ABOUT)
+        .after_help(COMPILE_EXAMPLE);
+    let verify = Command::new(alloc, "verify")
+        .about(VERIFY_ABOUT)
+        .after_help(VERIFY_EXAMPLE);
     Command::new(alloc, "ets_tool")
         .about(ABOUT)
         .after_help(EXAMPLE)
         .subcommand_required(true)
         .subcommand(run)?
-        .subcommand(test)
+        .subcommand(test)?
+        .subcommand(compile)?
+        .subcommand(verify)
 }
 
 /// What the words ask for; the first word is the program's name. Words that `clap` does not take, and words that ask
@@ -90,6 +129,8 @@ pub fn read_words<'a, S: AsStr>(alloc: Global, words: &'a [S]) -> Result<Request
     let matches = program(alloc)?.try_get_matches_from(words)?;
     match matches.subcommand_name() {
         Some("test") => Ok(Request::Test),
+        Some("compile") => Ok(Request::Compile),
+        Some("verify") => Ok(Request::Verify),
         _ => Ok(Request::Run),
     }
 }

@@ -2,7 +2,7 @@
 //!
 //! The contract: `read_terms` answers the terms that a text spells (`Spells`, in `specs/Text.antt`) and refuses any other
 //! text, naming what stands at the place of the refusal (`HasCause`, in `specs/Causes.antt`); `write_term` writes the one
-//! canonical text of a term (`canonical`, in `specs/Canonical.antt`); the law `canonical_text_is_read_back` says that a
+//! canonical text of a term, and `write_binary` that of a binary of any size (`canonical`, in `specs/Canonical.antt`); the law `canonical_text_is_read_back` says that a
 //! canonical text spells its term and no other.
 //!
 //! - Reading: `text.rt` for bytes, `read.rt` for characters by `token.rt`, which follow `specs/Reading.antt`.
@@ -21,4 +21,4 @@ mod write;
 pub use fault::TextFault;
 pub use law::{a_text_spells_one_list, canonical_text_is_read_back};
 pub use text::read_terms;
-pub use write::write_term;
+pub use write::{write_binary, write_term};

@@ -333,3 +333,18 @@ pub fn write_term<A: Allocator, B: Allocator + Copy>(
     put(term, &mut text)?;
     out.extend_from_slice(text.as_slice())
 }
+
+/// Appends the canonical text of the binary of these bytes, as `<<1,2>>`; there may be more of them than a term may have. After an
+/// `Err` the text is as before.
+pub fn write_binary<B: Allocator + Copy>(
+    bytes: &[u8],
+    out: &mut Vec<u8, B>,
+) -> Result<(), AllocError>
+    ensures ok { OnOk result (out.new.items ≡ out.old.items
+        ++ encode_utf8_all (canonical (binary bytes.now))) }
+    ensures err { OnErr result (out.new.items ≡ out.old.items) }
+{
+    let mut text = Vec::new(*out.allocator());
+    put_binary(bytes, &mut text)?;
+    out.extend_from_slice(text.as_slice())
+}

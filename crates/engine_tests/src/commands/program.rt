@@ -1,5 +1,5 @@
 //! The program with both of its streams, where help can't be written or memory is refused.
-use super::{FailingWriter, INPUT};
+use super::{FILE, FailingWriter, INPUT};
 use ets_commands::{Request, run_request, run_words};
 use failing_alloc::{Failing, sweep};
 use std::alloc::Global;
@@ -25,11 +25,12 @@ fn tells_no_memory(err: &[u8]) -> bool {
     err.is_empty() || err == b"error E1\n".as_slice()
 }
 
-/// Whether `run` over this input that is refused memory writes this and ends with this status, as it would with memory, or ends for
-/// want of it.
+/// Whether a command over this input that is refused memory writes this and ends with this status, as it would with memory, or ends
+/// for want of it.
 fn is_right_or_out_of_memory(
     alloc: Global,
     heap: &Failing<Global>,
+    request: Request,
     input: &str,
     lines: &str,
     line: &str,
@@ -38,7 +39,7 @@ fn is_right_or_out_of_memory(
     let mut reader = input.as_bytes();
     let mut out = Vec::new(alloc);
     let mut err = Vec::new(alloc);
-    let ended = run_request(heap, Request::Run, &mut reader, &mut out, &mut err);
+    let ended = run_request(heap, request, &mut reader, &mut out, &mut err);
     if ended != 3 {
         return out.as_slice() == lines.as_bytes()
             && err.as_slice() == line.as_bytes()
@@ -54,11 +55,32 @@ fn each_request_refused_in_turn(rt: HostRuntime) {
     let alloc = rt.alloc();
     let unbound = "[{{'$1'},[],['$3']}]. {1}.";
     let answered = sweep(alloc, 2_000, |heap| {
-        is_right_or_out_of_memory(alloc, heap, INPUT, "1.\n2.\n", "", 0)
+        is_right_or_out_of_memory(alloc, heap, Request::Run, INPUT, "1.\n2.\n", "", 0)
     });
     assert!(rt; answered.is_complete(), "{answered:?}");
     let refused = sweep(alloc, 2_000, |heap| {
-        is_right_or_out_of_memory(alloc, heap, unbound, "", "error E16 0 3\n", 2)
+        let line = "error E16 0 3\n";
+        is_right_or_out_of_memory(alloc, heap, Request::Run, unbound, "", line, 2)
     });
     assert!(rt; refused.is_complete(), "{refused:?}");
+}
+
+#[test]
+fn each_request_over_code_files_refused_in_turn(rt: HostRuntime) {
+    let alloc = rt.alloc();
+    let compiled = sweep(alloc, 2_000, |heap| {
+        let input = "[{'_',[],[true]}].";
+        is_right_or_out_of_memory(alloc, heap, Request::Compile, input, FILE, "", 0)
+    });
+    assert!(rt; compiled.is_complete(), "{compiled:?}");
+    let verified = sweep(alloc, 2_000, |heap| {
+        is_right_or_out_of_memory(alloc, heap, Request::Verify, FILE, "{ok,2,1}.\n", "", 0)
+    });
+    assert!(rt; verified.is_complete(), "{verified:?}");
+    let ran = sweep(alloc, 2_000, |heap| {
+        let input =
+            "<<69,77,83,67,0,1,0,0,0,1,2,0,4,116,114,117,101,0,3,2,0,0,24,25,0,1,0,2,0,0,0,0,0,0>>. a.";
+        is_right_or_out_of_memory(alloc, heap, Request::Run, input, "true.\n", "", 0)
+    });
+    assert!(rt; ran.is_complete(), "{ran:?}");
 }

@@ -1,6 +1,7 @@
 use Rattle.std.proofs.Common.{rules, ◌∙◌, refl, sym, map}
 use Rattle.ets_commands.specs.Words.{asked}
-use Rattle.ets_commands.proofs.WordsLemmas.{handed_on, run_read, test_read, words_refused}
+use Rattle.ets_commands.specs.declared.words.Request.TheVariants as request
+use Rattle.ets_commands.proofs.WordsLemmas.{handed_on, named_read, run_read, words_refused}
 use Rattle.ets_commands.proofs.words.read_words.Goals as goal
 
 pub returns-in_err-matches : goal.returns-in_err-matches
@@ -12,10 +13,22 @@ returns-in_err-matches g c =
 pub returns-in-Some-test : goal.returns-in-Some-test
 returns-in-Some-test g c =
     let words = map g.S.AsStr.text c.args.words.now in
-    test_read _ words c.in_ok-matches.matches c.in_ok-program.ensures c.in_ok-matches.ensures.kinds c.in_ok-matches.ensures.matches
+    named_read request.Test _ words c.in_ok-matches.matches c.in_ok-program.ensures c.in_ok-matches.ensures.kinds c.in_ok-matches.ensures.matches
     (sym c.subcommand_name.ensures ∙ rw (c.in-Some-test.is, c.in-Some-test.is-test) refl)
+
+pub returns-in-Some-compile : goal.returns-in-Some-compile
+returns-in-Some-compile g c =
+    let words = map g.S.AsStr.text c.args.words.now in
+    named_read request.Compile _ words c.in_ok-matches.matches c.in_ok-program.ensures c.in_ok-matches.ensures.kinds c.in_ok-matches.ensures.matches
+    (sym c.subcommand_name.ensures ∙ rw (c.in-Some-compile.is, c.in-Some-compile.is-compile) refl)
+
+pub returns-in-Some-verify : goal.returns-in-Some-verify
+returns-in-Some-verify g c =
+    let words = map g.S.AsStr.text c.args.words.now in
+    named_read request.Verify _ words c.in_ok-matches.matches c.in_ok-program.ensures c.in_ok-matches.ensures.kinds c.in_ok-matches.ensures.matches
+    (sym c.subcommand_name.ensures ∙ rw (c.in-Some-verify.is, c.in-Some-verify.is-verify) refl)
 
 pub returns : goal.returns
 returns g c =
     let words = map g.S.AsStr.text c.args.words.now in
-    run_read _ words c.in_ok-matches.matches c.in_ok-program.ensures c.in_ok-matches.ensures.kinds c.in_ok-matches.ensures.matches (search rules)
+    run_read _ words c.in_ok-matches.matches c.in_ok-program.ensures c.in_ok-matches.ensures.kinds c.in_ok-matches.ensures.matches (search rules) (search rules) (search rules)

@@ -1,0 +1,4 @@
+pub mod Fault
+pub mod Input
+pub mod Terms
+pub mod Lines

@@ -1,0 +1,5 @@
+pub mod TextLemmas
+pub mod QueryLemmas
+pub mod AnswerLemmas
+pub mod RunLemmas
+pub mod OneLemmas

@@ -1,0 +1,5 @@
+pub mod Query
+pub mod Code
+pub mod Answers
+pub mod Run
+pub mod Laws
