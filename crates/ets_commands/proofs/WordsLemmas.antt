@@ -7,17 +7,18 @@ use Rattle.std.proofs.lemmas.Slice.Eq.{bytes_eq-Decides}
 use Rattle.std.proofs.lemmas.Bool.{and_parts, eqb-true}
 use Rattle.std.specs.Prelude.{Box, if◌then◌else◌}
 use Rattle.std.specs.Box.{box_value}
-use Rattle.std.specs.Io.KnownBytes.{Keeps}
 use Rattle.std.specs.List.{list_all, before_first, after_first}
 use Rattle.std.specs.Str.{bytes_eq, chars}
 use Rattle.clap.specs.Words.{App, HasMatchesOf, HasKind, Rule, Text, built, fault_of, is_simple, is_simple_and_free}
-use Rattle.clap.specs.Words.{kind_of, subcommand_of, subcommand_rows}
+use Rattle.clap.specs.Words.{AddsSubcommand, app_of, kind_of, shape_of, subcommand_of, subcommand_rows, with_subcommand}
 use Rattle.clap.specs.Faults.{turn_fault, level_fault, step_fault, flag_word_fault, flags_fault, walk_fault, defaults_fault}
 use Rattle.clap.specs.Kinds.{IsAmong, Kinds, or_else}
 use Rattle.clap.specs.Lexer.{has_byte, long_of, short_of}
 use Rattle.clap.specs.Matches.{subcommand_name_of}
 use Rattle.clap.specs.Simple.{Shape, entered, names_of}
 use Rattle.clap.specs.Walk.{Held, Step, Names, Walk, trailing, idle, bundle_met, long_or_other, nothing_held, walk_from, walked}
+use Rattle.clap.specs.declared.builder.command.Command.{Command}
+use Rattle.clap.specs.declared.builder.command.Command.TheViews.{out-Command as fields_of}
 use Rattle.clap.specs.declared.error.Error.{Error}
 use Rattle.clap.specs.declared.error.kind.ErrorKind.{ErrorKind}
 use Rattle.clap.specs.declared.error.kind.ErrorKind.TheVariants as kind
@@ -25,9 +26,8 @@ use Rattle.clap.specs.declared.parser.matches.ArgMatches.{ArgMatches}
 use Rattle.clap.specs.declared.parser.matches.ArgMatches.TheViews.{out-ArgMatches, out-SubCommand}
 use Rattle.clap.specs.declared.parser.matches.SubCommand.{SubCommand}
 use Rattle.clap.proofs.OnLiterals.{clap_on_literals}
-use Rattle.ets_commands.specs.Program.{EndsAsked, EndsEarly, EndsHelp, EndsMistaken}
 use Rattle.ets_commands.specs.Words.{Asked, command, help, topic, mistake, asked, asked_behind, asked_by_flag}
-use Rattle.ets_commands.specs.Words.{is_help_flag, name_of, tool_app, Reads}
+use Rattle.ets_commands.specs.Words.{is_help_flag, name_of, command_shape, tool_app, Reads}
 use Rattle.ets_commands.specs.declared.words.Request.{Request}
 use Rattle.ets_commands.specs.declared.words.Request.TheVariants as request
 
@@ -442,7 +442,7 @@ run_left words none other = left (asked words) (words_lead words)
     left topic h = absurd (cc)
     left mistake h = absurd (true≢false (sym (rw none at h)))
 
-pub memory_refused : (a : Asked) (e : Error) → kind_of e ≡ kind.OutOfMemory → Reads a (Err e)
+memory_refused : (a : Asked) (e : Error) → kind_of e ≡ kind.OutOfMemory → Reads a (Err e)
 memory_refused (command r) e h = h
 memory_refused help e h = inl h
 memory_refused topic e h = inl h
@@ -471,6 +471,12 @@ asked_refused words e (inr among) = refused_as (asked words) (words_lead words)
     refused_as mistake h = no_help_among (kind_of e) (fault_of tool_app words) (all_mistakes (fault_of tool_app words) h) among
 
 -- ---- of the program's own app, which is `tool_app`
+
+-- one more command
+pub command_added : (old new added : Command) (app : App) (r : Request) → app_of old ≡ app → (fields_of added).has_globals ≡ false → shape_of added ≡ command_shape r
+    → AddsSubcommand old added new → app_of new ≡ with_subcommand app (command_shape r)
+command_added old new added app r is local shape h =
+    h.shape local ∙ ap (λ a. with_subcommand a (shape_of added)) is ∙ ap (with_subcommand app) shape
 
 simple_and_free : is_simple_and_free tool_app ≡ true
 unfolding clap_on_literals
@@ -513,36 +519,12 @@ words_refused app words e is kinds =
     let free = rw is at kinds in
     asked_refused words e (free simple_and_free)
 
+-- an error for want of memory
+pub memory_handed : (a : Asked) (r : Result Request Error) → IsErrAnd r (λ e. kind_of e ≡ kind.OutOfMemory) → Reads a r
+memory_handed a (Ok q) h = absurd h
+memory_handed a (Err e) h = memory_refused a e h
+
 -- an error that is handed on as it is
 pub handed_on : (a : Asked) (e : Error) (r : Result Request Error) → IsErrAnd r (λ x. x ≡ e) → Reads a (Err e) → Reads a r
 handed_on a e (Ok q) is h = absurd is
 handed_on a e (Err x) is h = rw is h
-
--- ---- how the program ends where no command runs
-
--- by the kind of error
-pub record IsEndBy (k : ErrorKind) (out out' err err' : Option (List ℕ)) (status : ℕ) : Type 0 where
-  pub help : k ≡ kind.DisplayHelp → EndsHelp err err' status
-  pub memory : k ≡ kind.OutOfMemory → status ≡ 3
-  pub ended : k ≢ kind.DisplayHelp → k ≢ kind.DisplayVersion → (status ≡ 3) ⊎ (status ≡ 64)
-  pub silent : k ≢ kind.DisplayHelp → k ≢ kind.DisplayVersion → Keeps out out'
-
-ends_early : (k : ErrorKind) (out out' err err' : Option (List ℕ)) (status : ℕ) → IsEndBy k out out' err err' status
-    → k ≡ kind.OutOfMemory → EndsEarly out out' status
-ends_early k out out' err err' status h is = (h.memory is, h.silent (λ other. absurd (cc)) (λ other. absurd (cc)))
-
-ends_mistaken : (k : ErrorKind) (out out' err err' : Option (List ℕ)) (status : ℕ) → IsEndBy k out out' err err' status
-    → k ≢ kind.DisplayHelp → k ≢ kind.DisplayVersion → EndsMistaken out out' status
-ends_mistaken k out out' err err' status h no_help no_version = (h.ended no_help no_version, h.silent no_help no_version)
-
-pub ends_asked : (a : Asked) (e : Error) (known out out' err err' : Option (List ℕ)) (status : ℕ) → Reads a (Err e)
-    → IsEndBy (kind_of e) out out' err err' status → EndsAsked a known out out' err err' status
-ends_asked (command r) e known out out' err err' status is h = inr (ends_early (kind_of e) out out' err err' status h is)
-ends_asked help e known out out' err err' status (inl is) h = inr (ends_early (kind_of e) out out' err err' status h is)
-ends_asked help e known out out' err err' status (inr is) h = inl (h.help is)
-ends_asked topic e known out out' err err' status (inl is) h =
-    inr (ends_mistaken (kind_of e) out out' err err' status h (λ other. absurd (cc)) (λ other. absurd (cc)))
-ends_asked topic e known out out' err err' status (inr (inl is)) h = inl (h.help is)
-ends_asked topic e known out out' err err' status (inr (inr is)) h =
-    inr (ends_mistaken (kind_of e) out out' err err' status h (λ other. absurd (cc)) (λ other. absurd (cc)))
-ends_asked mistake e known out out' err err' status is h = ends_mistaken (kind_of e) out out' err err' status h is.0 is.1

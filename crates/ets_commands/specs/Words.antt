@@ -73,12 +73,15 @@ tool_shape = record (new_app (codes "ets_tool")).top { subcommand_required = tru
 abbrev pub command_shape : Request → Shape
 command_shape r = (new_app (name_of r)).top
 
+abbrev pub bare_app : App
+bare_app = record { top = tool_shape; subs = [] }
+
 abbrev pub tool_app : App
 tool_app =
     with_subcommand
     (with_subcommand
     (with_subcommand
-    (with_subcommand (record { top = tool_shape; subs = [] }) (command_shape request.Run))
+    (with_subcommand bare_app (command_shape request.Run))
     (command_shape request.Test))
     (command_shape request.Compile))
     (command_shape request.Verify)

@@ -3,7 +3,7 @@ ghost use Rattle.std.specs.Prelude.{◌≡◌, ◌≢◌, ◌⊎◌, IfErr, map}
 ghost use Rattle.std.specs.Io.KnownBytes.{Keeps};
 ghost use Rattle.clap.specs.Words.{kind_of};
 ghost use Rattle.std.specs.IoError.{error_kind};
-ghost use Rattle.ets_commands.specs.Program.{EndsWith, EndsRequest, EndsHelp, EndsAsked, EndsProgram};
+ghost use Rattle.ets_commands.specs.Program.{HasOutcome, EndsWith, EndsRequest, EndsHelp, EndsAsked, EndsProgram};
 ghost use Rattle.ets_commands.specs.Words.{asked};
 
 use crate::words::{Request, read_words};
@@ -76,13 +76,26 @@ pub fn run_request<A: Allocator + Copy, R: Read, O: Write, E: Write>(
     ensures { EndsRequest request (R.remaining reader.old) (O.contents out.old)
         (O.contents out.new) (E.contents err.old) (E.contents err.new) result }
 {
-    let outcome = match request {
+    let outcome = command_outcome(alloc, request, reader, out);
+    end(alloc, outcome, err)
+}
+
+/// What one command comes to.
+fn command_outcome<A: Allocator + Copy, R: Read, O: Write>(
+    alloc: A,
+    request: Request,
+    reader: &mut R,
+    out: &mut O,
+) -> Result<(), ToolFault>
+    ensures { HasOutcome request (R.remaining reader.old) (O.contents out.old)
+        (O.contents out.new) result }
+{
+    match request {
         Request::Run => tool_run(alloc, reader, out),
         Request::Test => tool_test(alloc, reader, out),
         Request::Compile => tool_compile(alloc, reader, out),
         Request::Verify => tool_verify(alloc, reader, out),
-    };
-    end(alloc, outcome, err)
+    }
 }
 
 /// The status that the outcome of a command ends the program with, once the line of its refusal is written. A line that

@@ -1,7 +1,8 @@
 //! The words of the command line.
-ghost use Rattle.std.specs.Prelude.{◌≡◌, IfOk, map};
-ghost use Rattle.clap.specs.Words.{app_of};
-ghost use Rattle.ets_commands.specs.Words.{asked, Reads, tool_app};
+ghost use Rattle.std.specs.Prelude.{◌≡◌, IfOk, false, map};
+ghost use Rattle.clap.specs.Words.{app_of, new_app, shape_of};
+ghost use Rattle.clap.specs.declared.builder.command.Command.TheViews.{out-Command as fields_of};
+ghost use Rattle.ets_commands.specs.Words.{asked, Reads, bare_app, tool_app};
 
 use clap::{Command, Error};
 use std::alloc::{AllocError, Global};
@@ -95,26 +96,33 @@ Example:
 writes
   {ok,2,1}.";
 
-/// The program's commands, as `clap` reads them.
-fn program<'a>(alloc: Global) -> Result<Command<'a>, AllocError>
-    ensures { IfOk result (λ command. app_of command ≡ tool_app) }
+/// The program without its commands, one of which it wants.
+fn tool<'a>(alloc: Global) -> Command<'a>
+    ensures { app_of result ≡ bare_app }
 {
-    let run = Command::new(alloc, "run")
-        .about(RUN_ABOUT)
-        .after_help(RUN_EXAMPLE);
-    let test = Command::new(alloc, "test")
-        .about(TEST_ABOUT)
-        .after_help(TEST_EXAMPLE);
-    let compile = Command::new(alloc, "compile")
-        .about(COMPILE_ABOUT)
-        .after_help(COMPILE_EXAMPLE);
-    let verify = Command::new(alloc, "verify")
-        .about(VERIFY_ABOUT)
-        .after_help(VERIFY_EXAMPLE);
     Command::new(alloc, "ets_tool")
         .about(ABOUT)
         .after_help(EXAMPLE)
         .subcommand_required(true)
+}
+
+/// A command, with what its help says.
+fn command<'a>(alloc: Global, name: &'a str, about: &'a str, example: &'a str) -> Command<'a>
+    ensures shape { shape_of result ≡ (new_app name.entry.now).top }
+    ensures local { (fields_of result).has_globals ≡ false }
+{
+    Command::new(alloc, name).about(about).after_help(example)
+}
+
+/// The program's commands, as `clap` reads them.
+fn program<'a>(alloc: Global) -> Result<Command<'a>, AllocError>
+    ensures { IfOk result (λ command. app_of command ≡ tool_app) }
+{
+    let run = command(alloc, "run", RUN_ABOUT, RUN_EXAMPLE);
+    let test = command(alloc, "test", TEST_ABOUT, TEST_EXAMPLE);
+    let compile = command(alloc, "compile", COMPILE_ABOUT, COMPILE_EXAMPLE);
+    let verify = command(alloc, "verify", VERIFY_ABOUT, VERIFY_EXAMPLE);
+    tool(alloc)
         .subcommand(run)?
         .subcommand(test)?
         .subcommand(compile)?

@@ -1,8 +1,12 @@
 use Rattle.std.proofs.Common.{rules, ◌∙◌, refl, sym, map}
 use Rattle.ets_commands.specs.Words.{asked}
 use Rattle.ets_commands.specs.declared.words.Request.TheVariants as request
-use Rattle.ets_commands.proofs.WordsLemmas.{handed_on, named_read, run_read, words_refused}
+use Rattle.ets_commands.proofs.WordsLemmas.{handed_on, memory_handed, named_read, run_read, words_refused}
 use Rattle.ets_commands.proofs.words.read_words.Goals as goal
+
+pub returns-in_err-program : goal.returns-in_err-program
+returns-in_err-program g c =
+    memory_handed (asked (map g.S.AsStr.text c.args.words.now)) c.from_residual.result c.from_residual.ensures.1
 
 pub returns-in_err-matches : goal.returns-in_err-matches
 returns-in_err-matches g c =
