@@ -4,10 +4,12 @@
 //! - `each`: verifies 65,535 instructions with 256 slots, a frame at nearly each one.
 //! - `objects`: compiles the specification that standard input begins with, and runs and evaluates it on the objects behind it.
 //! - `code`: compiles it, and lists its code.
+//! - `file`: decodes the code file that standard input is, encodes its code again, and verifies it.
 //!
-//! It prints the budget of what it verified, the time of a compilation and of an object, or the code.
+//! It prints the budget of what it verified, the time of a compilation and of an object, the code, or the times of a file.
 #![tactic(auto)]
 
+mod files;
 mod largest;
 mod listing;
 mod runs;
@@ -34,6 +36,7 @@ fn write_word(rt: &HostRuntime, word: &str, lines: &mut String) -> Option<()> {
         "each" => write_budget(largest::budget_framed_at_each(rt.alloc())?, lines),
         "objects" => runs::write(rt, input(rt)?.as_slice(), lines),
         "code" => listing::write(rt.alloc(), input(rt)?.as_slice(), lines),
+        "file" => files::write(rt, input(rt)?.as_slice(), lines),
         _ => None,
     }
 }
@@ -52,7 +55,7 @@ fn main(rt: HostRuntime) -> anyhow::Result<ExitCode> {
         }
         None => {
             let usage =
-                "usage: machine_bench third|each, or objects|code < TERMS, of which the first is a specification\n";
+                "usage: machine_bench third|each, objects|code < TERMS, of which the first is a specification, or file < CODE_FILE\n";
             rt.stderr().write_all(usage.as_bytes())?;
             Ok(ExitCode::FAILURE)
         }

@@ -7,3 +7,6 @@ pub mod StepLemmas
 pub mod HistoryLemmas
 pub mod CoverLemmas
 pub mod StayLemmas
+pub mod LeadLemmas
+pub mod ActLemmas
+pub mod FieldLemmas

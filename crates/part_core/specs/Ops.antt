@@ -10,7 +10,7 @@ use Rattle.part_core.specs.declared.reply.Reply.{Reply}
 use Rattle.part_core.specs.declared.reply.Reply.TheVariants as reply
 use Rattle.part_core.specs.declared.fault.Fault.{Fault}
 use Rattle.part_core.specs.declared.fault.Fault.TheVariants as fault
-use Rattle.part_core.specs.Acts.{Cursor, Scope, Act, Said, Refusal, Entry}
+use Rattle.part_core.specs.Acts.{Cursor, Scope, Act, Said, Refusal, Answer, Entry}
 use Rattle.part_core.specs.Acts.Purpose.{Answers, Counts, Deletes}
 use Rattle.part_core.specs.Acts.Cursor.{Class, Behind}
 use Rattle.part_core.specs.Acts.Scope.{Begin, After, Named}
@@ -66,16 +66,19 @@ refusal_of fault.NotFixed = Some NotFixed
 refusal_of fault.BadKey = Some BadKey
 refusal_of fault.CursorOutside = Some CursorOutside
 
--- the entry of a refusal, none for want of memory
-abbrev pub refused_entries : ℕ → Act → Option Refusal → List Entry
-refused_entries n act None = []
-refused_entries n act (Some refusal) = record { session = n; act = act; answer = Refused refusal } ∷ []
+-- what an operation is answered, nothing for want of memory
+abbrev pub answer_in : {A : Type 0} → Result (Reply A) Fault → Option Answer
+answer_in (Ok r) = Some (Replied (said_of r))
+answer_in (Err f) = option_map Refused (refusal_of f)
 
--- What an operation adds to the history: its entry with the answer, none for want of memory. What is refused is handed back
--- beside the fault.
-abbrev pub entries_made : {A P : Type 0} → ℕ → Act → Result (Reply A) (P × Fault) → List Entry
-entries_made n act (Ok r) = record { session = n; act = act; answer = Replied (said_of r) } ∷ []
-entries_made n act (Err e) = refused_entries n act (refusal_of e.1)
+-- the entry of an answer, none where there is no answer
+abbrev pub entries_of : ℕ → Act → Option Answer → List Entry
+entries_of n act None = []
+entries_of n act (Some answer) = record { session = n; act = act; answer = answer } ∷ []
+
+-- what an operation adds to the history: its entry with the answer, none for want of memory
+abbrev pub entries_made : {A : Type 0} → ℕ → Act → Result (Reply A) Fault → List Entry
+entries_made n act result = entries_of n act (answer_in result)
 
 -- operations for which no memory is taken
 abbrev pub takes_no_memory : Act → Bool

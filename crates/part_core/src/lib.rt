@@ -7,13 +7,15 @@
 //! - `kind`, `settings`: what a table holds of a key, and what all its parts have in common.
 //! - `op`, `reply`, `fault`: what a session asks of a part, and what it is answered; `specs/Ops.antt` says what these stand
 //!   for in a history. `entry`: an entry, as contracts see it.
-//! - `part`: the trait.
+//! - `part`: the trait. `specs/Plain.antt`, `fixes`, `key`: what the parts that keep it have in common.
 //! - `laws`: that the content of a history is that of the rows, that a visit answers for the keys that it covers, what
 //!   holds of every state and what stays while a part is fixed.
 #![tactic(auto)]
 
 mod entry;
 mod fault;
+mod fixes;
+mod key;
 mod kind;
 mod laws;
 mod op;
@@ -23,6 +25,8 @@ mod settings;
 
 pub use entry::Entry;
 pub use fault::{Fault, OpenFault};
+pub use fixes::{is_fixed, no_fixes};
+pub use key::key_in;
 pub use kind::Kind;
 pub use laws::{
     base_never_falls, content_is_that_of_the_rows, fixed_rows_stay, fixes_are_counted, legal_front,

@@ -1,5 +1,6 @@
 //! What a session asks of a part.
 use std::alloc::{Allocator, Global};
+use std::mem;
 use term_core::Term;
 use verifier::Verified;
 
@@ -61,4 +62,25 @@ pub enum PartOp<'a, A: Allocator = Global> {
     First,
     /// The key behind one.
     Next(&'a Term<A>),
+}
+
+/// Lets an operation go.
+fn let_go<A: Allocator>(_op: PartOp<'_, A>) {}
+
+impl<'a, A: Allocator> PartOp<'a, A> {
+    ghost use Rattle.std.specs.Prelude.{◌≡◌};
+
+    /// Takes the operation out of its place, which then holds one that owns nothing.
+    pub fn take(&mut self) -> Self
+        ensures { result ≡ self.old }
+    {
+        mem::replace(self, PartOp::First)
+    }
+
+    /// Puts an operation into the place from which it was taken.
+    pub fn put_back(&mut self, op: Self)
+        ensures { self.new ≡ op.entry }
+    {
+        let_go(mem::replace(self, op));
+    }
 }

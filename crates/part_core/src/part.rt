@@ -32,21 +32,17 @@ pub trait Part<A: Allocator>: Sized {
         ensures refused { IsErrOf result OpenFault.BadOptions
             → ¬ (IsServed serves (settings_with kind keypos parts sessions)) };
 
-    /// Does an operation for a session. What is refused is handed back, and all stands as before; want of memory leaves no
-    /// entry.
-    fn apply<'a>(
-        &mut self,
-        session: u8,
-        op: PartOp<'a, A>,
-    ) -> Result<Reply<A>, (PartOp<'a, A>, Fault)>
+    /// Does an operation for a session. What is done is spent: it is taken out of its place. What is refused stays there, and all
+    /// stands as before; want of memory leaves no entry.
+    fn apply<'a>(&mut self, session: u8, op: &mut PartOp<'a, A>) -> Result<Reply<A>, Fault>
         requires session { session < (settings self.old).sessions }
-        requires asked { IsAsked (act_of op) }
+        requires asked { IsAsked (act_of op.old) }
         ensures settings { settings self.new ≡ settings self.old }
         ensures entry { (log : List PastEntry) → is_after self.old log
-            → is_after self.new (log ++ entries_made session (act_of op.entry) result) }
-        ensures back { IfErr result (λ r. act_of r.0 ≡ act_of op.entry) }
-        ensures sure { IsTrue (takes_no_memory (act_of op.entry))
-            → IfErr result (λ r. r.1 ≢ Fault.Memory) };
+            → is_after self.new (log ++ entries_made session (act_of op.old) result) }
+        ensures back { IfErr result (λ fault. act_of op.new ≡ act_of op.old) }
+        ensures sure { IsTrue (takes_no_memory (act_of op.old))
+            → IfErr result (λ fault. fault ≢ Fault.Memory) };
 
     /// Each history that a part is after is legal.
     ghost legal: { (p : Self) (log : List PastEntry) → is_after p log → IsLegal (settings p) log };

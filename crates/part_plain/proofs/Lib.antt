@@ -1,5 +1,5 @@
 pub mod PlaceLemmas
-pub mod LeadLemmas
-pub mod ActLemmas
+pub mod ServedLemmas
+pub mod PutLemmas
 pub mod WalkLemmas
 pub mod LookLemmas

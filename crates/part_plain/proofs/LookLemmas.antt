@@ -35,9 +35,9 @@ use Rattle.part_core.proofs.RowLemmas.{among_passing}
 use Rattle.part_core.proofs.StateLemmas.{base_least}
 use Rattle.part_core.proofs.CoverLemmas.{rows_there}
 use Rattle.part_plain.specs.Looks.{looks_at, looked_at, is_chosen, without_chosen}
-use Rattle.part_plain.specs.Places.{kept_rows}
-use Rattle.part_plain.specs.Plain.{plain_state, Leads}
-use Rattle.part_plain.proofs.LeadLemmas.{replied, read, refused}
+use Rattle.part_core.specs.Plain.{kept_rows}
+use Rattle.part_core.specs.Plain.{plain_state, Leads}
+use Rattle.part_core.proofs.LeadLemmas.{replied, read, refused}
 
 -- ---- cursors
 
@@ -146,33 +146,33 @@ few_objects : (o : Settings) (rows : List Row) → o.kind ≡ Set → All (IsRow
 few_objects o rows kind each =
     All-weaker (IsRow o) (λ (r : Row). length r.1 ≤ 1) (λ r row. row.single (ap is_set kind)) rows each
 
-pub visit_leads : (o : Settings) (rows : List Row) (fixes : List ℕ) (n : ℕ) (p : Program) (scope : Scope) (wanted : ℕ) (found : List Datum) (next : Option Cursor) → (o.kind ≡ Set → IsTrue (is_inside o (plain_state rows fixes) scope)) → found ≡ yield_of_rows Answers p (looked_at o scope rows) → (o.kind ≡ Set → IsTrue (is_inside o (plain_state rows fixes) scope) → next_of o (plain_state rows fixes) Answers p scope wanted ≡ next) → Leads o (plain_state rows fixes) n (Visit Answers p scope wanted) (Some (Replied (Found found next))) (plain_state rows fixes)
+pub visit_leads : (o : Settings) (rows : List Row) (fixes : List ℕ) (n : ℕ) (p : Program) (scope : Scope) (wanted : ℕ) (found : List Datum) (next : Option Cursor) → (o.kind ≡ Set → IsTrue (is_inside o (plain_state rows fixes) scope)) → found ≡ yield_of_rows Answers p (looked_at o scope rows) → (o.kind ≡ Set → IsTrue (is_inside o (plain_state rows fixes) scope) → next_of o (plain_state rows fixes) Answers p scope wanted ≡ next) → Leads Set o (plain_state rows fixes) n (Visit Answers p scope wanted) (Some (Replied (Found found next))) (plain_state rows fixes)
 unfolding reply_of
 visit_leads o rows fixes n p scope wanted found next inside is behind =
-    read o rows fixes n (Visit Answers p scope wanted) (Found found next) (λ kind state. let here : is_inside o (plain_state rows fixes) scope ≡ true = inside kind in rw here (ap (λ xs. Replied (Found xs (next_of o (plain_state rows fixes) Answers p scope wanted))) (ap (yield_of_rows Answers p) (visited o rows fixes Answers p scope wanted kind here) ∙ sym is) ∙ ap (λ at. Replied (Found found at)) (behind kind here))) refl refl
+    read Set o rows fixes n (Visit Answers p scope wanted) (Found found next) (λ kind state. let here : is_inside o (plain_state rows fixes) scope ≡ true = inside kind in rw here (ap (λ xs. Replied (Found xs (next_of o (plain_state rows fixes) Answers p scope wanted))) (ap (yield_of_rows Answers p) (visited o rows fixes Answers p scope wanted kind here) ∙ sym is) ∙ ap (λ at. Replied (Found found at)) (behind kind here))) refl refl
 
 few_counted : (n m : ℕ) → n ≤ m → min n m ≡ n
 few_counted n m few = omega (arith, few)
 
-pub count_leads : (o : Settings) (rows : List Row) (fixes : List ℕ) (n : ℕ) (p : Program) (scope : Scope) (wanted count : ℕ) (next : Option Cursor) → (o.kind ≡ Set → IsTrue (is_inside o (plain_state rows fixes) scope)) → count ≡ count_by (is_chosen o scope p) rows → count ≤ most_counted → (o.kind ≡ Set → IsTrue (is_inside o (plain_state rows fixes) scope) → next_of o (plain_state rows fixes) Counts p scope wanted ≡ next) → Leads o (plain_state rows fixes) n (Visit Counts p scope wanted) (Some (Replied (Counted count next))) (plain_state rows fixes)
+pub count_leads : (o : Settings) (rows : List Row) (fixes : List ℕ) (n : ℕ) (p : Program) (scope : Scope) (wanted count : ℕ) (next : Option Cursor) → (o.kind ≡ Set → IsTrue (is_inside o (plain_state rows fixes) scope)) → count ≡ count_by (is_chosen o scope p) rows → count ≤ most_counted → (o.kind ≡ Set → IsTrue (is_inside o (plain_state rows fixes) scope) → next_of o (plain_state rows fixes) Counts p scope wanted ≡ next) → Leads Set o (plain_state rows fixes) n (Visit Counts p scope wanted) (Some (Replied (Counted count next))) (plain_state rows fixes)
 unfolding reply_of
 count_leads o rows fixes n p scope wanted count next inside is few behind =
-    read o rows fixes n (Visit Counts p scope wanted) (Counted count next) (λ kind state. let here : is_inside o (plain_state rows fixes) scope ≡ true = inside kind in
+    read Set o rows fixes n (Visit Counts p scope wanted) (Counted count next) (λ kind state. let here : is_inside o (plain_state rows fixes) scope ≡ true = inside kind in
     let total = ap (λ rs. length (flat_map (λ (r : Row). filter (is_true p) r.1) rs)) (visited o rows fixes Counts p scope wanted kind here) ∙ counted o p scope rows (few_objects o rows kind state.each) ∙ length-filter (is_chosen o scope p) rows ∙ sym is in
     rw here (ap (λ m. Replied (Counted (min m most_counted) (next_of o (plain_state rows fixes) Counts p scope wanted))) total ∙ ap (λ m. Replied (Counted m (next_of o (plain_state rows fixes) Counts p scope wanted))) (few_counted count most_counted few) ∙ ap (λ at. Replied (Counted count at)) (behind kind here))) refl refl
 
-pub delete_visit_leads : (o : Settings) (rows left now : List Row) (fixes : List ℕ) (n : ℕ) (p : Program) (scope : Scope) (wanted count : ℕ) (next : Option Cursor) → (o.kind ≡ Set → IsTrue (is_inside o (plain_state rows fixes) scope)) → count ≡ count_by (is_chosen o scope p) rows → count ≤ most_counted → left ≡ without_chosen (is_chosen o scope p) rows → now ≡ kept_rows fixes left → (o.kind ≡ Set → IsTrue (is_inside o (plain_state rows fixes) scope) → next_of o (plain_state rows fixes) Deletes p scope wanted ≡ next) → Leads o (plain_state rows fixes) n (Visit Deletes p scope wanted) (Some (Replied (Counted count next))) (plain_state now fixes)
+pub delete_visit_leads : (o : Settings) (rows left now : List Row) (fixes : List ℕ) (n : ℕ) (p : Program) (scope : Scope) (wanted count : ℕ) (next : Option Cursor) → (o.kind ≡ Set → IsTrue (is_inside o (plain_state rows fixes) scope)) → count ≡ count_by (is_chosen o scope p) rows → count ≤ most_counted → left ≡ without_chosen (is_chosen o scope p) rows → now ≡ kept_rows fixes left → (o.kind ≡ Set → IsTrue (is_inside o (plain_state rows fixes) scope) → next_of o (plain_state rows fixes) Deletes p scope wanted ≡ next) → Leads Set o (plain_state rows fixes) n (Visit Deletes p scope wanted) (Some (Replied (Counted count next))) (plain_state now fixes)
 unfolding reply_of
 delete_visit_leads o rows left now fixes n p scope wanted count next inside is few swept settled behind =
-    replied o rows now fixes fixes n (Visit Deletes p scope wanted) (Counted count next) (λ kind state. let here : is_inside o (plain_state rows fixes) scope ≡ true = inside kind in
+    replied Set o rows now fixes fixes n (Visit Deletes p scope wanted) (Counted count next) (λ kind state. let here : is_inside o (plain_state rows fixes) scope ≡ true = inside kind in
     let total = ap (λ rs. length (flat_map (λ (r : Row). filter (is_true p) r.1) rs)) (visited o rows fixes Deletes p scope wanted kind here) ∙ counted o p scope rows (few_objects o rows kind state.each) ∙ length-filter (is_chosen o scope p) rows ∙ sym is in
     rw here (ap (λ m. Replied (Counted (min m most_counted) (next_of o (plain_state rows fixes) Deletes p scope wanted))) total ∙ ap (λ m. Replied (Counted m (next_of o (plain_state rows fixes) Deletes p scope wanted))) (few_counted count most_counted few) ∙ ap (λ at. Replied (Counted count at)) (behind kind here))) refl
     (λ kind state. settled ∙ ap (kept_rows fixes) (swept ∙ sym (ap (λ vs. rows_without_true p (keys_of vs) rows) (visited o rows fixes Deletes p scope wanted kind (inside kind)) ∙ deleted o p scope rows (few_objects o rows kind state.each))))
 
-pub visit_refused : (o : Settings) (rows : List Row) (fixes : List ℕ) (n : ℕ) (purpose : Purpose) (p : Program) (scope : Scope) (wanted : ℕ) → (o.kind ≡ Set → is_inside o (plain_state rows fixes) scope ≡ false) → Leads o (plain_state rows fixes) n (Visit purpose p scope wanted) (Some (Refused CursorOutside)) (plain_state rows fixes)
+pub visit_refused : (o : Settings) (rows : List Row) (fixes : List ℕ) (n : ℕ) (purpose : Purpose) (p : Program) (scope : Scope) (wanted : ℕ) → (o.kind ≡ Set → is_inside o (plain_state rows fixes) scope ≡ false) → Leads Set o (plain_state rows fixes) n (Visit purpose p scope wanted) (Some (Refused CursorOutside)) (plain_state rows fixes)
 unfolding reply_of
 visit_refused o rows fixes n purpose p scope wanted outside =
-    refused o (plain_state rows fixes) n (Visit purpose p scope wanted) CursorOutside (λ kind _. let no : is_inside o (plain_state rows fixes) scope ≡ false = outside kind in rw no refl)
+    refused Set o (plain_state rows fixes) n (Visit purpose p scope wanted) CursorOutside (λ kind _. let no : is_inside o (plain_state rows fixes) scope ≡ false = outside kind in rw no refl)
 
 -- ---- rows whose objects go one after the other
 

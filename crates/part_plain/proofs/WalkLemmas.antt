@@ -23,9 +23,9 @@ use Rattle.part_core.specs.States.{IsState}
 use Rattle.part_core.proofs.KeyLemmas.{by_test, alike}
 use Rattle.part_plain.specs.Looks.{rows_from}
 use Rattle.part_plain.specs.Places.{IsPlace}
-use Rattle.part_plain.specs.Plain.{plain_state, Leads}
+use Rattle.part_core.specs.Plain.{plain_state, Leads}
 use Rattle.part_plain.proofs.PlaceLemmas.{place_there}
-use Rattle.part_plain.proofs.LeadLemmas.{read, refused}
+use Rattle.part_core.proofs.LeadLemmas.{read, refused}
 
 -- ---- the first live row of a class
 
@@ -122,15 +122,15 @@ walk_behind o {k} {rows} {place} kind below p =
 
 -- ---- the operations
 
-pub first_leads : (o : Settings) (rows : List Row) (fixes : List ℕ) (n : ℕ) (found : Option Datum) → found ≡ first_live (rows_from o 0 rows) → Leads o (plain_state rows fixes) n First (Some (Replied (AtKey found))) (plain_state rows fixes)
+pub first_leads : (o : Settings) (rows : List Row) (fixes : List ℕ) (n : ℕ) (found : Option Datum) → found ≡ first_live (rows_from o 0 rows) → Leads Set o (plain_state rows fixes) n First (Some (Replied (AtKey found))) (plain_state rows fixes)
 unfolding reply_of walk_order
 first_leads o rows fixes n found is =
-    read o rows fixes n First (AtKey found) (λ kind _. rw kind (ap (λ key. Replied (AtKey key)) (sym is))) refl refl
+    read Set o rows fixes n First (AtKey found) (λ kind _. rw kind (ap (λ key. Replied (AtKey key)) (sym is))) refl refl
 
-pub next_leads : (o : Settings) (rows : List Row) (fixes : List ℕ) (n : ℕ) (k : Datum) (place class : ℕ) (found : Option Datum) → IsPlace k rows place → class ≡ class_at o 8 k → class < 8 → found ≡ first_live (in_class o 8 class (drop (place + 1) rows) ++ rows_from o (class + 1) rows) → Leads o (plain_state rows fixes) n (Next k) (Some (Replied (AtKey found))) (plain_state rows fixes)
+pub next_leads : (o : Settings) (rows : List Row) (fixes : List ℕ) (n : ℕ) (k : Datum) (place class : ℕ) (found : Option Datum) → IsPlace k rows place → class ≡ class_at o 8 k → class < 8 → found ≡ first_live (in_class o 8 class (drop (place + 1) rows) ++ rows_from o (class + 1) rows) → Leads Set o (plain_state rows fixes) n (Next k) (Some (Replied (AtKey found))) (plain_state rows fixes)
 unfolding reply_of
 next_leads o rows fixes n k place class found p same below is =
-    read o rows fixes n (Next k) (AtKey found) reply refl refl
+    read Set o rows fixes n (Next k) (AtKey found) reply refl refl
   where
     behind : o.kind ≡ Set → first_live (rows_past k (walk_order o 8 rows)) ≡ found
     behind kind = ap first_live (walk_behind o kind (omega (arith, same, below)) p) ∙ ap (λ c. first_live (in_class o 8 c (drop (place + 1) rows) ++ rows_from o (c + 1) rows)) (sym same) ∙ sym is
@@ -141,7 +141,7 @@ next_leads o rows fixes n k place class found p same below is =
         let there : has_row rows k ≡ true = place_there p in
         rw (unordered, there) (ap (λ key. Replied (AtKey key)) (behind kind))
 
-pub next_refused : (o : Settings) (rows : List Row) (fixes : List ℕ) (n : ℕ) (k : Datum) → has_row rows k ≡ false → Leads o (plain_state rows fixes) n (Next k) (Some (Refused BadKey)) (plain_state rows fixes)
+pub next_refused : (o : Settings) (rows : List Row) (fixes : List ℕ) (n : ℕ) (k : Datum) → has_row rows k ≡ false → Leads Set o (plain_state rows fixes) n (Next k) (Some (Refused BadKey)) (plain_state rows fixes)
 unfolding reply_of
 next_refused o rows fixes n k none =
-    refused o (plain_state rows fixes) n (Next k) BadKey (λ kind _. rw (kind, none) refl)
+    refused Set o (plain_state rows fixes) n (Next k) BadKey (λ kind _. rw (kind, none) refl)

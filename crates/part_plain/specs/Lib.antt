@@ -1,3 +1,3 @@
 pub mod Places
-pub mod Plain
+pub mod Served
 pub mod Looks

@@ -1,8 +1,8 @@
--- At which place of a list of rows a key stands, and which rows are kept there.
-use Rattle.std.specs.Prelude.{ℕ, ◌≡◌, if◌then◌else◌, IsTrue, IsFalse, filter, length, List, ◌∷◌, ◌++◌}
+-- At which place of a list of rows a key stands.
+use Rattle.std.specs.Prelude.{ℕ, ◌≡◌, IsTrue, IsFalse, length, List, ◌∷◌, ◌++◌}
 use Rattle.term_core.specs.Datum.{Datum}
 use Rattle.operand.specs.Order.{is_same}
-use Rattle.part_core.specs.Rows.{Row, has_row, is_live, is_fixed}
+use Rattle.part_core.specs.Rows.{Row, has_row}
 
 -- the row at a place is the first of a key
 pub record IsPlace (k : Datum) (rows : List Row) (place : ℕ) : Type 0 where
@@ -13,7 +13,3 @@ pub record IsPlace (k : Datum) (rows : List Row) (place : ℕ) : Type 0 where
   pub count : length before ≡ place
   pub first : IsFalse (has_row before k)
   pub there : IsTrue (is_same k row.0)
-
--- dead rows stay only while some session fixes the part
-abbrev pub kept_rows : List ℕ → List Row → List Row
-kept_rows fixes rows = if is_fixed fixes then rows else filter is_live rows

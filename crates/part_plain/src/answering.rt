@@ -1,7 +1,8 @@
 //! Which function answers an operation.
 ghost use Rattle.std.specs.Prelude.{◌<◌, length};
+ghost use Rattle.part_core.specs.declared.kind.Kind.TheVariants.{Set};
 ghost use Rattle.part_core.specs.Ops.{act_of};
-ghost use Rattle.part_plain.specs.Plain.{plain_state, IsAnswered};
+ghost use Rattle.part_core.specs.Plain.{plain_state, IsAnswered};
 
 use crate::fixing::{fix, release, unfix};
 use crate::reading::{lookup, member};
@@ -24,7 +25,7 @@ pub(crate) fn answered<'a, A: Allocator + Copy>(
 ) -> Result<Reply<A>, (PartOp<'a, A>, Fault)>
     requires parts { 0 < settings.parts }
     requires session { session < length fixes.old }
-    ensures { IsAnswered settings (plain_state rows.old.items fixes.old) session (act_of op.entry)
+    ensures { IsAnswered Set settings (plain_state rows.old.items fixes.old) session (act_of op.entry)
         (plain_state rows.new.items fixes.new) result }
 {
     match op {

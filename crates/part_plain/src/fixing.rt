@@ -1,8 +1,9 @@
 //! Operations on the counts of fixes.
 ghost use Rattle.std.specs.Prelude.{ℕ, ◌≡◌, ◌<◌, length, List};
+ghost use Rattle.part_core.specs.declared.kind.Kind.TheVariants.{Set};
 ghost use Rattle.part_core.specs.declared.settings.Settings.{Settings};
 ghost use Rattle.part_core.specs.Acts.Act.{Fix, Unfix, Release};
-ghost use Rattle.part_plain.specs.Plain.{plain_state, IsAnswered};
+ghost use Rattle.part_core.specs.Plain.{plain_state, IsAnswered};
 
 use crate::row::Row;
 use crate::rows::settle;
@@ -16,7 +17,7 @@ pub(crate) fn fix<'a, A: Allocator>(
     session: u8,
 ) -> Result<Reply<A>, (PartOp<'a, A>, Fault)>
     requires { session < length fixes.old }
-    ensures { (o : Settings) → IsAnswered o (plain_state rows.now.items fixes.old) session Fix
+    ensures { (o : Settings) → IsAnswered Set o (plain_state rows.now.items fixes.old) session Fix
         (plain_state rows.now.items fixes.new) result }
 {
     let session = usize::from(session);
@@ -34,7 +35,7 @@ pub(crate) fn unfix<'a, A: Allocator>(
     session: u8,
 ) -> Result<Reply<A>, (PartOp<'a, A>, Fault)>
     requires { session < length fixes.old }
-    ensures { (o : Settings) → IsAnswered o (plain_state rows.old.items fixes.old) session Unfix
+    ensures { (o : Settings) → IsAnswered Set o (plain_state rows.old.items fixes.old) session Unfix
         (plain_state rows.new.items fixes.new) result }
 {
     let session = usize::from(session);
@@ -53,7 +54,7 @@ pub(crate) fn release<'a, A: Allocator>(
     session: u8,
 ) -> Result<Reply<A>, (PartOp<'a, A>, Fault)>
     requires { session < length fixes.old }
-    ensures { (o : Settings) → IsAnswered o (plain_state rows.old.items fixes.old) session Release
+    ensures { (o : Settings) → IsAnswered Set o (plain_state rows.old.items fixes.old) session Release
         (plain_state rows.new.items fixes.new) result }
 {
     fixes[usize::from(session)] = 0;

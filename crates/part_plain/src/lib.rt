@@ -1,7 +1,7 @@
 //! A part of a table whose rows stand in one list, for sets.
 //!
-//! The one contract: `PlainPart`, whose `make` and `apply` have the clauses of the trait `Part` of `part_core`. The state that a part
-//! is in is that of its rows and counts (`HasState` of `specs/Plain.antt`).
+//! The one contract: `PlainPart` keeps the trait `Part` of `part_core`. The state that a part is in is that of its rows and counts
+//! (`plain_state` of `part_core/specs/Plain.antt`).
 //!
 //! - `part`: the type; `answering`: which function answers an operation, each of which is answered as the state does (`IsAnswered`).
 //! - `reading`, `writing`, `fixing`: operations at one key, and on counts of fixes; `walking`: the order of a walk; `visiting`: visits

@@ -1,12 +1,14 @@
 //! A part whose rows stand in one list.
-ghost use Rattle.std.specs.Prelude.{◌≡◌, ◌↔◌, IsTrue, IfOk, replicate};
+ghost use Rattle.std.specs.Prelude.{◌↔◌, IsTrue};
 ghost use Rattle.part_core.specs.Served.{settings_with, IsServed};
-ghost use Rattle.part_plain.specs.Plain.{serves};
+ghost use Rattle.part_plain.specs.Served.{serves};
 
 use crate::answering::answered;
 use crate::row::Row;
-use part_core::{Fault, Kind, OpenFault, PartOp, Reply, Settings, legal_goes_on, states_are_kept};
-use std::alloc::{AllocError, Allocator, Global};
+use part_core::{
+    Fault, Kind, OpenFault, Part, PartOp, Reply, Settings, legal_goes_on, no_fixes, states_are_kept,
+};
+use std::alloc::{Allocator, Global};
 use std::marker::Model;
 
 /// A part of a set whose rows stand in one list, as they were made: each operation looks through them for its key, by hashes.
@@ -22,7 +24,7 @@ impl<A: Allocator> Model for PlainPart<A> {
     ghost use Rattle.std.specs.Prelude.{◌≡◌, ◌<◌, length};
     ghost use Rattle.std.specs.Coded.{codes};
     ghost use Rattle.term_core.specs.DatumCode.{datum_code};
-    ghost use Rattle.part_plain.specs.Plain.{Plain};
+    ghost use Rattle.part_core.specs.Plain.{Plain};
 
     ghost Value = { Plain };
 
@@ -46,32 +48,62 @@ fn is_served(kind: Kind, keypos: u16, parts: u8, sessions: u8) -> bool
         && sessions <= 16
 }
 
-/// No fixes of so many sessions.
-fn no_fixes<A: Allocator>(alloc: A, sessions: u8) -> Result<Vec<u16, A>, AllocError>
-    ensures { IfOk result (λ fixes. fixes.items ≡ replicate sessions 0) }
-{
-    vec![in alloc; 0; usize::from(sessions)]
+impl<A: Allocator + Copy> PlainPart<A> {
+    ghost use Rattle.std.specs.Prelude.{◌≡◌, ◌≢◌, ◌<◌, ◌++◌, IsTrue, IfErr, List};
+    ghost use Rattle.part_core.specs.declared.kind.Kind.TheVariants.{Set};
+    ghost use Rattle.part_core.specs.Acts.{Entry as PastEntry, IsAsked};
+    ghost use Rattle.part_core.specs.Ops.{act_of, entries_made, takes_no_memory};
+    ghost use Rattle.part_core.specs.Plain.{alone, IsAfter};
+
+    /// Does an operation that is handed over, and back where it is refused.
+    fn answer<'a>(
+        &mut self,
+        session: u8,
+        op: PartOp<'a, A>,
+    ) -> Result<Reply<A>, (PartOp<'a, A>, Fault)>
+        requires session { session < self.old.settings.sessions }
+        requires asked { IsAsked (act_of op) }
+        ensures settings { self.new.settings ≡ self.old.settings }
+        ensures entry { (log : List PastEntry) → IsAfter Set self.old log
+            → IsAfter Set self.new (log ++ entries_made session (act_of op.entry) (alone result)) }
+        ensures back { IfErr result (λ r. act_of r.0 ≡ act_of op.entry) }
+        ensures sure { IsTrue (takes_no_memory (act_of op.entry))
+            → IfErr result (λ r. r.1 ≢ Fault.Memory) }
+    {
+        states_are_kept();
+        legal_goes_on();
+        answered(
+            self.alloc,
+            self.settings,
+            &mut self.rows,
+            self.fixes.as_mut_slice(),
+            session,
+            op,
+        )
+    }
 }
 
-impl<A: Allocator + Copy> PlainPart<A> {
+impl<A: Allocator + Copy> Part<A> for PlainPart<A> {
     ghost use Rattle.std.specs.Prelude.{◌≡◌, ◌≢◌, ◌<◌, ◌++◌, IsTrue, IfOk, IfErr, IsErrOf, List, []};
+    ghost use Rattle.part_core.specs.declared.kind.Kind.TheVariants.{Set};
     ghost use Rattle.part_core.specs.Acts.{Entry as PastEntry, IsAsked};
     ghost use Rattle.part_core.specs.Ops.{act_of, entries_made, takes_no_memory};
     ghost use Rattle.part_core.specs.Served.{settings_with, IsServed};
-    ghost use Rattle.part_plain.specs.Plain.{serves, IsAfter};
+    ghost use Rattle.part_core.specs.Plain.{IsAfter};
+    ghost use Rattle.part_plain.specs.Served.{serves};
 
-    /// A part without rows. Refused where the kind isn't `Set` or a number is outside its range: keypos from 1 to 65,535,
-    /// 1 to 64 parts, 1 to 16 sessions.
-    pub fn make(
-        alloc: A,
-        kind: Kind,
-        keypos: u16,
-        parts: u8,
-        sessions: u8,
-    ) -> Result<Self, OpenFault>
+    ghost serves = { serves };
+
+    ghost settings = { λ p. p.settings };
+
+    ghost is_after = { λ p log. IsAfter Set p log };
+
+    ghost legal = { λ p log now. now.1 };
+
+    fn make(alloc: A, kind: Kind, keypos: u16, parts: u8, sessions: u8) -> Result<Self, OpenFault>
         ensures made { IfOk result (λ p. IsServed serves
             (settings_with kind keypos parts sessions)
-            × (p.settings ≡ settings_with kind keypos parts sessions) × IsAfter p []) }
+            × (p.settings ≡ settings_with kind keypos parts sessions) × IsAfter Set p []) }
         ensures refused { IsErrOf result OpenFault.BadOptions
             → ¬ (IsServed serves (settings_with kind keypos parts sessions)) }
     {
@@ -95,31 +127,22 @@ impl<A: Allocator + Copy> PlainPart<A> {
         })
     }
 
-    /// Does an operation for a session. What is refused is handed back, and all stands as before; want of memory leaves no
-    /// entry.
-    pub fn apply<'a>(
-        &mut self,
-        session: u8,
-        op: PartOp<'a, A>,
-    ) -> Result<Reply<A>, (PartOp<'a, A>, Fault)>
+    fn apply<'a>(&mut self, session: u8, op: &mut PartOp<'a, A>) -> Result<Reply<A>, Fault>
         requires session { session < self.old.settings.sessions }
-        requires asked { IsAsked (act_of op) }
+        requires asked { IsAsked (act_of op.old) }
         ensures settings { self.new.settings ≡ self.old.settings }
-        ensures entry { (log : List PastEntry) → IsAfter self.old log
-            → IsAfter self.new (log ++ entries_made session (act_of op.entry) result) }
-        ensures back { IfErr result (λ r. act_of r.0 ≡ act_of op.entry) }
-        ensures sure { IsTrue (takes_no_memory (act_of op.entry))
-            → IfErr result (λ r. r.1 ≢ Fault.Memory) }
+        ensures entry { (log : List PastEntry) → IsAfter Set self.old log
+            → IsAfter Set self.new (log ++ entries_made session (act_of op.old) result) }
+        ensures back { IfErr result (λ fault. act_of op.new ≡ act_of op.old) }
+        ensures sure { IsTrue (takes_no_memory (act_of op.old))
+            → IfErr result (λ fault. fault ≢ Fault.Memory) }
     {
-        states_are_kept();
-        legal_goes_on();
-        answered(
-            self.alloc,
-            self.settings,
-            &mut self.rows,
-            self.fixes.as_mut_slice(),
-            session,
-            op,
-        )
+        match self.answer(session, op.take()) {
+            Ok(reply) => Ok(reply),
+            Err((refused, fault)) => {
+                op.put_back(refused);
+                Err(fault)
+            }
+        }
     }
 }

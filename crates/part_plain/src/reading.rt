@@ -1,9 +1,10 @@
 //! Operations that read one key.
 ghost use Rattle.std.specs.Prelude.{ℕ, ◌≡◌, List, IfOk};
+ghost use Rattle.part_core.specs.declared.kind.Kind.TheVariants.{Set};
 ghost use Rattle.part_core.specs.declared.settings.Settings.{Settings};
 ghost use Rattle.part_core.specs.Acts.Act.{Lookup, Member};
 ghost use Rattle.part_core.specs.Rows.{objects_at};
-ghost use Rattle.part_plain.specs.Plain.{plain_state, IsAnswered};
+ghost use Rattle.part_core.specs.Plain.{plain_state, IsAnswered};
 
 use crate::row::Row;
 use crate::rows::{is_member, place_of};
@@ -31,7 +32,7 @@ pub(crate) fn lookup<'a, A: Allocator + Copy>(
     rows: &[Row<A>],
     key: &'a Term<A>,
 ) -> Result<Reply<A>, (PartOp<'a, A>, Fault)>
-    ensures { (o : Settings) (fixes : List ℕ) (n : ℕ) → IsAnswered o (plain_state rows.now fixes) n
+    ensures { (o : Settings) (fixes : List ℕ) (n : ℕ) → IsAnswered Set o (plain_state rows.now fixes) n
         (Lookup key.now) (plain_state rows.now fixes) result }
 {
     match objects_of(alloc, rows, key) {
@@ -45,7 +46,7 @@ pub(crate) fn member<'a, A: Allocator>(
     rows: &[Row<A>],
     key: &'a Term<A>,
 ) -> Result<Reply<A>, (PartOp<'a, A>, Fault)>
-    ensures { (o : Settings) (fixes : List ℕ) (n : ℕ) → IsAnswered o (plain_state rows.now fixes) n
+    ensures { (o : Settings) (fixes : List ℕ) (n : ℕ) → IsAnswered Set o (plain_state rows.now fixes) n
         (Member key.now) (plain_state rows.now fixes) result }
 {
     Ok(Reply::Flag(is_member(rows, key)))

@@ -5,10 +5,12 @@ ghost use Rattle.std.specs.Map.{keys_of};
 ghost use Rattle.std.specs.Option.{option_to_list};
 ghost use Rattle.operand.specs.Order.{is_same};
 ghost use Rattle.term_core.specs.KeyHash.{key_hash};
-ghost use Rattle.part_core.specs.Rows.{has_row, is_live, is_fixed, objects_at, objects_without, rows_at_key};
-ghost use Rattle.part_plain.specs.Places.{IsPlace, kept_rows};
+ghost use Rattle.part_core.specs.Rows.{has_row, is_live, objects_at, objects_without, rows_at_key};
+ghost use Rattle.part_plain.specs.Places.{IsPlace};
+ghost use Rattle.part_core.specs.Plain.{kept_rows};
 
 use crate::row::Row;
+use part_core::is_fixed;
 use std::alloc::Allocator;
 use term_core::Term;
 
@@ -24,13 +26,6 @@ pub(crate) fn place_of<A: Allocator>(rows: &[Row<A>], key: &Term<A>, hash: u64) 
         }
     }
     None
-}
-
-/// Whether some session fixes the part.
-pub(crate) fn is_fixed(fixes: &[u16]) -> bool
-    ensures { result ≡ is_fixed fixes.now }
-{
-    fixes.iter().any(|count| *count > 0)
 }
 
 /// Lets dead rows go that no session keeps.

@@ -14,8 +14,8 @@ ghost use Rattle.part_core.specs.Replies.{most_counted};
 ghost use Rattle.part_core.specs.Rows.{Row as AnyRow};
 ghost use Rattle.part_core.specs.Visits.{is_inside, next_of, yields, yield_of_rows};
 ghost use Rattle.part_plain.specs.Looks.{looks_at, looked_at, is_chosen, without_chosen};
-ghost use Rattle.part_plain.specs.Places.{kept_rows};
-ghost use Rattle.part_plain.specs.Plain.{plain_state, IsAnswered};
+ghost use Rattle.part_core.specs.Plain.{kept_rows};
+ghost use Rattle.part_core.specs.Plain.{plain_state, IsAnswered};
 
 use crate::row::{CLASSES, Row};
 use crate::rows::settle;
@@ -147,7 +147,7 @@ pub(crate) fn visit<'a, A: Allocator + Copy>(
     wanted: u64,
 ) -> Result<Reply<A>, (PartOp<'a, A>, Fault)>
     requires { 0 < settings.parts }
-    ensures { (fixes : List ℕ) (n : ℕ) → IsAnswered settings (plain_state rows.now fixes) n
+    ensures { (fixes : List ℕ) (n : ℕ) → IsAnswered Set settings (plain_state rows.now fixes) n
         (Visit Answers code.now (scope_of scope.entry) wanted) (plain_state rows.now fixes) result }
 {
     if !is_inside(scope) {
@@ -214,7 +214,7 @@ pub(crate) fn visit_count<'a, A: Allocator + Copy>(
     wanted: u64,
 ) -> Result<Reply<A>, (PartOp<'a, A>, Fault)>
     requires { 0 < settings.parts }
-    ensures { (fixes : List ℕ) (n : ℕ) → IsAnswered settings (plain_state rows.now fixes) n
+    ensures { (fixes : List ℕ) (n : ℕ) → IsAnswered Set settings (plain_state rows.now fixes) n
         (Visit Counts code.now (scope_of scope.entry) wanted) (plain_state rows.now fixes) result }
 {
     if !is_inside(scope) {
@@ -286,7 +286,7 @@ pub(crate) fn visit_delete<'a, A: Allocator + Copy>(
     wanted: u64,
 ) -> Result<Reply<A>, (PartOp<'a, A>, Fault)>
     requires { 0 < settings.parts }
-    ensures { (n : ℕ) → IsAnswered settings (plain_state rows.old.items fixes.now) n
+    ensures { (n : ℕ) → IsAnswered Set settings (plain_state rows.old.items fixes.now) n
         (Visit Deletes code.now (scope_of scope.entry) wanted) (plain_state rows.new.items fixes.now) result }
 {
     if !is_inside(scope) {

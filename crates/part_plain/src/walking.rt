@@ -1,12 +1,13 @@
 //! The order of a walk.
 ghost use Rattle.std.specs.Prelude.{ℕ, ◌≡◌, ◌<◌, ◌+◌, ◌++◌, drop, length, List, IfOk};
 ghost use Rattle.std.specs.Option.{option_copied};
+ghost use Rattle.part_core.specs.declared.kind.Kind.TheVariants.{Set};
 ghost use Rattle.part_core.specs.Acts.Act.{First, Next};
 ghost use Rattle.part_core.specs.Replies.{first_live};
 ghost use Rattle.part_core.specs.Rows.{first_slots};
 ghost use Rattle.part_core.specs.Visits.{in_class};
 ghost use Rattle.part_plain.specs.Looks.{rows_from};
-ghost use Rattle.part_plain.specs.Plain.{plain_state, IsAnswered};
+ghost use Rattle.part_core.specs.Plain.{plain_state, IsAnswered};
 
 use crate::row::{CLASSES, Row, class_of};
 use crate::rows::place_of;
@@ -60,7 +61,7 @@ pub(crate) fn first<'a, A: Allocator + Copy>(
     rows: &[Row<A>],
 ) -> Result<Reply<A>, (PartOp<'a, A>, Fault)>
     requires { 0 < settings.parts }
-    ensures { (fixes : List ℕ) (n : ℕ) → IsAnswered settings (plain_state rows.now fixes) n First
+    ensures { (fixes : List ℕ) (n : ℕ) → IsAnswered Set settings (plain_state rows.now fixes) n First
         (plain_state rows.now fixes) result }
 {
     match key_reply(alloc, live_from(settings, rows, 0)) {
@@ -97,7 +98,7 @@ pub(crate) fn next<'a, A: Allocator + Copy>(
     key: &'a Term<A>,
 ) -> Result<Reply<A>, (PartOp<'a, A>, Fault)>
     requires { 0 < settings.parts }
-    ensures { (fixes : List ℕ) (n : ℕ) → IsAnswered settings (plain_state rows.now fixes) n
+    ensures { (fixes : List ℕ) (n : ℕ) → IsAnswered Set settings (plain_state rows.now fixes) n
         (Next key.now) (plain_state rows.now fixes) result }
 {
     let hash = key.key_hash();

@@ -1,50 +1,20 @@
 //! Operations that write at one key.
-ghost use Rattle.std.specs.Prelude.{ℕ, vec_len, vec_capacity, ◌≡◌, Some, None, [], List, MatchOption, MatchResult, IfOk, IfErr, OnErr, IsTrue, ◌&&◌, ◌<◌, ◌++◌, ◌∷◌};
+ghost use Rattle.std.specs.Prelude.{ℕ, vec_len, vec_capacity, ◌≡◌, [], List, MatchResult, IfOk, IfErr, OnErr, IsTrue, ◌&&◌, ◌<◌, ◌++◌, ◌∷◌};
 ghost use Rattle.std.specs.List.{IsDistinct};
 ghost use Rattle.std.specs.Map.{keys_of};
 ghost use Rattle.operand.specs.Order.{is_same};
-ghost use Rattle.term_core.specs.Datum.{items_of};
-ghost use Rattle.term_core.specs.Datum.Datum.{tuple};
-ghost use Rattle.mcode.specs.Machine.{field_of};
 ghost use Rattle.part_core.specs.declared.kind.Kind.TheVariants.{Set};
 ghost use Rattle.part_core.specs.declared.settings.Settings.{Settings as AnySettings};
 ghost use Rattle.part_core.specs.Settings.{is_object, key_of};
 ghost use Rattle.part_core.specs.Acts.Act.{Insert, InsertNew, Delete, DeleteObject, Take};
 ghost use Rattle.part_core.specs.Rows.{is_live, objects_at, rows_at_key, with_object};
-ghost use Rattle.part_plain.specs.Plain.{plain_state, IsAnswered, IsPutRefused};
+ghost use Rattle.part_core.specs.Plain.{plain_state, IsAnswered, IsPutRefused};
 
 use crate::row::Row;
 use crate::rows::{clear, clear_equal, is_member, place_of, settle, take};
-use operand::Operand;
-use part_core::{Fault, PartOp, Reply, Settings};
+use part_core::{Fault, PartOp, Reply, Settings, key_in};
 use std::alloc::{AllocError, Allocator};
 use term_core::Term;
-
-/// The element at a place that is counted from 1.
-fn element_at<A: Allocator>(elements: &[Term<A>], place: u16) -> Option<&Term<A>>
-    ensures { MatchOption result (field_of place (tuple (items_of elements.now)) ≡ None)
-        (λ key. field_of place (tuple (items_of elements.now)) ≡ Some key.now) }
-{
-    let place = usize::from(place);
-    if place == 0 {
-        return None;
-    }
-    if elements.len() < place {
-        return None;
-    }
-    Some(&elements[place - 1])
-}
-
-/// The key of an object, none of a term that is no object.
-fn key_in<A: Allocator>(keypos: u16, object: &Term<A>) -> Option<&Term<A>>
-    ensures { MatchOption result (field_of keypos object.now ≡ None)
-        (λ key. field_of keypos object.now ≡ Some key.now) }
-{
-    match Operand::Term(object).elements() {
-        Some(elements) => element_at(elements, keypos),
-        None => None,
-    }
-}
 
 /// Lets a term go.
 fn let_go<A: Allocator>(_term: Term<A>) {}
@@ -124,7 +94,7 @@ pub(crate) fn insert<'a, A: Allocator + Copy>(
     rows: &mut Vec<Row<A>, A>,
     object: Term<A>,
 ) -> Result<Reply<A>, (PartOp<'a, A>, Fault)>
-    ensures { (fixes : List ℕ) (n : ℕ) → IsAnswered settings (plain_state rows.old.items fixes) n
+    ensures { (fixes : List ℕ) (n : ℕ) → IsAnswered Set settings (plain_state rows.old.items fixes) n
         (Insert object) (plain_state rows.new.items fixes) result }
 {
     match put(alloc, settings, rows, object) {
@@ -140,7 +110,7 @@ pub(crate) fn insert_new<'a, A: Allocator + Copy>(
     rows: &mut Vec<Row<A>, A>,
     object: Term<A>,
 ) -> Result<Reply<A>, (PartOp<'a, A>, Fault)>
-    ensures { (fixes : List ℕ) (n : ℕ) → IsAnswered settings (plain_state rows.old.items fixes) n
+    ensures { (fixes : List ℕ) (n : ℕ) → IsAnswered Set settings (plain_state rows.old.items fixes) n
         (InsertNew object) (plain_state rows.new.items fixes) result }
 {
     if has_object(settings, rows, &object) {
@@ -159,7 +129,7 @@ pub(crate) fn delete<'a, A: Allocator>(
     fixes: &[u16],
     key: &'a Term<A>,
 ) -> Result<Reply<A>, (PartOp<'a, A>, Fault)>
-    ensures { (o : AnySettings) (n : ℕ) → IsAnswered o (plain_state rows.old.items fixes.now) n
+    ensures { (o : AnySettings) (n : ℕ) → IsAnswered Set o (plain_state rows.old.items fixes.now) n
         (Delete key.now) (plain_state rows.new.items fixes.now) result }
 {
     clear(rows, key);
@@ -174,7 +144,7 @@ pub(crate) fn delete_object<'a, A: Allocator>(
     fixes: &[u16],
     object: &'a Term<A>,
 ) -> Result<Reply<A>, (PartOp<'a, A>, Fault)>
-    ensures { (n : ℕ) → IsAnswered settings (plain_state rows.old.items fixes.now) n
+    ensures { (n : ℕ) → IsAnswered Set settings (plain_state rows.old.items fixes.now) n
         (DeleteObject object.now) (plain_state rows.new.items fixes.now) result }
 {
     let Some(key) = key_in(settings.keypos, object) else {
@@ -210,7 +180,7 @@ pub(crate) fn take_objects<'a, A: Allocator>(
     fixes: &[u16],
     key: &'a Term<A>,
 ) -> Result<Reply<A>, (PartOp<'a, A>, Fault)>
-    ensures { (o : AnySettings) (n : ℕ) → IsAnswered o (plain_state rows.old.items fixes.now) n
+    ensures { (o : AnySettings) (n : ℕ) → IsAnswered Set o (plain_state rows.old.items fixes.now) n
         (Take key.now) (plain_state rows.new.items fixes.now) result }
 {
     let Ok(objects) = taken(alloc, rows, key) else {

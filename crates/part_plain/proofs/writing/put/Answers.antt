@@ -1,4 +1,5 @@
-use Rattle.part_plain.proofs.ActLemmas.{object_key, put_at}
+use Rattle.part_core.proofs.ActLemmas.{object_key}
+use Rattle.part_plain.proofs.PutLemmas.{put_at}
 use Rattle.part_plain.proofs.writing.put.Goals as goal
 
 pub returns-in-Some-place_of-clause-rows : goal.returns-in-Some-place_of-clause-rows

@@ -1,7 +1,7 @@
 use Rattle.std.proofs.Common.{Some, ap, ◌∙◌, sym, arith}
 use Rattle.operand_stack.proofs.TupleLemmas.{field_read}
-use Rattle.part_plain.proofs.ActLemmas.{field_past, field_zero}
-use Rattle.part_plain.proofs.writing.element_at.Goals as goal
+use Rattle.part_core.proofs.FieldLemmas.{field_past, field_zero}
+use Rattle.part_core.proofs.key.element_at.Goals as goal
 
 pub returns-then-place-eq0 : goal.returns-then-place-eq0
 returns-then-place-eq0 g c =

@@ -1,10 +1,9 @@
--- What operations leave of a part in one list, and that they go on its history.
+-- What operations leave of a part whose slots don't grow, and that they go on its history.
 use Rattle.std.proofs.Common.{◌≡◌, ℕ, ◌<◌, List, [], ◌∷◌, ◌++◌, refl, ap, sym, subst, ◌∙◌, length}
 use Rattle.std.specs.Prelude.{Bool, true, false, not, ◌&&◌, ◌||◌, if◌then◌else◌, nat_lt, IsTrue, Some, Result, Ok, Err, filter, replicate, All}
 use Rattle.std.proofs.lemmas.List.{append-nil}
 use Rattle.std.proofs.lemmas.List.Elements.{All-head, All-tail}
 use Rattle.part_core.specs.declared.kind.Kind.{Kind}
-use Rattle.part_core.specs.declared.kind.Kind.TheVariants.{Set, OrderedSet, Bag, DuplicateBag}
 use Rattle.part_core.specs.declared.settings.Settings.{Settings}
 use Rattle.part_core.specs.declared.fault.Fault.{Fault}
 use Rattle.part_core.specs.declared.fault.Fault.TheVariants as fault
@@ -21,8 +20,7 @@ use Rattle.part_core.specs.Legal.{state_after, IsLegal}
 use Rattle.part_core.specs.Laws.{StatesAreKept, LegalGoesOn}
 use Rattle.part_core.proofs.StateLemmas.{after_replied, after_refused}
 use Rattle.part_core.proofs.HistoryLemmas.{state_more}
-use Rattle.part_plain.specs.Places.{kept_rows}
-use Rattle.part_plain.specs.Plain.{serves, plain_state, Plain, IsAfter, Leads, IsAnswered}
+use Rattle.part_core.specs.Plain.{kept_rows, plain_state, alone, Plain, IsAfter, Leads, IsAnswered}
 
 -- slots that can't grow stay
 slots_stay : (a b c : Bool) (n m : ℕ) → (if a || not (b && (c && false)) then n else m) ≡ n
@@ -55,8 +53,8 @@ live_stay fixes rows live = of (is_fixed fixes) live
     of false live = all_kept is_live rows (live refl)
 
 -- an operation that is answered, by what it writes
-pub replied : (o : Settings) (rows now : List Row) (fixes counts : List ℕ) (n : ℕ) (act : Act) (said : Said) → (o.kind ≡ Set → IsState o (plain_state rows fixes) → reply_of o (plain_state rows fixes) n act ≡ Replied said) → (counts_after fixes n act ≡ counts) → (o.kind ≡ Set → IsState o (plain_state rows fixes) → now ≡ kept_rows counts (rows_after o (plain_state rows fixes) act)) → Leads o (plain_state rows fixes) n act (Some (Replied said)) (plain_state now counts)
-replied o rows now fixes counts n act said reply is left = λ set state. (
+pub replied : (kind : Kind) (o : Settings) (rows now : List Row) (fixes counts : List ℕ) (n : ℕ) (act : Act) (said : Said) → (o.kind ≡ kind → IsState o (plain_state rows fixes) → reply_of o (plain_state rows fixes) n act ≡ Replied said) → (counts_after fixes n act ≡ counts) → (o.kind ≡ kind → IsState o (plain_state rows fixes) → now ≡ kept_rows counts (rows_after o (plain_state rows fixes) act)) → Leads kind o (plain_state rows fixes) n act (Some (Replied said)) (plain_state now counts)
+replied kind o rows now fixes counts n act said reply is left = λ set state. (
   sym (reply set state),
   ap (λ rs. plain_state rs counts) (left set state)
       ∙ sym (after_replied o (plain_state rows fixes) n act said (reply set state)
@@ -65,58 +63,52 @@ replied o rows now fixes counts n act said reply is left = λ set state. (
 )
 
 -- an operation that reads
-pub read : (o : Settings) (rows : List Row) (fixes : List ℕ) (n : ℕ) (act : Act) (said : Said) → (o.kind ≡ Set → IsState o (plain_state rows fixes) → reply_of o (plain_state rows fixes) n act ≡ Replied said) → counts_after fixes n act ≡ fixes → rows_after o (plain_state rows fixes) act ≡ rows → Leads o (plain_state rows fixes) n act (Some (Replied said)) (plain_state rows fixes)
-read o rows fixes n act said reply is stay =
-    replied o rows rows fixes fixes n act said reply is (λ set state. sym (ap (kept_rows fixes) stay ∙ live_stay fixes rows state.live))
+pub read : (kind : Kind) (o : Settings) (rows : List Row) (fixes : List ℕ) (n : ℕ) (act : Act) (said : Said) → (o.kind ≡ kind → IsState o (plain_state rows fixes) → reply_of o (plain_state rows fixes) n act ≡ Replied said) → counts_after fixes n act ≡ fixes → rows_after o (plain_state rows fixes) act ≡ rows → Leads kind o (plain_state rows fixes) n act (Some (Replied said)) (plain_state rows fixes)
+read kind o rows fixes n act said reply is stay =
+    replied kind o rows rows fixes fixes n act said reply is (λ set state. sym (ap (kept_rows fixes) stay ∙ live_stay fixes rows state.live))
 
 -- an operation that is refused
-pub refused : (o : Settings) (s : PartState) (n : ℕ) (act : Act) (refusal : Refusal) → (o.kind ≡ Set → IsState o s → reply_of o s n act ≡ Refused refusal) → Leads o s n act (Some (Refused refusal)) s
-refused o s n act refusal reply = λ set state.
+pub refused : (kind : Kind) (o : Settings) (s : PartState) (n : ℕ) (act : Act) (refusal : Refusal) → (o.kind ≡ kind → IsState o s → reply_of o s n act ≡ Refused refusal) → Leads kind o s n act (Some (Refused refusal)) s
+refused kind o s n act refusal reply = λ set state.
     (sym (reply set state), sym (after_refused o s n act refusal (reply set state)))
 
 -- an answer goes on the history
-step : (p q : Plain) (n : ℕ) (act : Act) (answer : Answer) (log : History) → StatesAreKept → LegalGoesOn → q.settings ≡ p.settings → n < p.settings.sessions → IsAsked act → IsAfter p log → Leads p.settings (plain_state p.rows p.fixes) n act (Some answer) (plain_state q.rows q.fixes) → IsAfter q (log ++ (record { session = n; act = act; answer = answer }) ∷ [])
-step p q n act answer log kept goes settings session asked now leads =
+step : (kind : Kind) (p q : Plain) (n : ℕ) (act : Act) (answer : Answer) (log : History) → StatesAreKept → LegalGoesOn → q.settings ≡ p.settings → n < p.settings.sessions → IsAsked act → IsAfter kind p log → Leads kind p.settings (plain_state p.rows p.fixes) n act (Some answer) (plain_state q.rows q.fixes) → IsAfter kind q (log ++ (record { session = n; act = act; answer = answer }) ∷ [])
+step kind p q n act answer log kept goes settings session asked now leads =
     let was : state_after p.settings log ≡ plain_state p.rows p.fixes = now.0.state in
     let state : IsState p.settings (plain_state p.rows p.fixes) = subst (IsState p.settings) was (kept p.settings log now.1) in
-    let led = leads now.0.kind state in
+    let led = leads now.0.served state in
     let e : Entry = record { session = n; act = act; answer = answer } in
     let legal : IsLegal p.settings (log ++ e ∷ []) = goes p.settings log e now.1 (record { session = session; asked = asked; answer = led.0 ∙ ap (λ s. reply_of p.settings s n act) (sym was) }) in
     let more : state_after p.settings (log ++ e ∷ []) ≡ plain_state q.rows q.fixes = state_more p.settings (opening p.settings) log (e ∷ []) ∙ ap (λ s. after p.settings s n act) was ∙ sym led.1 in (
-      record { kind = ap (λ (o : Settings). o.kind) settings ∙ now.0.kind; state = subst (λ (o : Settings). state_after o (log ++ e ∷ []) ≡ plain_state q.rows q.fixes) (sym settings) more },
+      record { served = ap (λ (o : Settings). o.kind) settings ∙ now.0.served; state = subst (λ (o : Settings). state_after o (log ++ e ∷ []) ≡ plain_state q.rows q.fixes) (sym settings) more },
       subst (λ (o : Settings). IsLegal o (log ++ e ∷ [])) (sym settings) legal,
     )
 
-unmoved : (p q : Plain) (log : History) → q.settings ≡ p.settings → IsAfter p log → plain_state q.rows q.fixes ≡ plain_state p.rows p.fixes → IsAfter q (log ++ [])
-unmoved p q log settings now same =
-    subst (IsAfter q) (sym (append-nil log)) (
-      record { kind = ap (λ (o : Settings). o.kind) settings ∙ now.0.kind; state = ap (λ o. state_after o log) settings ∙ now.0.state ∙ sym same },
+unmoved : (kind : Kind) (p q : Plain) (log : History) → q.settings ≡ p.settings → IsAfter kind p log → plain_state q.rows q.fixes ≡ plain_state p.rows p.fixes → IsAfter kind q (log ++ [])
+unmoved kind p q log settings now same =
+    subst (IsAfter kind q) (sym (append-nil log)) (
+      record { served = ap (λ (o : Settings). o.kind) settings ∙ now.0.served; state = ap (λ o. state_after o log) settings ∙ now.0.state ∙ sym same },
       subst (λ (o : Settings). IsLegal o log) (sym settings) now.1,
     )
 
-pub goes_on : {A : Type 0} (p q : Plain) (n : ℕ) (act : Act) (log : History) (result : Result (Reply A) (PartOp A × Fault)) → StatesAreKept → LegalGoesOn → q.settings ≡ p.settings → n < p.settings.sessions → IsAsked act → IsAnswered p.settings (plain_state p.rows p.fixes) n act (plain_state q.rows q.fixes) result → IsAfter p log → IsAfter q (log ++ entries_made n act result)
-goes_on p q n act log (Ok r) kept goes settings session asked answered now =
-    step p q n act _ log kept goes settings session asked now answered.leads
-goes_on p q n act log (Err (op, fault.Memory)) kept goes settings session asked answered now =
-    unmoved p q log settings now answered.leads
-goes_on p q n act log (Err (op, fault.TooSmall)) kept goes settings session asked answered now =
-    step p q n act _ log kept goes settings session asked now answered.leads
-goes_on p q n act log (Err (op, fault.FixLimit)) kept goes settings session asked answered now =
-    step p q n act _ log kept goes settings session asked now answered.leads
-goes_on p q n act log (Err (op, fault.NotFixed)) kept goes settings session asked answered now =
-    step p q n act _ log kept goes settings session asked now answered.leads
-goes_on p q n act log (Err (op, fault.BadKey)) kept goes settings session asked answered now =
-    step p q n act _ log kept goes settings session asked now answered.leads
-goes_on p q n act log (Err (op, fault.CursorOutside)) kept goes settings session asked answered now =
-    step p q n act _ log kept goes settings session asked now answered.leads
+pub goes_on : {A : Type 0} (kind : Kind) (p q : Plain) (n : ℕ) (act : Act) (log : History) (result : Result (Reply A) (PartOp A × Fault)) → StatesAreKept → LegalGoesOn → q.settings ≡ p.settings → n < p.settings.sessions → IsAsked act → IsAnswered kind p.settings (plain_state p.rows p.fixes) n act (plain_state q.rows q.fixes) result → IsAfter kind p log → IsAfter kind q (log ++ entries_made n act (alone result))
+goes_on kind p q n act log (Ok r) kept goes settings session asked answered now =
+    step kind p q n act _ log kept goes settings session asked now answered.leads
+goes_on kind p q n act log (Err (op, fault.Memory)) kept goes settings session asked answered now =
+    unmoved kind p q log settings now answered.leads
+goes_on kind p q n act log (Err (op, fault.TooSmall)) kept goes settings session asked answered now =
+    step kind p q n act _ log kept goes settings session asked now answered.leads
+goes_on kind p q n act log (Err (op, fault.FixLimit)) kept goes settings session asked answered now =
+    step kind p q n act _ log kept goes settings session asked now answered.leads
+goes_on kind p q n act log (Err (op, fault.NotFixed)) kept goes settings session asked answered now =
+    step kind p q n act _ log kept goes settings session asked now answered.leads
+goes_on kind p q n act log (Err (op, fault.BadKey)) kept goes settings session asked answered now =
+    step kind p q n act _ log kept goes settings session asked now answered.leads
+goes_on kind p q n act log (Err (op, fault.CursorOutside)) kept goes settings session asked answered now =
+    step kind p q n act _ log kept goes settings session asked now answered.leads
 
 -- ---- the beginning
-
-pub set_served : (kind : Kind) → IsTrue (serves kind) → kind ≡ Set
-set_served Set h = refl
-set_served OrderedSet h = cc
-set_served Bag h = cc
-set_served DuplicateBag h = cc
 
 pub begins : (o : Settings) (rows : List Row) (fixes : List ℕ) → rows ≡ [] → fixes ≡ replicate o.sessions 0 → opening o ≡ plain_state rows fixes
 begins o rows fixes none free =

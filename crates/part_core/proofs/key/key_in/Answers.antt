@@ -1,5 +1,5 @@
-use Rattle.part_plain.proofs.ActLemmas.{no_field}
-use Rattle.part_plain.proofs.writing.key_in.Goals as goal
+use Rattle.part_core.proofs.FieldLemmas.{no_field}
+use Rattle.part_core.proofs.key.key_in.Goals as goal
 
 pub returns-in-Some : goal.returns-in-Some
 returns-in-Some g c = rw (← c.in-Some.ensures) c.element_at.ensures

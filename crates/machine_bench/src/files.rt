@@ -1,0 +1,62 @@
+//! What a code file costs: its reading, its writing, and its verification.
+use code_file::{decode, encode};
+use mcode::Code;
+use std::alloc::Global;
+use std::time::Instant;
+use verifier::verify;
+
+/// The nanoseconds since a moment.
+fn nanoseconds_since(rt: &HostRuntime, began: Instant) -> Option<u64> {
+    let took = began.elapsed(rt).ok()?;
+    u64::try_from(took.as_nanos()).ok()
+}
+
+/// How many bytes the file of code has.
+fn encoded(alloc: Global, code: &Code) -> Option<usize> {
+    Some(encode(alloc, code).ok()?.len())
+}
+
+/// Writes the line of what encoding takes.
+fn write_encoding(rt: &HostRuntime, code: &Code, lines: &mut String) -> Option<()> {
+    let began = Instant::now(rt).ok()?;
+    let bytes = encoded(rt.alloc(), code)?;
+    let took = nanoseconds_since(rt, began)?;
+    writeln!(lines, "encode {took} ns, {bytes} bytes").ok()
+}
+
+/// The budget of code, none where it isn't typed.
+fn budget_of(alloc: Global, code: Code) -> Option<u64> {
+    Some(u64::from(verify(alloc, code).ok()?.budget()))
+}
+
+/// Writes the line of what verifying takes.
+fn write_verification(rt: &HostRuntime, code: Code, lines: &mut String) -> Option<()> {
+    let began = Instant::now(rt).ok()?;
+    let budget = budget_of(rt.alloc(), code);
+    let took = nanoseconds_since(rt, began)?;
+    match budget {
+        Some(budget) => writeln!(lines, "verify {took} ns, budget {budget}").ok(),
+        None => writeln!(lines, "verify {took} ns, refused").ok(),
+    }
+}
+
+/// Writes the lines of code that was read.
+fn write_code(rt: &HostRuntime, code: Code, lines: &mut String) -> Option<()> {
+    write_encoding(rt, &code, lines)?;
+    write_verification(rt, code, lines)
+}
+
+/// Writes the nanoseconds that a file takes to be decoded, its code to be encoded and to be verified, with the bytes of the file and
+/// the budget of the code; where one of them refuses, that it does.
+pub(crate) fn write(rt: &HostRuntime, file: &[u8], lines: &mut String) -> Option<()> {
+    let began = Instant::now(rt).ok()?;
+    let decoded = decode(rt.alloc(), file);
+    let took = nanoseconds_since(rt, began)?;
+    match decoded {
+        Ok(code) => {
+            writeln!(lines, "decode {took} ns").ok()?;
+            write_code(rt, code, lines)
+        }
+        Err(_fault) => writeln!(lines, "decode {took} ns, refused").ok(),
+    }
+}

@@ -1,0 +1,19 @@
+//! Counts of fixes, one for each session.
+ghost use Rattle.std.specs.Prelude.{◌≡◌, IfOk, replicate};
+ghost use Rattle.part_core.specs.Rows.{is_fixed};
+
+use std::alloc::{AllocError, Allocator};
+
+/// No fixes of so many sessions.
+pub fn no_fixes<A: Allocator>(alloc: A, sessions: u8) -> Result<Vec<u16, A>, AllocError>
+    ensures { IfOk result (λ fixes. fixes.items ≡ replicate sessions 0) }
+{
+    vec![in alloc; 0; usize::from(sessions)]
+}
+
+/// Whether some session fixes the part.
+pub fn is_fixed(fixes: &[u16]) -> bool
+    ensures { result ≡ is_fixed fixes.now }
+{
+    fixes.iter().any(|count| *count > 0)
+}
