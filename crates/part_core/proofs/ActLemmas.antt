@@ -6,6 +6,7 @@ use Rattle.std.specs.Map.{keys_of}
 use Rattle.std.proofs.lemmas.Bool.{and_parts, le-ltb}
 use Rattle.std.proofs.lemmas.List.{get_or-set_same, length-set}
 use Rattle.std.proofs.lemmas.List.Folds.{list_any_at}
+use Rattle.std.proofs.lemmas.List.Elements.{All-nil, All-cons, All-head, All-tail}
 use Rattle.term_core.specs.Datum.{Datum}
 use Rattle.term_core.specs.Datum.Datum.{nil}
 use Rattle.operand.specs.Order.{is_same}
@@ -25,6 +26,7 @@ use Rattle.part_core.specs.Replies.{reply_of}
 use Rattle.part_core.specs.States.{IsState}
 use Rattle.std.specs.Option.{option_map}
 use Rattle.part_core.specs.Plain.{kept_rows, plain_state, Leads, IsPutRefused}
+use Rattle.part_core.proofs.KeyLemmas.{by_test}
 use Rattle.part_core.proofs.LeadLemmas.{replied, read, refused, live_stay}
 
 pub lookup_leads : (kind : Kind) (o : Settings) (rows : List Row) (fixes : List ℕ) (n : ℕ) (k : Datum) (os : List Datum) → os ≡ objects_at rows k → Leads kind o (plain_state rows fixes) n (Lookup k) (Some (Replied (Objects os))) (plain_state rows fixes)
@@ -63,6 +65,14 @@ no_object_leads kind o rows fixes n t none =
     refused kind o (plain_state rows fixes) n (DeleteObject t) TooSmall (λ _ _. let no : is_object o t ≡ false = ap is_some none in rw no refl)
 
 -- ---- putting objects in
+
+-- rows stay live where an object is put at a key
+pub all_live_at : (k t : Datum) (rows : List Row) → All (λ r. IsTrue (is_live r)) rows → All (λ r. IsTrue (is_live r)) (rows_at_key k (λ os. t ∷ []) rows)
+all_live_at k t [] a = All-nil (λ r. IsTrue (is_live r))
+all_live_at k t (r ∷ rows) a =
+    All-cons (λ (v : Row). IsTrue (is_live v)) _ _
+    (by_test (is_same k r.0) _ (λ holds. rw holds refl) (λ fails. rw fails (All-head (λ (v : Row). IsTrue (is_live v)) r rows a)))
+    (all_live_at k t rows (All-tail (λ (v : Row). IsTrue (is_live v)) r rows a))
 
 -- an object was put in
 abbrev pub WasPut : Kind → Settings → Datum → List Row → List Row → Type 0

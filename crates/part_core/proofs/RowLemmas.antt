@@ -141,3 +141,14 @@ among_passing c rows k there =
     of : (b : Bool) (found : Option (List Datum)) → is_some found ≡ true → is_some (if b then found else None) ≡ b
     of true found h = h
     of false found h = refl
+
+-- rows without the key stay as they are
+pub unwritten : (k : Datum) (f : List Datum → List Datum) (rows : List Row) → has_row rows k ≡ false → rows_at_key k f rows ≡ rows
+unwritten k f [] none = refl
+unwritten k f (r ∷ rows) none =
+    by_test (is_same k r.0) _ (λ holds. absurd (true≢false (rw holds at none))) (λ fails. rw fails (ap (λ rs. r ∷ rs) (unwritten k f rows (rw fails at none))))
+
+-- keys that none of the rows has
+pub apart : (k : Datum) (rows : List Row) → AllByRecursion (λ j. is_same k j ≡ false) (keys_of rows) → has_row rows k ≡ false
+apart k [] h = refl
+apart k (r ∷ rows) h = rw h.0 (apart k rows h.1)

@@ -7,7 +7,7 @@
 //! - `kind`, `settings`: what a table holds of a key, and what all its parts have in common.
 //! - `op`, `reply`, `fault`: what a session asks of a part, and what it is answered; `specs/Ops.antt` says what these stand
 //!   for in a history. `entry`: an entry, as contracts see it.
-//! - `part`: the trait. `specs/Plain.antt`, `fixes`, `key`: what the parts that keep it have in common.
+//! - `part`: the trait. `specs/Plain.antt`, `fixes`, `held`, `key`, `room`: what the parts that keep it have in common.
 //! - `laws`: that the content of a history is that of the rows, that a visit answers for the keys that it covers, what
 //!   holds of every state and what stays while a part is fixed.
 #![tactic(auto)]
@@ -15,17 +15,20 @@
 mod entry;
 mod fault;
 mod fixes;
+mod held;
 mod key;
 mod kind;
 mod laws;
 mod op;
 mod part;
 mod reply;
+mod room;
 mod settings;
 
 pub use entry::Entry;
 pub use fault::{Fault, OpenFault};
 pub use fixes::{is_fixed, no_fixes};
+pub use held::Held;
 pub use key::key_in;
 pub use kind::Kind;
 pub use laws::{
@@ -35,4 +38,5 @@ pub use laws::{
 pub use op::{Cursor, PartOp, Scope};
 pub use part::Part;
 pub use reply::Reply;
+pub use room::push_within;
 pub use settings::Settings;

@@ -11,6 +11,7 @@ use Rattle.operand.specs.Order.{is_same}
 use Rattle.part_core.specs.Rows.{Row, has_row, objects_at, rows_at_key}
 use Rattle.part_plain.specs.Places.{IsPlace}
 use Rattle.part_core.proofs.KeyLemmas.{by_test, same_is}
+use Rattle.part_core.proofs.RowLemmas.{unwritten, apart}
 
 -- rows without the key hide none behind them
 pub lookup_past : (k : Datum) (before rest : List Row) → has_row before k ≡ false → lookup (is_same k) (before ++ rest) ≡ lookup (is_same k) rest
@@ -22,16 +23,6 @@ lookup_past k (r ∷ rows) rest none =
 pub none_more : (k : Datum) (before : List Row) (r : Row) → has_row before k ≡ false → is_same k r.0 ≡ false → has_row (before ++ r ∷ []) k ≡ false
 none_more k before r none other =
     ap is_some (lookup_past k before (r ∷ []) none) ∙ rw other refl
-
--- rows without the key stay as they are
-pub unwritten : (k : Datum) (f : List Datum → List Datum) (rows : List Row) → has_row rows k ≡ false → rows_at_key k f rows ≡ rows
-unwritten k f [] none = refl
-unwritten k f (r ∷ rows) none =
-    by_test (is_same k r.0) _ (λ holds. absurd (true≢false (rw holds at none))) (λ fails. rw fails (ap (λ rs. r ∷ rs) (unwritten k f rows (rw fails at none))))
-
-apart : (k : Datum) (rows : List Row) → AllByRecursion (λ j. is_same k j ≡ false) (keys_of rows) → has_row rows k ≡ false
-apart k [] h = refl
-apart k (r ∷ rows) h = rw h.0 (apart k rows h.1)
 
 -- where keys are apart, writing at a key changes its row alone
 written_at : (k : Datum) (f : List Datum → List Datum) (before : List Row) (row : Row) (after : List Row) → IsDistinct is_same (keys_of (before ++ row ∷ after)) → has_row before k ≡ false → is_same k row.0 ≡ true → rows_at_key k f (before ++ row ∷ after) ≡ before ++ (row.0, f row.1) ∷ after

@@ -14,14 +14,7 @@ use Rattle.part_core.specs.Rows.{Row, is_live, has_row, rows_at_key, with_object
 use Rattle.part_core.proofs.KeyLemmas.{by_test}
 use Rattle.part_plain.specs.Places.{IsPlace}
 use Rattle.part_plain.proofs.PlaceLemmas.{place_there, written_there}
-use Rattle.part_core.proofs.ActLemmas.{object_key}
-
-all_live_at : (k t : Datum) (rows : List Row) → All (λ r. IsTrue (is_live r)) rows → All (λ r. IsTrue (is_live r)) (rows_at_key k (λ os. t ∷ []) rows)
-all_live_at k t [] a = All-nil (λ r. IsTrue (is_live r))
-all_live_at k t (r ∷ rows) a =
-    All-cons (λ (v : Row). IsTrue (is_live v)) _ _
-    (by_test (is_same k r.0) _ (λ holds. rw holds refl) (λ fails. rw fails (All-head (λ (v : Row). IsTrue (is_live v)) r rows a)))
-    (all_live_at k t rows (All-tail (λ (v : Row). IsTrue (is_live v)) r rows a))
+use Rattle.part_core.proofs.ActLemmas.{object_key, all_live_at}
 
 -- in a set what is put in takes the place of what was there
 pub put_there : (o : Settings) (t : Datum) (rows : List Row) → o.kind ≡ Set → has_row rows (key_of o t) ≡ true → with_object o t rows ≡ rows_at_key (key_of o t) (λ os. t ∷ []) rows

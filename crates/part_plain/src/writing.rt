@@ -1,5 +1,5 @@
 //! Operations that write at one key.
-ghost use Rattle.std.specs.Prelude.{ℕ, vec_len, vec_capacity, ◌≡◌, [], List, MatchResult, IfOk, IfErr, OnErr, IsTrue, ◌&&◌, ◌<◌, ◌++◌, ◌∷◌};
+ghost use Rattle.std.specs.Prelude.{ℕ, vec_len, vec_capacity, ◌≡◌, [], List, MatchResult, IfOk, IfErr, OnErr, IsTrue, ◌&&◌, ◌<◌};
 ghost use Rattle.std.specs.List.{IsDistinct};
 ghost use Rattle.std.specs.Map.{keys_of};
 ghost use Rattle.operand.specs.Order.{is_same};
@@ -12,7 +12,7 @@ ghost use Rattle.part_core.specs.Plain.{plain_state, IsAnswered, IsPutRefused};
 
 use crate::row::Row;
 use crate::rows::{clear, clear_equal, is_member, place_of, settle, take};
-use part_core::{Fault, PartOp, Reply, Settings, key_in};
+use part_core::{Fault, PartOp, Reply, Settings, key_in, push_within};
 use std::alloc::{AllocError, Allocator};
 use term_core::Term;
 
@@ -27,17 +27,6 @@ fn has_object<A: Allocator>(settings: Settings, rows: &[Row<A>], object: &Term<A
     match key_in(settings.keypos, object) {
         Some(key) => is_member(rows, key),
         None => false,
-    }
-}
-
-/// Puts what there is room for behind the others.
-fn push_within<T, A: Allocator>(list: &mut Vec<T, A>, value: T)
-    requires { vec_len list.old < vec_capacity list.old }
-    ensures { list.new.items ≡ list.old.items ++ value ∷ [] }
-{
-    match list.push(value) {
-        Ok(()) => {}
-        Err(_) => unreachable!(),
     }
 }
 

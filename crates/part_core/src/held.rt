@@ -1,0 +1,91 @@
+//! The object of a key.
+use std::alloc::{AllocError, Allocator, Global};
+use std::marker::Model;
+use term_core::Term;
+
+/// The object that a set holds of a key, where it holds one; its row is dead where it doesn't.
+#[derive(Drop)]
+pub struct Held<A: Allocator = Global> {
+    object: Option<Term<A>>,
+}
+
+impl<A: Allocator> Model for Held<A> {
+    ghost use Rattle.std.specs.Prelude.{List};
+    ghost use Rattle.std.specs.Coded.{codes};
+    ghost use Rattle.std.specs.Option.{option_to_list};
+    ghost use Rattle.term_core.specs.Datum.{Datum};
+    ghost use Rattle.term_core.specs.DatumCode.{datum_code};
+
+    ghost Value = { List Datum };
+
+    ghost coded = { Prim.hlevel (codes, datum_code) };
+
+    ghost view = { λ held. option_to_list held.object };
+}
+
+impl<A: Allocator> Held<A> {
+    ghost use Rattle.std.specs.Prelude.{◌≡◌, [], ◌∷◌, if◌then◌else◌, IfOk};
+    ghost use Rattle.std.specs.Option.{option_to_list, option_copied};
+    ghost use Rattle.part_core.specs.Rows.{is_empty, objects_without};
+
+    /// An object.
+    pub fn new(object: Term<A>) -> Self
+        ensures { result ≡ object ∷ [] }
+    {
+        Held {
+            object: Some(object),
+        }
+    }
+
+    /// Whether there is none.
+    pub fn is_empty(&self) -> bool
+        ensures { result ≡ is_empty self.now }
+    {
+        self.object.is_none()
+    }
+
+    /// The object, if there is one.
+    pub fn object(&self) -> Option<&Term<A>>
+        ensures { option_to_list (option_copied result) ≡ self.now }
+    {
+        self.object.as_ref()
+    }
+
+    /// The object, if there is one, handed over.
+    pub fn into_object(self) -> Option<Term<A>>
+        ensures { option_to_list result ≡ self }
+    {
+        self.object
+    }
+
+    /// Takes the object out.
+    pub fn take(&mut self) -> Option<Term<A>>
+        ensures object { option_to_list result ≡ self.old }
+        ensures left { self.new ≡ [] }
+    {
+        self.object.take()
+    }
+
+    /// Whether the object is equal to a term.
+    pub fn has(&self, object: &Term<A>) -> bool
+        ensures { objects_without object.now self.now ≡ (if result then [] else self.now) }
+    {
+        match &self.object {
+            Some(present) => object == present,
+            None => false,
+        }
+    }
+
+    /// The object in a list, in memory of its own.
+    pub fn objects(&self, alloc: A) -> Result<Vec<Term<A>, A>, AllocError>
+    where
+        A: Copy,
+        ensures { IfOk result (λ objects. objects.items ≡ self.now) }
+    {
+        let mut objects = Vec::new(alloc);
+        if let Some(object) = &self.object {
+            objects.push(object.copy(alloc)?)?;
+        }
+        Ok(objects)
+    }
+}

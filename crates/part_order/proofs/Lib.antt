@@ -1,0 +1,4 @@
+pub mod TreeLemmas
+pub mod WriteLemmas
+pub mod WalkLemmas
+pub mod SeenLemmas
