@@ -10,3 +10,4 @@ pub mod StayLemmas
 pub mod LeadLemmas
 pub mod ActLemmas
 pub mod FieldLemmas
+pub mod ChosenLemmas

@@ -1,16 +1,16 @@
 //! Visits that answer.
-ghost use Rattle.std.specs.Prelude.{ℕ, ◌≡◌, ◌≤◌, ◌++◌, ◌||◌, nat_eq, List, IfOk, IfErr, length};
+ghost use Rattle.std.specs.Prelude.{ℕ, ◌≡◌, ◌≤◌, ◌++◌, ◌||◌, nat_eq, [], List, IfOk, filter, length, sum_by, if◌then◌else◌};
 ghost use Rattle.std.specs.Option.{option_copied, option_map, option_to_list};
 ghost use Rattle.mcode.specs.Answer.{answer_of};
 ghost use Rattle.part_core.specs.Acts.Cursor.{Behind};
-ghost use Rattle.part_core.specs.Acts.Purpose.{Answers};
+ghost use Rattle.part_core.specs.Acts.Purpose.{Answers, Counts};
 ghost use Rattle.part_core.specs.Ops.{cursor_of};
-ghost use Rattle.part_core.specs.Visits.{answers_of, most_rows, next_key, rows_up_to, yields, yield_of_rows};
+ghost use Rattle.part_core.specs.Visits.{answers_of, is_true, most_rows, next_key, rows_up_to, yields, yield_of_rows};
 ghost use Rattle.part_order.specs.Seen.{rows_from};
 
 use crate::looking::look_from;
 use crate::rows::Rows;
-use machine::run;
+use machine::{run, run_true};
 use part_core::{Cursor, Held};
 use std::alloc::{AllocError, Allocator};
 use term_core::Term;
@@ -99,4 +99,63 @@ pub(crate) fn answers<A: Allocator + Copy>(
         }
     }
     Ok((found, None))
+}
+
+/// Whether the object of a row answers true.
+fn is_chosen<A: Allocator + Copy>(
+    alloc: A,
+    held: &Held<A>,
+    code: &Verified<A>,
+) -> Result<bool, AllocError>
+    ensures chosen { IfOk result (λ chosen. filter (is_true code.now) held.now ≡ (if chosen then held.now else [])) }
+    ensures one { IfOk result (λ chosen. length (filter (is_true code.now) held.now) ≡ (if chosen then 1 else 0)) }
+{
+    match held.object() {
+        Some(object) => match run_true(alloc, code, object) {
+            Ok((holds, _executed)) => Ok(holds),
+            Err(AllocError) => Err(AllocError),
+        },
+        None => Ok(false),
+    }
+}
+
+/// How many objects of a row answer true.
+fn count_chosen<A: Allocator + Copy>(
+    alloc: A,
+    held: &Held<A>,
+    code: &Verified<A>,
+) -> Result<u64, AllocError>
+    ensures count { IfOk result (λ count. count ≡ length (yields Counts code.now held.now)) }
+    ensures one { IfOk result (λ count. count ≤ 1) }
+{
+    if is_chosen(alloc, held, code)? {
+        return Ok(1);
+    }
+    Ok(0)
+}
+
+/// How many objects answer true on the rows that a visit looks at, from those behind a key on, and where the walk goes on.
+pub(crate) fn count<A: Allocator + Copy>(
+    alloc: A,
+    rows: &Rows<A>,
+    behind: Option<&Term<A>>,
+    code: &Verified<A>,
+    wanted: u64,
+) -> Result<(u64, Option<Cursor<A>>), AllocError>
+    requires { 1 ≤ wanted }
+    ensures count { IfOk result (λ r. r.0 ≡ sum_by (answers_of Counts code.now)
+        (rows_up_to (answers_of Counts code.now) wanted most_rows (rows_from (option_copied behind.entry) rows.now.entries))) }
+    ensures next { IfOk result (λ r. option_map cursor_of r.1 ≡ next_key (answers_of Counts code.now) wanted
+        (rows_up_to (answers_of Counts code.now) wanted most_rows (rows_from (option_copied behind.entry) rows.now.entries))) }
+{
+    let mut left = wanted;
+    let mut room = MOST_ROWS;
+    for (key, held) in look_from(rows, behind) {
+        left -= count_chosen(alloc, held, code)?;
+        room -= 1;
+        if is_over(left, room) {
+            return Ok((wanted - left, Some(cursor_behind(alloc, key)?)));
+        }
+    }
+    Ok((wanted - left, None))
 }

@@ -37,6 +37,7 @@ use Rattle.part_core.proofs.CoverLemmas.{rows_there}
 use Rattle.part_plain.specs.Looks.{looks_at, looked_at, is_chosen, without_chosen}
 use Rattle.part_core.specs.Plain.{kept_rows}
 use Rattle.part_core.specs.Plain.{plain_state, Leads}
+use Rattle.part_core.proofs.ChosenLemmas.{chosen_count, holds_is}
 use Rattle.part_core.proofs.LeadLemmas.{replied, read, refused}
 
 -- ---- cursors
@@ -90,15 +91,6 @@ yield_more o purpose p scope rows r =
     of false = refl
 
 -- ---- rows with one object at most
-
-chosen_count : (p : Program) (os : List Datum) → length os ≤ 1 → length (filter (is_true p) os) ≡ (if list_any (is_true p) os then 1 else 0)
-chosen_count p [] few = refl
-chosen_count p (t ∷ []) few = of (is_true p t)
-  where
-    of : (b : Bool) → length (if b then t ∷ [] else []) ≡ (if b || false then 1 else 0)
-    of true = refl
-    of false = refl
-chosen_count p (t ∷ u ∷ os) few = absurd (omega (arith, few))
 
 chosen_left : (p : Program) (os : List Datum) → length os ≤ 1 → filter (λ t. not (is_true p t)) os ≡ (if list_any (is_true p) os then [] else os)
 chosen_left p [] few = of (list_any (is_true p) [])
@@ -213,23 +205,6 @@ marked chosen rows marks i d e is within =
     of [] j below = absurd (omega (arith, below))
     of (r ∷ rs) zero below = refl
     of (r ∷ rs) (suc j) below = of rs j (omega (arith, below))
-
-pub holds_is : (p : Program) (t : Datum) (b : Bool) → (IsTrue b ↔ (answer_of p t ≡ Some (boolean true))) → b ≡ is_true p t
-holds_is p t b both = of (answer_of p t) b both
-  where
-    of : (answer : Option Datum) (x : Bool) → (IsTrue x ↔ (answer ≡ Some (boolean true))) → x ≡ option_map_or (is_same (boolean true)) answer false
-    of None true both = absurd (some_none (both.0 refl))
-      where
-        some_none : None ≡ Some (boolean true) → ⊥
-        some_none e = cc
-    of None false both = refl
-    of (Some d) x both =
-        by_test (is_same (boolean true) d) _
-        (λ same. both.1 (ap Some (sym (same_is (boolean true) d same))) ∙ sym same)
-        (λ apart. by_test x _ (λ told. absurd (true≢false (sym (same_from (boolean true) d (sym (some_is (both.0 told)))) ∙ apart))) (λ silent. silent ∙ sym apart))
-      where
-        some_is : Some d ≡ Some (boolean true) → d ≡ boolean true
-        some_is e = cc
 
 pub chosen_is : (o : Settings) (scope : Scope) (p : Program) (r : Row) (t : Datum) (looks b : Bool) → looks ≡ looks_at o scope r.0 → looks ≡ true → (t ∷ []) ≡ r.1 → (IsTrue b ↔ (answer_of p t ≡ Some (boolean true))) → b ≡ is_chosen o scope p r
 chosen_is o scope p r t looks b is looked object both =
