@@ -4,7 +4,7 @@ use Rattle.std.specs.Prelude.{Bool, true, false, ◌&&◌, nat_lt, IsTrue, Some,
 use Rattle.std.specs.List.{IsDistinct}
 use Rattle.std.specs.Map.{keys_of}
 use Rattle.std.proofs.lemmas.Bool.{and_parts, le-ltb}
-use Rattle.std.proofs.lemmas.List.{get_or-set_same, length-set}
+use Rattle.std.proofs.lemmas.List.{get_or-set_same, length-set, set-get_or}
 use Rattle.std.proofs.lemmas.List.Folds.{list_any_at}
 use Rattle.std.proofs.lemmas.List.Elements.{All-nil, All-cons, All-head, All-tail}
 use Rattle.term_core.specs.Datum.{Datum}
@@ -175,3 +175,9 @@ pub release_leads : (kind : Kind) (o : Settings) (rows now : List Row) (fixes : 
 unfolding reply_of
 release_leads kind o rows now fixes n is =
     replied kind o rows now fixes (set fixes n 0) n Release Nothing (λ _ _. refl) refl (λ _ _. is)
+
+-- a session that fixes nothing has nothing to release
+pub release_stays : (kind : Kind) (o : Settings) (rows : List Row) (fixes : List ℕ) (n : ℕ) → get_or fixes n 0 ≡ 0 → Leads kind o (plain_state rows fixes) n Release (Some (Replied Nothing)) (plain_state rows fixes)
+unfolding reply_of
+release_stays kind o rows fixes n none =
+    read kind o rows fixes n Release Nothing (λ _ _. refl) (ap (λ count. set fixes n count) (sym none) ∙ set-get_or fixes n 0) refl

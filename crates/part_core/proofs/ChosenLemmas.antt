@@ -1,6 +1,6 @@
 -- Objects that answer true.
 use Rattle.std.proofs.Common.{◌≡◌, ◌↔◌, ◌≤◌, List, [], ◌∷◌, refl, ap, sym, ◌∙◌, length, arith}
-use Rattle.std.specs.Prelude.{Bool, true, false, ◌||◌, if◌then◌else◌, IsTrue, Option, Some, None, filter}
+use Rattle.std.specs.Prelude.{Bool, true, false, not, ◌||◌, if◌then◌else◌, IsTrue, Option, Some, None, filter}
 use Rattle.std.specs.List.{list_any}
 use Rattle.std.specs.Option.{option_map_or}
 use Rattle.std.proofs.lemmas.Bool.{true≢false}
@@ -21,6 +21,20 @@ chosen_count p (t ∷ []) few = of (is_true p t)
     of true = refl
     of false = refl
 chosen_count p (t ∷ u ∷ os) few = absurd (omega (arith, few))
+
+-- what is left of one object at most, where one that answers true goes
+pub chosen_left : (p : Program) (os : List Datum) → length os ≤ 1 → filter (λ t. not (is_true p t)) os ≡ (if list_any (is_true p) os then [] else os)
+chosen_left p [] few = of (list_any (is_true p) [])
+  where
+    of : (b : Bool) → [] ≡ (if b then [] else (let none : List Datum = [] in none))
+    of true = refl
+    of false = refl
+chosen_left p (t ∷ []) few = of (is_true p t)
+  where
+    of : (b : Bool) → (if not b then t ∷ [] else []) ≡ (if b || false then [] else t ∷ [])
+    of true = refl
+    of false = refl
+chosen_left p (t ∷ u ∷ os) few = absurd (omega (arith, few))
 
 -- whether code's answer is the atom true
 pub holds_is : (p : Program) (t : Datum) (b : Bool) → (IsTrue b ↔ (answer_of p t ≡ Some (boolean true))) → b ≡ is_true p t

@@ -30,7 +30,7 @@ use Rattle.part_core.proofs.StateLemmas.{visited_is_covered, visit_said}
 use Rattle.part_core.proofs.HistoryLemmas.{legal_front_from, legal_rest_from, state_of, content_of}
 
 -- each row is found by its key
-rows_found : (rows : List Row) → IsDistinct is_same (keys_of rows) → All (λ r. objects_at rows r.0 ≡ r.1) rows
+pub rows_found : (rows : List Row) → IsDistinct is_same (keys_of rows) → All (λ r. objects_at rows r.0 ≡ r.1) rows
 rows_found [] d = All-nil (λ (r : Row). objects_at [] r.0 ≡ r.1)
 rows_found (r ∷ rows) d =
     All-cons (λ (v : Row). objects_at (r ∷ rows) v.0 ≡ v.1) r rows (rw (same_from r.0 r.0 refl) refl)

@@ -1,6 +1,6 @@
 -- What operations leave of a part whose slots don't grow, and that they go on its history.
 use Rattle.std.proofs.Common.{◌≡◌, ℕ, ◌<◌, List, [], ◌∷◌, ◌++◌, refl, ap, sym, subst, ◌∙◌, length}
-use Rattle.std.specs.Prelude.{Bool, true, false, not, ◌&&◌, ◌||◌, if◌then◌else◌, nat_lt, IsTrue, Some, Result, Ok, Err, filter, replicate, All}
+use Rattle.std.specs.Prelude.{Bool, true, false, not, ◌&&◌, ◌||◌, if◌then◌else◌, nat_lt, IsTrue, Some, Result, Ok, Err, filter, get_or, replicate, All}
 use Rattle.std.proofs.lemmas.List.{append-nil}
 use Rattle.std.proofs.lemmas.List.Elements.{All-head, All-tail}
 use Rattle.part_core.specs.declared.kind.Kind.{Kind}
@@ -13,11 +13,11 @@ use Rattle.part_core.specs.Acts.{Act, Said, Refusal, Answer, Entry, History, IsA
 use Rattle.part_core.specs.Acts.Answer.{Replied, Refused}
 use Rattle.part_core.specs.Rows.{Row, PartState, opening, is_live, is_fixed}
 use Rattle.part_core.specs.Ops.{entries_made}
-use Rattle.part_core.specs.Replies.{reply_of}
+use Rattle.part_core.specs.Replies.{reply_of, fixes_of}
 use Rattle.part_core.specs.After.{after, rows_after, counts_after, state_with}
 use Rattle.part_core.specs.States.{IsState}
-use Rattle.part_core.specs.Legal.{state_after, IsLegal}
-use Rattle.part_core.specs.Laws.{StatesAreKept, LegalGoesOn}
+use Rattle.part_core.specs.Legal.{state_after, IsLegal, fix_count}
+use Rattle.part_core.specs.Laws.{StatesAreKept, LegalGoesOn, FixesAreCounted}
 use Rattle.part_core.proofs.StateLemmas.{after_replied, after_refused}
 use Rattle.part_core.proofs.HistoryLemmas.{state_more}
 use Rattle.part_core.specs.Plain.{kept_rows, plain_state, alone, Plain, IsAfter, Leads, IsAnswered}
@@ -113,3 +113,9 @@ goes_on kind p q n act log (Err (op, fault.CursorOutside)) kept goes settings se
 pub begins : (o : Settings) (rows : List Row) (fixes : List ℕ) → rows ≡ [] → fixes ≡ replicate o.sessions 0 → opening o ≡ plain_state rows fixes
 begins o rows fixes none free =
     ap (λ rs. plain_state rs (replicate o.sessions 0)) (sym none) ∙ ap (plain_state rows) (sym free)
+
+-- ---- counts of fixes
+
+pub counts_are : (kind : Kind) (p : Plain) (n : ℕ) (log : History) → FixesAreCounted → n < p.settings.sessions → IsAfter kind p log → get_or p.fixes n 0 ≡ fix_count n log
+counts_are kind p n log counted within now =
+    ap (λ (s : PartState). fixes_of s n) (sym now.0.state) ∙ counted p.settings log n now.1 within

@@ -11,3 +11,4 @@ pub mod LeadLemmas
 pub mod ActLemmas
 pub mod FieldLemmas
 pub mod ChosenLemmas
+pub mod LiveLemmas

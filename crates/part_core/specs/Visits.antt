@@ -108,3 +108,7 @@ unfoldable pub walk_order : Settings → ℕ → List Row → List Row
 walk_order o base rows =
     if is_ordered o.kind then rows
     else flat_map (λ class. in_class o base class rows) (range_with_len 0 base)
+
+-- the objects of a part, in the order of a walk that begins
+abbrev pub walked_objects : Settings → PartState → List Datum
+walked_objects o s = flat_map (λ r. r.1) (walk_order o s.base s.rows)

@@ -1,5 +1,5 @@
 //! Counts of fixes, one for each session.
-ghost use Rattle.std.specs.Prelude.{◌≡◌, IfOk, replicate};
+ghost use Rattle.std.specs.Prelude.{◌≡◌, ◌<◌, IfOk, get_or, length, replicate};
 ghost use Rattle.part_core.specs.Rows.{is_fixed};
 
 use std::alloc::{AllocError, Allocator};
@@ -16,4 +16,12 @@ pub fn is_fixed(fixes: &[u16]) -> bool
     ensures { result ≡ is_fixed fixes.now }
 {
     fixes.iter().any(|count| *count > 0)
+}
+
+/// How often a session fixes the part.
+pub fn fixes_at(fixes: &[u16], session: u8) -> u16
+    requires { session < length fixes.now }
+    ensures { result ≡ get_or fixes.now session 0 }
+{
+    fixes[usize::from(session)]
 }

@@ -27,7 +27,7 @@ mod settings;
 
 pub use entry::Entry;
 pub use fault::{Fault, OpenFault};
-pub use fixes::{is_fixed, no_fixes};
+pub use fixes::{fixes_at, is_fixed, no_fixes};
 pub use held::Held;
 pub use key::key_in;
 pub use kind::Kind;
@@ -37,6 +37,6 @@ pub use laws::{
 };
 pub use op::{Cursor, PartOp, Scope};
 pub use part::Part;
-pub use reply::Reply;
+pub use reply::{Reply, is_counted};
 pub use room::push_within;
 pub use settings::Settings;

@@ -1,18 +1,20 @@
 //! The contract that every part of a table keeps.
 ghost use Rattle.std.specs.Prelude.{ℕ, ◌≡◌, ◌≢◌, ◌<◌, ◌++◌, Bool, IsTrue, IfOk, IfErr, IsErrOf, List, []};
 ghost use Rattle.part_core.specs.Acts.{Entry as PastEntry, IsAsked};
-ghost use Rattle.part_core.specs.Legal.{IsLegal};
+ghost use Rattle.part_core.specs.Legal.{IsLegal, fix_count, state_after};
 ghost use Rattle.part_core.specs.Ops.{act_of, entries_made, takes_no_memory};
 ghost use Rattle.part_core.specs.declared.kind.Kind.{Kind};
 ghost use Rattle.part_core.specs.declared.settings.Settings.{Settings};
 ghost use Rattle.part_core.specs.Served.{settings_with, IsServed};
+ghost use Rattle.part_core.specs.Visits.{walked_objects};
 
 use crate::fault::{Fault, OpenFault};
 use crate::kind::Kind;
 use crate::op::PartOp;
 use crate::reply::Reply;
 use crate::settings::Settings;
-use std::alloc::Allocator;
+use std::alloc::{AllocError, Allocator};
+use term_core::Term;
 
 /// One part of a table. Each operation adds its entry to the part's history, which is legal: the answer is that of the
 /// state before it.
@@ -43,6 +45,16 @@ pub trait Part<A: Allocator>: Sized {
         ensures back { IfErr result (λ fault. act_of op.new ≡ act_of op.old) }
         ensures sure { IsTrue (takes_no_memory (act_of op.old))
             → IfErr result (λ fault. fault ≢ Fault.Memory) };
+
+    /// How often a session fixes the part.
+    fn fixes(&self, session: u8) -> u16
+        requires { session < (settings self.now).sessions }
+        ensures { (log : List PastEntry) → is_after self.now log → result ≡ fix_count session log };
+
+    /// The objects, in the order of a walk.
+    fn objects(&self, alloc: A) -> Result<Vec<Term<A>, A>, AllocError>
+        ensures { IfOk result (λ objects. (log : List PastEntry) → is_after self.now log
+            → objects.items ≡ walked_objects (settings self.now) (state_after (settings self.now) log)) };
 
     /// Each history that a part is after is legal.
     ghost legal: { (p : Self) (log : List PastEntry) → is_after p log → IsLegal (settings p) log };

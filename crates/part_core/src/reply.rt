@@ -1,4 +1,7 @@
 //! What a part answers.
+ghost use Rattle.std.specs.Prelude.{◌≤◌};
+ghost use Rattle.part_core.specs.Replies.{most_counted};
+
 use crate::op::Cursor;
 use std::alloc::{Allocator, Global};
 use term_core::Term;
@@ -19,3 +22,8 @@ pub enum Reply<A: Allocator = Global> {
     /// How many a visit counted or deleted, at most 2^64 - 1, and where the walk goes on, none at its end.
     Counted(u64, Option<Cursor<A>>),
 }
+
+/// That a count is one that is answered as it is.
+pub fn is_counted(_count: u64)
+    ensures { _count ≤ most_counted }
+{}

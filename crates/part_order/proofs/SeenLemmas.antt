@@ -1,17 +1,17 @@
 -- How a visit goes on, and where it stops.
 use Rattle.std.proofs.Common.{◌≡◌, ℕ, ◌≤◌, ◌+◌, ◌-◌, List, [], ◌∷◌, ◌++◌, refl, ap, sym, subst, ◌∙◌, length, sum_by, arith}
 use Rattle.std.specs.Prelude.{Bool, true, false, ◌||◌, nat_le, nat_eq, Option, Some, None, option_map, if◌then◌else◌, filter}
-use Rattle.std.specs.List.{last_or}
+use Rattle.std.specs.List.{last_or, list_any}
 use Rattle.std.proofs.lemmas.Bool.{le-leb, lt-leb, eq-eqb, eqb-true, eqb-false, true≢false}
 use Rattle.std.proofs.lemmas.List.{append-nil, append_assoc, length-append}
 use Rattle.std.proofs.lemmas.List.Sums.{sum_by_push}
-use Rattle.std.proofs.lemmas.List.Concat.{flat_map-append}
+use Rattle.std.proofs.lemmas.List.Concat.{flat_map-append, length-flat_map}
 use Rattle.term_core.specs.Datum.{Datum}
 use Rattle.mcode.specs.Program.{Program}
 use Rattle.part_core.specs.Acts.{Purpose}
 use Rattle.part_core.specs.Acts.Cursor.{Behind}
 use Rattle.part_core.specs.Rows.{Row}
-use Rattle.part_core.specs.Visits.{rows_up_to, most_rows, next_key, yields, yield_of_rows, is_true}
+use Rattle.part_core.specs.Visits.{rows_up_to, most_rows, next_key, answers_of, yields, yield_of_rows, is_true}
 use Rattle.part_core.proofs.KeyLemmas.{by_test}
 use Rattle.part_order.specs.Seen.{Seen}
 
@@ -100,14 +100,18 @@ pub yield_more : (purpose : Purpose) (p : Program) (seen : List Row) (r : Row) �
 yield_more purpose p seen r =
     flat_map-append (λ (v : Row). yields purpose p v.1) seen (r ∷ []) ∙ ap (λ xs. yield_of_rows purpose p seen ++ xs) (append-nil (yields purpose p r.1))
 
+-- how much rows yield
+pub yield_count : (purpose : Purpose) (p : Program) (rows : List Row) → sum_by (answers_of purpose p) rows ≡ length (yield_of_rows purpose p rows)
+yield_count purpose p rows = sym (length-flat_map (λ (r : Row). yields purpose p r.1) rows)
+
 -- an object that is chosen, of a key that has it alone
-pub chosen_objects : (p : Program) (t : Datum) (os : List Datum) (b : Bool) → (t ∷ []) ≡ os → b ≡ is_true p t → filter (is_true p) os ≡ (if b then os else [])
-chosen_objects p t os b one is =
-    subst (λ (ts : List Datum). filter (is_true p) ts ≡ (if b then ts else [])) one (of b is)
+pub chosen_any : (p : Program) (t : Datum) (os : List Datum) (b : Bool) → (t ∷ []) ≡ os → b ≡ is_true p t → b ≡ list_any (is_true p) os
+chosen_any p t os b one is =
+    is ∙ of (is_true p t) ∙ ap (list_any (is_true p)) one
   where
-    of : (x : Bool) → x ≡ is_true p t → filter (is_true p) (t ∷ []) ≡ (if x then t ∷ [] else [])
-    of true e = rw (← e) refl
-    of false e = rw (← e) refl
+    of : (x : Bool) → x ≡ (x || false)
+    of true = refl
+    of false = refl
 
 pub chosen_one : (p : Program) (t : Datum) (os : List Datum) (b : Bool) → (t ∷ []) ≡ os → b ≡ is_true p t → length (filter (is_true p) os) ≡ (if b then 1 else 0)
 chosen_one p t os b one is =

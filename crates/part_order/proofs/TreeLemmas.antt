@@ -26,7 +26,7 @@ use Rattle.part_core.proofs.LeadLemmas.{all_kept}
 use Rattle.part_core.proofs.ActLemmas.{object_key, all_live_at}
 
 -- behind the row of a key no other row has it
-no_other : (k : Datum) (r : Row) (rows : List Row) → IsDistinct is_same (keys_of (r ∷ rows)) → is_same k r.0 ≡ true → has_row rows k ≡ false
+pub no_other : (k : Datum) (r : Row) (rows : List Row) → IsDistinct is_same (keys_of (r ∷ rows)) → is_same k r.0 ≡ true → has_row rows k ≡ false
 no_other k r rows d there =
     let same : r.0 ≡ k = sym (same_is k r.0 there) in
     apart k rows (subst (λ (q : Datum). AllByRecursion (λ j. is_same q j ≡ false) (keys_of rows)) same (IsDistinct-head is_same r.0 (keys_of rows) d))

@@ -1,19 +1,22 @@
 -- What operations along a walk lead to.
-use Rattle.std.proofs.Common.{◌≡◌, ℕ, List, refl, ap, sym}
-use Rattle.std.specs.Prelude.{Bool, true, false, ◌&&◌, Option, Some, filter}
+use Rattle.std.proofs.Common.{◌≡◌, ℕ, List, refl, ap, sym, ◌∙◌}
+use Rattle.std.specs.Prelude.{Bool, true, false, ◌&&◌, Option, Some, filter, flat_map}
 use Rattle.std.specs.BTreeMap.Range.{entries_between}
 use Rattle.std.specs.declared.ops.Bound.TheVariants.{Excluded, Unbounded}
 use Rattle.term_core.specs.Datum.{Datum}
 use Rattle.term_core.specs.Order.{datum_cmp}
 use Rattle.part_core.specs.declared.kind.Kind.TheVariants.{OrderedSet}
 use Rattle.part_core.specs.declared.settings.Settings.{Settings}
+use Rattle.part_core.specs.Settings.{is_ordered}
+use Rattle.part_core.specs.Acts.{History}
 use Rattle.part_core.specs.Acts.Act.{First, Next}
 use Rattle.part_core.specs.Acts.Said.{AtKey}
 use Rattle.part_core.specs.Acts.Answer.{Replied}
 use Rattle.part_core.specs.Rows.{Row}
-use Rattle.part_core.specs.Visits.{is_behind, rows_behind, walk_order}
-use Rattle.part_core.specs.Plain.{plain_state, Leads}
+use Rattle.part_core.specs.Visits.{is_behind, rows_behind, walk_order, walked_objects}
+use Rattle.part_core.specs.Plain.{Plain, plain_state, IsAfter, Leads}
 use Rattle.part_core.specs.Replies.{reply_of, first_live}
+use Rattle.part_core.specs.Legal.{state_after}
 use Rattle.part_core.proofs.VisitLemmas.{filter_all}
 use Rattle.part_core.proofs.LeadLemmas.{read}
 
@@ -37,3 +40,10 @@ pub next_leads : (o : Settings) (rows : List Row) (fixes : List ℕ) (n : ℕ) (
 unfolding reply_of
 next_leads o rows fixes n k found is =
     read OrderedSet o rows fixes n (Next k) (AtKey found) (λ kind _. rw kind (ap (λ key. Replied (AtKey key)) (sym is))) refl refl
+
+pub objects_walked : (p : Plain) (log : History) → IsAfter OrderedSet p log → flat_map (λ r. r.1) p.rows ≡ walked_objects p.settings (state_after p.settings log)
+unfolding walk_order
+objects_walked p log now =
+    let ordered : is_ordered p.settings.kind ≡ true = ap is_ordered now.0.served in
+    let whole : flat_map (λ r. r.1) p.rows ≡ walked_objects p.settings (plain_state p.rows p.fixes) = rw ordered refl in
+    whole ∙ ap (walked_objects p.settings) (sym now.0.state)

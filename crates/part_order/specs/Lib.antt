@@ -1,1 +1,3 @@
 pub mod Seen
+pub mod Looks
+pub mod Served

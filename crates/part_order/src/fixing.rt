@@ -46,7 +46,7 @@ pub(crate) fn unfix<'a, A: Allocator>(
     Ok(Reply::Done)
 }
 
-/// Releases all fixes of the session.
+/// Releases all fixes of the session. Where it has none, no row is looked at.
 pub(crate) fn release<'a, A: Allocator>(
     rows: &mut Rows<A>,
     fixes: &mut [u16],
@@ -56,7 +56,11 @@ pub(crate) fn release<'a, A: Allocator>(
     ensures { (o : Settings) → IsAnswered OrderedSet o (plain_state rows.old.entries fixes.old) session Release
         (plain_state rows.new.entries fixes.new) result }
 {
-    fixes[usize::from(session)] = 0;
+    let session = usize::from(session);
+    if fixes[session] == 0 {
+        return Ok(Reply::Done);
+    }
+    fixes[session] = 0;
     settle(rows, fixes);
     Ok(Reply::Done)
 }

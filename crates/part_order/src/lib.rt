@@ -1,18 +1,24 @@
 //! A part of a table whose rows stand in a tree by their keys, for ordered sets.
 //!
-//! What stands so far are its operations: each is answered as the state of its rows and counts does (`IsAnswered` of
-//! `part_core/specs/Plain.antt`; the tree is seen as its rows by rising key). Visits that delete, those of a named key, and the part itself,
-//! which is to keep the trait `Part` of `part_core`, are not there yet, so nothing is public.
+//! The one contract: `OrderPart` keeps the trait `Part` of `part_core`. The state that a part is in is that of its rows and counts
+//! (`plain_state` of `part_core/specs/Plain.antt`; the tree is seen as its rows by rising key).
 //!
-//! - `reading`, `writing`, `fixing`: operations at one key, and on counts of fixes; `walking`: the order of a walk; `visiting`: what a
-//!   visit answers and counts, from the beginning or from behind a key on (`specs/Seen.antt` says how far one has come).
-//! - `rows`: what is done with the row of a key; `looking`: rows from a key on.
+//! - `part`: the type; `answering`: which function answers an operation, each of which is answered as the state does (`IsAnswered`).
+//! - `reading`, `writing`, `fixing`: operations at one key, and on counts of fixes; `walking`: the order of a walk.
+//! - `visiting`: visits that answer and count; `deleting`: those that delete. `specs/Looks.antt` says where one looks, `specs/Seen.antt`
+//!   how far it has come.
+//! - `rows`: what is done with the row of a key; `looking`: where a visit looks, and rows from a key on.
 #![tactic(auto)]
 
+mod answering;
+mod deleting;
 mod fixing;
 mod looking;
+mod part;
 mod reading;
 mod rows;
 mod visiting;
 mod walking;
 mod writing;
+
+pub use part::OrderPart;

@@ -3,3 +3,4 @@ pub mod ServedLemmas
 pub mod PutLemmas
 pub mod WalkLemmas
 pub mod LookLemmas
+pub mod GatherLemmas

@@ -1,9 +1,8 @@
 -- What a visit looks at, answers, counts and deletes.
 use Rattle.std.proofs.Common.{◌≡◌, ◌↔◌, ℕ, ◌<◌, ◌≤◌, ◌+◌, zero, suc, List, [], ◌∷◌, ◌++◌, refl, ap, sym, ◌∙◌, map, length, take, drop, get_or, set, arith, append_assoc, length-append, eq-eqb}
-use Rattle.std.specs.Prelude.{Bool, true, false, not, ◌&&◌, ◌||◌, ◌==◌, if◌then◌else◌, nat_eq, nat_le, nat_lt, min, IsTrue, Option, Some, None, filter, flat_map, All}
+use Rattle.std.specs.Prelude.{Bool, true, false, not, ◌&&◌, ◌||◌, ◌==◌, if◌then◌else◌, nat_eq, nat_le, nat_lt, min, IsTrue, Option, Some, filter, flat_map, All}
 use Rattle.std.specs.List.{list_any, count_by}
 use Rattle.std.specs.Map.{keys_of}
-use Rattle.std.specs.Option.{option_map_or}
 use Rattle.std.proofs.lemmas.Bool.{true≢false, and_parts, eqb-true, leb-true, ltb-true}
 use Rattle.std.proofs.lemmas.List.{append-nil, map-append, length-map, length-take-le, drop_more, take_more, take_all, take_at, get_or_at, set_at}
 use Rattle.std.proofs.lemmas.List.Concat.{flat_map-append}
@@ -11,7 +10,6 @@ use Rattle.std.proofs.lemmas.List.Elements.{All-head, All-tail, All-weaker, filt
 use Rattle.std.proofs.lemmas.List.Sums.{length-filter}
 use Rattle.term_core.specs.Datum.{Datum}
 use Rattle.operand.specs.Operand.{boolean}
-use Rattle.operand.specs.Order.{is_same}
 use Rattle.mcode.specs.Answer.{answer_of}
 use Rattle.mcode.specs.Program.{Program}
 use Rattle.part_core.specs.declared.kind.Kind.TheVariants.{Set}
@@ -30,14 +28,14 @@ use Rattle.part_core.specs.Visits.{bases, is_true, yields, yield_of_rows, visite
 use Rattle.part_core.specs.Replies.{reply_of, most_counted}
 use Rattle.part_core.specs.After.{rows_without_true}
 use Rattle.part_core.specs.States.{IsRow}
-use Rattle.part_core.proofs.KeyLemmas.{by_test, same_is, same_from}
+use Rattle.part_core.proofs.KeyLemmas.{by_test}
 use Rattle.part_core.proofs.RowLemmas.{among_passing}
 use Rattle.part_core.proofs.StateLemmas.{base_least}
 use Rattle.part_core.proofs.CoverLemmas.{rows_there}
 use Rattle.part_plain.specs.Looks.{looks_at, looked_at, is_chosen, without_chosen}
 use Rattle.part_core.specs.Plain.{kept_rows}
 use Rattle.part_core.specs.Plain.{plain_state, Leads}
-use Rattle.part_core.proofs.ChosenLemmas.{chosen_count, holds_is}
+use Rattle.part_core.proofs.ChosenLemmas.{chosen_count, chosen_left, holds_is}
 use Rattle.part_core.proofs.LeadLemmas.{replied, read, refused}
 
 -- ---- cursors
@@ -91,19 +89,6 @@ yield_more o purpose p scope rows r =
     of false = refl
 
 -- ---- rows with one object at most
-
-chosen_left : (p : Program) (os : List Datum) → length os ≤ 1 → filter (λ t. not (is_true p t)) os ≡ (if list_any (is_true p) os then [] else os)
-chosen_left p [] few = of (list_any (is_true p) [])
-  where
-    of : (b : Bool) → [] ≡ (if b then [] else (let none : List Datum = [] in none))
-    of true = refl
-    of false = refl
-chosen_left p (t ∷ []) few = of (is_true p t)
-  where
-    of : (b : Bool) → (if not b then t ∷ [] else []) ≡ (if b || false then [] else t ∷ [])
-    of true = refl
-    of false = refl
-chosen_left p (t ∷ u ∷ os) few = absurd (omega (arith, few))
 
 counted : (o : Settings) (p : Program) (scope : Scope) (rows : List Row) → All (λ r. length r.1 ≤ 1) rows → length (flat_map (λ (r : Row). filter (is_true p) r.1) (looked_at o scope rows)) ≡ length (filter (is_chosen o scope p) rows)
 counted o p scope [] few = refl

@@ -21,6 +21,7 @@ use Rattle.part_core.specs.Visits.{in_class, walk_order}
 use Rattle.part_core.specs.Replies.{reply_of, key_behind, first_live, rows_past}
 use Rattle.part_core.specs.States.{IsState}
 use Rattle.part_core.proofs.KeyLemmas.{by_test, alike}
+use Rattle.part_core.proofs.LiveLemmas.{live_first, live_later}
 use Rattle.part_plain.specs.Looks.{rows_from}
 use Rattle.part_plain.specs.Places.{IsPlace}
 use Rattle.part_core.specs.Plain.{plain_state, Leads}
@@ -40,19 +41,6 @@ live_found o class r rows found =
     let parts = and_parts (is_live r) (class_at o 8 r.0 == class) found in rw (parts.1, parts.0) refl
 
 -- ---- one class after the other
-
-pub live_first : (xs ys : List Row) (k : Datum) → first_live xs ≡ Some k → first_live (xs ++ ys) ≡ Some k
-live_first [] ys k h = cc
-live_first (r ∷ xs) ys k h =
-    by_test (is_live r) _ (λ live. rw live (rw live at h)) (λ dead. rw dead (live_first xs ys k (rw dead at h)))
-
-pub live_later : (xs ys : List Row) → first_live xs ≡ None → first_live (xs ++ ys) ≡ first_live ys
-live_later [] ys h = refl
-live_later (r ∷ xs) ys h =
-    by_test (is_live r) _ (λ live. absurd (some_none (rw live at h))) (λ dead. rw dead (live_later xs ys (rw dead at h)))
-  where
-    some_none : Some r.0 ≡ None → ⊥
-    some_none e = cc
 
 pub rows_step : (o : Settings) (class : ℕ) (rows : List Row) → class < 8 → rows_from o class rows ≡ in_class o 8 class rows ++ rows_from o (class + 1) rows
 rows_step o class rows below =

@@ -5,12 +5,13 @@
 //!
 //! - `part`: the type; `answering`: which function answers an operation, each of which is answered as the state does (`IsAnswered`).
 //! - `reading`, `writing`, `fixing`: operations at one key, and on counts of fixes; `walking`: the order of a walk; `visiting`: visits
-//!   (`specs/Looks.antt` says which rows one looks at).
+//!   (`specs/Looks.antt` says which rows one looks at); `gathering`: all objects.
 //! - `row`: a key with its object; `rows`: rows found by their keys.
 #![tactic(auto)]
 
 mod answering;
 mod fixing;
+mod gathering;
 mod part;
 mod reading;
 mod row;

@@ -4,12 +4,15 @@ ghost use Rattle.part_core.specs.Served.{settings_with, IsServed};
 ghost use Rattle.part_plain.specs.Served.{serves};
 
 use crate::answering::answered;
+use crate::gathering::objects;
 use crate::row::Row;
 use part_core::{
-    Fault, Kind, OpenFault, Part, PartOp, Reply, Settings, legal_goes_on, no_fixes, states_are_kept,
+    Fault, Kind, OpenFault, Part, PartOp, Reply, Settings, fixes_are_counted, fixes_at,
+    legal_goes_on, no_fixes, states_are_kept,
 };
-use std::alloc::{Allocator, Global};
+use std::alloc::{AllocError, Allocator, Global};
 use std::marker::Model;
+use term_core::Term;
 
 /// A part of a set whose rows stand in one list, as they were made: each operation looks through them for its key, by hashes.
 #[derive(Drop)]
@@ -87,8 +90,10 @@ impl<A: Allocator + Copy> Part<A> for PlainPart<A> {
     ghost use Rattle.std.specs.Prelude.{◌≡◌, ◌≢◌, ◌<◌, ◌++◌, IsTrue, IfOk, IfErr, IsErrOf, List, []};
     ghost use Rattle.part_core.specs.declared.kind.Kind.TheVariants.{Set};
     ghost use Rattle.part_core.specs.Acts.{Entry as PastEntry, IsAsked};
+    ghost use Rattle.part_core.specs.Legal.{fix_count, state_after};
     ghost use Rattle.part_core.specs.Ops.{act_of, entries_made, takes_no_memory};
     ghost use Rattle.part_core.specs.Served.{settings_with, IsServed};
+    ghost use Rattle.part_core.specs.Visits.{walked_objects};
     ghost use Rattle.part_core.specs.Plain.{IsAfter};
     ghost use Rattle.part_plain.specs.Served.{serves};
 
@@ -144,5 +149,20 @@ impl<A: Allocator + Copy> Part<A> for PlainPart<A> {
                 Err(fault)
             }
         }
+    }
+
+    fn fixes(&self, session: u8) -> u16
+        requires { session < self.now.settings.sessions }
+        ensures { (log : List PastEntry) → IsAfter Set self.now log → result ≡ fix_count session log }
+    {
+        fixes_are_counted();
+        fixes_at(self.fixes.as_slice(), session)
+    }
+
+    fn objects(&self, alloc: A) -> Result<Vec<Term<A>, A>, AllocError>
+        ensures { IfOk result (λ objects. (log : List PastEntry) → IsAfter Set self.now log
+            → objects.items ≡ walked_objects self.now.settings (state_after self.now.settings log)) }
+    {
+        objects(alloc, self.settings, self.rows.as_slice())
     }
 }

@@ -1,5 +1,5 @@
 //! Visits.
-ghost use Rattle.std.specs.Prelude.{ℕ, ◌≡◌, ◌≤◌, ◌<◌, List, IfOk, IfErr, IsTrue, length, map, filter_map, Bool, if◌then◌else◌, [], ◌++◌};
+ghost use Rattle.std.specs.Prelude.{ℕ, ◌≡◌, ◌<◌, List, IfOk, IfErr, IsTrue, length, map, filter_map, Bool, if◌then◌else◌, [], ◌++◌};
 ghost use Rattle.std.specs.List.{count_by};
 ghost use Rattle.std.specs.Option.{option_map, option_to_list};
 ghost use Rattle.mcode.specs.Answer.{answer_of};
@@ -10,7 +10,6 @@ ghost use Rattle.part_core.specs.Acts.{Purpose};
 ghost use Rattle.part_core.specs.Acts.Act.{Visit};
 ghost use Rattle.part_core.specs.Acts.Purpose.{Answers, Counts, Deletes};
 ghost use Rattle.part_core.specs.Ops.{cursor_of, scope_of};
-ghost use Rattle.part_core.specs.Replies.{most_counted};
 ghost use Rattle.part_core.specs.Rows.{Row as AnyRow};
 ghost use Rattle.part_core.specs.Visits.{is_inside, next_of, yields, yield_of_rows};
 ghost use Rattle.part_plain.specs.Looks.{looks_at, looked_at, is_chosen, without_chosen};
@@ -20,7 +19,7 @@ ghost use Rattle.part_core.specs.Plain.{plain_state, IsAnswered};
 use crate::row::{CLASSES, Row};
 use crate::rows::settle;
 use machine::{run, run_true};
-use part_core::{Cursor, Fault, PartOp, Reply, Scope, Settings};
+use part_core::{Cursor, Fault, PartOp, Reply, Scope, Settings, is_counted};
 use std::alloc::{AllocError, Allocator};
 use term_core::Term;
 use verifier::Verified;
@@ -231,11 +230,6 @@ pub(crate) fn visit_count<'a, A: Allocator + Copy>(
         Err(AllocError) => Err((PartOp::VisitCount(code, scope, wanted), Fault::Memory)),
     }
 }
-
-/// That a count is one that is answered as it is.
-fn is_counted(_count: u64)
-    ensures { _count ≤ most_counted }
-{}
 
 /// Which rows are chosen.
 fn marks<A: Allocator + Copy>(

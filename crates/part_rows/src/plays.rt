@@ -4,6 +4,7 @@ use crate::replies::open_fault_text;
 use crate::steps::{Setting, steps_text};
 use crate::turns::{Options, made};
 use part_core::{Kind, OpenFault, Part};
+use part_order::OrderPart;
 use part_plain::PlainPart;
 use row_terms::{Calls, elements, is_atom, short, swept, word, written};
 use std::alloc::{Allocator, Global};
@@ -106,6 +107,10 @@ fn outcome_of<A: Allocator + Copy>(
     match call {
         "set" => steps_row::<A, PlainPart<A>>(alloc, heap, Kind::Set, row, is_scarce),
         "make_set" => options_row::<A, PlainPart<A>>(alloc, heap, row, is_scarce),
+        "ordered_set" => {
+            steps_row::<A, OrderPart<A>>(alloc, heap, Kind::OrderedSet, row, is_scarce)
+        }
+        "make_ordered_set" => options_row::<A, OrderPart<A>>(alloc, heap, row, is_scarce),
         _ => None,
     }
 }

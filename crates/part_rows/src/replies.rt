@@ -26,8 +26,8 @@ fn next_text<A: Allocator>(alloc: Global, next: Option<&Cursor<A>>) -> Option<Ve
     }
 }
 
-/// The text of the objects of a key.
-fn objects_text<A: Allocator>(alloc: Global, objects: &[Term<A>]) -> Option<Vec<u8>> {
+/// The text of some objects.
+pub(crate) fn objects_text<A: Allocator>(alloc: Global, objects: &[Term<A>]) -> Option<Vec<u8>> {
     let objects = listed(alloc, objects)?;
     Outcome::tuple(alloc)
         .word("objects")

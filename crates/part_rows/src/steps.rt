@@ -6,8 +6,8 @@ ghost use Rattle.part_core.specs.Ops.{act_of};
 use crate::operations::{
     bare, byte, code_of, cursor_of, keyed, name_of, named_key, visit, wanted_of,
 };
-use crate::replies::answer_text;
-use crate::turns::{Turn, answer};
+use crate::replies::{answer_text, objects_text};
+use crate::turns::{Turn, answer, objects};
 use part_core::{Part, PartOp, Scope};
 use row_terms::{Outcome, canonical, fields, is_atom, number};
 use std::alloc::{Allocator, Global};
@@ -81,6 +81,17 @@ fn visited<A: Allocator + Copy, P: Part<A>>(
     )
 }
 
+/// The objects of a part, as a text.
+fn all_objects<A: Allocator + Copy, P: Part<A>>(
+    alloc: Global,
+    heap: A,
+    part: &P,
+    turn: Turn,
+) -> Option<Vec<u8>> {
+    let objects = objects(heap, part, turn).ok()?;
+    objects_text(alloc, objects.as_slice())
+}
+
 /// What comes of the operation that a term says.
 fn came<A: Allocator + Copy, P: Part<A>>(
     alloc: Global,
@@ -92,6 +103,9 @@ fn came<A: Allocator + Copy, P: Part<A>>(
     requires { turn.session < (P.settings part.old).sessions }
     ensures { P.settings part.new ≡ P.settings part.old }
 {
+    if is_atom(op, "objects") {
+        return all_objects(alloc, heap, part, turn);
+    }
     match fields(op) {
         None => came_of(alloc, part, turn, bare(name_of(op)?)?),
         Some([tag, operand]) => {

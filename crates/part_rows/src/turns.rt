@@ -5,7 +5,8 @@ ghost use Rattle.part_core.specs.Acts.{IsAsked};
 ghost use Rattle.part_core.specs.Ops.{act_of};
 
 use part_core::{Fault, Kind, OpenFault, Part, PartOp, Reply};
-use std::alloc::Allocator;
+use std::alloc::{AllocError, Allocator};
+use term_core::Term;
 
 /// Who asks, and whether a request for memory may be refused.
 #[derive(Clone, Copy)]
@@ -102,5 +103,23 @@ pub(crate) fn answer<'a, A: Allocator, P: Part<A>>(
     match done(part, turn, op) {
         Ok(reply) => Ok(reply),
         Err(_) => done(part, turn, op),
+    }
+}
+
+/// The objects of a part, asked for again where one request for memory was refused.
+pub(crate) fn objects<A: Allocator + Copy, P: Part<A>>(
+    heap: A,
+    part: &P,
+    turn: Turn,
+) -> Result<Vec<Term<A>, A>, AllocError> {
+    match part.objects(heap) {
+        Ok(objects) => Ok(objects),
+        Err(AllocError) => {
+            if turn.is_scarce {
+                part.objects(heap)
+            } else {
+                Err(AllocError)
+            }
+        }
     }
 }

@@ -2,7 +2,8 @@ use Rattle.std.proofs.Common.{sym, ap, ◌∙◌, ◌+◌}
 use Rattle.part_core.specs.Replies.{first_live}
 use Rattle.part_core.specs.Visits.{in_class}
 use Rattle.part_plain.specs.Looks.{rows_from}
-use Rattle.part_plain.proofs.WalkLemmas.{live_first, live_later, rows_step}
+use Rattle.part_core.proofs.LiveLemmas.{live_first, live_later}
+use Rattle.part_plain.proofs.WalkLemmas.{rows_step}
 use Rattle.part_plain.proofs.walking.live_from.Goals as goal
 
 pub returns-in-Some : goal.returns-in-Some

@@ -1,0 +1,54 @@
+//! Which function answers an operation.
+ghost use Rattle.std.specs.Prelude.{◌<◌, length};
+ghost use Rattle.part_core.specs.declared.kind.Kind.TheVariants.{OrderedSet};
+ghost use Rattle.part_core.specs.Acts.{IsAsked};
+ghost use Rattle.part_core.specs.Ops.{act_of};
+ghost use Rattle.part_core.specs.Plain.{plain_state, IsAnswered};
+
+use crate::deleting::visit_delete;
+use crate::fixing::{fix, release, unfix};
+use crate::reading::{lookup, member};
+use crate::rows::Rows;
+use crate::visiting::{visit, visit_count};
+use crate::walking::{first, next};
+use crate::writing::{delete, delete_object, insert, insert_new, take_objects};
+use part_core::{Fault, PartOp, Reply, Settings};
+use std::alloc::Allocator;
+
+/// Answers an operation.
+// Each arm returns, since the borrow checker covers no join behind arms that lend different things.
+pub(crate) fn answered<'a, A: Allocator + Copy>(
+    alloc: A,
+    settings: Settings,
+    rows: &mut Rows<A>,
+    fixes: &mut [u16],
+    session: u8,
+    op: PartOp<'a, A>,
+) -> Result<Reply<A>, (PartOp<'a, A>, Fault)>
+    requires session { session < length fixes.old }
+    requires asked { IsAsked (act_of op) }
+    ensures { IsAnswered OrderedSet settings (plain_state rows.old.entries fixes.old) session (act_of op.entry)
+        (plain_state rows.new.entries fixes.new) result }
+{
+    match op {
+        PartOp::Insert(object) => return insert(alloc, settings, rows, object),
+        PartOp::InsertNew(object) => return insert_new(alloc, settings, rows, object),
+        PartOp::Lookup(key) => return lookup(alloc, rows, key),
+        PartOp::Member(key) => return member(rows, key),
+        PartOp::Delete(key) => return delete(rows, fixes, key),
+        PartOp::DeleteObject(object) => return delete_object(settings, rows, fixes, object),
+        PartOp::Take(key) => return take_objects(alloc, rows, fixes, key),
+        PartOp::Fix => return fix(rows, fixes, session),
+        PartOp::Unfix => return unfix(rows, fixes, session),
+        PartOp::Release => return release(rows, fixes, session),
+        PartOp::Visit(code, scope, wanted) => return visit(alloc, rows, code, scope, wanted),
+        PartOp::VisitCount(code, scope, wanted) => {
+            return visit_count(alloc, rows, code, scope, wanted);
+        }
+        PartOp::VisitDelete(code, scope, wanted) => {
+            return visit_delete(alloc, rows, fixes, code, scope, wanted);
+        }
+        PartOp::First => return first(alloc, rows),
+        PartOp::Next(key) => return next(alloc, rows, key),
+    }
+}
