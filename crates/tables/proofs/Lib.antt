@@ -1,0 +1,4 @@
+mod ReplyLemmas
+pub mod TurnLemmas
+mod LocalLemmas
+mod FixLemmas

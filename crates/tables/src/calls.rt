@@ -1,0 +1,212 @@
+//! Calls at the part of one key.
+ghost use Rattle.std.specs.Prelude.{◌≡◌, ◌≢◌, ◌<◌, ◌%◌, Some, None, IsTrue, false, MatchOption, IfOk, IfErr};
+ghost use Rattle.term_core.specs.KeyHash.{key_hash};
+ghost use Rattle.part_core.specs.Settings.{is_object, key_of, part_of};
+ghost use Rattle.part_core.specs.Acts.{IsAsked};
+ghost use Rattle.part_core.specs.Acts.Act.{Insert, InsertNew, Lookup, Member, Delete, DeleteObject, Take};
+ghost use Rattle.part_core.specs.Acts.Answer.{Replied};
+ghost use Rattle.part_core.specs.Acts.Said.{Nothing, Flag, Objects};
+ghost use Rattle.part_core.specs.Ops.{act_of, answer_in, takes_no_memory};
+ghost use Rattle.tables.specs.Options.{settings_of};
+ghost use Rattle.tables.specs.Turns.{TurnedByKey, Follows};
+ghost use Rattle.tables.specs.Calls.{TurnedByObject, RefusedByObject};
+
+use crate::replies::{done, flag, let_go, object_put, objects, reply_let_go};
+use crate::turns::{Turns, turn_at};
+use part_core::{Fault, PartOp, Reply, key_in};
+use std::alloc::{AllocError, Allocator};
+use term_core::{Refused, Term};
+
+/// The part of a key among so many.
+pub fn part_of_key<A: Allocator>(key: &Term<A>, parts: u8) -> u8
+    requires { 0 < parts }
+    ensures part { result ≡ key_hash key.now % parts }
+    ensures inside { result < parts }
+{
+    (key.key_hash() % u64::from(parts)) as u8
+}
+
+/// The part of an object's key, none of a term that is no object.
+fn part_of_object<A: Allocator, T: Turns<A>>(turns: &T, object: &Term<A>) -> Option<u8>
+    requires { T.is_ready turns.now }
+    ensures { MatchOption result (is_object (settings_of (T.home turns.now).options) object.now ≡ false)
+        (λ part. IsTrue (is_object (settings_of (T.home turns.now).options) object.now)
+        × (part ≡ part_of (settings_of (T.home turns.now).options) (key_of (settings_of (T.home turns.now).options) object.now))
+        × (part < (T.home turns.now).options.parts)) }
+{
+    let options = turns.options();
+    match key_in(options.keypos, object) {
+        Some(key) => Some(part_of_key(key, options.parts)),
+        None => None,
+    }
+}
+
+/// Does an operation at the part of a key.
+fn turn_by_key<'a, A: Allocator, T: Turns<A>>(
+    turns: &mut T,
+    key: &Term<A>,
+    op: PartOp<'a, A>,
+) -> Result<Reply<A>, Fault>
+    requires ready { T.is_ready turns.old }
+    requires asked { IsAsked (act_of op) }
+    ensures ready { T.is_ready turns.new }
+    ensures same { T.home turns.new ≡ T.home turns.old }
+    ensures entry { Follows (T.sees turns.old) (T.sees turns.new)
+        (TurnedByKey (T.home turns.old) key.now (act_of op.entry) (answer_in result)) }
+    ensures sure { IsTrue (takes_no_memory (act_of op.entry))
+        → IfErr result (λ fault. fault ≢ Fault.Memory) }
+{
+    let parts = turns.options().parts;
+    turn_at(turns, part_of_key(key, parts), op)
+}
+
+/// Puts an object in, in a set in the place of the one with its key (ets:insert/2). A term that is no tuple with an element at
+/// the key's place is refused. What is refused is handed back.
+pub fn insert<A: Allocator, T: Turns<A>>(
+    turns: &mut T,
+    object: Term<A>,
+) -> Result<(), Refused<Term<A>, Fault>>
+    requires { T.is_ready turns.old }
+    ensures ready { T.is_ready turns.new }
+    ensures same { T.home turns.new ≡ T.home turns.old }
+    ensures done { IfOk result (λ _. Follows (T.sees turns.old) (T.sees turns.new)
+        (TurnedByObject (T.home turns.old) object (Insert object) (Some (Replied Nothing)))) }
+    ensures refused { IfErr result (λ refused. Follows (T.sees turns.old) (T.sees turns.new)
+        (RefusedByObject (T.home turns.old) object (Insert object) refused.fault)) }
+    ensures back { IfErr result (λ refused. refused.value ≡ object) }
+{
+    let Some(part) = part_of_object(turns, &object) else {
+        return Err(Refused {
+            value: object,
+            fault: Fault::TooSmall,
+        });
+    };
+    let mut op = PartOp::Insert(object);
+    match turns.turn(part, &mut op) {
+        Ok(reply) => {
+            let_go(op);
+            reply_let_go(reply);
+            Ok(())
+        }
+        // An object is refused for want of memory alone.
+        Err(_) => Err(Refused {
+            value: object_put(op),
+            fault: Fault::Memory,
+        }),
+    }
+}
+
+/// Puts an object in if its key has none, and says whether it did (ets:insert_new/2); else the object is let go. A term that is
+/// no tuple with an element at the key's place is refused. What is refused is handed back.
+pub fn insert_new<A: Allocator, T: Turns<A>>(
+    turns: &mut T,
+    object: Term<A>,
+) -> Result<bool, Refused<Term<A>, Fault>>
+    requires { T.is_ready turns.old }
+    ensures ready { T.is_ready turns.new }
+    ensures same { T.home turns.new ≡ T.home turns.old }
+    ensures done { IfOk result (λ fresh. Follows (T.sees turns.old) (T.sees turns.new)
+        (TurnedByObject (T.home turns.old) object (InsertNew object) (Some (Replied (Flag fresh))))) }
+    ensures refused { IfErr result (λ refused. Follows (T.sees turns.old) (T.sees turns.new)
+        (RefusedByObject (T.home turns.old) object (InsertNew object) refused.fault)) }
+    ensures back { IfErr result (λ refused. refused.value ≡ object) }
+{
+    let Some(part) = part_of_object(turns, &object) else {
+        return Err(Refused {
+            value: object,
+            fault: Fault::TooSmall,
+        });
+    };
+    let mut op = PartOp::InsertNew(object);
+    match turns.turn(part, &mut op) {
+        Ok(reply) => {
+            let_go(op);
+            Ok(flag(reply))
+        }
+        Err(_) => Err(Refused {
+            value: object_put(op),
+            fault: Fault::Memory,
+        }),
+    }
+}
+
+/// The objects of a key in the order of time (ets:lookup/2).
+pub fn lookup<A: Allocator, T: Turns<A>>(
+    turns: &mut T,
+    key: &Term<A>,
+) -> Result<Vec<Term<A>, A>, AllocError>
+    requires { T.is_ready turns.old }
+    ensures ready { T.is_ready turns.new }
+    ensures same { T.home turns.new ≡ T.home turns.old }
+    ensures done { IfOk result (λ found. Follows (T.sees turns.old) (T.sees turns.new)
+        (TurnedByKey (T.home turns.old) key.now (Lookup key.now) (Some (Replied (Objects found.items))))) }
+    ensures refused { IfErr result (λ _. Follows (T.sees turns.old) (T.sees turns.new)
+        (TurnedByKey (T.home turns.old) key.now (Lookup key.now) None)) }
+{
+    match turn_by_key(turns, key, PartOp::Lookup(key)) {
+        Ok(reply) => Ok(objects(reply)),
+        Err(_) => Err(AllocError),
+    }
+}
+
+/// Deletes the objects of a key and answers them in the order of time (ets:take/2).
+pub fn take<A: Allocator, T: Turns<A>>(
+    turns: &mut T,
+    key: &Term<A>,
+) -> Result<Vec<Term<A>, A>, AllocError>
+    requires { T.is_ready turns.old }
+    ensures ready { T.is_ready turns.new }
+    ensures same { T.home turns.new ≡ T.home turns.old }
+    ensures done { IfOk result (λ found. Follows (T.sees turns.old) (T.sees turns.new)
+        (TurnedByKey (T.home turns.old) key.now (Take key.now) (Some (Replied (Objects found.items))))) }
+    ensures refused { IfErr result (λ _. Follows (T.sees turns.old) (T.sees turns.new)
+        (TurnedByKey (T.home turns.old) key.now (Take key.now) None)) }
+{
+    match turn_by_key(turns, key, PartOp::Take(key)) {
+        Ok(reply) => Ok(objects(reply)),
+        Err(_) => Err(AllocError),
+    }
+}
+
+/// Whether a key has an object (ets:member/2).
+pub fn member<A: Allocator, T: Turns<A>>(turns: &mut T, key: &Term<A>) -> bool
+    requires { T.is_ready turns.old }
+    ensures ready { T.is_ready turns.new }
+    ensures same { T.home turns.new ≡ T.home turns.old }
+    ensures done { Follows (T.sees turns.old) (T.sees turns.new)
+        (TurnedByKey (T.home turns.old) key.now (Member key.now) (Some (Replied (Flag result)))) }
+{
+    flag(done(turn_by_key(turns, key, PartOp::Member(key))))
+}
+
+/// Deletes the objects of a key (ets:delete/2).
+pub fn delete<A: Allocator, T: Turns<A>>(turns: &mut T, key: &Term<A>)
+    requires { T.is_ready turns.old }
+    ensures ready { T.is_ready turns.new }
+    ensures same { T.home turns.new ≡ T.home turns.old }
+    ensures done { Follows (T.sees turns.old) (T.sees turns.new)
+        (TurnedByKey (T.home turns.old) key.now (Delete key.now) (Some (Replied Nothing))) }
+{
+    reply_let_go(done(turn_by_key(turns, key, PartOp::Delete(key))));
+}
+
+/// Deletes the objects that are equal to one (ets:delete_object/2). A term that is no tuple with an element at the key's place is
+/// refused.
+pub fn delete_object<A: Allocator, T: Turns<A>>(
+    turns: &mut T,
+    object: &Term<A>,
+) -> Result<(), Fault>
+    requires { T.is_ready turns.old }
+    ensures ready { T.is_ready turns.new }
+    ensures same { T.home turns.new ≡ T.home turns.old }
+    ensures done { IfOk result (λ _. Follows (T.sees turns.old) (T.sees turns.new)
+        (TurnedByObject (T.home turns.old) object.now (DeleteObject object.now) (Some (Replied Nothing)))) }
+    ensures refused { IfErr result (λ fault. (fault ≡ Fault.TooSmall) × Follows (T.sees turns.old) (T.sees turns.new)
+        (RefusedByObject (T.home turns.old) object.now (DeleteObject object.now) fault)) }
+{
+    let Some(part) = part_of_object(turns, object) else {
+        return Err(Fault::TooSmall);
+    };
+    reply_let_go(done(turn_at(turns, part, PartOp::DeleteObject(object))));
+    Ok(())
+}

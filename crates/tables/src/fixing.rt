@@ -1,0 +1,127 @@
+//! Calls at each part: counts of fixes.
+ghost use Rattle.std.specs.Prelude.{MatchBool, ℕ, ◌≡◌, ◌<◌, Some, IsTrue, IfOk, IfErr};
+ghost use Rattle.part_core.specs.Acts.Act.{Fix, Unfix, Release};
+ghost use Rattle.part_core.specs.Acts.Answer.{Replied};
+ghost use Rattle.part_core.specs.Acts.Said.{Nothing};
+ghost use Rattle.tables.specs.Turns.{Views, TurnedEach, Follows};
+ghost use Rattle.tables.specs.Calls.{is_granted, IsGranted, IsNotGranted, RefusedEach};
+ghost use Rattle.tables.specs.Fixing.{act_of_change};
+
+use crate::replies::{done, reply_let_go};
+use crate::turns::{Turns, turn_at};
+use part_core::{Fault, PartOp};
+use std::alloc::Allocator;
+
+/// What becomes of a session's counts of fixes.
+#[derive(Clone, Copy)]
+pub(crate) enum Change {
+    /// One more.
+    Fix,
+    /// One less.
+    Unfix,
+    /// None left.
+    Release,
+}
+
+impl Change {
+    ghost use Rattle.std.specs.Prelude.{◌≡◌};
+    ghost use Rattle.part_core.specs.Ops.{act_of};
+    ghost use Rattle.tables.specs.Calls.{is_granted};
+    ghost use Rattle.tables.specs.Fixing.{act_of_change};
+
+    /// The change can be made of a count.
+    fn is_granted(self, count: u16) -> bool
+        ensures { result ≡ is_granted (act_of_change self) count }
+    {
+        match self {
+            Change::Fix => count < u16::MAX,
+            Change::Unfix => 0 < count,
+            Change::Release => true,
+        }
+    }
+
+    /// The change as an operation at a part.
+    fn op<'a, A: Allocator>(self) -> PartOp<'a, A>
+        ensures { act_of result ≡ act_of_change self }
+    {
+        match self {
+            Change::Fix => PartOp::Fix,
+            Change::Unfix => PartOp::Unfix,
+            Change::Release => PartOp::Release,
+        }
+    }
+}
+
+/// Whether the change can be made at each part.
+fn is_granted<A: Allocator, T: Turns<A>>(turns: &T, change: Change) -> bool
+    requires { T.is_ready turns.now }
+    ensures { (v : Views) → T.sees turns.now v → MatchBool result
+        (IsGranted (T.home turns.now) (act_of_change change) v)
+        (IsNotGranted (T.home turns.now) (act_of_change change) v) }
+{
+    for part in 0..turns.options().parts {
+        if !change.is_granted(turns.fixes(part)) {
+            return false;
+        }
+    }
+    true
+}
+
+/// Makes the change at each part.
+fn change_each<A: Allocator, T: Turns<A>>(turns: &mut T, change: Change)
+    requires ready { T.is_ready turns.old }
+    requires granted { (v : Views) → T.sees turns.old v → IsGranted (T.home turns.old) (act_of_change change) v }
+    ensures ready { T.is_ready turns.new }
+    ensures same { T.home turns.new ≡ T.home turns.old }
+    ensures done { Follows (T.sees turns.old) (T.sees turns.new)
+        (TurnedEach (T.home turns.old) (act_of_change change) (Some (Replied Nothing))) }
+{
+    for part in 0..turns.options().parts {
+        reply_let_go(done(turn_at(turns, part, change.op())));
+    }
+}
+
+/// Fixes the table once more (ets:safe_fixtable/2): at each part, or at none where the session's count at some part is 65,535.
+pub fn fix<A: Allocator, T: Turns<A>>(turns: &mut T) -> Result<(), Fault>
+    requires { T.is_ready turns.old }
+    ensures ready { T.is_ready turns.new }
+    ensures same { T.home turns.new ≡ T.home turns.old }
+    ensures done { IfOk result (λ _. Follows (T.sees turns.old) (T.sees turns.new)
+        (TurnedEach (T.home turns.old) Fix (Some (Replied Nothing)))) }
+    ensures refused { IfErr result (λ fault. (fault ≡ Fault.FixLimit) × Follows (T.sees turns.old) (T.sees turns.new)
+        (RefusedEach (T.home turns.old) Fix)) }
+{
+    if !is_granted(turns, Change::Fix) {
+        return Err(Fault::FixLimit);
+    }
+    change_each(turns, Change::Fix);
+    Ok(())
+}
+
+/// Releases one fix of the session (ets:safe_fixtable/2): at each part, or at none where its count at some part is 0.
+pub fn unfix<A: Allocator, T: Turns<A>>(turns: &mut T) -> Result<(), Fault>
+    requires { T.is_ready turns.old }
+    ensures ready { T.is_ready turns.new }
+    ensures same { T.home turns.new ≡ T.home turns.old }
+    ensures done { IfOk result (λ _. Follows (T.sees turns.old) (T.sees turns.new)
+        (TurnedEach (T.home turns.old) Unfix (Some (Replied Nothing)))) }
+    ensures refused { IfErr result (λ fault. (fault ≡ Fault.NotFixed) × Follows (T.sees turns.old) (T.sees turns.new)
+        (RefusedEach (T.home turns.old) Unfix)) }
+{
+    if !is_granted(turns, Change::Unfix) {
+        return Err(Fault::NotFixed);
+    }
+    change_each(turns, Change::Unfix);
+    Ok(())
+}
+
+/// Releases all fixes of the session, at each part.
+pub fn release<A: Allocator, T: Turns<A>>(turns: &mut T)
+    requires { T.is_ready turns.old }
+    ensures ready { T.is_ready turns.new }
+    ensures same { T.home turns.new ≡ T.home turns.old }
+    ensures done { Follows (T.sees turns.old) (T.sees turns.new)
+        (TurnedEach (T.home turns.old) Release (Some (Replied Nothing))) }
+{
+    change_each(turns, Change::Release);
+}

@@ -1,0 +1,25 @@
+//! Tables: parts together, and what a session's calls make of what it sees of them.
+//!
+//! The one contract: each call of a session is a turn at the part of its key, or one at each part, or none where it is refused by its
+//! input (`specs/Calls.antt`); a turn adds its entry to the part's history, behind entries of other sessions, and that stays legal
+//! (`specs/Turns.antt`).
+//!
+//! - `options`: what a table is opened with; `turns`: the trait `Turns`, a session at a table.
+//! - `local`: `LocalTable`, whose parts are used by one thread, and `LocalAt`, a session at it; `specs/OneThread.antt` says what the
+//!   calls make of the states of its parts.
+//! - `calls`: insert, lookup and the others at the part of a key; `fixing`: those at each part.
+//! - `replies`: what a turn answered.
+#![tactic(auto)]
+
+mod calls;
+mod fixing;
+mod local;
+mod options;
+mod replies;
+mod turns;
+
+pub use calls::{delete, delete_object, insert, insert_new, lookup, member, part_of_key, take};
+pub use fixing::{fix, release, unfix};
+pub use local::{Closed, LocalAt, LocalTable};
+pub use options::Options;
+pub use turns::{Turns, turn_at};

@@ -1,0 +1,216 @@
+//! Tables on one thread.
+ghost use Rattle.std.specs.Prelude.{ℕ, not, ◌&&◌, ◌==◌, ◌≡◌, ◌≢◌, ◌<◌, IsTrue, IfErr, All, IfOk, IsErrOf, MatchOption, Some, [], ◌∷◌, ◌++◌, length, slice_get};
+ghost use Rattle.part_core.specs.Acts.{IsAsked};
+ghost use Rattle.part_core.specs.Acts.Act.{Release};
+ghost use Rattle.part_core.specs.Acts.Answer.{Replied};
+ghost use Rattle.part_core.specs.Acts.Said.{Nothing};
+ghost use Rattle.part_core.specs.Legal.{fix_count};
+ghost use Rattle.part_core.specs.Ops.{act_of, answer_in, takes_no_memory};
+ghost use Rattle.part_core.specs.Served.{IsServed};
+ghost use Rattle.part_core.specs.Settings.{is_ordered};
+ghost use Rattle.tables.specs.Local.{AreAfter, local_home};
+ghost use Rattle.tables.specs.Options.{settings_of, IsOpenable};
+ghost use Rattle.tables.specs.Turns.{Views, Follows, Turned, TurnedEach};
+
+use crate::fixing::release;
+use crate::options::Options;
+use crate::turns::Turns;
+use part_core::{Fault, OpenFault, Part, PartOp, Reply};
+use std::alloc::{Allocator, Global};
+
+/// A table whose parts are used by one thread.
+#[derive(Drop)]
+pub struct LocalTable<P: Part<A> + Drop, A: Allocator = Global> {
+    /// What it was opened with.
+    pub options: Options,
+    /// Its parts, by their numbers.
+    pub parts: Vec<P, A>,
+    ghost some: { 0 < options.parts },
+    ghost count: { length parts.items ≡ options.parts },
+    ghost same: { ∥ (All (λ p. P.settings p ≡ settings_of options) parts.items) ∥₁ },
+    ghost seen: { ∥ ((v : Views) × AreAfter P.is_after parts.items v) ∥₁ },
+}
+
+/// Whether it would be an ordered set of more parts than one.
+fn is_split_order(options: Options) -> bool
+    ensures { result ≡ (is_ordered options.kind && not (options.parts == 1)) }
+{
+    options.kind.is_ordered() && options.parts != 1
+}
+
+/// Parts without rows for a table.
+fn made<A: Allocator + Copy, P: Part<A> + Drop>(
+    alloc: A,
+    options: Options,
+) -> Result<Vec<P, A>, OpenFault>
+    ensures count { IfOk result (λ parts. length parts.items ≡ options.parts) }
+    ensures each { IfOk result (λ parts. All (λ p. IsServed P.serves (settings_of options)
+        × (P.settings p ≡ settings_of options) × P.is_after p []) parts.items) }
+    ensures refused { IsErrOf result OpenFault.BadOptions → ¬ (IsServed P.serves (settings_of options)) }
+{
+    let mut parts = Vec::new(alloc);
+    for _part in 0..options.parts {
+        let part = P::make(
+            alloc,
+            options.kind,
+            options.keypos,
+            options.parts,
+            options.sessions,
+        )?;
+        match parts.push(part) {
+            Ok(()) => {}
+            Err(_) => return Err(OpenFault::Memory),
+        }
+    }
+    Ok(parts)
+}
+
+impl<P: Part<A> + Drop, A: Allocator + Copy> LocalTable<P, A> {
+    /// A table without objects. Refused where a number is outside its range, an ordered set has more than one part, or the parts don't
+    /// serve the kind.
+    pub fn open(alloc: A, options: Options) -> Result<Self, OpenFault>
+        ensures opened { IfOk result (λ t. IsOpenable P.serves options × (t.options ≡ options)
+            × AreAfter P.is_after t.parts.items (λ part. [])) }
+        ensures refused { IsErrOf result OpenFault.BadOptions → ¬ (IsOpenable P.serves options) }
+    {
+        if options.parts == 0 {
+            return Err(OpenFault::BadOptions);
+        }
+        if is_split_order(options) {
+            return Err(OpenFault::BadOptions);
+        }
+        let parts = made(alloc, options)?;
+        Ok(LocalTable { options, parts })
+    }
+}
+
+impl<P: Part<A> + Drop, A: Allocator> LocalTable<P, A> {
+    /// Does an operation for a session at a part.
+    fn turn<'a>(&mut self, number: u8, part: u8, op: &mut PartOp<'a, A>) -> Result<Reply<A>, Fault>
+        requires session { number < self.old.options.sessions }
+        requires part { part < self.old.options.parts }
+        requires asked { IsAsked (act_of op.old) }
+        ensures options { self.new.options ≡ self.old.options }
+        ensures entry { (table : ℕ) → Follows (AreAfter P.is_after self.old.parts.items) (AreAfter P.is_after self.new.parts.items)
+            (Turned (local_home self.old.options number table) part (act_of op.old) (answer_in result)) }
+        ensures back { IfErr result (λ fault. act_of op.new ≡ act_of op.old) }
+        ensures sure { IsTrue (takes_no_memory (act_of op.old))
+            → IfErr result (λ fault. fault ≢ Fault.Memory) }
+    {
+        self.parts[usize::from(part)].apply(number, op)
+    }
+
+    /// A session of the table, by its number.
+    pub fn at(&mut self, number: u8) -> LocalAt<'_, P, A>
+        requires { number < self.old.options.sessions }
+        ensures same_reference { result.table.ghost_name ≡ self.entry.ghost_name }
+        ensures table { result.table.now ≡ self.old }
+        ensures number { result.number ≡ number }
+    {
+        LocalAt {
+            table: self,
+            number,
+        }
+    }
+
+    /// Releases all fixes of a session.
+    pub fn leave(&mut self, number: u8)
+        requires { number < self.old.options.sessions }
+        ensures options { self.new.options ≡ self.old.options }
+        ensures done { (table : ℕ) → Follows (AreAfter P.is_after self.old.parts.items) (AreAfter P.is_after self.new.parts.items)
+            (TurnedEach (local_home self.old.options number table) Release (Some (Replied Nothing))) }
+    {
+        let mut session = self.at(number);
+        release(&mut session);
+    }
+
+    /// Gives the table up: its parts are handed out, from the last to the first.
+    pub fn close(self) -> Closed<P, A>
+        ensures { result.parts.items ≡ self.parts.items }
+    {
+        Closed { parts: self.parts }
+    }
+}
+
+/// A session at a table on one thread.
+#[derive(Drop)]
+pub struct LocalAt<'t, P: Part<A> + Drop, A: Allocator = Global> {
+    /// The table.
+    pub table: &'t mut LocalTable<P, A>,
+    /// The session's number.
+    pub number: u8,
+}
+
+impl<'t, A: Allocator, P: Part<A> + Drop> Turns<A> for LocalAt<'t, P, A> {
+    ghost use Rattle.tables.specs.LocalFacts.{local_legal};
+
+    ghost home = { λ s. local_home s.table.now.options s.number s.table.ghost_name };
+
+    ghost is_ready = { λ s. s.number < s.table.now.options.sessions };
+
+    ghost sees = { λ s. AreAfter P.is_after s.table.now.parts.items };
+
+    ghost fits = { λ s ready. (s.table.now.some, ready) };
+
+    ghost seen = { λ s ready. s.table.now.seen };
+
+    ghost legal = { λ s v part ready sees inside. local_legal P.settings P.is_after P.legal s.table.now.options s.table.now.parts.items s.table.now.count s.table.now.same v sees part inside };
+
+    fn options(&self) -> Options
+        ensures { result ≡ self.now.table.now.options }
+    {
+        self.table.options
+    }
+
+    fn number(&self) -> u8
+        ensures { result ≡ self.now.number }
+    {
+        self.number
+    }
+
+    fn fixes(&self, part: u8) -> u16
+        requires ready { self.now.number < self.now.table.now.options.sessions }
+        requires part { part < self.now.table.now.options.parts }
+        ensures { (v : Views) → AreAfter P.is_after self.now.table.now.parts.items v
+            → result ≡ fix_count self.now.number (v part) }
+    {
+        self.table.parts[usize::from(part)].fixes(self.number)
+    }
+
+    fn turn<'a>(&mut self, part: u8, op: &mut PartOp<'a, A>) -> Result<Reply<A>, Fault>
+        requires ready { self.old.number < self.old.table.now.options.sessions }
+        requires part { part < self.old.table.now.options.parts }
+        requires asked { IsAsked (act_of op.old) }
+        ensures ready { self.new.number < self.new.table.now.options.sessions }
+        ensures same { local_home self.new.table.now.options self.new.number self.new.table.ghost_name
+            ≡ local_home self.old.table.now.options self.old.number self.old.table.ghost_name }
+        ensures entry { (v : Views) → AreAfter P.is_after self.old.table.now.parts.items v
+            → (w : Views) × AreAfter P.is_after self.new.table.now.parts.items w
+            × Turned (local_home self.old.table.now.options self.old.number self.old.table.ghost_name) part
+            (act_of op.old) (answer_in result) v w }
+        ensures back { IfErr result (λ fault. act_of op.new ≡ act_of op.old) }
+        ensures sure { IsTrue (takes_no_memory (act_of op.old))
+            → IfErr result (λ fault. fault ≢ Fault.Memory) }
+    {
+        self.table.turn(self.number, part, op)
+    }
+}
+
+/// A table that was given up.
+#[derive(Drop)]
+pub struct Closed<P: Drop, A: Allocator = Global> {
+    /// The parts that are not handed out yet.
+    pub parts: Vec<P, A>,
+}
+
+impl<P: Drop, A: Allocator> Closed<P, A> {
+    ghost use Rattle.std.specs.Prelude.{◌≡◌, [], ◌∷◌, ◌++◌, MatchOption};
+
+    /// The last part that is not handed out yet, none when all are.
+    pub fn next_part(&mut self) -> Option<P>
+        ensures { MatchOption result (self.old.parts.items ≡ [])
+            (λ part. self.old.parts.items ≡ self.new.parts.items ++ part ∷ []) }
+    {
+        self.parts.pop()
+    }
+}

@@ -1,0 +1,75 @@
+//! What a turn answered, as its call hands it on.
+ghost use Rattle.std.specs.Prelude.{◌≡◌, IsTrue, Some, is_some, Ok};
+ghost use Rattle.std.specs.Result.{is_ok};
+ghost use Rattle.part_core.specs.Acts.Answer.{Replied};
+ghost use Rattle.part_core.specs.Acts.Said.{Flag, Objects};
+ghost use Rattle.part_core.specs.Ops.{act_of, said_of};
+ghost use Rattle.tables.specs.Calls.{object_put, is_flag, is_objects};
+
+use part_core::{Fault, PartOp, Reply};
+use std::alloc::Allocator;
+use term_core::Term;
+
+/// The object that an operation was to put in.
+pub(crate) fn object_put<A: Allocator>(op: PartOp<'_, A>) -> Term<A>
+    requires { IsTrue (is_some (object_put (act_of op))) }
+    ensures { object_put (act_of op.entry) ≡ Some result }
+{
+    match op {
+        PartOp::Insert(object) | PartOp::InsertNew(object) => object,
+        PartOp::Lookup(_)
+        | PartOp::Member(_)
+        | PartOp::Delete(_)
+        | PartOp::DeleteObject(_)
+        | PartOp::Take(_)
+        | PartOp::Fix
+        | PartOp::Unfix
+        | PartOp::Release
+        | PartOp::Visit(..)
+        | PartOp::VisitCount(..)
+        | PartOp::VisitDelete(..)
+        | PartOp::First
+        | PartOp::Next(_) => unreachable!(),
+    }
+}
+
+/// What was done, of a turn that can't be refused.
+pub(crate) fn done<A: Allocator>(outcome: Result<Reply<A>, Fault>) -> Reply<A>
+    requires { IsTrue (is_ok outcome) }
+    ensures { outcome ≡ Ok result }
+{
+    match outcome {
+        Ok(reply) => reply,
+        Err(_) => unreachable!(),
+    }
+}
+
+/// Yes or no.
+pub(crate) fn flag<A: Allocator>(reply: Reply<A>) -> bool
+    requires { IsTrue (is_flag (Replied (said_of reply))) }
+    ensures { said_of reply ≡ Flag result }
+{
+    match reply {
+        Reply::Flag(flag) => flag,
+        Reply::Done | Reply::Objects(_) | Reply::AtKey(_) | Reply::Found(..) | Reply::Counted(..) =>
+            unreachable!(),
+    }
+}
+
+/// The objects of a key.
+pub(crate) fn objects<A: Allocator>(reply: Reply<A>) -> Vec<Term<A>, A>
+    requires { IsTrue (is_objects (Replied (said_of reply))) }
+    ensures { said_of reply ≡ Objects result.items }
+{
+    match reply {
+        Reply::Objects(objects) => objects,
+        Reply::Done | Reply::Flag(_) | Reply::AtKey(_) | Reply::Found(..) | Reply::Counted(..) =>
+            unreachable!(),
+    }
+}
+
+/// Lets an operation go.
+pub(crate) fn let_go<A: Allocator>(_op: PartOp<'_, A>) {}
+
+/// Lets a reply go.
+pub(crate) fn reply_let_go<A: Allocator>(_reply: Reply<A>) {}

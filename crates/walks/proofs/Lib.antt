@@ -1,0 +1,2 @@
+mod KeyLemmas
+pub mod OneThreadLemmas

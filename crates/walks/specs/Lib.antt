@@ -1,0 +1,2 @@
+pub mod OneThread
+pub mod Keys
