@@ -1,0 +1,11 @@
+mod ReadingLemmas
+mod ReplyLemmas
+mod TextLemmas
+mod LinkLemmas
+mod AskLemmas
+mod WalkLemmas
+mod TableLemmas
+mod OptionLemmas
+mod GatherLemmas
+mod InputLemmas
+mod WorkedRows
