@@ -5,9 +5,9 @@
 mod program;
 
 use command_io::{ToolFault, read_within};
-use ets_commands::Request;
+use ets_commands::{Request, run_request};
 use failing_alloc::sweep;
-use query_commands::{tool_compile, tool_run, tool_test, tool_verify};
+use query_commands::{tool_run, tool_test};
 use std::alloc::Global;
 use std::io::{self, ErrorKind, Read, Write};
 
@@ -160,12 +160,8 @@ fn passed_on(alloc: Global, request: Request, input: &str) -> Vec<u8> {
         held: Vec::new(alloc),
         passed: Vec::new(alloc),
     };
-    let _ = match request {
-        Request::Run => tool_run(alloc, &mut reader, &mut writer),
-        Request::Test => tool_test(alloc, &mut reader, &mut writer),
-        Request::Compile => tool_compile(alloc, &mut reader, &mut writer),
-        Request::Verify => tool_verify(alloc, &mut reader, &mut writer),
-    };
+    let mut err = Vec::new(alloc);
+    let _status = run_request(alloc, request, &mut reader, &mut writer, &mut err);
     writer.passed
 }
 
@@ -180,6 +176,8 @@ fn all_lines_are_passed_on(rt: HostRuntime) {
     assert!(rt; file.as_slice() == b"<<69,77,83,67,0,1,0,0,0,0,0,1,25,0,0>>.\n".as_slice());
     let verdict = passed_on(rt.alloc(), Request::Verify, FILE);
     assert!(rt; verdict.as_slice() == b"{ok,2,1}.\n".as_slice());
+    let replies = passed_on(rt.alloc(), Request::Script, "{close}.");
+    assert!(rt; replies.as_slice() == b"{error,65}.\n".as_slice());
 }
 
 /// The file of the specification that answers `true` on each object.

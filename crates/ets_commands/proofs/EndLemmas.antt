@@ -1,5 +1,5 @@
 -- How the program ends.
-use Rattle.std.proofs.Common.{◌≡◌, ◌≢◌, ◌⊎◌, ℕ, List, Option, Result, Ok, Err, sym, subst, inl, inr}
+use Rattle.std.proofs.Common.{◌≡◌, ◌≢◌, ◌⊎◌, ℕ, List, Option, Result, Ok, Err, refl, sym, subst, inl, inr}
 use Rattle.std.specs.Prelude.{OnOk, IfErr}
 use Rattle.std.specs.Io.KnownBytes.{Keeps}
 use Rattle.clap.specs.Words.{kind_of}
@@ -9,15 +9,30 @@ use Rattle.clap.specs.declared.error.kind.ErrorKind.TheVariants as kind
 use Rattle.command_io.specs.Terms.{OfTerms}
 use Rattle.command_io.specs.declared.fault.ToolFault.{ToolFault}
 use Rattle.query_commands.specs.Run.{Stops}
+use Rattle.ets_script.specs.Input.{OfScript, StopsScript}
 use Rattle.ets_commands.specs.Program.{Writes, StopsOn, HasOutcome, EndsRequest, EndsAsked, EndsEarly, EndsHelp, EndsMistaken}
 use Rattle.ets_commands.specs.Words.{Asked, command, help, topic, mistake, Reads}
 use Rattle.ets_commands.specs.declared.words.Request.{Request}
+use Rattle.ets_commands.specs.declared.words.Request.TheVariants as request
 
 -- what a command's two clauses say of its outcome
-pub has_outcome : (r : Request) (known old new : Option (List ℕ)) (outcome : Result (Unit {0}) ToolFault) → OnOk outcome (OfTerms known (λ terms. Writes r terms old new))
+pub has_outcome : (r : Request) (known old new : Option (List ℕ)) (outcome : Result (Unit {0}) ToolFault) → r ≢ request.Script → OnOk outcome (OfTerms known (λ terms. Writes r terms old new))
     → IfErr outcome (λ f. Stops known old new f (λ terms. StopsOn r terms old new f)) → HasOutcome r known old new outcome
-has_outcome r known old new (Ok x) ok stopped = ok
-has_outcome r known old new (Err f) ok stopped = stopped
+has_outcome request.Run known old new (Ok x) other ok stopped = ok
+has_outcome request.Run known old new (Err f) other ok stopped = stopped
+has_outcome request.Test known old new (Ok x) other ok stopped = ok
+has_outcome request.Test known old new (Err f) other ok stopped = stopped
+has_outcome request.Compile known old new (Ok x) other ok stopped = ok
+has_outcome request.Compile known old new (Err f) other ok stopped = stopped
+has_outcome request.Verify known old new (Ok x) other ok stopped = ok
+has_outcome request.Verify known old new (Err f) other ok stopped = stopped
+has_outcome request.Script known old new outcome other ok stopped = absurd (other refl)
+
+-- and those of a script
+pub has_replies : (known old new : Option (List ℕ)) (outcome : Result (Unit {0}) ToolFault) → OnOk outcome (OfScript known (λ terms. Writes request.Script terms old new))
+    → IfErr outcome (λ f. StopsScript known old new f) → HasOutcome request.Script known old new outcome
+has_replies known old new (Ok x) ok stopped = ok
+has_replies known old new (Err f) ok stopped = stopped
 
 -- a command that was asked for ran
 pub ends_command : (a : Asked) (r : Request) (known out out' err err' : Option (List ℕ)) (status : ℕ) → Reads a (Ok r) → EndsRequest r known out out' err err' status

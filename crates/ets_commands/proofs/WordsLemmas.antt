@@ -1,7 +1,7 @@
 -- What the words of the command line ask for is what `clap` makes of them.
 use Rattle.std.proofs.Common.{◌≡◌, ◌≢◌, ◌∙◌, ◌⊎◌, ℕ, Bool, true, false, true≢false, ◌==◌, List, [], ◌∷◌, ◌++◌}
 use Rattle.std.proofs.Common.{Option, Some, None, option_map, Result, Ok, Err, IsErrAnd, Global, refl, sym, subst, ap}
-use Rattle.std.proofs.Common.{inl, inr, codes, fold, take, ◌+◌, one-add}
+use Rattle.std.proofs.Common.{inl, inr, codes, fold, take, ◌+◌, one-add, length, arith}
 use Rattle.std.proofs.lemmas.List.{append_assoc, append-nil}
 use Rattle.std.proofs.lemmas.Slice.Eq.{bytes_eq-Decides}
 use Rattle.std.proofs.lemmas.Bool.{and_parts, eqb-true}
@@ -309,6 +309,9 @@ behind_command request.Compile p rest =
 behind_command request.Verify p rest =
     rw (no_fault_past_stop top top_names (codes "verify") [] rest, past_stop top.rules top_names (codes "verify") [] rest)
     (no_more (fault_behind request.Verify rest))
+behind_command request.Script p rest =
+    rw (no_fault_past_stop top top_names (codes "script") [] rest, past_stop top.rules top_names (codes "script") [] rest)
+    (no_more (fault_behind request.Script rest))
 
 command_entered : (r : Request) (p : Text) (rest : List Text) → entered_name (p ∷ name_of r ∷ rest) ≡ Some (name_of r)
 unfolding walked
@@ -320,6 +323,8 @@ command_entered request.Compile p rest =
     ap (λ w. option_map (λ s. s.0) (entered (built tool_app) w.stopped)) (past_stop top.rules top_names (codes "compile") [] rest)
 command_entered request.Verify p rest =
     ap (λ w. option_map (λ s. s.0) (entered (built tool_app) w.stopped)) (past_stop top.rules top_names (codes "verify") [] rest)
+command_entered request.Script p rest =
+    ap (λ w. option_map (λ s. s.0) (entered (built tool_app) w.stopped)) (past_stop top.rules top_names (codes "script") [] rest)
 
 words_behind_lead : (r : Request) (rest : List Text) (name : Option Text) → name ≡ Some (name_of r)
     → Leads (asked_behind r rest) (fault_behind r rest) name
@@ -355,6 +360,7 @@ record IsNoCommand (word : Text) : Type 0 where
   test : bytes_eq (name_of request.Test) word ≡ false
   compile : bytes_eq (name_of request.Compile) word ≡ false
   verify : bytes_eq (name_of request.Verify) word ≡ false
+  script : bytes_eq (name_of request.Script) word ≡ false
   help : bytes_eq (codes "help") word ≡ false
 
 dashes_lead : (p : Text) (rest : List Text) → Leads mistake (fault_of tool_app (p ∷ codes "--" ∷ rest)) (entered_name (p ∷ codes "--" ∷ rest))
@@ -371,7 +377,7 @@ other_leads p word rest other =
     (λ e. first_decides (asked_by_flag word) _ _ _ (entered_name (p ∷ word ∷ rest)) (first e))
   where
     first : bytes_eq (codes "--") word ≡ false → Refuses (asked_by_flag word) (turn_fault top top_names start word)
-    first e = rw (other.run, other.test, other.compile, other.verify, other.help) (flagged (codes "ets_tool") false true word e)
+    first e = rw (other.run, other.test, other.compile, other.verify, other.script, other.help) (flagged (codes "ets_tool") false true word e)
 
 words_lead : (words : List Text) → LeadsAt words
 unfolding clap_on_literals
@@ -386,16 +392,26 @@ words_lead (p ∷ word ∷ rest) =
     (λ e. subst (λ w. LeadsAt (p ∷ w ∷ rest)) (same_text (name_of request.Compile) word e) (command_leads request.Compile p rest))
     (λ compile. by_test (bytes_eq (name_of request.Verify) word) (LeadsAt (p ∷ word ∷ rest))
     (λ e. subst (λ w. LeadsAt (p ∷ w ∷ rest)) (same_text (name_of request.Verify) word e) (command_leads request.Verify p rest))
-    (λ verify. by_test (bytes_eq (codes "help") word) (LeadsAt (p ∷ word ∷ rest))
+    (λ verify. by_test (bytes_eq (name_of request.Script) word) (LeadsAt (p ∷ word ∷ rest))
+    (λ e. subst (λ w. LeadsAt (p ∷ w ∷ rest)) (same_text (name_of request.Script) word e) (command_leads request.Script p rest))
+    (λ script. by_test (bytes_eq (codes "help") word) (LeadsAt (p ∷ word ∷ rest))
     (λ e. subst (λ w. LeadsAt (p ∷ w ∷ rest)) (same_text (codes "help") word e) (topic_leads p rest))
-    (λ e. other (record { run = run; test = test; compile = compile; verify = verify; help = e }))))))
+    (λ e. other (record { run = run; test = test; compile = compile; verify = verify; script = script; help = e })))))))
   where
     other : IsNoCommand word → LeadsAt (p ∷ word ∷ rest)
     other h =
-        let by_flag : asked (p ∷ word ∷ rest) ≡ asked_by_flag word = rw (h.run, h.test, h.compile, h.verify, h.help) refl in
+        let by_flag : asked (p ∷ word ∷ rest) ≡ asked_by_flag word = rw (h.run, h.test, h.compile, h.verify, h.script, h.help) refl in
         subst (λ a. Leads a (fault_of tool_app (p ∷ word ∷ rest)) (entered_name (p ∷ word ∷ rest))) (sym by_flag) (other_leads p word rest h)
 
 -- ---- what is read
+
+-- the first character of a name
+abbrev first_of : Option Text → ℕ
+first_of (Some (c ∷ cs)) = c
+first_of name = 0
+
+some_none : (k : ErrorKind) (ks : Kinds) → k ∷ ks ≡ [] → ⊥
+some_none k ks h = omega (arith, ap length h)
 
 asked_answered : (words : List Text) (q : Request) → fault_of tool_app words ≡ [] → entered_name words ≡ Some (name_of q) → Reads (asked words) (Ok q)
 asked_answered words q none is = answered (asked words) (words_lead words)
@@ -405,23 +421,32 @@ asked_answered words q none is = answered (asked words) (words_lead words)
     same request.Test request.Test e = refl
     same request.Compile request.Compile e = refl
     same request.Verify request.Verify e = refl
+    same request.Script request.Script e = refl
     same request.Run request.Test e = absurd (cc)
     same request.Run request.Compile e = absurd (cc)
     same request.Run request.Verify e = absurd (cc)
+    same request.Run request.Script e = absurd (cc)
     same request.Test request.Run e = absurd (cc)
     same request.Test request.Compile e = absurd (cc)
     same request.Test request.Verify e = absurd (cc)
+    same request.Test request.Script e = absurd (cc)
     same request.Compile request.Run e = absurd (cc)
     same request.Compile request.Test e = absurd (cc)
     same request.Compile request.Verify e = absurd (cc)
+    same request.Compile request.Script e = absurd (cc)
     same request.Verify request.Run e = absurd (cc)
     same request.Verify request.Test e = absurd (cc)
     same request.Verify request.Compile e = absurd (cc)
+    same request.Verify request.Script e = let apart : 118 ≡ 115 = ap first_of e in absurd (omega (arith, apart))
+    same request.Script request.Run e = absurd (cc)
+    same request.Script request.Test e = absurd (cc)
+    same request.Script request.Compile e = absurd (cc)
+    same request.Script request.Verify e = let apart : 115 ≡ 118 = ap first_of e in absurd (omega (arith, apart))
 
     answered : (a : Asked) → Leads a (fault_of tool_app words) (entered_name words) → Reads a (Ok q)
     answered (command r) h = same q r (sym is ∙ h.1)
-    answered help h = absurd (cc)
-    answered topic h = absurd (cc)
+    answered help h = absurd (some_none _ _ (sym h ∙ none))
+    answered topic h = absurd (some_none _ _ (sym h ∙ none))
     answered mistake h = absurd (true≢false (sym (rw none at h)))
 
 -- a command that is entered is `run` where it is none of the others
@@ -429,6 +454,7 @@ record IsNoOther (name : Option Text) : Type 0 where
   test : name ≢ Some (name_of request.Test)
   compile : name ≢ Some (name_of request.Compile)
   verify : name ≢ Some (name_of request.Verify)
+  script : name ≢ Some (name_of request.Script)
 
 run_left : (words : List Text) → fault_of tool_app words ≡ [] → IsNoOther (entered_name words) → entered_name words ≡ Some (name_of request.Run)
 run_left words none other = left (asked words) (words_lead words)
@@ -438,8 +464,9 @@ run_left words none other = left (asked words) (words_lead words)
     left (command request.Test) h = absurd (other.test h.1)
     left (command request.Compile) h = absurd (other.compile h.1)
     left (command request.Verify) h = absurd (other.verify h.1)
-    left help h = absurd (cc)
-    left topic h = absurd (cc)
+    left (command request.Script) h = absurd (other.script h.1)
+    left help h = absurd (some_none _ _ (sym h ∙ none))
+    left topic h = absurd (some_none _ _ (sym h ∙ none))
     left mistake h = absurd (true≢false (sym (rw none at h)))
 
 memory_refused : (a : Asked) (e : Error) → kind_of e ≡ kind.OutOfMemory → Reads a (Err e)
@@ -502,8 +529,8 @@ named_read r app words m is none matches named =
 
 pub run_read : (app : App) (words : List Text) (m : ArgMatches) → app ≡ tool_app → (is_simple_and_free app ≡ true → fault_of app words ≡ [])
     → HasMatchesOf app words m → subcommand_name_of m ≢ Some (name_of request.Test) → subcommand_name_of m ≢ Some (name_of request.Compile)
-    → subcommand_name_of m ≢ Some (name_of request.Verify) → Reads (asked words) (Ok request.Run)
-run_read app words m is none matches no_test no_compile no_verify =
+    → subcommand_name_of m ≢ Some (name_of request.Verify) → subcommand_name_of m ≢ Some (name_of request.Script) → Reads (asked words) (Ok request.Run)
+run_read app words m is none matches no_test no_compile no_verify no_script =
     let free = rw is at none in
     let found = rw is at matches in
     let entered = name_entered words m found in
@@ -511,6 +538,7 @@ run_read app words m is none matches no_test no_compile no_verify =
       test = λ named. no_test (entered ∙ named);
       compile = λ named. no_compile (entered ∙ named);
       verify = λ named. no_verify (entered ∙ named);
+      script = λ named. no_script (entered ∙ named);
     }))
 
 pub words_refused : (app : App) (words : List Text) (e : Error) → app ≡ tool_app

@@ -9,6 +9,8 @@ use Rattle.command_io.specs.declared.fault.ToolFault.TheVariants as fault
 use Rattle.query_commands.specs.Answers.Report.{answers, outcomes}
 use Rattle.query_commands.specs.Code.{WritesFile, StopsFile, WritesVerdict, StopsVerdict}
 use Rattle.query_commands.specs.Run.{WritesAnswers, StopsAnswers, Stops}
+use Rattle.ets_script.specs.Run.{WritesReplies, StopsReplies}
+use Rattle.ets_script.specs.Input.{OfScript, StopsScript}
 use Rattle.ets_commands.specs.Words.{Asked, command, help, topic, mistake}
 use Rattle.ets_commands.specs.declared.words.Request.{Request}
 use Rattle.ets_commands.specs.declared.words.Request.TheVariants as request
@@ -29,6 +31,7 @@ Writes request.Run terms old new = WritesAnswers answers terms old new
 Writes request.Test terms old new = WritesAnswers outcomes terms old new
 Writes request.Compile terms old new = WritesFile terms old new
 Writes request.Verify terms old new = WritesVerdict terms old new
+Writes request.Script terms old new = WritesReplies terms old new
 
 -- how it ends early
 abbrev pub StopsOn : Request → List Datum → (old new : Option (List ℕ)) → ToolFault → Type 0
@@ -36,10 +39,13 @@ StopsOn request.Run terms old new f = StopsAnswers answers terms old new f
 StopsOn request.Test terms old new f = StopsAnswers outcomes terms old new f
 StopsOn request.Compile terms old new f = StopsFile terms old new f
 StopsOn request.Verify terms old new f = StopsVerdict terms old new f
+StopsOn request.Script terms old new f = StopsReplies terms old new f
 
--- what a command's outcome says of standard output
+-- what a command's outcome says of standard output; of a script there may be no term
 abbrev pub HasOutcome : Request → (known old new : Option (List ℕ)) → Result (Unit {0}) ToolFault
     → Type 0
+HasOutcome request.Script known old new (Ok x) = OfScript known (λ terms. Writes request.Script terms old new)
+HasOutcome request.Script known old new (Err f) = StopsScript known old new f
 HasOutcome r known old new (Ok x) = OfTerms known (λ terms. Writes r terms old new)
 HasOutcome r known old new (Err f) =
     Stops known old new f (λ terms. StopsOn r terms old new f)

@@ -15,6 +15,7 @@ name_of request.Run = codes "run"
 name_of request.Test = codes "test"
 name_of request.Compile = codes "compile"
 name_of request.Verify = codes "verify"
+name_of request.Script = codes "script"
 
 -- Words ask for a command; for help by a flag; for help by the word `help`, on what stands behind it; or for nothing
 -- that is understood.
@@ -48,7 +49,8 @@ asked_by (word ∷ rest) =
     else (if bytes_eq (name_of request.Test) word then asked_behind request.Test rest
     else (if bytes_eq (name_of request.Compile) word then asked_behind request.Compile rest
     else (if bytes_eq (name_of request.Verify) word then asked_behind request.Verify rest
-    else (if bytes_eq (codes "help") word then topic else asked_by_flag word))))
+    else (if bytes_eq (name_of request.Script) word then asked_behind request.Script rest
+    else (if bytes_eq (codes "help") word then topic else asked_by_flag word)))))
 
 -- all words, the program's name first
 abbrev pub asked : List Text → Asked
@@ -81,7 +83,9 @@ tool_app =
     with_subcommand
     (with_subcommand
     (with_subcommand
+    (with_subcommand
     (with_subcommand bare_app (command_shape request.Run))
     (command_shape request.Test))
     (command_shape request.Compile))
-    (command_shape request.Verify)
+    (command_shape request.Verify))
+    (command_shape request.Script)

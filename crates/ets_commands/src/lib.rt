@@ -1,7 +1,7 @@
 //! The program `ets_tool`, from the words of its command line to its status.
 //!
 //! The contract is that of `run_program`: what its two streams gain and the status that it ends with, by what its words ask
-//! for and by what the commands of `query_commands` write. `run_words` and `run_request` are the same of given words and of one
+//! for and by what the commands of `query_commands` and `ets_script` write. `run_words` and `run_request` are the same of given words and of one
 //! command.
 //!
 //! - `program`: from words to a status, `specs/Program.antt`.

@@ -9,6 +9,9 @@ ghost use Rattle.ets_commands.specs.Words.{asked};
 use crate::words::{Request, read_words};
 use clap::error::ErrorKind as WordsErrorKind;
 use command_io::{ToolFault, fault_line};
+use ets_script::run_script;
+use part_order::OrderPart;
+use part_plain::PlainPart;
 use query_commands::{tool_compile, tool_run, tool_test, tool_verify};
 use std::alloc::{AllocError, Allocator, Global};
 use std::convert::AsStr;
@@ -95,6 +98,7 @@ fn command_outcome<A: Allocator + Copy, R: Read, O: Write>(
         Request::Test => tool_test(alloc, reader, out),
         Request::Compile => tool_compile(alloc, reader, out),
         Request::Verify => tool_verify(alloc, reader, out),
+        Request::Script => run_script::<PlainPart<A>, OrderPart<A>, A, R, O>(alloc, reader, out),
     }
 }
 

@@ -19,6 +19,8 @@ pub enum Request {
     Compile,
     /// Say what is in a code file.
     Verify,
+    /// Reply to commands on tables.
+    Script,
 }
 
 const ABOUT: &str = "Runs match specifications of ets over terms.";
@@ -96,6 +98,30 @@ Example:
 writes
   {ok,2,1}.";
 
+const SCRIPT_ABOUT: &str = "Reads commands on tables, and writes the reply to each";
+
+const SCRIPT_EXAMPLE: &str = "\
+Reads from standard input, as term text: commands, each followed by a dot.
+Writes to standard output: for each command its reply, a dot and a line feed.
+A command that is refused is replied {error,N}., and the script goes on. Where
+the text can't be read nothing is written.
+
+Commands, with S the number of a session from 0:
+  {open,Kind,KeyPos,Parts,Sessions}  opens a table of Kind set or ordered_set,
+      whose key is element KeyPos (1 to 65535), with 1 to 64 parts and 1 to 16
+      sessions; an ordered set has one part
+  {insert,S,T} {insert_new,S,T} {delete_object,S,T}       of an object T
+  {lookup,S,K} {member,S,K} {delete,S,K} {take,S,K} {next,S,K}   of a key K
+  {first,S} {fix,S} {unfix,S} {leave,S}
+  {close}  replies the objects
+
+Example:
+  printf \"{open,set,1,1,1}. {insert,0,{1,a}}. {lookup,0,1}.\" | ets_tool script
+writes
+  true.
+  true.
+  [{1,a}].";
+
 /// The program without its commands, one of which it wants.
 fn tool<'a>(alloc: Global) -> Command<'a>
     ensures { app_of result ≡ bare_app }
@@ -122,11 +148,13 @@ fn program<'a>(alloc: Global) -> Result<Command<'a>, AllocError>
     let test = command(alloc, "test", TEST_ABOUT, TEST_EXAMPLE);
     let compile = command(alloc, "compile", COMPILE_ABOUT, COMPILE_EXAMPLE);
     let verify = command(alloc, "verify", VERIFY_ABOUT, VERIFY_EXAMPLE);
+    let script = command(alloc, "script", SCRIPT_ABOUT, SCRIPT_EXAMPLE);
     tool(alloc)
         .subcommand(run)?
         .subcommand(test)?
         .subcommand(compile)?
-        .subcommand(verify)
+        .subcommand(verify)?
+        .subcommand(script)
 }
 
 /// What the words ask for; the first word is the program's name. Words that `clap` does not take, and words that ask
@@ -139,6 +167,7 @@ pub fn read_words<'a, S: AsStr>(alloc: Global, words: &'a [S]) -> Result<Request
         Some("test") => Ok(Request::Test),
         Some("compile") => Ok(Request::Compile),
         Some("verify") => Ok(Request::Verify),
+        Some("script") => Ok(Request::Script),
         _ => Ok(Request::Run),
     }
 }

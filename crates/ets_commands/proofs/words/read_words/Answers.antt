@@ -32,7 +32,13 @@ returns-in-Some-verify g c =
     named_read request.Verify _ words c.in_ok-matches.matches c.in_ok-program.ensures c.in_ok-matches.ensures.kinds c.in_ok-matches.ensures.matches
     (sym c.subcommand_name.ensures ∙ rw (c.in-Some-verify.is, c.in-Some-verify.is-verify) refl)
 
+pub returns-in-Some-script : goal.returns-in-Some-script
+returns-in-Some-script g c =
+    let words = map g.S.AsStr.text c.args.words.now in
+    named_read request.Script _ words c.in_ok-matches.matches c.in_ok-program.ensures c.in_ok-matches.ensures.kinds c.in_ok-matches.ensures.matches
+    (sym c.subcommand_name.ensures ∙ rw (c.in-Some-script.is, c.in-Some-script.is-script) refl)
+
 pub returns : goal.returns
 returns g c =
     let words = map g.S.AsStr.text c.args.words.now in
-    run_read _ words c.in_ok-matches.matches c.in_ok-program.ensures c.in_ok-matches.ensures.kinds c.in_ok-matches.ensures.matches (search rules) (search rules) (search rules)
+    run_read _ words c.in_ok-matches.matches c.in_ok-program.ensures c.in_ok-matches.ensures.kinds c.in_ok-matches.ensures.matches (search rules) (search rules) (search rules) (search rules)
