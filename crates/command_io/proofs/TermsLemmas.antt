@@ -9,13 +9,13 @@ use Rattle.term_text.specs.declared.fault.TextFault.TheVariants as text
 use Rattle.command_io.specs.declared.fault.ToolFault.{ToolFault}
 use Rattle.command_io.specs.declared.fault.ToolFault.TheVariants as fault
 use Rattle.command_io.specs.Input.{IsReadFault}
-use Rattle.command_io.specs.Terms.{OfInput, IsTextFault, IsUnread, of_text}
+use Rattle.command_io.specs.Terms.{OfInput, IsNoText, IsUnspelled, IsUnread, of_text}
 
-no_text : (input : List ℕ) (f : TextFault) → f ≢ text.Memory → ((ds : List Datum) → Spells input ds → f ≡ text.Memory) → HasCause input f → ((at : ℕ) → (f ≡ text.BadUtf8 at) ↔ IsValidUpTo input at) → IsTextFault input f
-no_text input f other only cause bad = inl (record { unspelled = λ ds spelled. other (only ds spelled); other = other; cause = cause; bad_utf8 = bad })
+no_text : (input : List ℕ) (f : TextFault) → f ≢ text.Memory → ((ds : List Datum) → Spells input ds → f ≡ text.Memory) → HasCause input f → ((at : ℕ) → (f ≡ text.BadUtf8 at) ↔ IsValidUpTo input at) → IsNoText input f
+no_text input f other only cause bad = record { unspelled = λ ds spelled. other (only ds spelled); other = other; cause = cause; bad_utf8 = bad }
 
 -- a text that is refused, though not for want of memory, spells nothing
-pub text_refused : (input : List ℕ) (f : TextFault) → ((ds : List Datum) → Spells input ds → f ≡ text.Memory) → HasCause input f → ((at : ℕ) → (f ≡ text.BadUtf8 at) ↔ IsValidUpTo input at) → IsUnread input (of_text f)
+pub text_refused : (input : List ℕ) (f : TextFault) → ((ds : List Datum) → Spells input ds → f ≡ text.Memory) → HasCause input f → ((at : ℕ) → (f ≡ text.BadUtf8 at) ↔ IsValidUpTo input at) → IsUnspelled input (of_text f)
 text_refused input text.Memory only cause bad = tt
 text_refused input (text.TooDeep at) only cause bad = no_text input (text.TooDeep at) (λ e. absurd (cc)) only cause bad
 text_refused input (text.TooLong at) only cause bad = no_text input (text.TooLong at) (λ e. absurd (cc)) only cause bad
@@ -30,7 +30,7 @@ pub input_empty : (input : List ℕ) (terms : List Datum) → length terms ≡ 0
 input_empty input [] none spelled = inr (record { spelled = spelled; place = refl })
 input_empty input (d ∷ ds) none spelled = absurd (omega (arith, none))
 
-read_fault : (input : List ℕ) (f : ToolFault) → IsReadFault f → IsUnread input f
+read_fault : (input : List ℕ) (f : ToolFault) → IsReadFault f → IsUnspelled input f
 read_fault input fault.Memory h = tt
 read_fault input fault.ReadFailed h = tt
 read_fault input (fault.Text f) h = absurd h
@@ -40,7 +40,24 @@ read_fault input (fault.File f) h = absurd h
 read_fault input (fault.Code f) h = absurd h
 read_fault input fault.WriteFailed h = absurd h
 
+-- where it spells none, it hasn't one
+pub unspelled_is_unread : (input : List ℕ) (f : ToolFault) → IsUnspelled input f → IsUnread input f
+unspelled_is_unread input fault.Memory h = tt
+unspelled_is_unread input fault.ReadFailed h = tt
+unspelled_is_unread input (fault.Text f) h = inl h
+unspelled_is_unread input fault.BadInput h = absurd h
+unspelled_is_unread input (fault.Specification f) h = absurd h
+unspelled_is_unread input (fault.File f) h = absurd h
+unspelled_is_unread input (fault.Code f) h = absurd h
+unspelled_is_unread input fault.WriteFailed h = absurd h
+
 -- where reading fails, there are no terms
+pub unspelled : (known : Option (List ℕ)) (f : ToolFault) → IsReadFault f → OfInput known (λ input. IsUnspelled input f)
+unspelled None f h = ([], tt, read_fault [] f h)
+unspelled (Some bytes) f h = (bytes, refl, read_fault bytes f h)
+
+-- not one
 pub unread : (known : Option (List ℕ)) (f : ToolFault) → IsReadFault f → OfInput known (λ input. IsUnread input f)
-unread None f h = ([], tt, read_fault [] f h)
-unread (Some bytes) f h = (bytes, refl, read_fault bytes f h)
+unread known f h =
+    let none = unspelled known f h in
+    (none.0, none.1, unspelled_is_unread none.0 f none.2)

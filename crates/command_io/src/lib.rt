@@ -1,7 +1,7 @@
 //! What the commands of `ets_tool` read and write: an input's terms, lines of terms, and the line of a refusal.
 //!
 //! The contract: `read_input` answers the terms that a reader's bytes spell, at least one, and refuses any other input by
-//! what stands at the place of its fault; lines are the canonical texts of terms, and what is gathered is written or kept;
+//! what stands at the place of its fault, as does `read_script`, which takes none for an answer too; lines are the canonical texts of terms, and what is gathered is written or kept;
 //! `fault_line` writes the number of a refusal and its arguments.
 //!
 //! - `input`: the input, read whole, `specs/Input.antt`; `terms`: its terms, `specs/Terms.antt`.
@@ -17,4 +17,4 @@ mod terms;
 pub use fault::{ToolFault, fault_line};
 pub use input::{most_reads, read_whole, read_within};
 pub use lines::{out_of_memory, put_line, write_if_many, write_lines};
-pub use terms::read_input;
+pub use terms::{read_input, read_script};

@@ -1,6 +1,7 @@
 //! The terms of an input.
 ghost use Rattle.std.specs.Prelude.{◌≡◌, IfOk, IfErr};
-ghost use Rattle.command_io.specs.Terms.{OfInput, HasTerms, IsUnread, of_text};
+ghost use Rattle.term_text.specs.Text.{Spells};
+ghost use Rattle.command_io.specs.Terms.{OfInput, HasTerms, IsUnread, IsUnspelled, of_text};
 
 use crate::fault::ToolFault;
 use crate::input::read_whole;
@@ -21,22 +22,46 @@ pub fn read_input<A: Allocator + Copy, R: Read>(
         IsUnread input fault)) }
 {
     let input = read_whole(alloc, reader)?;
+    some_terms_of(alloc, input.as_slice())
+}
+
+/// The terms that a reader gives, to its end: each with a dot behind it, maybe none.
+#[tactic(auto, using(crate::proofs::TermsLemmas::unspelled))]
+pub fn read_script<A: Allocator + Copy, R: Read>(
+    alloc: A,
+    reader: &mut R,
+) -> Result<Vec<Term<A>, A>, ToolFault>
+    ensures ok { IfOk result (λ terms. OfInput (R.remaining reader.old) (λ input.
+        Spells input terms.items)) }
+    ensures refused { IfErr result (λ fault. OfInput (R.remaining reader.old) (λ input.
+        IsUnspelled input fault)) }
+{
+    let input = read_whole(alloc, reader)?;
     terms_of(alloc, input.as_slice())
 }
 
-/// The terms of an input.
-fn terms_of<A: Allocator + Copy>(alloc: A, input: &[u8]) -> Result<Vec<Term<A>, A>, ToolFault>
+/// The terms of an input, at least one.
+#[tactic(auto, using(crate::proofs::TermsLemmas::unspelled_is_unread))]
+fn some_terms_of<A: Allocator + Copy>(alloc: A, input: &[u8]) -> Result<Vec<Term<A>, A>, ToolFault>
     ensures ok { IfOk result (λ terms. HasTerms input.now terms.items) }
     ensures refused { IfErr result (IsUnread input.now) }
 {
-    let terms = match read_terms(alloc, input) {
-        Ok(terms) => terms,
-        Err(fault) => return Err(text_fault(fault)),
-    };
+    let terms = terms_of(alloc, input)?;
     if terms.as_slice().is_empty() {
         return Err(ToolFault::Text(TextFault::Syntax(input.len())));
     }
     Ok(terms)
+}
+
+/// The terms of an input.
+fn terms_of<A: Allocator + Copy>(alloc: A, input: &[u8]) -> Result<Vec<Term<A>, A>, ToolFault>
+    ensures ok { IfOk result (λ terms. Spells input.now terms.items) }
+    ensures refused { IfErr result (IsUnspelled input.now) }
+{
+    match read_terms(alloc, input) {
+        Ok(terms) => Ok(terms),
+        Err(fault) => Err(text_fault(fault)),
+    }
 }
 
 /// A fault of the text as one of the program.

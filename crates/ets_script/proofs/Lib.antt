@@ -7,5 +7,4 @@ mod WalkLemmas
 mod TableLemmas
 mod OptionLemmas
 mod GatherLemmas
-mod InputLemmas
 mod WorkedRows

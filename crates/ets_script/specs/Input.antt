@@ -1,19 +1,11 @@
--- The terms of a script, and why there are none.
+-- The terms of a script, and how it ends early.
 use Rattle.std.specs.Prelude.{ℕ, ◌⊎◌, Option, List}
 use Rattle.std.specs.Io.KnownBytes.{Keeps}
 use Rattle.term_core.specs.Datum.{Datum}
 use Rattle.term_text.specs.Text.{Spells}
-use Rattle.command_io.specs.Terms.{OfInput, IsNoText}
+use Rattle.command_io.specs.Terms.{OfInput, IsUnspelled}
 use Rattle.command_io.specs.declared.fault.ToolFault.{ToolFault}
-use Rattle.command_io.specs.declared.fault.ToolFault.TheVariants as fault
 use Rattle.ets_script.specs.Run.{StopsReplies}
-
--- why no terms of an input are there: want of memory, a reader that failed, or a text that spells none
-abbrev pub IsUnspelled : List ℕ → ToolFault → Type 0
-IsUnspelled input fault.Memory = Unit {0}
-IsUnspelled input fault.ReadFailed = Unit {0}
-IsUnspelled input (fault.Text f) = IsNoText input f
-IsUnspelled input f = ⊥
 
 -- this holds of the terms that a reader gave, of which there may be none
 abbrev pub OfScript : Option (List ℕ) → (List Datum → Type 0) → Type 0

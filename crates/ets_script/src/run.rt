@@ -6,10 +6,9 @@ ghost use Rattle.ets_script.specs.Scripts.{HasState};
 ghost use Rattle.ets_script.specs.Input.{OfScript, StopsScript};
 ghost use Rattle.ets_script.specs.Run.{IsPut, WritesReplies, StopsReplies};
 
-use crate::input::read_script;
 use crate::reply::put_reply;
 use crate::script::Script;
-use command_io::{ToolFault, out_of_memory, write_if_many, write_lines};
+use command_io::{ToolFault, out_of_memory, read_script, write_if_many, write_lines};
 use part_core::Part;
 use std::alloc::{AllocError, Allocator};
 use std::io::{Read, Write};
