@@ -11,3 +11,4 @@ pub mod MemoryLemmas
 pub mod TableLemmas
 pub mod AskLemmas
 pub mod TakeLemmas
+pub mod CompareLemmas

@@ -6,7 +6,8 @@
 //! the verifier's typing: where a call below it tests that again, the arm of its failure is proved to be out of reach. What is known of a
 //! state that is of the shape known to the verifier stands in `specs/Fits.antt`.
 //!
-//! - `execution`: what an instruction does to stack and slots, a step, and a run; `stack`: which instructions go by the stack and the
+//! - `execution`: what an instruction does to stack and slots, a step, and a run, which executes some rows of instructions at once (`Takes`
+//!   and `Compares` of `specs/Flow.antt`); `stack`: which instructions go by the stack and the
 //!   code alone; `step`: what a step comes to. What instructions do to the stack alone is in `operand_stack`.
 #![tactic(auto)]
 
