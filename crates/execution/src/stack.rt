@@ -1,8 +1,9 @@
 //! What the instructions do that look at nothing but the stack and the code.
-ghost use Rattle.std.specs.Prelude.{◌≡◌, ◌≤◌, IsTrue, IsOk, IfOk, length};
+ghost use Rattle.std.specs.Prelude.{◌≡◌, ◌≤◌, List, IsTrue, IsOk, IfOk, length};
+ghost use Rattle.term_core.specs.Datum.{Datum};
 ghost use Rattle.mcode.specs.Program.{Program};
 ghost use Rattle.verifier.specs.Effect.{needs};
-ghost use Rattle.operand_stack.specs.Flow.{IsWithin, IsReady, Does, IsReadyAnywhere, DoesAnywhere};
+ghost use Rattle.operand_stack.specs.Flow.{IsWithin, IsReady, Does};
 ghost use Rattle.operand_stack.specs.Stack.{stack_at};
 ghost use Rattle.execution.specs.Flow.{HasRoom, IsOfStack, Computes, Looks};
 ghost use Rattle.execution.specs.Memory.{MakesNone};
@@ -21,8 +22,10 @@ fn looking<'a, 'h, A: Allocator + Copy>(
     requires looks { Looks instr }
     requires deep { (p : Program) × (needs p instr ≤ height) }
     requires within { height ≤ length stack.now.terms }
-    requires ready { IsReadyAnywhere instr (stack_at stack.now.terms height) }
-    ensures flow { DoesAnywhere instr (stack_at stack.now.terms height) result stack.now.terms }
+    requires ready { (p : Program) × (object : Datum) × (held : List Datum)
+        × IsReady p object instr (stack_at stack.now.terms height) held }
+    ensures flow { (p : Program) (object : Datum) (held : List Datum)
+        → Does p object instr (stack_at stack.now.terms height) held result stack.now.terms held }
     ensures within { IsWithin result (length stack.now.terms) }
 {
     match instr {
@@ -53,9 +56,11 @@ fn computing<'a, 'h, A: Allocator + Copy>(
 ) -> Result<Flow, AllocError>
     requires kind { Computes instr }
     requires room { HasRoom code.now instr height (length stack.old.terms) }
-    requires ready { IsReady code.now instr (stack_at stack.old.terms height) }
-    ensures flow { IfOk result (λ flow. Does code.now instr (stack_at stack.old.terms height) flow
-        stack.new.terms) }
+    requires ready { (object : Datum) × (held : List Datum)
+        × IsReady code.now object instr (stack_at stack.old.terms height) held }
+    ensures flow { IfOk result (λ flow. (object : Datum) (held : List Datum)
+        → Does code.now object instr (stack_at stack.old.terms height) held flow stack.new.terms
+        held) }
     ensures within { IfOk result (λ flow. IsWithin flow (length stack.old.terms)) }
     ensures count { length stack.new.terms ≡ length stack.old.terms }
     ensures memory { MakesNone instr → length stack.old.terms ≤ INLINE_PLACES
@@ -88,9 +93,11 @@ pub(crate) fn on_stack<'a, 'h, A: Allocator + Copy>(
 ) -> Result<Flow, AllocError>
     requires kind { IsOfStack instr }
     requires room { HasRoom code.now instr height (length stack.old.terms) }
-    requires ready { IsReady code.now instr (stack_at stack.old.terms height) }
-    ensures flow { IfOk result (λ flow. Does code.now instr (stack_at stack.old.terms height) flow
-        stack.new.terms) }
+    requires ready { (object : Datum) × (held : List Datum)
+        × IsReady code.now object instr (stack_at stack.old.terms height) held }
+    ensures flow { IfOk result (λ flow. (object : Datum) (held : List Datum)
+        → Does code.now object instr (stack_at stack.old.terms height) held flow stack.new.terms
+        held) }
     ensures within { IfOk result (λ flow. IsWithin flow (length stack.old.terms)) }
     ensures count { length stack.new.terms ≡ length stack.old.terms }
     ensures memory { MakesNone instr → length stack.old.terms ≤ INLINE_PLACES

@@ -1,3 +1,4 @@
 pub mod Stack
+pub mod Slots
 pub mod Flow
 pub mod Cells

@@ -4,18 +4,14 @@
 //! of `mcode/specs/Machine.antt` says (`Does` of `specs/Flow.antt`), where it finds there what the instruction needs. Instructions that
 //! make no term take no memory where none of the terms was made.
 //!
-//! - `kinds`: of which kind a value is; `values`, `made`: what instructions make of values.
 //! - `cells`: lists under construction.
 //! - `places`: so many places, also those of the slots; `stack`: what instructions do to them; `flow`: where one leads.
 #![tactic(auto)]
 
 mod cells;
 mod flow;
-mod kinds;
-mod made;
 mod places;
 mod stack;
-mod values;
 
 pub use flow::Flow;
 pub use places::{INLINE_PLACES, INLINE_SLOTS, Places};

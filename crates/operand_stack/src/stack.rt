@@ -6,10 +6,10 @@ ghost use Rattle.operand_stack.specs.Flow.{Leads, IsWithin};
 ghost use Rattle.operand_stack.specs.Stack.{stack_at};
 
 use crate::flow::Flow;
-use crate::kinds::holds;
-use crate::made::{keys_of, list_of, made, map_of};
 use crate::places::Places;
-use crate::values::{are_same, computed, field, head, tail, value_of};
+use machine_values::{
+    are_same, computed, field, head, holds, keys_of, list_of, made_value, map_of, tail, value_of,
+};
 use mcode::{Code, Kind};
 use operand::Value;
 use primitives::{Arithmetic, Function, Primitive};
@@ -34,12 +34,15 @@ fn jump_unless(holds: bool, height: u16, otherwise: u16) -> Flow
 // What answers a flow is inlined into the machine's loop. What is large stands in functions of its own, which answer no flow: a loop that
 // grew too large would not be inlined, and a flow that a call answers is written to memory.
 impl<'a, 'h, const N: usize, A: Allocator + Copy> Places<'a, 'h, N, A> {
-    ghost use Rattle.std.specs.Prelude.{ℕ, ◌≡◌, ◌<◌, ◌≤◌, ◌-◌, ◌+◌, ◌∷◌, Some, IsTrue, IsSome, IsOk, IsOkAnd, IfOk, OnOk, IfSome, length, take, drop, map, reverse};
+    ghost use Rattle.std.specs.Prelude.{ℕ, ◌≡◌, ◌<◌, ◌≤◌, ◌-◌, ◌+◌, ◌∷◌, List, Some, IsTrue, IsSome, IsOk, IsOkAnd, IfOk, OnOk, IfSome, length, take, drop, map, reverse};
     ghost use Rattle.std.specs.Option.{option_map};
+    ghost use Rattle.term_core.specs.Datum.{Datum};
+    ghost use Rattle.mcode.specs.Program.{Program};
     ghost use Rattle.prims.specs.Calls.{function_of, inline_operands};
     ghost use Rattle.mcode.specs.Machine.{next, push_or_jump, test_outcome};
     ghost use Rattle.mcode.specs.declared.instr.Instr.TheVariants as instr;
-    ghost use Rattle.operand_stack.specs.Flow.{Leads, IsWithin, keys_at, top_holds, IsReady, Does, IsReadyAnywhere, DoesAnywhere};
+    ghost use Rattle.machine_values.specs.Keys.{keys_at};
+    ghost use Rattle.operand_stack.specs.Flow.{Leads, IsWithin, top_holds, IsReady, Does};
     ghost use Rattle.operand.specs.Value.{value_datum, is_borrowed, all};
     ghost use Rattle.operand_stack.specs.Stack.{stack_at};
 
@@ -126,8 +129,9 @@ impl<'a, 'h, const N: usize, A: Allocator + Copy> Places<'a, 'h, N, A> {
     pub fn duplicate(&mut self, height: u16) -> Result<Flow, AllocError>
         requires some { 0 < height }
         requires room { height < length self.old.terms }
-        ensures flow { IfOk result (λ flow. DoesAnywhere instr.Dup (stack_at self.old.terms height)
-            flow self.new.terms) }
+        ensures flow { IfOk result (λ flow. (p : Program) (object : Datum) (held : List Datum)
+            → Does p object instr.Dup
+            (stack_at self.old.terms height) held flow self.new.terms held) }
         ensures within { IfOk result (λ flow. IsWithin flow (length self.old.terms)) }
         ensures count { length self.new.terms ≡ length self.old.terms }
         ensures memory { IsTrue self.old.borrowed → IsOk result × IsTrue self.new.borrowed }
@@ -154,9 +158,12 @@ impl<'a, 'h, const N: usize, A: Allocator + Copy> Places<'a, 'h, N, A> {
     pub fn field(&mut self, height: u16, index: u16) -> Result<Flow, AllocError>
         requires some { 0 < height }
         requires within { height ≤ length self.old.terms }
-        requires ready { IsReadyAnywhere (instr.Field index) (stack_at self.old.terms height) }
-        ensures flow { IfOk result (λ flow. DoesAnywhere (instr.Field index)
-            (stack_at self.old.terms height) flow self.new.terms) }
+        requires ready { (p : Program) × (object : Datum) × (held : List Datum)
+            × IsReady p object (instr.Field index)
+            (stack_at self.old.terms height) held }
+        ensures flow { IfOk result (λ flow. (p : Program) (object : Datum) (held : List Datum)
+            → Does p object (instr.Field index)
+            (stack_at self.old.terms height) held flow self.new.terms held) }
         ensures within { IfOk result (λ flow. IsWithin flow (length self.old.terms)) }
         ensures count { length self.new.terms ≡ length self.old.terms }
         ensures memory { IsTrue self.old.borrowed → IsOk result × IsTrue self.new.borrowed }
@@ -170,9 +177,12 @@ impl<'a, 'h, const N: usize, A: Allocator + Copy> Places<'a, 'h, N, A> {
     pub fn head(&mut self, height: u16) -> Result<Flow, AllocError>
         requires some { 0 < height }
         requires within { height ≤ length self.old.terms }
-        requires ready { IsReadyAnywhere instr.Head (stack_at self.old.terms height) }
-        ensures flow { IfOk result (λ flow. DoesAnywhere instr.Head
-            (stack_at self.old.terms height) flow self.new.terms) }
+        requires ready { (p : Program) × (object : Datum) × (held : List Datum)
+            × IsReady p object instr.Head
+            (stack_at self.old.terms height) held }
+        ensures flow { IfOk result (λ flow. (p : Program) (object : Datum) (held : List Datum)
+            → Does p object instr.Head
+            (stack_at self.old.terms height) held flow self.new.terms held) }
         ensures within { IfOk result (λ flow. IsWithin flow (length self.old.terms)) }
         ensures count { length self.new.terms ≡ length self.old.terms }
         ensures memory { IsTrue self.old.borrowed → IsOk result × IsTrue self.new.borrowed }
@@ -186,9 +196,12 @@ impl<'a, 'h, const N: usize, A: Allocator + Copy> Places<'a, 'h, N, A> {
     pub fn tail(&mut self, height: u16) -> Result<Flow, AllocError>
         requires some { 0 < height }
         requires within { height ≤ length self.old.terms }
-        requires ready { IsReadyAnywhere instr.Tail (stack_at self.old.terms height) }
-        ensures flow { IfOk result (λ flow. DoesAnywhere instr.Tail
-            (stack_at self.old.terms height) flow self.new.terms) }
+        requires ready { (p : Program) × (object : Datum) × (held : List Datum)
+            × IsReady p object instr.Tail
+            (stack_at self.old.terms height) held }
+        ensures flow { IfOk result (λ flow. (p : Program) (object : Datum) (held : List Datum)
+            → Does p object instr.Tail
+            (stack_at self.old.terms height) held flow self.new.terms held) }
         ensures within { IfOk result (λ flow. IsWithin flow (length self.old.terms)) }
         ensures count { length self.new.terms ≡ length self.old.terms }
         ensures memory { IsTrue self.old.borrowed → IsOk result × IsTrue self.new.borrowed }
@@ -208,10 +221,12 @@ impl<'a, 'h, const N: usize, A: Allocator + Copy> Places<'a, 'h, N, A> {
     ) -> Result<Flow, AllocError>
         requires some { 0 < height }
         requires within { height ≤ length self.old.terms }
-        requires ready { IsReady code.now (instr.Value key otherwise)
-            (stack_at self.old.terms height) }
-        ensures flow { IfOk result (λ flow. Does code.now (instr.Value key otherwise)
-            (stack_at self.old.terms height) flow self.new.terms) }
+        requires ready { (object : Datum) × (held : List Datum)
+            × IsReady code.now object (instr.Value key otherwise)
+            (stack_at self.old.terms height) held }
+        ensures flow { IfOk result (λ flow. (object : Datum) (held : List Datum)
+            → Does code.now object (instr.Value key otherwise)
+            (stack_at self.old.terms height) held flow self.new.terms held) }
         ensures within { IfOk result (λ flow. IsWithin flow (length self.old.terms)) }
         ensures count { length self.new.terms ≡ length self.old.terms }
         ensures memory { IsTrue self.old.borrowed → IsOk result × IsTrue self.new.borrowed }
@@ -226,8 +241,9 @@ impl<'a, 'h, const N: usize, A: Allocator + Copy> Places<'a, 'h, N, A> {
     pub fn equal(&self, height: u16, otherwise: u16) -> Flow
         requires two { 2 ≤ height }
         requires within { height ≤ length self.now.terms }
-        ensures flow { DoesAnywhere (instr.Equal otherwise) (stack_at self.now.terms height) result
-            self.now.terms }
+        ensures flow { (p : Program) (object : Datum) (held : List Datum)
+            → Does p object (instr.Equal otherwise)
+            (stack_at self.now.terms height) held result self.now.terms held }
         ensures within { IsWithin result (length self.now.terms) }
     {
         let same = are_same(self.top(height - 1), self.top(height));
@@ -239,9 +255,12 @@ impl<'a, 'h, const N: usize, A: Allocator + Copy> Places<'a, 'h, N, A> {
     pub fn branch(&self, height: u16, otherwise: u16) -> Flow
         requires some { 0 < height }
         requires within { height ≤ length self.now.terms }
-        requires ready { IsReadyAnywhere (instr.Branch otherwise) (stack_at self.now.terms height) }
-        ensures flow { DoesAnywhere (instr.Branch otherwise) (stack_at self.now.terms height) result
-            self.now.terms }
+        requires ready { (p : Program) × (object : Datum) × (held : List Datum)
+            × IsReady p object (instr.Branch otherwise)
+            (stack_at self.now.terms height) held }
+        ensures flow { (p : Program) (object : Datum) (held : List Datum)
+            → Does p object (instr.Branch otherwise)
+            (stack_at self.now.terms height) held result self.now.terms held }
         ensures within { IsWithin result (length self.now.terms) }
     {
         match self.top(height).boolean() {
@@ -255,10 +274,12 @@ impl<'a, 'h, const N: usize, A: Allocator + Copy> Places<'a, 'h, N, A> {
     pub fn arithmetic(&mut self, height: u16, function: Arithmetic, otherwise: u16) -> Flow
         requires two { 2 ≤ height }
         requires within { height ≤ length self.old.terms }
-        requires ready { IsReadyAnywhere (instr.Arith function otherwise)
-            (stack_at self.old.terms height) }
-        ensures flow { DoesAnywhere (instr.Arith function otherwise)
-            (stack_at self.old.terms height) result self.new.terms }
+        requires ready { (p : Program) × (object : Datum) × (held : List Datum)
+            × IsReady p object (instr.Arith function otherwise)
+            (stack_at self.old.terms height) held }
+        ensures flow { (p : Program) (object : Datum) (held : List Datum)
+            → Does p object (instr.Arith function otherwise)
+            (stack_at self.old.terms height) held result self.new.terms held }
         ensures within { IsWithin result (length self.old.terms) }
         ensures count { length self.new.terms ≡ length self.old.terms }
         ensures borrowed { IsTrue self.old.borrowed → IsTrue self.new.borrowed }
@@ -306,10 +327,9 @@ impl<'a, 'h, const N: usize, A: Allocator + Copy> Places<'a, 'h, N, A> {
         requires deep { arguments ≤ height }
         requires within { height ≤ length self.old.terms }
         requires room { height - arguments < length self.old.terms }
-        requires ready { IsReadyAnywhere (instr.Call function arguments otherwise)
-            (stack_at self.old.terms height) }
-        ensures flow { IfOk result (λ flow. DoesAnywhere (instr.Call function arguments otherwise)
-            (stack_at self.old.terms height) flow self.new.terms) }
+        ensures flow { IfOk result (λ flow. (p : Program) (object : Datum) (held : List Datum)
+            → Does p object (instr.Call function arguments otherwise)
+            (stack_at self.old.terms height) held flow self.new.terms held) }
         ensures within { IfOk result (λ flow. IsWithin flow (length self.old.terms)) }
         ensures count { length self.new.terms ≡ length self.old.terms }
         ensures memory { IsTrue self.old.borrowed → arguments ≤ inline_operands → IsOk result
@@ -349,15 +369,14 @@ impl<'a, 'h, const N: usize, A: Allocator + Copy> Places<'a, 'h, N, A> {
         requires deep { size ≤ height }
         requires within { height ≤ length self.old.terms }
         requires room { height - size < length self.old.terms }
-        requires ready { IsReadyAnywhere (instr.MakeTuple size otherwise)
-            (stack_at self.old.terms height) }
-        ensures flow { IfOk result (λ flow. DoesAnywhere (instr.MakeTuple size otherwise)
-            (stack_at self.old.terms height) flow self.new.terms) }
+        ensures flow { IfOk result (λ flow. (p : Program) (object : Datum) (held : List Datum)
+            → Does p object (instr.MakeTuple size otherwise)
+            (stack_at self.old.terms height) held flow self.new.terms held) }
         ensures within { IfOk result (λ flow. IsWithin flow (length self.old.terms)) }
         ensures count { length self.new.terms ≡ length self.old.terms }
     {
         let elements = self.take_terms(height, size)?;
-        let tuple = made(self.heap(), make_tuple(*self.heap(), elements)?)?;
+        let tuple = made_value(self.heap(), make_tuple(*self.heap(), elements)?)?;
         Ok(self.push_or_jump(height - size, tuple, otherwise))
     }
 
@@ -366,8 +385,9 @@ impl<'a, 'h, const N: usize, A: Allocator + Copy> Places<'a, 'h, N, A> {
     pub fn make_list(&mut self, height: u16, otherwise: u16) -> Result<Flow, AllocError>
         requires two { 2 ≤ height }
         requires within { height ≤ length self.old.terms }
-        ensures flow { IfOk result (λ flow. DoesAnywhere (instr.MakeCons otherwise)
-            (stack_at self.old.terms height) flow self.new.terms) }
+        ensures flow { IfOk result (λ flow. (p : Program) (object : Datum) (held : List Datum)
+            → Does p object (instr.MakeCons otherwise)
+            (stack_at self.old.terms height) held flow self.new.terms held) }
         ensures within { IfOk result (λ flow. IsWithin flow (length self.old.terms)) }
         ensures count { length self.new.terms ≡ length self.old.terms }
     {
@@ -391,8 +411,9 @@ impl<'a, 'h, const N: usize, A: Allocator + Copy> Places<'a, 'h, N, A> {
         requires deep { IfSome (keys_at code.now keys) (λ ks. length ks ≤ height) }
         requires room { IfSome (keys_at code.now keys) (λ ks.
             height - length ks < length self.old.terms) }
-        ensures flow { IfOk result (λ flow. Does code.now (instr.MakeMap keys otherwise)
-            (stack_at self.old.terms height) flow self.new.terms) }
+        ensures flow { IfOk result (λ flow. (object : Datum) (held : List Datum)
+            → Does code.now object (instr.MakeMap keys otherwise)
+            (stack_at self.old.terms height) held flow self.new.terms held) }
         ensures within { IfOk result (λ flow. IsWithin flow (length self.old.terms)) }
         ensures count { length self.new.terms ≡ length self.old.terms }
     {

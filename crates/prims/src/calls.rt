@@ -57,7 +57,7 @@ fn of_two<'a, A: Allocator>(
 {
     match function {
         Function::Comparison(comparison) => {
-            Some(Operand::Bool(order::holds(comparison, left, right)))
+            Some(Operand::Bool(order::meets(comparison, left, right)))
         }
         Function::Extreme(extreme) => Some(order::extreme(extreme, left, right)),
         Function::Tuple(TupleFunction::Element) => Some(Operand::Term(tuples::element(

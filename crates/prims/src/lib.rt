@@ -28,4 +28,5 @@ mod values;
 pub use calls::{call, call_binary, call_unary};
 pub use integers::compute;
 pub use maps::{find_value, map_get};
+pub use order::meets;
 pub use values::{INLINE_OPERANDS, call_one, call_two, call_values};

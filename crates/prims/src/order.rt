@@ -25,7 +25,7 @@ fn allows(comparison: Comparison, order: Ordering) -> bool
 
 /// Whether the operands meet the comparison.
 #[inline(always)]
-pub(crate) fn holds<A: Allocator>(
+pub fn meets<A: Allocator>(
     comparison: Comparison,
     left: Operand<'_, A>,
     right: Operand<'_, A>,

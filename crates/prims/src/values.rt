@@ -75,7 +75,7 @@ pub fn call_two<'a, 'h, A: Allocator + Copy>(
         → IsOkAnd result (λ given. IfSome given (λ value. IsTrue (is_borrowed value))) }
 {
     if let Primitive::Function(Function::Comparison(comparison)) = function {
-        let holds = order::holds(comparison, left.operand(), right.operand());
+        let holds = order::meets(comparison, left.operand(), right.operand());
         return Ok(Some(Value::Bool(holds)));
     }
     if let Some(first) = left.borrowed() {

@@ -5,24 +5,28 @@ use Rattle.execution.proofs.stack.computing.Goals as goal
 
 pub arithmetic-requires : goal.arithmetic-requires
 arithmetic-requires g c =
-    let there = found (stack_at c.args.stack.now.terms c.args.height) c.in-Arith.is c.requires.room c.requires.ready in
-    (search rules, (omega (arith, there.0.operands), (there.0.within, (c.args.code.now, there.1))))
+    let ready = c.requires.ready in
+    let there = found ready.0 (stack_at c.args.stack.now.terms c.args.height) c.in-Arith.is c.requires.room ready.2 in
+    (search rules, (omega (arith, there.0.operands), (there.0.within, (c.args.code.now, ready.0, ready.1, there.1))))
 
 pub call-requires : goal.call-requires
 call-requires g c =
-    let there = found (stack_at c.args.stack.now.terms c.args.height) c.in-Call.is c.requires.room c.requires.ready in
-    (search rules, (omega (arith, there.0.operands), (there.0.within, (omega (arith, there.0.after), (c.args.code.now, there.1)))))
+    let ready = c.requires.ready in
+    let there = found ready.0 (stack_at c.args.stack.now.terms c.args.height) c.in-Call.is c.requires.room ready.2 in
+    (search rules, (omega (arith, there.0.operands), (there.0.within, omega (arith, there.0.after))))
 
 pub make_tuple-requires : goal.make_tuple-requires
 make_tuple-requires g c =
-    let there = found (stack_at c.args.stack.now.terms c.args.height) c.in-MakeTuple.is c.requires.room c.requires.ready in
-    (search rules, (omega (arith, there.0.operands), (there.0.within, (omega (arith, there.0.after), (c.args.code.now, there.1)))))
+    let ready = c.requires.ready in
+    let there = found ready.0 (stack_at c.args.stack.now.terms c.args.height) c.in-MakeTuple.is c.requires.room ready.2 in
+    (search rules, (omega (arith, there.0.operands), (there.0.within, omega (arith, there.0.after))))
 
 pub make_map-requires : goal.make_map-requires
 make_map-requires g c =
-    let there = found (stack_at c.args.stack.now.terms c.args.height) c.in-MakeMap.is c.requires.room c.requires.ready in
+    let ready = c.requires.ready in
+    let there = found ready.0 (stack_at c.args.stack.now.terms c.args.height) c.in-MakeMap.is c.requires.room ready.2 in
     let on = there.1 in
-    let room = map_room c.args.code.now on.0 on.1 on.2 c.in-MakeMap.keys c.in-MakeMap.otherwise c.args.height c.args.stack.now.terms there.0 on.3 in
+    let room = map_room c.args.code.now ready.0 on.0 on.1 c.in-MakeMap.keys c.in-MakeMap.otherwise c.args.height c.args.stack.now.terms there.0 on.3 in
     (search rules, (there.0.within, (room.0, (room.1, room.2))))
 
 pub returns-in-Call-clause-flow : goal.returns-in-Call-clause-flow
@@ -42,7 +46,7 @@ returns-in-Arith-clause-flow g c = rw c.in-Arith.is (c.arithmetic.ensures.flow c
 
 pub looking-requires : goal.looking-requires
 looking-requires g c =
-    (search rules, (looks_left c.args.instr c.requires.kind c.in_default.not-Call c.in_default.not-Arith c.in_default.not-MakeTuple c.in_default.not-MakeCons c.in_default.not-MakeMap, ((c.args.code.now, c.requires.room.operands), (c.requires.room.within, (c.args.code.now, c.requires.ready)))))
+    (search rules, (looks_left c.args.instr c.requires.kind c.in_default.not-Call c.in_default.not-Arith c.in_default.not-MakeTuple c.in_default.not-MakeCons c.in_default.not-MakeMap, ((c.args.code.now, c.requires.room.operands), (c.requires.room.within, (c.args.code.now, c.requires.ready.0, c.requires.ready.1, c.requires.ready.2)))))
 
 pub returns-in_default-clause-flow : goal.returns-in_default-clause-flow
 returns-in_default-clause-flow g c = c.looking.ensures.flow c.args.code.now
@@ -82,7 +86,8 @@ returns-in-Arith-clause-memory g c none few of_stack = (refl, c.arithmetic.ensur
 
 pub returns-in-Call-clause-memory : goal.returns-in-Call-clause-memory
 returns-in-Call-clause-memory g c none few of_stack =
-    let there = found (stack_at c.args.stack.now.terms c.args.height) c.in-Call.is c.requires.room c.requires.ready in
+    let ready = c.requires.ready in
+    let there = found ready.0 (stack_at c.args.stack.now.terms c.args.height) c.in-Call.is c.requires.room ready.2 in
     c.call.ensures.memory of_stack (omega (arith, there.0.operands, few, there.0.within))
 
 pub returns-in_default-clause-within : goal.returns-in_default-clause-within

@@ -34,13 +34,13 @@ pub returns-in-Drop-clause-flow : goal.returns-in-Drop-clause-flow
 returns-in-Drop-clause-flow g c =
     let deep = c.requires.deep.1 in
     let deep = rw c.in-Drop.is at deep in
-    rw c.in-Drop.is (λ p object pc slots. dropped_is p object pc slots c.args.stack.now.terms c.args.height (omega (arith, deep)) c.requires.within)
+    rw c.in-Drop.is (λ p object held pc slots are on. (slots, are, dropped_is p object pc slots c.args.stack.now.terms c.args.height (omega (arith, deep)) c.requires.within))
 
 pub returns-in-Answer-clause-flow : goal.returns-in-Answer-clause-flow
 returns-in-Answer-clause-flow g c =
     let deep = c.requires.deep.1 in
     let deep = rw c.in-Answer.is at deep in
-    rw c.in-Answer.is (λ p object pc slots. answered_is p object pc slots c.args.stack.now.terms c.args.height (omega (arith, deep)) c.requires.within)
+    rw c.in-Answer.is (λ p object held pc slots are on. (slots, are, answered_is p object pc slots c.args.stack.now.terms c.args.height (omega (arith, deep)) c.requires.within))
 
 pub returns-in-Tuple-clause-within : goal.returns-in-Tuple-clause-within
 returns-in-Tuple-clause-within g c = c.test.ensures.within
@@ -70,7 +70,7 @@ pub returns-in-Drop-clause-within : goal.returns-in-Drop-clause-within
 returns-in-Drop-clause-within g c = omega (arith, c.requires.within)
 
 pub returns-in-Jump-clause-flow : goal.returns-in-Jump-clause-flow
-returns-in-Jump-clause-flow g c = rw c.in-Jump.is (λ p object pc slots. refl)
+returns-in-Jump-clause-flow g c = rw c.in-Jump.is (λ p object held pc slots are on. (slots, are, refl))
 
 pub returns-in-NoAnswer-clause-flow : goal.returns-in-NoAnswer-clause-flow
-returns-in-NoAnswer-clause-flow g c = rw c.in-NoAnswer.is (λ p object pc slots. refl)
+returns-in-NoAnswer-clause-flow g c = rw c.in-NoAnswer.is (λ p object held pc slots are on. (slots, are, refl))

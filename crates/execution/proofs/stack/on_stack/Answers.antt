@@ -5,23 +5,27 @@ use Rattle.execution.proofs.stack.on_stack.Goals as goal
 
 pub field-requires : goal.field-requires
 field-requires g c =
-    let there = found (stack_at c.args.stack.now.terms c.args.height) c.in-Field.is c.requires.room c.requires.ready in
-    (search rules, (omega (arith, there.0.operands), (there.0.within, (c.args.code.now, there.1))))
+    let ready = c.requires.ready in
+    let there = found ready.0 (stack_at c.args.stack.now.terms c.args.height) c.in-Field.is c.requires.room ready.2 in
+    (search rules, (omega (arith, there.0.operands), (there.0.within, (c.args.code.now, ready.0, ready.1, there.1))))
 
 pub head-requires : goal.head-requires
 head-requires g c =
-    let there = found (stack_at c.args.stack.now.terms c.args.height) c.in-Head.is c.requires.room c.requires.ready in
-    (search rules, (omega (arith, there.0.operands), (there.0.within, (c.args.code.now, there.1))))
+    let ready = c.requires.ready in
+    let there = found ready.0 (stack_at c.args.stack.now.terms c.args.height) c.in-Head.is c.requires.room ready.2 in
+    (search rules, (omega (arith, there.0.operands), (there.0.within, (c.args.code.now, ready.0, ready.1, there.1))))
 
 pub tail-requires : goal.tail-requires
 tail-requires g c =
-    let there = found (stack_at c.args.stack.now.terms c.args.height) c.in-Tail.is c.requires.room c.requires.ready in
-    (search rules, (omega (arith, there.0.operands), (there.0.within, (c.args.code.now, there.1))))
+    let ready = c.requires.ready in
+    let there = found ready.0 (stack_at c.args.stack.now.terms c.args.height) c.in-Tail.is c.requires.room ready.2 in
+    (search rules, (omega (arith, there.0.operands), (there.0.within, (c.args.code.now, ready.0, ready.1, there.1))))
 
 pub value-requires : goal.value-requires
 value-requires g c =
-    let there = found (stack_at c.args.stack.now.terms c.args.height) c.in-Value.is c.requires.room c.requires.ready in
-    (search rules, (omega (arith, there.0.operands), (there.0.within, there.1)))
+    let ready = c.requires.ready in
+    let there = found ready.0 (stack_at c.args.stack.now.terms c.args.height) c.in-Value.is c.requires.room ready.2 in
+    (search rules, (omega (arith, there.0.operands), (there.0.within, (ready.0, ready.1, there.1))))
 
 pub returns-in-Dup-clause-flow : goal.returns-in-Dup-clause-flow
 returns-in-Dup-clause-flow g c = leads_here c.duplicate.result c.args.code.now (stack_at c.args.stack.now.terms c.args.height) c.duplicate.new.self.terms c.in-Dup.is c.duplicate.ensures.flow

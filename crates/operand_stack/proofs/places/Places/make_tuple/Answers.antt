@@ -5,7 +5,10 @@ use Rattle.operand_stack.proofs.MakeLemmas.{tuple_is}
 use Rattle.operand_stack.proofs.places.Places.make_tuple.Goals as goal
 
 pub returns-clause-flow : goal.returns-clause-flow
-returns-clause-flow g c p object pc slots =
-    c.push_or_jump.ensures.flow p pc slots
-    ∙ tuple_is c.args.size c.args.otherwise (stack_at c.args.self.now.terms c.args.height) c.requires.ready _ _ c.in_ok-elements.ensures.rest
-    (c.in_ok-tuple.ensures ∙ c.in_ok-make_tuple.ensures ∙ ap tuple_made c.in_ok-elements.ensures.terms) p object pc slots
+returns-clause-flow g c p object held pc slots are on = (
+  slots,
+  are,
+  c.push_or_jump.ensures.flow p pc slots
+      ∙ tuple_is p object pc slots c.args.size c.args.otherwise (stack_at c.args.self.now.terms c.args.height) _ _ c.in_ok-elements.ensures.rest
+      (c.in_ok-tuple.ensures ∙ c.in_ok-make_tuple.ensures ∙ ap tuple_made c.in_ok-elements.ensures.terms) on,
+)

@@ -2,7 +2,7 @@
 use Rattle.std.specs.Prelude.{◌≡◌, length}
 use Rattle.std.specs.List.{zip}
 use Rattle.std.proofs.Common.{◌++◌, reverse}
-use Rattle.operand_stack.proofs.made.pairs_of.Given as goal
+use Rattle.machine_values.proofs.made.pairs_of.Given as goal
 
 abbrev pub invariant-loop-key : goal.invariant-loop-key
 invariant-loop-key g l =

@@ -1,6 +1,6 @@
 use Rattle.std.proofs.Common.{Some, ap, ◌∙◌, sym, arith}
-use Rattle.operand_stack.proofs.TupleLemmas.{field_within, field_read}
-use Rattle.operand_stack.proofs.values.element.Goals as goal
+use Rattle.machine_values.proofs.TupleLemmas.{field_within, field_read}
+use Rattle.machine_values.proofs.values.element.Goals as goal
 
 pub offset_bounds-elements-from : goal.offset_bounds-elements-from
 offset_bounds-elements-from g c =

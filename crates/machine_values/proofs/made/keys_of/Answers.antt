@@ -1,9 +1,9 @@
 use Rattle.std.proofs.Common.{subst, ◌∙◌}
 use Rattle.std.specs.Prelude.{IsSome}
 use Rattle.std.proofs.lemmas.Result.{IfOk-weaker}
-use Rattle.operand_stack.proofs.MakeLemmas.{elements_there, map_keys_are}
-use Rattle.operand_stack.proofs.ReadyLemmas.{listed_inside, listed_is}
-use Rattle.operand_stack.proofs.made.keys_of.Goals as goal
+use Rattle.machine_values.proofs.MapLemmas.{elements_there, map_keys_are}
+use Rattle.machine_values.proofs.ConstantLemmas.{listed_inside, listed_is}
+use Rattle.machine_values.proofs.made.keys_of.Goals as goal
 
 pub bounds-constants-from : goal.bounds-constants-from
 bounds-constants-from g c =

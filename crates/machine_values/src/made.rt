@@ -7,7 +7,7 @@ ghost use Rattle.term_core.specs.Datum.Datum.{cons};
 ghost use Rattle.term_core.specs.Limits.{within_limits};
 ghost use Rattle.term_core.specs.MapPairs.{are_apart};
 ghost use Rattle.mcode.specs.Machine.{map_made};
-ghost use Rattle.operand_stack.specs.Flow.{keys_at};
+ghost use Rattle.machine_values.specs.Keys.{keys_at};
 ghost use Rattle.operand.specs.Value.{value_datum};
 
 use mcode::Code;
@@ -17,7 +17,7 @@ use term_core::{Term, copy_all, make_list, make_map};
 
 /// What was made, where it passes no limit.
 #[inline(never)]
-pub(crate) fn made<'a, 'h, A: Allocator + Copy>(
+pub fn made_value<'a, 'h, A: Allocator + Copy>(
     heap: &'h A,
     term: Option<Term<A>>,
 ) -> Result<Option<Value<'a, 'h, A>>, AllocError>
@@ -31,7 +31,7 @@ pub(crate) fn made<'a, 'h, A: Allocator + Copy>(
 
 /// The list of a head and a tail, none where it passes a limit.
 #[inline(never)]
-pub(crate) fn list_of<'a, 'h, A: Allocator + Copy>(
+pub fn list_of<'a, 'h, A: Allocator + Copy>(
     heap: &'h A,
     head: Value<'a, 'h, A>,
     tail: Value<'a, 'h, A>,
@@ -42,11 +42,11 @@ pub(crate) fn list_of<'a, 'h, A: Allocator + Copy>(
     let alloc = *heap;
     let mut elements = Vec::with_capacity(alloc, 1)?;
     elements.push(head.into_term(alloc)?)?;
-    made(heap, make_list(alloc, elements, tail.into_term(alloc)?)?)
+    made_value(heap, make_list(alloc, elements, tail.into_term(alloc)?)?)
 }
 
 /// The elements of a proper list.
-pub(crate) fn elements_of<A: Allocator + Copy>(
+pub fn elements_of<A: Allocator + Copy>(
     alloc: A,
     list: &Term<A>,
 ) -> Result<Vec<Term<A>, A>, AllocError>
@@ -61,7 +61,7 @@ pub(crate) fn elements_of<A: Allocator + Copy>(
 
 /// The keys that a constant of the code lists.
 #[inline(never)]
-pub(crate) fn keys_of<A: Allocator + Copy>(
+pub fn keys_of<A: Allocator + Copy>(
     alloc: A,
     code: &Code<A>,
     number: u16,
@@ -98,7 +98,7 @@ fn pairs_of<A: Allocator + Copy>(
 
 /// The map of these keys, of which no two are the same, and as many values; none where it passes a limit.
 #[inline(never)]
-pub(crate) fn map_of<'a, 'h, A: Allocator + Copy>(
+pub fn map_of<'a, 'h, A: Allocator + Copy>(
     heap: &'h A,
     keys: Vec<Term<A>, A>,
     values: Vec<Term<A>, A>,
@@ -110,5 +110,5 @@ pub(crate) fn map_of<'a, 'h, A: Allocator + Copy>(
 {
     let alloc = *heap;
     let pairs = pairs_of(alloc, keys, values)?;
-    made(heap, make_map(alloc, pairs)?)
+    made_value(heap, make_map(alloc, pairs)?)
 }

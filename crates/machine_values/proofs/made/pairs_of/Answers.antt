@@ -1,6 +1,6 @@
 use Rattle.std.proofs.Common.{◌≡◌, ◌∷◌, ◌++◌, [], ◌∙◌}
-use Rattle.operand_stack.proofs.MakeLemmas.{pairs_more}
-use Rattle.operand_stack.proofs.made.pairs_of.Goals as goal
+use Rattle.machine_values.proofs.MapLemmas.{pairs_more}
+use Rattle.machine_values.proofs.made.pairs_of.Goals as goal
 
 pub loop-key-preserved : goal.loop-key-preserved
 loop-key-preserved g c =

@@ -1,7 +1,7 @@
 use Rattle.std.proofs.Common.{ap, sym}
 use Rattle.std.specs.Prelude.{nat_eq}
 use Rattle.term_core.proofs.LimitLemmas.{item_count-items_of}
-use Rattle.operand_stack.proofs.kinds.is_tuple.Goals as goal
+use Rattle.machine_values.proofs.kinds.is_tuple.Goals as goal
 
 pub returns-in-Some : goal.returns-in-Some
 returns-in-Some g c =

@@ -30,7 +30,7 @@ fn element<'a, A: Allocator>(tuple: Operand<'a, A>, index: u16) -> &'a Term<A>
 
 /// The element of a tuple at a place that is counted from 1.
 #[inline(always)]
-pub(crate) fn field<'a, 'h, A: Allocator + Copy>(
+pub fn field<'a, 'h, A: Allocator + Copy>(
     heap: &'h A,
     tuple: &Value<'a, 'h, A>,
     index: u16,
@@ -52,7 +52,7 @@ pub(crate) fn field<'a, 'h, A: Allocator + Copy>(
 
 /// The first element of a list that has one.
 #[inline(never)]
-pub(crate) fn head<'a, 'h, A: Allocator + Copy>(
+pub fn head<'a, 'h, A: Allocator + Copy>(
     heap: &'h A,
     list: &Value<'a, 'h, A>,
 ) -> Result<Value<'a, 'h, A>, AllocError>
@@ -76,7 +76,7 @@ pub(crate) fn head<'a, 'h, A: Allocator + Copy>(
 
 /// What follows the first element of a list that has one.
 #[inline(never)]
-pub(crate) fn tail<'a, 'h, A: Allocator + Copy>(
+pub fn tail<'a, 'h, A: Allocator + Copy>(
     heap: &'h A,
     list: &Value<'a, 'h, A>,
 ) -> Result<Value<'a, 'h, A>, AllocError>
@@ -100,7 +100,7 @@ pub(crate) fn tail<'a, 'h, A: Allocator + Copy>(
 
 /// The value of a key in a map, none where the map has no such key.
 #[inline(never)]
-pub(crate) fn value_of<'a, 'h, A: Allocator + Copy>(
+pub fn value_of<'a, 'h, A: Allocator + Copy>(
     heap: &'h A,
     map: &Value<'a, 'h, A>,
     key: &'a Term<A>,
@@ -125,7 +125,7 @@ pub(crate) fn value_of<'a, 'h, A: Allocator + Copy>(
 
 /// Whether two values are the same term.
 #[inline(never)]
-pub(crate) fn are_same<A: Allocator>(left: &Value<'_, '_, A>, right: &Value<'_, '_, A>) -> bool
+pub fn are_same<A: Allocator>(left: &Value<'_, '_, A>, right: &Value<'_, '_, A>) -> bool
     ensures { result ≡ is_same (value_datum left.now) (value_datum right.now) }
 {
     compare(left.operand(), right.operand()).is_eq()
@@ -133,7 +133,7 @@ pub(crate) fn are_same<A: Allocator>(left: &Value<'_, '_, A>, right: &Value<'_, 
 
 /// What a function of two integers gives, none where it fails.
 #[inline(never)]
-pub(crate) fn computed<'a, 'h, A: Allocator>(
+pub fn computed<'a, 'h, A: Allocator>(
     function: Arithmetic,
     left: i64,
     right: i64,

@@ -1,5 +1,5 @@
-use Rattle.operand_stack.proofs.MakeLemmas.{pairs_apart}
-use Rattle.operand_stack.proofs.made.map_of.Goals as goal
+use Rattle.machine_values.proofs.MapLemmas.{pairs_apart}
+use Rattle.machine_values.proofs.made.map_of.Goals as goal
 
 pub make_map-requires : goal.make_map-requires
 make_map-requires g c =

@@ -1,0 +1,3 @@
+pub mod TupleLemmas
+pub mod ConstantLemmas
+pub mod MapLemmas
