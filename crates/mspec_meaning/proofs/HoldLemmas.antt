@@ -1,12 +1,12 @@
 -- Conditions one by one, and clauses one by one.
-use Rattle.std.proofs.Common.{◌≡◌, ℕ, suc, ◌+◌, ◌-◌, ◌<◌, slice_get, map, ◌≤◌, inl, inr, Option, Some, None, List, [], ◌∷◌, ◌++◌, length, get_or, drop, refl, sym, ◌∙◌, ap, subst, arith}
+use Rattle.std.proofs.Common.{◌≡◌, ℕ, suc, ◌+◌, ◌-◌, ◌<◌, slice_get, ◌≤◌, inl, inr, Option, Some, None, List, [], ◌∷◌, length, get_or, drop, refl, sym, ◌∙◌, ap, subst, arith}
 use Rattle.std.proofs.lemmas.List.{drop_all}
 use Rattle.term_core.specs.Datum.{Datum}
 use Rattle.mspec_syntax.specs.Expression.{Expression}
 use Rattle.mspec_syntax.specs.Specification.{Clause, Specification}
-use Rattle.mspec_meaning.specs.Match.{Substitution, Matches}
-use Rattle.mspec_meaning.specs.Slots.{AreFree, NeverMatches}
-use Rattle.mspec_meaning.proofs.MatchLemmas.{one-match}
+use Rattle.pattern_match.specs.Match.{Substitution, Matches}
+use Rattle.pattern_match.specs.Slots.{NeverMatches}
+use Rattle.pattern_match.proofs.MatchLemmas.{one-match}
 use Rattle.mspec_meaning.proofs.ValueLemmas.{split_at}
 use Rattle.mspec_meaning.specs.Meaning.{value_of, true_term, AllHold, Means, IsApplicable, Applies, body_value}
 use Rattle.mspec_syntax.specs.declared.mode.Mode.TheVariants.{Condition, Body}
@@ -70,10 +70,6 @@ Means-here cs i c o answer s h is applies value =
 
 pub Means-end : (cs : Specification) (i : ℕ) (o : Datum) → length cs ≤ i → Means (drop i cs) o None
 Means-end cs i o end = let P : Specification → Type 0 = λ l. Means l o None in subst P (sym (drop_all i cs end)) refl
-
-pub AreFree-push : {X : Type 0} (f : X → Option Datum) (xs : List X) (x : X) → f x ≡ None → AreFree (map f xs) → AreFree (map f (xs ++ x ∷ []))
-AreFree-push f [] x e h = (e, tt)
-AreFree-push f (y ∷ xs) x e h = (h.0, AreFree-push f xs x e h.1)
 
 -- a clause applies by what its slots hold, or by nothing
 pub clause-applies : (c : Clause) (s t : Substitution) (o p : Datum) (es : List Expression) → t ≡ s → p ≡ o → es ≡ c.conditions → Matches c.head s o → AllHold es t p → Applies c s o

@@ -16,12 +16,12 @@ use Rattle.mspec_syntax.specs.Expression.Expressions.{no_expressions, expression
 use Rattle.mspec_syntax.specs.Expression.Assignments.{no_assignments, assignment}
 use Rattle.mspec_syntax.specs.Specification.{Clause, Specification, clause_variables}
 use Rattle.mspec_syntax.specs.Sound.{IsSoundExpression, AreSoundExpressions, AreSoundAssignments, IsSoundClause}
-use Rattle.mspec_meaning.specs.Match.{Substitution, domain, values_of, lookup}
+use Rattle.pattern_match.specs.Match.{Substitution, domain, values_of, lookup}
 use Rattle.mspec_meaning.specs.Meaning.{or_failed, made_of, called, and_at, and_step, or_at, or_step, before, at_key, joined, made_list, value_at, argument_values, entry_values, all_true, any_true, body_value, Applies, IsApplicable, Means}
 use Rattle.mspec_syntax.specs.Mode.{Position}
 use Rattle.mspec_syntax.specs.Mode.Position.{by_itself, as_tail}
 use Rattle.mspec_syntax.specs.declared.mode.Mode.TheVariants.{Body}
-use Rattle.mspec_meaning.proofs.MatchLemmas.{one-match}
+use Rattle.pattern_match.proofs.MatchLemmas.{one-match}
 
 pub one-meaning : (spec : Specification) (o : Datum) (a b : Option Datum) → Means spec o a → Means spec o b → a ≡ b
 one-meaning [] o a b h k = h ∙ sym k

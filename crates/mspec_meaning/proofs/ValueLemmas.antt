@@ -11,11 +11,11 @@ use Rattle.mspec_syntax.specs.Keys.{AreKeysRising, IsBelowNext}
 use Rattle.mspec_syntax.specs.Expression.Expression.{bound, object, bindings, constant, quoted, call, and_also, or_else, new_tuple, new_cell, new_map}
 use Rattle.mspec_syntax.specs.Expression.Assignments.{no_assignments, assignment}
 use Rattle.mspec_syntax.specs.ExpressionView.{tail_expression, IsTailExpression}
-use Rattle.mspec_meaning.specs.Match.{Substitution}
+use Rattle.pattern_match.specs.Match.{Substitution}
 use Rattle.mspec_meaning.specs.Meaning.{made_of, before, at_key, joined, value_at, value_of, argument_values, entry_values}
 use Rattle.mspec_syntax.specs.Mode.Position.{as_tail}
 use Rattle.mspec_meaning.specs.Value.{joined_to, decided, decided_at}
-use Rattle.mspec_meaning.specs.Slots.{seen, known}
+use Rattle.pattern_match.specs.Slots.{seen, known}
 use Rattle.operand.specs.declared.operand.Operand.{Operand}
 use Rattle.mspec_syntax.specs.declared.mode.Mode.{Mode}
 

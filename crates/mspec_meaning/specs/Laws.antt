@@ -1,17 +1,12 @@
--- Laws of matching and meaning.
-use Rattle.std.specs.Prelude.{◌≡◌, ◌↔◌, Option, Some, None, [], ◌∷◌}
+-- Laws of the meaning.
+use Rattle.std.specs.Prelude.{◌≡◌, ◌↔◌, Option, None, [], ◌∷◌}
 use Rattle.std.specs.List.{All}
 use Rattle.std.specs.Option.{IsSome}
 use Rattle.term_core.specs.Datum.{Datum}
-use Rattle.mspec_syntax.specs.Pattern.{Pattern, own_term}
 use Rattle.mspec_syntax.specs.Specification.{Clause, Specification}
-use Rattle.mspec_meaning.specs.Match.{Substitution, Matches}
+use Rattle.pattern_match.specs.Match.{Substitution}
 use Rattle.mspec_syntax.specs.Sound.{IsSoundClause}
 use Rattle.mspec_meaning.specs.Meaning.{Applies, IsApplicable, Means, body_value}
-
--- at most one substitution makes a pattern match a term
-abbrev pub HasOneMatch : Type 0
-HasOneMatch = (p : Pattern) (t : Datum) (s r : Substitution) → Matches p s t → Matches p r t → s ≡ r
 
 -- the empty specification answers nothing on any object
 abbrev pub EmptyAnswersNothing : Type 0
@@ -28,12 +23,6 @@ abbrev pub OthersAnswer : Type 0
 OthersAnswer =
     (c : Clause) (cs : Specification) (o : Datum) (answer : Option Datum) → ¬ IsApplicable c o
     → (Means (c ∷ cs) o answer ↔ Means cs o answer)
-
--- such a pattern matches its own term alone, and binds nothing
-abbrev pub OwnTermMatches : Type 0
-OwnTermMatches =
-    (p : Pattern) (d : Datum) (s : Substitution) (t : Datum) → own_term p ≡ Some d
-    → (Matches p s t ↔ ((s ≡ []) × (t ≡ d)))
 
 -- a specification means one answer on an object
 abbrev pub HasOneMeaning : Type 0

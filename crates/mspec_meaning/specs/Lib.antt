@@ -1,7 +1,5 @@
-pub mod Match
 pub mod Meaning
 pub mod Value
-pub mod Slots
 pub mod Scope
 pub mod Applied
 pub mod Laws

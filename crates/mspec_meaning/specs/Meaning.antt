@@ -15,7 +15,7 @@ use Rattle.mspec_syntax.specs.Expression.Assignments.{no_assignments, assignment
 use Rattle.mspec_syntax.specs.Mode.{exit_term, Position}
 use Rattle.mspec_syntax.specs.Mode.Position.{by_itself, as_tail}
 use Rattle.mspec_syntax.specs.Specification.{Clause, Specification}
-use Rattle.mspec_meaning.specs.Match.{Substitution, values_of, lookup, Matches}
+use Rattle.pattern_match.specs.Match.{Substitution, values_of, lookup, Matches}
 use Rattle.mspec_syntax.specs.declared.mode.Mode.{Mode}
 use Rattle.mspec_syntax.specs.declared.mode.Mode.TheVariants.{Condition, Body}
 

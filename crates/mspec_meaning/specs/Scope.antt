@@ -1,6 +1,6 @@
 -- What the value of an expression depends on.
 use Rattle.term_core.specs.Datum.{Datum}
-use Rattle.mspec_meaning.specs.Match.{Substitution}
+use Rattle.pattern_match.specs.Match.{Substitution}
 use Rattle.mspec_syntax.specs.declared.mode.Mode.{Mode}
 
 -- where the expression stands, what the variables of the head are bound to, and the object

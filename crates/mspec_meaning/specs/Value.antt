@@ -3,7 +3,7 @@ use Rattle.std.specs.Prelude.{Bool, true, false, Option, Some, None, option_map,
 use Rattle.term_core.specs.Datum.{Datum, cells}
 use Rattle.operand.specs.Value.{value_datum}
 use Rattle.mspec_syntax.specs.Expression.{Expressions}
-use Rattle.mspec_meaning.specs.Match.{Substitution}
+use Rattle.pattern_match.specs.Match.{Substitution}
 use Rattle.mspec_meaning.specs.Meaning.{and_step, or_step, all_true, any_true}
 use Rattle.mspec_meaning.specs.declared.decided.Verdict.{Verdict}
 use Rattle.mspec_meaning.specs.declared.decided.Verdict.TheVariants as verdict

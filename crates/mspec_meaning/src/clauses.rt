@@ -1,16 +1,13 @@
 //! The meaning of a specification on an object.
-ghost use Rattle.std.specs.Prelude.{◌≡◌, length, IfOk, OnOk, MatchBool, MatchOption};
-ghost use Rattle.mspec_meaning.specs.Match.{Matches};
+ghost use Rattle.std.specs.Prelude.{◌≡◌, IfOk, MatchBool};
 ghost use Rattle.mspec_meaning.specs.Meaning.{AllHold, IsApplicable, Applies, Means, body_value};
 ghost use Rattle.mspec_meaning.specs.Applied.{AnswersBy};
-ghost use Rattle.mspec_meaning.specs.Slots.{seen, AreFree, NeverMatches, MatchesBy};
 ghost use Rattle.mspec_syntax.specs.declared.mode.Mode.TheVariants.{Condition, Body};
 
-use crate::bind::{Slot, bind};
 use crate::made::into_term;
 use crate::scope::Scope;
 use mspec_syntax::{Clause, Expression, Mode, Spec};
-use operand::Operand;
+use pattern_match::matched;
 use std::alloc::{AllocError, Allocator};
 use term_core::Term;
 
@@ -21,42 +18,6 @@ enum Applied<A: Allocator> {
     Not,
     /// The clause applies, and this is the value of its body.
     Answers(Option<Term<A>>),
-}
-
-/// Slots of variables that are free.
-fn free_slots<'a, A: Allocator + Copy>(
-    alloc: A,
-    count: usize,
-) -> Result<Vec<Slot<'a, A>, A>, AllocError>
-    ensures { IfOk result (λ slots. (length slots.items ≡ count) × AreFree (seen slots.items)) }
-{
-    let mut slots = Vec::with_capacity(alloc, count)?;
-    while slots.len() < count {
-        slots.push(None)?;
-    }
-    Ok(slots)
-}
-
-/// What the variables of a clause's head are bound to, where it matches the object.
-fn matched<'a, A: Allocator + Copy>(
-    alloc: A,
-    clause: &Clause<A>,
-    object: &'a Term<A>,
-) -> Result<Option<Vec<Slot<'a, A>, A>>, AllocError>
-    ensures { IfOk result (λ found. MatchOption found (NeverMatches clause.now.head object.entry.now)
-        (λ slots. MatchesBy clause.now slots object.entry.now)) }
-{
-    let mut slots = free_slots(alloc, clause.variables().len())?;
-    if bind(
-        clause.variables(),
-        slots.as_mut_slice(),
-        clause.head(),
-        Operand::Term(object),
-    ) {
-        Ok(Some(slots))
-    } else {
-        Ok(None)
-    }
 }
 
 /// Whether all conditions have the value `true`.

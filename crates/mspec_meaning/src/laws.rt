@@ -1,20 +1,9 @@
-//! Laws of matching and meaning, each the contract of a function that does nothing.
-ghost use Rattle.mspec_meaning.specs.Laws.{HasOneMatch, EmptyAnswersNothing, FirstAnswers, OthersAnswer, OwnTermMatches, HasOneMeaning, ApplicableHasValue, NothingWhereNoneApplies};
-
-/// At most one substitution makes a pattern match a term.
-pub fn one_substitution_matches()
-    ensures { HasOneMatch }
-{}
+//! Laws of the meaning, each the contract of a function that does nothing.
+ghost use Rattle.mspec_meaning.specs.Laws.{EmptyAnswersNothing, FirstAnswers, OthersAnswer, HasOneMeaning, ApplicableHasValue, NothingWhereNoneApplies};
 
 /// The empty specification answers nothing.
 pub fn empty_answers_nothing()
     ensures { EmptyAnswersNothing }
-{}
-
-/// A pattern in which neither a variable, `'_'` nor a map stands matches the term that it spells,
-/// and no other.
-pub fn own_term_matches()
-    ensures { OwnTermMatches }
 {}
 
 /// A specification answers exactly what its first clause does where that applies, else exactly what

@@ -3,16 +3,13 @@
 //! The contract is that of `evaluate`: it answers on an object what the specification means there
 //! (`Means`, in `specs/Meaning.antt`), or that no memory was given.
 //!
-//! - When a pattern matches: `specs/Match.antt`; `bind.rt`, over parts of terms
-//!   (`operand::Operand`), by the slots of `specs/Slots.antt`.
 //! - The values of expressions: `value.rt`, as methods of what they depend on (`scope.rt`); calls in
 //!   `called.rt`, arguments of `andalso` and `orelse` in `decided.rt`, what is made in `made.rt`. A
 //!   value is borrowed until it is put into a term or is the answer (`operand::Value`).
-//! - Clauses and specifications: `clauses.rt`.
+//! - Clauses and specifications: `clauses.rt`. When a head matches: `pattern_match`.
 //! - Laws of the meaning: `laws.rt`, `specs/Laws.antt`.
 #![tactic(auto)]
 
-mod bind;
 mod called;
 mod clauses;
 mod decided;
@@ -24,5 +21,4 @@ mod value;
 pub use clauses::evaluate;
 pub use laws::{
     applicable_clauses_answer, empty_answers_nothing, first_clause_decides, one_answer_is_meant,
-    one_substitution_matches, own_term_matches,
 };

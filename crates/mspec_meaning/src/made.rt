@@ -58,7 +58,7 @@ impl<'s, 'a, A: Allocator + Copy> Scope<'s, 'a, A> {
     ghost use Rattle.term_core.specs.Datum.{cells, items_of, entries_of};
     ghost use Rattle.term_core.specs.Datum.Datum.{nil, tuple, map};
     ghost use Rattle.term_core.specs.MapPairs.{AreRising};
-    ghost use Rattle.mspec_meaning.specs.Match.{values_of};
+    ghost use Rattle.pattern_match.specs.Match.{values_of};
     ghost use Rattle.mspec_meaning.specs.Meaning.{failed, made, made_of, or_failed};
     ghost use Rattle.mspec_meaning.specs.Value.{joined_to};
 

@@ -1,14 +1,14 @@
 //! What the value of an expression depends on.
 ghost use Rattle.std.specs.Prelude.{◌≡◌, length, IfOk};
 ghost use Rattle.std.specs.Option.{option_map};
-ghost use Rattle.mspec_meaning.specs.Match.{lookup};
-ghost use Rattle.mspec_meaning.specs.Slots.{seen, known, substitution_of};
+ghost use Rattle.pattern_match.specs.Match.{lookup};
+ghost use Rattle.pattern_match.specs.Slots.{seen, known, substitution_of};
 ghost use Rattle.operand.specs.Value.{value_datum};
 
-use crate::bind::Slot;
 use crate::made::push_element;
 use mspec_syntax::{Mode, Variables};
 use operand::Value;
+use pattern_match::Slot;
 use std::alloc::{AllocError, Allocator};
 use std::marker::Model;
 use term_core::Term;
@@ -69,7 +69,7 @@ impl<'s, 'a, A: Allocator> Model for Scope<'s, 'a, A> {
 
     ghost coded = { Prim.hlevel (codes, datum_code) };
 
-    ghost use Rattle.mspec_meaning.specs.Slots.{seen, substitution_of};
+    ghost use Rattle.pattern_match.specs.Slots.{seen, substitution_of};
 
     ghost view = { λ s. record {
       mode = s.mode;
@@ -83,8 +83,8 @@ impl<'s, 'a, A: Allocator> Model for Scope<'s, 'a, A> {
 impl<'s, 'a, A: Allocator + Copy> Scope<'s, 'a, A> {
     ghost use Rattle.std.specs.Prelude.{◌≡◌, length, IfOk};
     ghost use Rattle.std.specs.Option.{option_map};
-    ghost use Rattle.mspec_meaning.specs.Match.{lookup, values_of};
-    ghost use Rattle.mspec_meaning.specs.Slots.{seen, substitution_of};
+    ghost use Rattle.pattern_match.specs.Match.{lookup, values_of};
+    ghost use Rattle.pattern_match.specs.Slots.{seen, substitution_of};
     ghost use Rattle.operand.specs.Value.{value_datum};
 
     /// The scope of an expression that stands there, each variable of the head having its slot.

@@ -10,7 +10,7 @@ use Rattle.mcode.specs.Program.{Program}
 use Rattle.mcode.specs.declared.kind.Kind.{Kind}
 use Rattle.mspec_syntax.specs.Rising.{rank_of}
 use Rattle.mspec_syntax.specs.declared.mode.Mode.{Mode}
-use Rattle.mspec_meaning.specs.Match.{Substitution, domain, values_of, lookup}
+use Rattle.pattern_match.specs.Match.{Substitution, domain, values_of, lookup}
 use Rattle.mspec_meaning.specs.Meaning.{made}
 use Rattle.assembly.specs.Line.{SourceLine, plain}
 use Rattle.assembly.specs.Stands.{Stands}

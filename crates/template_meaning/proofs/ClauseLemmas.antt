@@ -21,12 +21,12 @@ use Rattle.mspec_syntax.specs.Sound.{IsSoundExpression, IsSoundClause}
 use Rattle.mspec_syntax.specs.Specification.{Clause, Specification, clause_variables, specification_variables}
 use Rattle.mspec_syntax.specs.declared.mode.Mode.TheVariants.{Condition, Body}
 use Rattle.mspec_syntax.proofs.RisingLemmas.{among-rising}
-use Rattle.mspec_meaning.specs.Match.{Substitution, domain, Fits, Matches}
+use Rattle.pattern_match.specs.Match.{Substitution, domain, Fits, Matches}
 use Rattle.mspec_meaning.specs.Meaning.{value_of, true_term, AllHold, body_value, Applies, IsApplicable, Means}
-use Rattle.mspec_meaning.specs.Slots.{AreFree, substitution_of}
-use Rattle.mspec_meaning.proofs.FitLemmas.{Binds-nothing}
+use Rattle.pattern_match.specs.Slots.{AreFree, substitution_of}
+use Rattle.pattern_match.proofs.FitLemmas.{Binds-nothing}
 use Rattle.mspec_meaning.proofs.HoldLemmas.{clause-fails, clause-unmatched}
-use Rattle.mspec_meaning.proofs.MatchLemmas.{slots-match, never-matches}
+use Rattle.pattern_match.proofs.MatchLemmas.{slots-match, never-matches}
 use Rattle.mspec_meaning.proofs.MeaningLemmas.{value-some, lookup-some}
 use Rattle.assembly.specs.Line.{SourceLine, plain}
 use Rattle.assembly.specs.Stands.{IsAt, Stands, AreStanding}

@@ -7,8 +7,8 @@ use Rattle.mcode.specs.Machine.{Bindings, binding}
 use Rattle.mspec_syntax.proofs.RankLemmas.{rank-below}
 use Rattle.mspec_syntax.specs.Grammar.{is_among}
 use Rattle.mspec_syntax.specs.Rising.{rank_of}
-use Rattle.mspec_meaning.specs.Slots.{assigned, Binds}
-use Rattle.mspec_meaning.proofs.MatchLemmas.{among-append}
+use Rattle.pattern_match.specs.Slots.{assigned, Binds}
+use Rattle.pattern_match.proofs.MatchLemmas.{among-append}
 use Rattle.templates.proofs.VariableLemmas.{one_among, among_later}
 use Rattle.template_meaning.specs.Known.{Names, seen_at, own_slots, AreKept}
 

@@ -21,11 +21,11 @@ use Rattle.mspec_syntax.specs.Pattern.Pattern.{variable, anything, literal, tupl
 use Rattle.mspec_syntax.specs.Pattern.Patterns.{no_patterns, pattern}
 use Rattle.mspec_syntax.specs.Pattern.Fields.{no_fields, field}
 use Rattle.mspec_syntax.specs.Rising.{rank_of}
-use Rattle.mspec_meaning.specs.Match.{Fits, AllFit, FieldsFit}
-use Rattle.mspec_meaning.specs.Slots.{Extends, assigned, Binds, NeverHolds}
-use Rattle.mspec_meaning.proofs.FitLemmas.{Fits-more, Binds-then, Never-then, Never-first, Binds-nothing}
-use Rattle.mspec_meaning.proofs.MatchLemmas.{among-append}
-use Rattle.mspec_meaning.proofs.OwnLemmas.{own-variables, own-fits, fits-own}
+use Rattle.pattern_match.specs.Match.{Fits, AllFit, FieldsFit}
+use Rattle.pattern_match.specs.Slots.{Extends, assigned, Binds, NeverHolds}
+use Rattle.pattern_match.proofs.FitLemmas.{Fits-more, Binds-then, Never-then, Never-first, Binds-nothing}
+use Rattle.pattern_match.proofs.MatchLemmas.{among-append}
+use Rattle.pattern_match.proofs.OwnLemmas.{own-variables, own-fits, fits-own}
 use Rattle.assembly.specs.Line.{SourceLine, plain}
 use Rattle.assembly.specs.Stands.{IsAt, Stands}
 use Rattle.assembly.specs.declared.op.Op.TheVariants as op

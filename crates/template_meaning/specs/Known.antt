@@ -5,7 +5,7 @@ use Rattle.mcode.specs.Machine.{Bindings, State, binding}
 use Rattle.mcode.specs.Program.{Program}
 use Rattle.mspec_syntax.specs.Grammar.{is_among}
 use Rattle.mspec_syntax.specs.Rising.{rank_of}
-use Rattle.mspec_meaning.specs.Slots.{Binds, NeverHolds}
+use Rattle.pattern_match.specs.Slots.{Binds, NeverHolds}
 use Rattle.template_meaning.specs.Reach.{at, Comes}
 
 -- the variables of all clauses, whose slots these are, and those of one of them

@@ -2,7 +2,7 @@
 use Rattle.std.specs.Prelude.{ℕ, ◌≡◌, Some, List, [], ◌∷◌}
 use Rattle.mcode.specs.Machine.{Bindings, binding}
 use Rattle.mspec_syntax.specs.Rising.{rank_of}
-use Rattle.mspec_meaning.specs.Match.{Substitution}
+use Rattle.pattern_match.specs.Match.{Substitution}
 
 -- the slot of each variable, in code over these variables, holds its value
 abbrev pub AreShown : List ℕ → Bindings → Substitution → Type 0

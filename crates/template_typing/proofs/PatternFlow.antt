@@ -25,7 +25,7 @@ use Rattle.assembly.specs.Stands.{IsAt, Stands}
 use Rattle.assembly.specs.declared.op.Op.TheVariants as op
 use Rattle.assembly.specs.declared.op.Target.TheVariants.{Failing}
 use Rattle.assembly.proofs.StandLemmas.{stands_front, stands_back}
-use Rattle.mspec_meaning.proofs.OwnLemmas.{own-variables}
+use Rattle.pattern_match.proofs.OwnLemmas.{own-variables}
 use Rattle.pattern_code.specs.Patterns.{pattern_count, same_lines, variable_lines, same_or, unless_anything, pattern_lines, element_lines, field_lines}
 use Rattle.templates.specs.Writable.{AreAmong}
 use Rattle.templates.proofs.VariableLemmas.{among_joined, among_left, among_right, one_among}

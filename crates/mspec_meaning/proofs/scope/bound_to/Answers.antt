@@ -1,9 +1,9 @@
 use Rattle.std.proofs.Common.{Some, option_map, sym, ◌∙◌, ap}
 use Rattle.mspec_syntax.proofs.RisingLemmas.{Rises-itself}
 use Rattle.operand.specs.Operand.{operand_datum}
-use Rattle.mspec_meaning.specs.Slots.{seen}
-use Rattle.mspec_meaning.proofs.MatchLemmas.{lookup-known, lookup-unknown, lookup-free}
-use Rattle.mspec_meaning.proofs.SlotLemmas.{assigned-get}
+use Rattle.pattern_match.specs.Slots.{seen}
+use Rattle.pattern_match.proofs.MatchLemmas.{lookup-known, lookup-unknown, lookup-free}
+use Rattle.pattern_match.proofs.SlotLemmas.{assigned-get}
 use Rattle.mspec_meaning.proofs.scope.bound_to.Goals as goal
 
 pub returns-in-Some-slots : goal.returns-in-Some-slots

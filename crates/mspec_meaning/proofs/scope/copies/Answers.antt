@@ -1,7 +1,7 @@
 use Rattle.std.proofs.Common.{◌+◌, ◌∷◌, [], ◌++◌, drop, sym, ◌∙◌, ap}
 use Rattle.std.proofs.lemmas.List.{drop_all, append_assoc, append-nil}
 use Rattle.operand.specs.Value.{value_datum}
-use Rattle.mspec_meaning.specs.Slots.{seen, known}
+use Rattle.pattern_match.specs.Slots.{seen, known}
 use Rattle.mspec_meaning.proofs.ValueLemmas.{known-free, known-bound}
 use Rattle.mspec_meaning.proofs.scope.copies.Goals as goal
 

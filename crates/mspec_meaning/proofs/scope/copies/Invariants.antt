@@ -1,6 +1,6 @@
 -- the values so far and those that are left make the whole
 use Rattle.std.proofs.Common.{◌≡◌, ◌++◌, drop}
-use Rattle.mspec_meaning.specs.Slots.{seen, known}
+use Rattle.pattern_match.specs.Slots.{seen, known}
 use Rattle.mspec_meaning.proofs.scope.copies.Given as goal
 
 abbrev pub invariant-loop-slot : goal.invariant-loop-slot

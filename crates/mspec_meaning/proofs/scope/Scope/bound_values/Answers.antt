@@ -1,9 +1,9 @@
 use Rattle.std.proofs.Common.{option_map, ◌∙◌, ap}
 use Rattle.std.proofs.lemmas.Result.{IfOk-weaker}
-use Rattle.mspec_meaning.specs.Match.{values_of}
+use Rattle.pattern_match.specs.Match.{values_of}
 use Rattle.operand.specs.Operand.{operand_datum}
-use Rattle.mspec_meaning.specs.Slots.{seen}
-use Rattle.mspec_meaning.proofs.MatchLemmas.{known-values, length-seen}
+use Rattle.pattern_match.specs.Slots.{seen}
+use Rattle.pattern_match.proofs.MatchLemmas.{known-values, length-seen}
 use Rattle.mspec_meaning.proofs.scope.Scope.bound_values.Goals as goal
 
 pub returns : goal.returns

@@ -11,9 +11,9 @@ use Rattle.mspec_syntax.specs.Pattern.Fields.{no_fields, field}
 use Rattle.mspec_syntax.specs.Rising.{rising}
 use Rattle.mspec_syntax.specs.Grammar.{is_among}
 use Rattle.mspec_syntax.proofs.RisingLemmas.{Rises, Rises-tail, Rises-rising, behind, among-rising}
-use Rattle.mspec_meaning.specs.Match.{Substitution, domain, values_of, lookup, Fits, AllFit, FieldsFit, Matches}
-use Rattle.mspec_meaning.specs.Slots.{assigned, Extends, Binds, NeverHolds, AreFree, known, substitution_of, NeverMatches}
-use Rattle.mspec_meaning.proofs.FitLemmas.{Fits-more}
+use Rattle.pattern_match.specs.Match.{Substitution, domain, values_of, lookup, Fits, AllFit, FieldsFit, Matches}
+use Rattle.pattern_match.specs.Slots.{assigned, Extends, Binds, NeverHolds, AreFree, known, substitution_of, NeverMatches}
+use Rattle.pattern_match.proofs.FitLemmas.{Fits-more}
 
 lookup-out : (s : Substitution) (n : ℕ) → is_among (domain s) n ≡ false → lookup s n ≡ None
 lookup-out [] n h = refl

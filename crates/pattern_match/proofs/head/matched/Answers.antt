@@ -1,11 +1,11 @@
 use Rattle.std.proofs.Common.{◌≡◌, option_map, length, List, Option, drop, sym, ◌∙◌, ap, subst}
 use Rattle.mspec_syntax.specs.Specification.{clause_variables}
-use Rattle.mspec_meaning.specs.Match.{Matches}
+use Rattle.pattern_match.specs.Match.{Matches}
 use Rattle.operand.specs.Operand.{operand_datum}
-use Rattle.mspec_meaning.specs.Slots.{seen, substitution_of, AreFree}
+use Rattle.pattern_match.specs.Slots.{seen, substitution_of, AreFree}
 use Rattle.operand.specs.declared.operand.Operand.{Operand}
-use Rattle.mspec_meaning.proofs.MatchLemmas.{clause-match, clause-never, whole, length-seen}
-use Rattle.mspec_meaning.proofs.clauses.matched.Goals as goal
+use Rattle.pattern_match.proofs.MatchLemmas.{clause-match, clause-never, whole, length-seen}
+use Rattle.pattern_match.proofs.head.matched.Goals as goal
 
 pub returns-then-bind : goal.returns-then-bind
 returns-then-bind g c =

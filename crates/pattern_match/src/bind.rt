@@ -5,8 +5,8 @@ ghost use Rattle.term_core.specs.Datum.Datum.{nil};
 ghost use Rattle.term_core.specs.Limits.{ArePairsSound};
 ghost use Rattle.operand.specs.Operand.{operand_datum};
 ghost use Rattle.mspec_syntax.specs.Pattern.{patterns_of, fields_of};
-ghost use Rattle.mspec_meaning.specs.Match.{Fits, AllFit, FieldsFit};
-ghost use Rattle.mspec_meaning.specs.Slots.{seen, Answers, BindsFront, NeverFitsFront};
+ghost use Rattle.pattern_match.specs.Match.{Fits, AllFit, FieldsFit};
+ghost use Rattle.pattern_match.specs.Slots.{seen, Answers, BindsFront, NeverFitsFront};
 
 use mspec_syntax::{Pattern, PatternKind, Variables};
 use operand::{Operand, View, compare};
@@ -15,7 +15,7 @@ use std::alloc::Allocator;
 use term_core::Term;
 
 /// The slots of a head's variables, in rising order of their numbers.
-pub(crate) type Slot<'a, A> = Option<Operand<'a, A>>;
+pub type Slot<'a, A> = Option<Operand<'a, A>>;
 
 /// Whether two operands are the same term.
 fn are_same<A: Allocator>(left: Operand<'_, A>, right: Operand<'_, A>) -> bool

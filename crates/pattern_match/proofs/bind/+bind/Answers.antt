@@ -1,13 +1,13 @@
 use Rattle.std.proofs.Common.{◌≡◌, ap, sym, ◌∙◌, subst, arith}
 use Rattle.term_core.specs.Datum.Datum.{nil}
 use Rattle.mspec_syntax.specs.Pattern.{Pattern, pattern_size, patterns_size, patterns_of}
-use Rattle.mspec_meaning.specs.Match.{Fits}
-use Rattle.mspec_meaning.specs.Slots.{Answers, seen}
+use Rattle.pattern_match.specs.Match.{Fits}
+use Rattle.pattern_match.specs.Slots.{Answers, seen}
 use Rattle.mspec_syntax.specs.PatternView.{tail_pattern}
 use Rattle.mspec_syntax.proofs.SizeLemmas.{patterns_size-at, fields_size-at, cells-fall}
 use Rattle.operand.specs.Operand.{operand_datum}
-use Rattle.mspec_meaning.proofs.FitLemmas.{AllFront-more, AllFront-never, AllFront-all, FieldsFront-more, FieldsFront-never, FieldsFront-missing, FieldsFront-all, lengths-never, variable-Answers, tuple-Answers, map-Answers, cells-more, cells-never, cells-short, cells-all, list-never, list-Answers, Answers-fact}
-use Rattle.mspec_meaning.proofs.bind.+bind.Goals as goal
+use Rattle.pattern_match.proofs.FitLemmas.{AllFront-more, AllFront-never, AllFront-all, FieldsFront-more, FieldsFront-never, FieldsFront-missing, FieldsFront-all, lengths-never, variable-Answers, tuple-Answers, map-Answers, cells-more, cells-never, cells-short, cells-all, list-never, list-Answers, Answers-fact}
+use Rattle.pattern_match.proofs.bind.+bind.Goals as goal
 
 pub bind_all-returns-then-patterns-terms : goal.bind_all-returns-then-patterns-terms
 bind_all-returns-then-patterns-terms g t c = λ s over extends claim. lengths-never c.args.patterns.now c.args.terms.now s c.if-patterns-terms.true claim

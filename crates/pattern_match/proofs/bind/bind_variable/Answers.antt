@@ -1,7 +1,7 @@
 use Rattle.std.proofs.Common.{option_map, refl, ap}
 use Rattle.operand.specs.Operand.{operand_datum}
-use Rattle.mspec_meaning.proofs.SlotLemmas.{free-Binds, bound-Answers}
-use Rattle.mspec_meaning.proofs.bind.bind_variable.Goals as goal
+use Rattle.pattern_match.proofs.SlotLemmas.{free-Binds, bound-Answers}
+use Rattle.pattern_match.proofs.bind.bind_variable.Goals as goal
 
 pub returns-in-None : goal.returns-in-None
 returns-in-None g c =

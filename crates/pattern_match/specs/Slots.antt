@@ -6,7 +6,7 @@ use Rattle.operand.specs.Operand.{operand_datum}
 use Rattle.operand.specs.declared.operand.Operand.{Operand}
 use Rattle.mspec_syntax.specs.Pattern.{Pattern, cells_of}
 use Rattle.mspec_syntax.specs.Specification.{Clause, clause_variables}
-use Rattle.mspec_meaning.specs.Match.{Substitution, Fits, Matches}
+use Rattle.pattern_match.specs.Match.{Substitution, Fits, Matches}
 
 -- the terms in the slots
 abbrev pub seen : {A : Type 0} → List (Option (Operand A)) → List (Option Datum)

@@ -2,9 +2,9 @@
 use Rattle.std.proofs.Common.{◌+◌, ◌*◌, drop}
 use Rattle.operand.specs.Operand.{operand_datum}
 use Rattle.mspec_syntax.specs.Pattern.{pattern_size, patterns_size, fields_size, patterns_of, fields_of}
-use Rattle.mspec_meaning.specs.Slots.{seen, LeadsOn}
-use Rattle.mspec_meaning.proofs.FitLemmas.{AllFront, FieldsFront}
-use Rattle.mspec_meaning.proofs.bind.+bind.Given as goal
+use Rattle.pattern_match.specs.Slots.{seen, LeadsOn}
+use Rattle.pattern_match.proofs.FitLemmas.{AllFront, FieldsFront}
+use Rattle.pattern_match.proofs.bind.+bind.Given as goal
 
 abbrev pub decreases-bind : goal.decreases-bind
 decreases-bind g l = 2 * pattern_size l.pattern.now

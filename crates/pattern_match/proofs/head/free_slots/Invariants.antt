@@ -1,7 +1,7 @@
 -- not too many slots, all free
 use Rattle.std.proofs.Common.{◌-◌, ◌≤◌, length}
-use Rattle.mspec_meaning.specs.Slots.{seen, AreFree}
-use Rattle.mspec_meaning.proofs.clauses.free_slots.Given as goal
+use Rattle.pattern_match.specs.Slots.{seen, AreFree}
+use Rattle.pattern_match.proofs.head.free_slots.Given as goal
 
 abbrev pub invariant-loop-slots : goal.invariant-loop-slots
 invariant-loop-slots g l = (length l.slots.items ≤ l.count) × AreFree (seen l.slots.items)

@@ -1,10 +1,10 @@
 -- Slots and claims on substitutions.
-use Rattle.std.proofs.Common.{◌≡◌, ℕ, zero, suc, Bool, true, false, MatchBool, inl, inr, Option, Some, None, List, [], ◌∷◌, map, length, get_or, slice_get, slice_set, refl, sym, ◌∙◌, ap, arith}
+use Rattle.std.proofs.Common.{◌≡◌, ℕ, zero, suc, Bool, true, false, MatchBool, inl, inr, Option, Some, None, List, [], ◌∷◌, ◌++◌, map, length, get_or, slice_get, slice_set, refl, sym, ◌∙◌, ap, arith}
 use Rattle.std.proofs.lemmas.Bool.{cases_eq, eq-eqb, ne_eqb}
 use Rattle.term_core.specs.Datum.{Datum}
 use Rattle.mspec_syntax.specs.Rising.{rising}
 use Rattle.mspec_syntax.proofs.RisingLemmas.{Rises, Rises-tail, Rises-below, Rises-itself}
-use Rattle.mspec_meaning.specs.Slots.{assigned, Binds, Answers}
+use Rattle.pattern_match.specs.Slots.{assigned, Binds, Answers, AreFree}
 
 module _ {X : Type 0} (f : X → Option Datum) where
   -- the value of the variable at a place
@@ -70,3 +70,7 @@ module _ {X : Type 0} (f : X → Option Datum) where
       λ s over extends claim.
       let known = sym (extends n c before) ∙ claim in
       let equal : c ≡ d = cc in differ equal
+
+pub AreFree-push : {X : Type 0} (f : X → Option Datum) (xs : List X) (x : X) → f x ≡ None → AreFree (map f xs) → AreFree (map f (xs ++ x ∷ []))
+AreFree-push f [] x e h = (e, tt)
+AreFree-push f (y ∷ xs) x e h = (h.0, AreFree-push f xs x e h.1)

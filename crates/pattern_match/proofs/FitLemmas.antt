@@ -12,9 +12,9 @@ use Rattle.mspec_syntax.specs.Pattern.Pattern.{variable, anything, literal, tupl
 use Rattle.mspec_syntax.specs.Pattern.Patterns.{no_patterns, pattern}
 use Rattle.mspec_syntax.specs.Pattern.Fields.{no_fields, field}
 use Rattle.prims.specs.Maps.{value_at}
-use Rattle.mspec_meaning.specs.Match.{Fits, AllFit, FieldsFit}
+use Rattle.pattern_match.specs.Match.{Fits, AllFit, FieldsFit}
 use Rattle.operand.specs.Operand.{IsNoCell}
-use Rattle.mspec_meaning.specs.Slots.{assigned, Extends, IsOver, Binds, NeverHolds, Answers, LeadsOn, BindsFront, NeverFitsFront}
+use Rattle.pattern_match.specs.Slots.{assigned, Extends, IsOver, Binds, NeverHolds, Answers, LeadsOn, BindsFront, NeverFitsFront}
 
 -- a test of equality
 pub eq-says : (r : Bool) (a b : Datum) → r ≡ eq_by_cmp datum_cmp a b → MatchBool r (a ≡ b) (a ≡ b → ⊥)

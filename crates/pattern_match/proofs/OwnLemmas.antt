@@ -7,7 +7,7 @@ use Rattle.mspec_syntax.specs.Pattern.{Pattern, Patterns, pattern_variables, pat
 use Rattle.mspec_syntax.specs.Pattern.Pattern.{variable, anything, literal, tuple_of, cell_of, map_of}
 use Rattle.mspec_syntax.specs.Pattern.Patterns.{no_patterns, pattern}
 use Rattle.mspec_syntax.specs.Rising.{rising}
-use Rattle.mspec_meaning.specs.Match.{Substitution, domain, lookup, Fits, AllFit, Matches}
+use Rattle.pattern_match.specs.Match.{Substitution, domain, lookup, Fits, AllFit, Matches}
 
 tuple-parts : (found : Option Items) (d : Datum) → option_map tuple found ≡ Some d → (ds : Items) × (found ≡ Some ds) × (tuple ds ≡ d)
 tuple-parts None d is = absurd (cc)

@@ -1,9 +1,9 @@
 use Rattle.std.proofs.Common.{List, Option, None, option_map, refl, sym, subst, arith}
 use Rattle.operand.specs.Operand.{operand_datum}
-use Rattle.mspec_meaning.specs.Slots.{seen, AreFree}
+use Rattle.pattern_match.specs.Slots.{seen, AreFree}
 use Rattle.operand.specs.declared.operand.Operand.{Operand}
-use Rattle.mspec_meaning.proofs.HoldLemmas.{AreFree-push}
-use Rattle.mspec_meaning.proofs.clauses.free_slots.Goals as goal
+use Rattle.pattern_match.proofs.SlotLemmas.{AreFree-push}
+use Rattle.pattern_match.proofs.head.free_slots.Goals as goal
 
 pub loop-slots-preserved : goal.loop-slots-preserved
 loop-slots-preserved g c =

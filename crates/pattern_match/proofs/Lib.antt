@@ -1,0 +1,4 @@
+pub mod SlotLemmas
+pub mod FitLemmas
+pub mod MatchLemmas
+pub mod OwnLemmas

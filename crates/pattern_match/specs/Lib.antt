@@ -1,0 +1,3 @@
+pub mod Match
+pub mod Slots
+pub mod Laws
