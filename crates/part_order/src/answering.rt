@@ -5,13 +5,11 @@ ghost use Rattle.part_core.specs.Acts.{IsAsked};
 ghost use Rattle.part_core.specs.Ops.{act_of};
 ghost use Rattle.part_core.specs.Plain.{plain_state, IsAnswered};
 
-use crate::deleting::visit_delete;
-use crate::fixing::{fix, release, unfix};
-use crate::reading::{lookup, member};
-use crate::rows::Rows;
-use crate::visiting::{visit, visit_count};
-use crate::walking::{first, next};
-use crate::writing::{delete, delete_object, insert, insert_new, take_objects};
+use ordered_rows::{
+    Rows, delete, delete_object, first, fix, insert, insert_new, lookup, member, next, release,
+    take_objects, unfix,
+};
+use ordered_visits::{visit, visit_count, visit_delete};
 use part_core::{Fault, PartOp, Reply, Settings};
 use std::alloc::Allocator;
 

@@ -4,8 +4,7 @@ ghost use Rattle.part_core.specs.Served.{settings_with, IsServed};
 ghost use Rattle.part_order.specs.Served.{serves};
 
 use crate::answering::answered;
-use crate::reading::all_objects;
-use crate::rows::Rows;
+use ordered_rows::{Rows, all_objects};
 use part_core::{
     Fault, Kind, OpenFault, Part, PartOp, Reply, Settings, fixes_are_counted, fixes_at,
     legal_goes_on, no_fixes, states_are_kept,

@@ -3,7 +3,7 @@ use Rattle.std.specs.Prelude.{flat_map}
 use Rattle.std.proofs.lemmas.Result.{IfOk-weaker}
 use Rattle.part_core.specs.Plain.{Plain}
 use Rattle.part_core.specs.Rows.{Row}
-use Rattle.part_order.proofs.WalkLemmas.{objects_walked}
+use Rattle.ordered_rows.proofs.WalkLemmas.{objects_walked}
 use Rattle.part_order.proofs.part.OrderPartPart.objects.Goals as goal
 
 pub returns : goal.returns

@@ -1,0 +1,3 @@
+pub mod TreeLemmas
+pub mod WalkLemmas
+pub mod WriteLemmas

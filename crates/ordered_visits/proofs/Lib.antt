@@ -1,0 +1,3 @@
+pub mod LookLemmas
+pub mod SeenLemmas
+pub mod DeleteLemmas
