@@ -1,3 +1,1 @@
-pub mod Places
 pub mod Served
-pub mod Looks

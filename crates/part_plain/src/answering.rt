@@ -4,13 +4,12 @@ ghost use Rattle.part_core.specs.declared.kind.Kind.TheVariants.{Set};
 ghost use Rattle.part_core.specs.Ops.{act_of};
 ghost use Rattle.part_core.specs.Plain.{plain_state, IsAnswered};
 
-use crate::fixing::{fix, release, unfix};
-use crate::reading::{lookup, member};
-use crate::row::Row;
-use crate::visiting::{visit, visit_count, visit_delete};
-use crate::walking::{first, next};
-use crate::writing::{delete, delete_object, insert, insert_new, take_objects};
 use part_core::{Fault, PartOp, Reply, Settings};
+use plain_rows::{
+    Row, delete, delete_object, first, fix, insert, insert_new, lookup, member, next, release,
+    take_objects, unfix,
+};
+use plain_visits::{visit, visit_count, visit_delete};
 use std::alloc::Allocator;
 
 /// Answers an operation.

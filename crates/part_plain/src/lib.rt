@@ -3,21 +3,11 @@
 //! The one contract: `PlainPart` keeps the trait `Part` of `part_core`. The state that a part is in is that of its rows and counts
 //! (`plain_state` of `part_core/specs/Plain.antt`).
 //!
-//! - `part`: the type; `answering`: which function answers an operation, each of which is answered as the state does (`IsAnswered`).
-//! - `reading`, `writing`, `fixing`: operations at one key, and on counts of fixes; `walking`: the order of a walk; `visiting`: visits
-//!   (`specs/Looks.antt` says which rows one looks at); `gathering`: all objects.
-//! - `row`: a key with its object; `rows`: rows found by their keys.
+//! - `part`: the type; `answering`: which function answers an operation, each of which is answered as the state does (`IsAnswered`): those
+//!   of `plain_rows` at one key, on counts of fixes and along a walk, those of `plain_visits` on visits.
 #![tactic(auto)]
 
 mod answering;
-mod fixing;
-mod gathering;
 mod part;
-mod reading;
-mod row;
-mod rows;
-mod visiting;
-mod walking;
-mod writing;
 
 pub use part::PlainPart;

@@ -4,12 +4,11 @@ ghost use Rattle.part_core.specs.Served.{settings_with, IsServed};
 ghost use Rattle.part_plain.specs.Served.{serves};
 
 use crate::answering::answered;
-use crate::gathering::objects;
-use crate::row::Row;
 use part_core::{
     Fault, Kind, OpenFault, Part, PartOp, Reply, Settings, fixes_are_counted, fixes_at,
     legal_goes_on, no_fixes, states_are_kept,
 };
+use plain_rows::{Row, objects};
 use std::alloc::{AllocError, Allocator, Global};
 use std::marker::Model;
 use term_core::Term;

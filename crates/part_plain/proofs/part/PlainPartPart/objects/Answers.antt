@@ -1,6 +1,6 @@
 use Rattle.std.proofs.lemmas.Result.{IfOk-weaker}
 use Rattle.part_core.specs.Plain.{Plain}
-use Rattle.part_plain.proofs.GatherLemmas.{objects_walked}
+use Rattle.plain_rows.proofs.GatherLemmas.{objects_walked}
 use Rattle.part_plain.proofs.part.PlainPartPart.objects.Goals as goal
 
 pub returns : goal.returns

@@ -1,0 +1,4 @@
+pub mod PlaceLemmas
+pub mod PutLemmas
+pub mod WalkLemmas
+pub mod GatherLemmas
