@@ -192,6 +192,12 @@ pub fn read_constant<A: Allocator + Copy>(
     }
 }
 
+/// How many places a row of so many items begins with: those that it needs, and no more than a row that grows has at first, since a count is
+/// not believed before its items are there.
+fn first_places(count: u32) -> usize {
+    (count as usize).min(4)
+}
+
 /// So many terms, one after the other.
 #[cycle(constant)]
 fn read_elements<A: Allocator + Copy>(
@@ -203,7 +209,7 @@ fn read_elements<A: Allocator + Copy>(
     ensures { Reads (rows (constant_format room) count) (BlamesBehind (AtTerm count) room bytes.now)
         (λ r. (r.0.items, r.1.now)) bytes.now result }
 {
-    let mut elements = Vec::new(alloc);
+    let mut elements = Vec::with_capacity(alloc, first_places(count))?;
     let mut rest = bytes;
     for _read in 0..count {
         let (element, behind) = read_constant(alloc, rest, room)?;
@@ -267,7 +273,7 @@ fn read_pairs<A: Allocator + Copy>(
     ensures { Reads (such (rows (pair_format room) count) RisingPairs)
         (BlamesBehind (InPairs count) room bytes.now) (λ r. (r.0.items, r.1.now)) bytes.now result }
 {
-    let mut pairs = Vec::new(alloc);
+    let mut pairs = Vec::with_capacity(alloc, first_places(u32::from(count)))?;
     let mut rest = bytes;
     for _read in 0..count {
         let (pair, behind) = read_pair(alloc, pairs.as_slice(), rest, room)?;

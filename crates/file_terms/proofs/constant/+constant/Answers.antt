@@ -24,7 +24,7 @@ read_constant-returns-in_default g t c =
 
 pub read_elements-returns-in_err-element : goal.read_elements-returns-in_err-element
 read_elements-returns-in_err-element g t c =
-    let p = err_from_is_err_and c.from_residual.result c.from_residual.ensures.1 in
+    let p = err_from_is_err_and c.from_residual-in_err-element.result c.from_residual-in_err-element.ensures.1 in
     rw (p.1, p.2) (elements_stop c.args.room c.args.count c.args.bytes.now c.loop-read.elements.items c.loop-read.rest.now c.loop-read._read _ c.loop-read.invariant c.loop-read-test.true c.in_err-element.ensures)
 
 pub read_elements-loop-read-preserved : goal.read_elements-loop-read-preserved
@@ -68,7 +68,7 @@ read_pair-returns g t c = pair_begins c.args.room c.args.before.now c.args.bytes
 
 pub read_pairs-returns-in_err-pair : goal.read_pairs-returns-in_err-pair
 read_pairs-returns-in_err-pair g t c =
-    let p = err_from_is_err_and c.from_residual.result c.from_residual.ensures.1 in
+    let p = err_from_is_err_and c.from_residual-in_err-pair.result c.from_residual-in_err-pair.ensures.1 in
     rw (p.1, p.2) (pairs_stop c.args.room c.args.count c.args.bytes.now c.loop-read.pairs.items c.loop-read.rest.now c.loop-read._read _ c.loop-read.invariant c.loop-read-test.true (rw c.as_slice.ensures.value at c.in_err-pair.ensures))
 
 pub read_pairs-loop-read-preserved : goal.read_pairs-loop-read-preserved
