@@ -27,7 +27,7 @@ use Rattle.tables.specs.Options.{settings_of}
 use Rattle.tables.specs.Turns.{Home, Views, TurnedByKey, TurnedEach, Follows}
 use Rattle.tables.specs.Calls.{TurnedByObject, RefusedByObject, is_granted, RefusedEach}
 use Rattle.tables.specs.OneThread.{TableState, reply_at, after_at, parts_of}
-use Rattle.ets_script.specs.Command.Ask.{DeleteObject, Fix, Unfix, Leave}
+use Rattle.script_commands.specs.Command.Ask.{DeleteObject, Fix, Unfix, Leave}
 use Rattle.ets_script.specs.Script.{error, answer_term, at_key, at_object}
 use Rattle.ets_script.specs.State.{IsAt, IsAnswered, IsReplied}
 use Rattle.tables.proofs.TurnLemmas.{turned_alone}

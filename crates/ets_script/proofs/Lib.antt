@@ -1,4 +1,3 @@
-mod ReadingLemmas
 mod ReplyLemmas
 mod TextLemmas
 mod LinkLemmas

@@ -2,7 +2,7 @@
 use Rattle.std.proofs.Common.{◌≡◌, List, [], ◌∷◌, refl, sym, ◌∙◌, subst, ap, inl, inr}
 use Rattle.term_core.specs.Datum.{Datum}
 use Rattle.ets_script.specs.Script.{ScriptState, step, IsReply, AreReplies}
-use Rattle.ets_script.proofs.ReadingLemmas.{command_term_is_one}
+use Rattle.script_commands.proofs.ReadingLemmas.{command_term_is_one}
 
 -- a term is replied once
 step_one : (st : ScriptState) (d a b : Datum) (p q : ScriptState) → IsReply st d a p → IsReply st d b q → (a ≡ b) × (p ≡ q)

@@ -10,7 +10,7 @@ use Rattle.tables.specs.OneThread.{TableState}
 use Rattle.walks.specs.OneThread.{key_after}
 use Rattle.walks.specs.Keys.{FoundFirst, FoundNext, RefusedNext}
 use Rattle.walks.proofs.OneThreadLemmas.{found_first, found_next, refused_next}
-use Rattle.ets_script.specs.Command.{Ask}
+use Rattle.script_commands.specs.Command.{Ask}
 use Rattle.ets_script.specs.Script.{error, answer_term, key_or_end}
 use Rattle.ets_script.specs.State.{IsAt, IsAnswered, IsReplied}
 

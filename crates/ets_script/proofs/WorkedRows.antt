@@ -12,11 +12,11 @@ use Rattle.part_core.specs.declared.kind.Kind.TheVariants.{Set, OrderedSet, Bag}
 use Rattle.part_core.specs.Visits.{walk_order}
 use Rattle.part_core.specs.Replies.{reply_of}
 use Rattle.part_core.specs.After.{after}
-use Rattle.ets_script.specs.Command.{Ask, Command, called, command_term, IsNoCommand}
-use Rattle.ets_script.specs.Command.Ask.{Insert, InsertNew, Lookup, Member, Delete, DeleteObject, Take, Fix, Unfix, Leave, First, Next}
-use Rattle.ets_script.specs.Command.Command.{Open, Session, Close}
+use Rattle.script_commands.specs.Command.{Ask, Command, called, command_term, IsNoCommand}
+use Rattle.script_commands.specs.Command.Ask.{Insert, InsertNew, Lookup, Member, Delete, DeleteObject, Take, Fix, Unfix, Leave, First, Next}
+use Rattle.script_commands.specs.Command.Command.{Open, Session, Close}
 use Rattle.ets_script.specs.Script.{ScriptState, beginning, step, error, AreReplies}
-use Rattle.ets_script.proofs.ReadingLemmas.{command_in, elements_of, read_back}
+use Rattle.script_commands.proofs.ReadingLemmas.{command_in, elements_of, read_back}
 
 -- the replies to commands, from a state on
 abbrev replied : ScriptState → List Command → List Datum

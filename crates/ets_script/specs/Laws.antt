@@ -1,12 +1,7 @@
 -- Laws of what a script is replied.
 use Rattle.std.specs.Prelude.{◌≡◌, List}
 use Rattle.term_core.specs.Datum.{Datum}
-use Rattle.ets_script.specs.Command.{Command, command_term}
 use Rattle.ets_script.specs.Script.{ScriptState, AreReplies}
-
--- two commands have two terms
-abbrev pub TermsTellCommands : Type 0
-TermsTellCommands = (a b : Command) → command_term a ≡ command_term b → a ≡ b
 
 -- terms have one list of replies
 abbrev pub RepliesAreOne : Type 0

@@ -1,6 +1,3 @@
-pub mod Command
-pub mod Commands
-pub mod Reading
 pub mod Script
 pub mod Replies
 pub mod State

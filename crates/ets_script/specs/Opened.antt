@@ -3,7 +3,7 @@ use Rattle.std.specs.Prelude.{ℕ, ℤ, ◌≡◌, ◌<◌, ◌==◌, Bool, ◌&
 use Rattle.term_core.specs.Datum.{Datum}
 use Rattle.part_core.specs.declared.part.Part.{Ghosts}
 use Rattle.ets_script.specs.declared.open.OpenTable as open_type
-use Rattle.ets_script.specs.Command.{Ask}
+use Rattle.script_commands.specs.Command.{Ask}
 use Rattle.ets_script.specs.Script.{OpenTable, answered_in, session_number}
 use Rattle.ets_script.specs.Tables.{options_of, IsTable}
 

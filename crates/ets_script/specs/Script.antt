@@ -13,9 +13,9 @@ use Rattle.tables.specs.declared.options.Options.{Options}
 use Rattle.tables.specs.Options.{settings_of}
 use Rattle.tables.specs.OneThread.{TableState, opened, reply_at, after_at, after_each, can_fix, can_unfix}
 use Rattle.walks.specs.OneThread.{first_key, key_after, table_objects}
-use Rattle.ets_script.specs.Command.{Ask, Command, called, command_term, IsNoCommand}
-use Rattle.ets_script.specs.Command.Ask.{Insert, InsertNew, Lookup, Member, Delete, DeleteObject, Take, Fix, Unfix, Leave, First, Next}
-use Rattle.ets_script.specs.Command.Command.{Open, Session, Close}
+use Rattle.script_commands.specs.Command.{Ask, Command, called, command_term, IsNoCommand}
+use Rattle.script_commands.specs.Command.Ask.{Insert, InsertNew, Lookup, Member, Delete, DeleteObject, Take, Fix, Unfix, Leave, First, Next}
+use Rattle.script_commands.specs.Command.Command.{Open, Session, Close}
 
 -- the table that is open, and which sessions have left it
 pub record OpenTable : Type 0 where

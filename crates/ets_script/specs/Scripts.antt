@@ -4,7 +4,7 @@ use Rattle.term_core.specs.Datum.{Datum}
 use Rattle.part_core.specs.declared.part.Part.{Ghosts}
 use Rattle.ets_script.specs.declared.open.OpenTable as open_type
 use Rattle.ets_script.specs.declared.script.Script as script_type
-use Rattle.ets_script.specs.Command.{Command}
+use Rattle.script_commands.specs.Command.{Command}
 use Rattle.ets_script.specs.Script.{OpenTable, ScriptState, step, IsReply}
 use Rattle.ets_script.specs.Opened.{IsOpen}
 

@@ -10,7 +10,7 @@ use Rattle.tables.specs.declared.options.Options.{Options}
 use Rattle.tables.specs.Options.{settings_of}
 use Rattle.tables.specs.Turns.{Views}
 use Rattle.tables.specs.OneThread.{TableState}
-use Rattle.ets_script.specs.Command.{Ask}
+use Rattle.script_commands.specs.Command.{Ask}
 use Rattle.ets_script.specs.Script.{error, asked}
 
 -- A table is in a state, by what is seen of it: the histories of its parts leave their states.

@@ -7,7 +7,7 @@ use Rattle.tables.specs.Local.{AreAfter}
 use Rattle.tables.specs.OneThread.{TableState}
 use Rattle.ets_script.specs.declared.table.Table.{Table}
 use Rattle.ets_script.specs.declared.table.Table.TheVariants as table
-use Rattle.ets_script.specs.Command.{Ask}
+use Rattle.script_commands.specs.Command.{Ask}
 use Rattle.ets_script.specs.Script.{asked}
 use Rattle.ets_script.specs.State.{IsAt}
 

@@ -1,10 +1,5 @@
-//! Laws of what a script is replied, each the contract of a function that does nothing.
-ghost use Rattle.ets_script.specs.Laws.{TermsTellCommands, RepliesAreOne};
-
-/// Two commands have two terms.
-pub fn terms_tell_commands()
-    ensures { TermsTellCommands }
-{}
+//! A law of what a script is replied, the contract of a function that does nothing.
+ghost use Rattle.ets_script.specs.Laws.{RepliesAreOne};
 
 /// From a state on, terms have one list of replies.
 pub fn replies_are_one()

@@ -4,14 +4,12 @@
 //! `specs/Script.antt`), for want of memory those of a beginning of them (`specs/Run.antt`). Which parts the tables are made of is the
 //! caller's choice: any that keep the trait `Part`.
 //!
-//! - `command`: a command read from a term, `specs/Command.antt`.
 //! - `session`: what a session is replied over any turns; `table`, `open`: the same at the table that is open, and opening one;
 //!   `script`: one step of a script. `specs/State.antt`, `Tables.antt`, `Opened.antt` and `Scripts.antt` say which state each is in.
 //! - `reply`: replies and their lines, `specs/Replies.antt`; `run`: from a reader to a writer, `specs/Input.antt`.
-//! - `laws`: terms tell commands, and replies are one, `specs/Laws.antt`.
+//! - `laws`: replies are one, `specs/Laws.antt`. Commands are read from terms by `script_commands`.
 #![tactic(auto)]
 
-mod command;
 mod laws;
 mod open;
 mod reply;
@@ -20,7 +18,6 @@ mod script;
 mod session;
 mod table;
 
-pub use command::{Ask, Command, read_command};
-pub use laws::{replies_are_one, terms_tell_commands};
+pub use laws::replies_are_one;
 pub use reply::{Reply, put_reply};
 pub use run::run_script;

@@ -1,14 +1,14 @@
 //! The table that is open in a script, and which sessions have left it.
 ghost use Rattle.std.specs.Prelude.{◌≡◌, IfSome};
 ghost use Rattle.part_core.specs.Settings.{is_set};
-ghost use Rattle.ets_script.specs.Commands.{ask_of};
+ghost use Rattle.script_commands.specs.Commands.{ask_of};
 ghost use Rattle.ets_script.specs.Opened.{IsNoted};
 ghost use Rattle.ets_script.specs.Script.{number_within, options_with, is_leaving};
 
-use crate::command::Ask;
 use crate::reply::Reply;
 use crate::table::Table;
 use part_core::{Kind, Part};
+use script_commands::Ask;
 use std::alloc::{AllocError, Allocator, Global};
 use tables::Options;
 use term_core::Term;
@@ -123,7 +123,7 @@ impl<S: Part<A> + Drop, O: Part<A> + Drop, A: Allocator + Copy> OpenTable<S, O, 
     ghost use Rattle.std.specs.Prelude.{◌≡◌, ◌≢◌, ◌<◌, IfSome, IfOk};
     ghost use Rattle.tables.specs.Options.{IsOpenable};
     ghost use Rattle.walks.specs.OneThread.{table_objects};
-    ghost use Rattle.ets_script.specs.Commands.{ask_of};
+    ghost use Rattle.script_commands.specs.Commands.{ask_of};
     ghost use Rattle.ets_script.specs.Replies.{reply_term};
     ghost use Rattle.ets_script.specs.Script.{OpenTable as OpenState, session_number, newly_opened};
     ghost use Rattle.ets_script.specs.Tables.{options_of};

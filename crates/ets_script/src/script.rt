@@ -1,8 +1,8 @@
 //! A script between two commands.
-use crate::command::{Ask, Command, read_command};
 use crate::open::{OpenTable, options_in};
 use crate::reply::Reply;
 use part_core::{Kind, Part};
+use script_commands::{Ask, Command, read_command};
 use std::alloc::{AllocError, Allocator, Global};
 use std::mem;
 use term_core::Term;
@@ -26,8 +26,8 @@ fn let_go<S: Part<A> + Drop, O: Part<A> + Drop, A: Allocator>(_table: Option<Ope
 impl<S: Part<A> + Drop, O: Part<A> + Drop, A: Allocator + Copy> Script<S, O, A> {
     ghost use Rattle.std.specs.Prelude.{◌≡◌, ◌≤◌, ◌<◌, ◌+◌, IfOk, IsTrue};
     ghost use Rattle.part_core.specs.declared.kind.Kind.TheVariants.{Set, OrderedSet};
-    ghost use Rattle.ets_script.specs.Command.Command.{Open, Session, Close};
-    ghost use Rattle.ets_script.specs.Commands.{ask_of, command_of};
+    ghost use Rattle.script_commands.specs.Command.Command.{Open, Session, Close};
+    ghost use Rattle.script_commands.specs.Commands.{ask_of, command_of};
     ghost use Rattle.ets_script.specs.Replies.{reply_term};
     ghost use Rattle.ets_script.specs.Script.{beginning};
     ghost use Rattle.ets_script.specs.Scripts.{HasState, IsStep, IsTermStep};

@@ -1,12 +1,12 @@
 //! What a session is replied that asks something of its table.
 ghost use Rattle.std.specs.Prelude.{◌≡◌, IsTrue, IfOk};
-ghost use Rattle.ets_script.specs.Commands.{ask_of};
+ghost use Rattle.script_commands.specs.Commands.{ask_of};
 ghost use Rattle.ets_script.specs.Replies.{reply_term};
 ghost use Rattle.ets_script.specs.State.{IsAnswered, IsReplied};
 
-use crate::command::Ask;
 use crate::reply::Reply;
 use part_core::Fault;
+use script_commands::Ask;
 use std::alloc::{AllocError, Allocator};
 use tables::{
     Turns, delete, delete_object, fix, insert, insert_new, lookup, member, release, take, unfix,

@@ -4,14 +4,14 @@ ghost use Rattle.tables.specs.Local.{AreAfter};
 ghost use Rattle.tables.specs.OneThread.{TableState, opened};
 ghost use Rattle.tables.specs.Options.{IsOpenable};
 ghost use Rattle.walks.specs.OneThread.{table_objects};
-ghost use Rattle.ets_script.specs.Commands.{ask_of};
+ghost use Rattle.script_commands.specs.Commands.{ask_of};
 ghost use Rattle.ets_script.specs.Replies.{reply_term};
 ghost use Rattle.ets_script.specs.State.{IsAt, IsAnswered};
 
-use crate::command::Ask;
 use crate::reply::Reply;
 use crate::session::answer;
 use part_core::{Kind, OpenFault, Part};
+use script_commands::Ask;
 use std::alloc::{AllocError, Allocator, Global};
 use tables::{LocalTable, Options};
 use term_core::Term;
@@ -89,7 +89,7 @@ impl<S: Part<A> + Drop, O: Part<A> + Drop, A: Allocator + Copy> Table<S, O, A> {
     ghost use Rattle.tables.specs.Options.{IsOpenable};
     ghost use Rattle.tables.specs.OneThread.{TableState, opened};
     ghost use Rattle.walks.specs.OneThread.{table_objects};
-    ghost use Rattle.ets_script.specs.Commands.{ask_of};
+    ghost use Rattle.script_commands.specs.Commands.{ask_of};
     ghost use Rattle.ets_script.specs.Replies.{reply_term};
     ghost use Rattle.ets_script.specs.Tables.{options_of, IsTable, IsTableAnswered};
 

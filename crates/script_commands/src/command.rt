@@ -2,9 +2,9 @@
 ghost use Rattle.std.specs.Prelude.{◌≡◌, nat_eq, option_map, MatchOption};
 ghost use Rattle.std.specs.Cmp.Lexicographic.{pointwise};
 ghost use Rattle.term_core.specs.Datum.Datum.{atom};
-ghost use Rattle.ets_script.specs.Command.{command_term, IsNoCommand};
-ghost use Rattle.ets_script.specs.Commands.{ask_of, command_of};
-ghost use Rattle.ets_script.specs.Reading.{IsNoAtom, kind_in, ask_alone, ask_with, asked_by, closed_by, opened_by, command_with, elements_in};
+ghost use Rattle.script_commands.specs.Command.{command_term, IsNoCommand};
+ghost use Rattle.script_commands.specs.Commands.{ask_of, command_of};
+ghost use Rattle.script_commands.specs.Reading.{IsNoAtom, kind_in, ask_alone, ask_with, asked_by, closed_by, opened_by, command_with, elements_in};
 
 use operand::{Operand, View};
 use part_core::Kind;

@@ -6,9 +6,9 @@ use Rattle.term_core.specs.Datum.Datum.{atom}
 use Rattle.operand.specs.Operand.{integer_of}
 use Rattle.part_core.specs.declared.kind.Kind.{Kind}
 use Rattle.part_core.specs.declared.kind.Kind.TheVariants.{Set, OrderedSet, Bag, DuplicateBag}
-use Rattle.ets_script.specs.Command.{Ask, Command}
-use Rattle.ets_script.specs.Command.Ask.{Insert, InsertNew, Lookup, Member, Delete, DeleteObject, Take, Fix, Unfix, Leave, First, Next}
-use Rattle.ets_script.specs.Command.Command.{Open, Session, Close}
+use Rattle.script_commands.specs.Command.{Ask, Command}
+use Rattle.script_commands.specs.Command.Ask.{Insert, InsertNew, Lookup, Member, Delete, DeleteObject, Take, Fix, Unfix, Leave, First, Next}
+use Rattle.script_commands.specs.Command.Command.{Open, Session, Close}
 
 -- no atom
 abbrev pub IsNoAtom : Datum → Type 0

@@ -9,10 +9,10 @@ use Rattle.term_core.specs.Datum.Items.{no_items, item}
 use Rattle.operand.specs.Operand.{integer_of}
 use Rattle.part_core.specs.declared.kind.Kind.{Kind}
 use Rattle.part_core.specs.declared.kind.Kind.TheVariants.{Set, OrderedSet, Bag, DuplicateBag}
-use Rattle.ets_script.specs.Command.{Ask, Command, called, kind_name, ask_term, command_term, IsNoCommand}
-use Rattle.ets_script.specs.Command.Ask.{Insert, InsertNew, Lookup, Member, Delete, DeleteObject, Take, Fix, Unfix, Leave, First, Next}
-use Rattle.ets_script.specs.Command.Command.{Open, Session, Close}
-use Rattle.ets_script.specs.Reading.{kind_in, ask_alone, ask_with, asked_with, kind_by, opened_with, command_with, elements_in}
+use Rattle.script_commands.specs.Command.{Ask, Command, called, kind_name, ask_term, command_term, IsNoCommand}
+use Rattle.script_commands.specs.Command.Ask.{Insert, InsertNew, Lookup, Member, Delete, DeleteObject, Take, Fix, Unfix, Leave, First, Next}
+use Rattle.script_commands.specs.Command.Command.{Open, Session, Close}
+use Rattle.script_commands.specs.Reading.{kind_in, ask_alone, ask_with, asked_with, kind_by, opened_with, command_with, elements_in}
 
 -- ---- what is read has the term that it was read from
 

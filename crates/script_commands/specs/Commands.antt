@@ -1,11 +1,11 @@
 -- The commands that stand in memory.
-use Rattle.ets_script.specs.declared.command.Ask as ask_type
-use Rattle.ets_script.specs.declared.command.Ask.TheVariants as ask
-use Rattle.ets_script.specs.declared.command.Command as command_type
-use Rattle.ets_script.specs.declared.command.Command.TheVariants as command
-use Rattle.ets_script.specs.Command.{Ask, Command}
-use Rattle.ets_script.specs.Command.Ask.{Insert, InsertNew, Lookup, Member, Delete, DeleteObject, Take, Fix, Unfix, Leave, First, Next}
-use Rattle.ets_script.specs.Command.Command.{Open, Session, Close}
+use Rattle.script_commands.specs.declared.command.Ask as ask_type
+use Rattle.script_commands.specs.declared.command.Ask.TheVariants as ask
+use Rattle.script_commands.specs.declared.command.Command as command_type
+use Rattle.script_commands.specs.declared.command.Command.TheVariants as command
+use Rattle.script_commands.specs.Command.{Ask, Command}
+use Rattle.script_commands.specs.Command.Ask.{Insert, InsertNew, Lookup, Member, Delete, DeleteObject, Take, Fix, Unfix, Leave, First, Next}
+use Rattle.script_commands.specs.Command.Command.{Open, Session, Close}
 
 -- what a session asks
 abbrev pub ask_of : {A : Type 0} → ask_type.Ask A → Ask

@@ -1,0 +1,4 @@
+pub mod Command
+pub mod Commands
+pub mod Reading
+pub mod Laws
