@@ -46,10 +46,7 @@ pub fn list_of<'a, 'h, A: Allocator + Copy>(
 }
 
 /// The elements of a proper list.
-pub fn elements_of<A: Allocator + Copy>(
-    alloc: A,
-    list: &Term<A>,
-) -> Result<Vec<Term<A>, A>, AllocError>
+fn elements_of<A: Allocator + Copy>(alloc: A, list: &Term<A>) -> Result<Vec<Term<A>, A>, AllocError>
     requires { IsSome (proper_elements list.now) }
     ensures { IfOk result (λ elements. proper_elements list.now ≡ Some elements.items) }
 {

@@ -37,7 +37,7 @@ impl<A: Allocator> Model for Row<A> {
 pub const CLASSES: u64 = 8;
 
 /// The class of a key, by its hash.
-pub fn class_of(settings: Settings, hash: u64) -> u64
+pub(crate) fn class_of(settings: Settings, hash: u64) -> u64
     requires { 0 < settings.parts }
     ensures value { result ≡ (hash / settings.parts) % first_slots }
     ensures within { result < first_slots }

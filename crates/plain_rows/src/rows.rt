@@ -15,7 +15,7 @@ use std::alloc::Allocator;
 use term_core::Term;
 
 /// The place of a key's row.
-pub fn place_of<A: Allocator>(rows: &[Row<A>], key: &Term<A>, hash: u64) -> Option<usize>
+pub(crate) fn place_of<A: Allocator>(rows: &[Row<A>], key: &Term<A>, hash: u64) -> Option<usize>
     requires { hash ≡ key_hash key.now }
     ensures { MatchOption result (IsFalse (has_row rows.now key.now))
         (λ place. IsPlace key.now rows.now place) }
@@ -38,7 +38,7 @@ pub fn settle<A: Allocator>(rows: &mut Vec<Row<A>, A>, fixes: &[u16])
 }
 
 /// Whether a key has an object.
-pub fn is_member<A: Allocator>(rows: &[Row<A>], key: &Term<A>) -> bool
+pub(crate) fn is_member<A: Allocator>(rows: &[Row<A>], key: &Term<A>) -> bool
     ensures { result ≡ is_live (key.now, objects_at rows.now key.now) }
 {
     match place_of(rows, key, key.key_hash()) {
@@ -48,7 +48,7 @@ pub fn is_member<A: Allocator>(rows: &[Row<A>], key: &Term<A>) -> bool
 }
 
 /// Lets the object of a key go.
-pub fn clear<A: Allocator>(rows: &mut Vec<Row<A>, A>, key: &Term<A>)
+pub(crate) fn clear<A: Allocator>(rows: &mut Vec<Row<A>, A>, key: &Term<A>)
     ensures { IsDistinct is_same (keys_of rows.old.items)
         → rows.new.items ≡ rows_at_key key.now (λ os. []) rows.old.items }
 {
@@ -58,7 +58,7 @@ pub fn clear<A: Allocator>(rows: &mut Vec<Row<A>, A>, key: &Term<A>)
 }
 
 /// Takes the object of a key out.
-pub fn take<A: Allocator>(rows: &mut Vec<Row<A>, A>, key: &Term<A>) -> Option<Term<A>>
+pub(crate) fn take<A: Allocator>(rows: &mut Vec<Row<A>, A>, key: &Term<A>) -> Option<Term<A>>
     ensures object { option_to_list result ≡ objects_at rows.old.items key.now }
     ensures rows { IsDistinct is_same (keys_of rows.old.items)
         → rows.new.items ≡ rows_at_key key.now (λ os. []) rows.old.items }
@@ -70,7 +70,7 @@ pub fn take<A: Allocator>(rows: &mut Vec<Row<A>, A>, key: &Term<A>) -> Option<Te
 }
 
 /// Lets the object of a key go, where it is equal to a term.
-pub fn clear_equal<A: Allocator>(rows: &mut Vec<Row<A>, A>, key: &Term<A>, object: &Term<A>)
+pub(crate) fn clear_equal<A: Allocator>(rows: &mut Vec<Row<A>, A>, key: &Term<A>, object: &Term<A>)
     ensures { IsDistinct is_same (keys_of rows.old.items)
         → rows.new.items ≡ rows_at_key key.now (objects_without object.now) rows.old.items }
 {
