@@ -31,7 +31,6 @@ fn take_back<A: Allocator>(terms: &mut Vec<Term<A>, A>)
 
 /// Says that a term has this number.
 fn enter<A: Allocator + Copy>(
-    alloc: A,
     numbers: &mut BTreeMap<Term<A>, u16, A>,
     term: &Term<A>,
     number: u16,
@@ -41,7 +40,7 @@ fn enter<A: Allocator + Copy>(
     ensures kept { OnErr result ((d : Datum) → get datum_cmp numbers.new d
         ≡ get datum_cmp numbers.old d) }
 {
-    let key = term.copy(alloc)?;
+    let key = term.copy()?;
     match numbers.insert(key, number) {
         Ok(_) => Ok(()),
         Err(_) => Err(AllocError),
@@ -117,7 +116,7 @@ impl<A: Allocator + Copy> Pool<A> {
         let Ok(()) = push(&mut self.terms, term) else {
             return Err(Fault::Memory);
         };
-        let Ok(()) = enter(alloc, &mut self.numbers, &self.terms[place], number) else {
+        let Ok(()) = enter(&mut self.numbers, &self.terms[place], number) else {
             take_back(&mut self.terms);
             return Err(Fault::Memory);
         };

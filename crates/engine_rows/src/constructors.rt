@@ -119,9 +119,9 @@ fn copied_all<A: Allocator + Copy>(heap: A, terms: &[Term<A>]) -> Option<Option<
     make_tuple(heap, copies).ok()
 }
 
-fn copied_tail<A: Allocator + Copy>(heap: A, list: &Term<A>) -> Option<Option<Term<A>>> {
+fn copied_tail<A: Allocator + Copy>(list: &Term<A>) -> Option<Option<Term<A>>> {
     match list.view() {
-        View::List(_, tail) => copy_tail(heap, tail).ok(),
+        View::List(_, tail) => copy_tail(tail).ok(),
         _ => None,
     }
 }
@@ -133,9 +133,9 @@ fn copied<A: Allocator + Copy>(
     terms: &[Term<A>],
 ) -> Option<Option<Term<A>>> {
     match copier {
-        "copy" => Some(Some(terms.first()?.copy(heap).ok()?)),
+        "copy" => Some(Some(terms.first()?.copy().ok()?)),
         "copy_all" => copied_all(heap, terms),
-        "copy_tail" => copied_tail(heap, terms.first()?),
+        "copy_tail" => copied_tail(terms.first()?),
         _ => None,
     }
 }

@@ -44,7 +44,7 @@ fn with_operand(
 
 /// A copy of the only element of a list of one tail or none.
 fn tail(alloc: Global, tails: &Term) -> Option<Option<Term>> {
-    copy_tail(alloc, elements(tails)?.first()).ok()
+    copy_tail(elements(tails)?.first()).ok()
 }
 
 /// The list of one more element, of these and of one tail or none.
@@ -52,7 +52,7 @@ fn list(alloc: Global, listed: &Term, tails: &Term) -> Option<Term> {
     let mut terms = Vec::new(alloc);
     terms.push(Term::int(0)).ok()?;
     for element in elements(listed)? {
-        terms.push(element.copy(alloc).ok()?).ok()?;
+        terms.push(element.copy().ok()?).ok()?;
     }
     Term::list(alloc, terms, tail(alloc, tails)?).ok()
 }

@@ -64,14 +64,14 @@ fn is_copied_without_memory(alloc: Global, text: &[u8]) -> Option<bool> {
     let _terms = read_terms(&counting, text).ok()?;
     let failing = Failing::refusing_from(alloc, counting.requests().saturating_add(1));
     let terms = read_terms(&failing, text).ok()?;
-    Some(terms.first()?.copy(&failing).is_ok())
+    Some(terms.first()?.copy().is_ok())
 }
 
 #[test]
-fn a_copy_takes_memory(rt: HostRuntime) {
+fn a_copy_takes_no_memory(rt: HostRuntime) {
     assert_eq!(rt;
-        is_copied_without_memory(rt.alloc(), b"[1|b]."),
-        Some(false)
+        is_copied_without_memory(rt.alloc(), b"[{1,a},#{k=><<1>>}|b]."),
+        Some(true)
     );
     assert_eq!(rt; is_copied_without_memory(rt.alloc(), b"7."), Some(true));
 }

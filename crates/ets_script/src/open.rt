@@ -146,12 +146,7 @@ impl<S: Part<A> + Drop, O: Part<A> + Drop, A: Allocator + Copy> OpenTable<S, O, 
     }
 
     /// What a session is replied, by its number.
-    pub(crate) fn answer(
-        &mut self,
-        alloc: A,
-        number: i64,
-        ask: Ask<'_, A>,
-    ) -> Result<Reply<A>, AllocError>
+    pub(crate) fn answer(&mut self, number: i64, ask: Ask<'_, A>) -> Result<Reply<A>, AllocError>
         ensures { IfOk result (λ reply.
             IsSessionAnswered self.old self.new number (ask_of ask.entry) (reply_term reply)) }
     {
@@ -159,7 +154,7 @@ impl<S: Part<A> + Drop, O: Part<A> + Drop, A: Allocator + Copy> OpenTable<S, O, 
             return Ok(Reply::Error(STRANGER_SESSION));
         };
         let leaves = is_leaving(&ask);
-        let reply = self.table.answer(alloc, number, ask)?;
+        let reply = self.table.answer(number, ask)?;
         note_leaving(&mut self.left, number, leaves);
         Ok(reply)
     }

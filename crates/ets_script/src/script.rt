@@ -90,7 +90,7 @@ impl<S: Part<A> + Drop, O: Part<A> + Drop, A: Allocator + Copy> Script<S, O, A> 
             IsStep self.old self.new (Session number (ask_of ask.entry)) (reply_term reply)) }
     {
         match &mut self.current {
-            Some(table) => table.answer(self.alloc, number, ask),
+            Some(table) => table.answer(number, ask),
             None => Ok(Reply::Error(BAD_INPUT)),
         }
     }

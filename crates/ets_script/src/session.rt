@@ -34,7 +34,6 @@ fn reply_to<A: Allocator>(outcome: Result<(), Fault>) -> Result<Reply<A>, AllocE
 
 /// What a session is replied.
 pub(crate) fn answer<A: Allocator + Copy, T: Turns<A>>(
-    alloc: A,
     turns: &mut T,
     ask: Ask<'_, A>,
 ) -> Result<Reply<A>, AllocError>
@@ -47,14 +46,14 @@ pub(crate) fn answer<A: Allocator + Copy, T: Turns<A>>(
 {
     match ask {
         Ask::Insert(object) => {
-            let object = object.copy(alloc)?;
+            let object = object.copy()?;
             match insert(turns, object) {
                 Ok(()) => Ok(Reply::Flag(true)),
                 Err(refused) => reply_to(Err(fault_of(refused))),
             }
         }
         Ask::InsertNew(object) => {
-            let object = object.copy(alloc)?;
+            let object = object.copy()?;
             match insert_new(turns, object) {
                 Ok(fresh) => Ok(Reply::Flag(fresh)),
                 Err(refused) => reply_to(Err(fault_of(refused))),

@@ -27,7 +27,6 @@ pub(crate) enum Table<S: Part<A> + Drop, O: Part<A> + Drop, A: Allocator = Globa
 
 /// What a session is replied at a table.
 fn answer_at<A: Allocator + Copy, P: Part<A> + Drop>(
-    alloc: A,
     table: &mut LocalTable<P, A>,
     number: u8,
     ask: Ask<'_, A>,
@@ -39,7 +38,7 @@ fn answer_at<A: Allocator + Copy, P: Part<A> + Drop>(
         (ask_of ask.entry) (reply_term reply)) }
 {
     let mut session = table.at(number);
-    answer(alloc, &mut session, ask)
+    answer(&mut session, ask)
 }
 
 /// The objects of a table, in the order of a walk.
@@ -104,20 +103,15 @@ impl<S: Part<A> + Drop, O: Part<A> + Drop, A: Allocator + Copy> Table<S, O, A> {
     }
 
     /// What a session is replied.
-    pub(crate) fn answer(
-        &mut self,
-        alloc: A,
-        number: u8,
-        ask: Ask<'_, A>,
-    ) -> Result<Reply<A>, AllocError>
+    pub(crate) fn answer(&mut self, number: u8, ask: Ask<'_, A>) -> Result<Reply<A>, AllocError>
         requires { number < (options_of self.old).sessions }
         ensures options { options_of self.new ≡ options_of self.old }
         ensures answered { IfOk result (λ reply.
             IsTableAnswered self.old self.new number (ask_of ask.entry) (reply_term reply)) }
     {
         match self {
-            Table::Set(table) => answer_at(alloc, table, number, ask),
-            Table::Ordered(table) => answer_at(alloc, table, number, ask),
+            Table::Set(table) => answer_at(table, number, ask),
+            Table::Ordered(table) => answer_at(table, number, ask),
         }
     }
 

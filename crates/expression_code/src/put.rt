@@ -26,7 +26,7 @@ pub(crate) fn key_list<A: Allocator + Copy>(
 {
     let mut keys = Vec::with_capacity(alloc, assignments.len())?;
     for (key, _expression) in assignments {
-        keys.push(key.copy(alloc)?)?;
+        keys.push(key.copy()?)?;
     }
     match make_list(alloc, keys, Term::nil())? {
         Some(list) => Ok(list),
@@ -171,7 +171,7 @@ impl<'s, A: Allocator + Copy> Site<'s, A> {
     ) -> Result<(), AllocError>
         ensures { OnOk result (lines.new ≡ plain (Const term.now) ∷ lines.old) }
     {
-        put(Op::Const(term.copy(self.alloc())?), lines)
+        put(Op::Const(term.copy()?), lines)
     }
 
     /// Puts what `andalso` ends with.

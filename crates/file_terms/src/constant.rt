@@ -1,5 +1,5 @@
 //! Constants at the front of a file's rest.
-ghost use Rattle.std.specs.Prelude.{◌≡◌, ◌≢◌, ◌<◌, ◌↔◌, ◌++◌, ◌∷◌, [], IsTrue};
+ghost use Rattle.std.specs.Prelude.{◌≡◌, ◌≢◌, ◌<◌, ◌≤◌, ◌↔◌, ◌++◌, ◌∷◌, [], IsTrue};
 ghost use Rattle.std.specs.List.{flat_map, AllByRecursion};
 ghost use Rattle.term_core.specs.declared.fault.Fault.TheVariants as Refusal;
 ghost use Rattle.file_format.specs.Spelling.{pair_bytes};
@@ -194,7 +194,9 @@ pub fn read_constant<A: Allocator + Copy>(
 
 /// How many places a row of so many items begins with: those that it needs, and no more than a row that grows has at first, since a count is
 /// not believed before its items are there.
-fn first_places(count: u32) -> usize {
+fn first_places(count: u32) -> usize
+    ensures { result ≤ 4 }
+{
     (count as usize).min(4)
 }
 

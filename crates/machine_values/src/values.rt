@@ -44,7 +44,7 @@ pub fn field<'a, 'h, A: Allocator + Copy>(
     match tuple.borrowed() {
         Some(tuple) => Ok(Value::Term(element(tuple, index))),
         None => {
-            let element = element(tuple.operand(), index).copy(*heap)?;
+            let element = element(tuple.operand(), index).copy()?;
             Ok(Value::Made(Box::new(heap, element)?))
         }
     }
@@ -68,7 +68,7 @@ pub fn head<'a, 'h, A: Allocator + Copy>(
             None => unreachable!(),
         },
         None => match list.operand().split() {
-            Some((head, _)) => Ok(Value::Made(Box::new(heap, head.copy(*heap)?)?)),
+            Some((head, _)) => Ok(Value::Made(Box::new(heap, head.copy()?)?)),
             None => unreachable!(),
         },
     }
@@ -117,7 +117,7 @@ pub fn value_of<'a, 'h, A: Allocator + Copy>(
             None => Ok(None),
         },
         None => match map_get(key, map.operand()) {
-            Some(value) => Ok(Some(Value::Made(Box::new(heap, value.copy(*heap)?)?))),
+            Some(value) => Ok(Some(Value::Made(Box::new(heap, value.copy()?)?))),
             None => Ok(None),
         },
     }

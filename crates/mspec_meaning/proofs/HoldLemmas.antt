@@ -7,7 +7,7 @@ use Rattle.mspec_syntax.specs.Specification.{Clause, Specification}
 use Rattle.pattern_match.specs.Match.{Substitution, Matches}
 use Rattle.pattern_match.specs.Slots.{NeverMatches}
 use Rattle.pattern_match.proofs.MatchLemmas.{one-match}
-use Rattle.mspec_meaning.proofs.ValueLemmas.{split_at}
+use Rattle.mspec_scope.proofs.KnownLemmas.{split_at}
 use Rattle.mspec_meaning.specs.Meaning.{value_of, true_term, AllHold, Means, IsApplicable, Applies, body_value}
 use Rattle.mspec_syntax.specs.declared.mode.Mode.TheVariants.{Condition, Body}
 

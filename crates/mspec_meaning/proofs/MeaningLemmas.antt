@@ -17,7 +17,10 @@ use Rattle.mspec_syntax.specs.Expression.Assignments.{no_assignments, assignment
 use Rattle.mspec_syntax.specs.Specification.{Clause, Specification, clause_variables}
 use Rattle.mspec_syntax.specs.Sound.{IsSoundExpression, AreSoundExpressions, AreSoundAssignments, IsSoundClause}
 use Rattle.pattern_match.specs.Match.{Substitution, domain, values_of, lookup}
-use Rattle.mspec_meaning.specs.Meaning.{or_failed, made_of, called, and_at, and_step, or_at, or_step, before, at_key, joined, made_list, value_at, argument_values, entry_values, all_true, any_true, body_value, Applies, IsApplicable, Means}
+use Rattle.mspec_scope.specs.Made.{or_failed, made_of}
+use Rattle.mspec_scope.specs.Called.{called}
+use Rattle.mspec_scope.specs.Decided.{and_at, and_step, or_at, or_step}
+use Rattle.mspec_meaning.specs.Meaning.{before, at_key, joined, made_list, value_at, argument_values, entry_values, all_true, any_true, body_value, Applies, IsApplicable, Means}
 use Rattle.mspec_syntax.specs.Mode.{Position}
 use Rattle.mspec_syntax.specs.Mode.Position.{by_itself, as_tail}
 use Rattle.mspec_syntax.specs.declared.mode.Mode.TheVariants.{Body}

@@ -1,7 +1,7 @@
 -- Values of expressions, part by part.
 use Rattle.std.proofs.Common.{◌≡◌, ℕ, suc, ◌+◌, ◌<◌, ◌≤◌, Bool, true, false, not, IfSome, Option, Some, None, option_map, Box, List, [], ◌∷◌, ◌++◌, length, get_or, drop, refl, sym, ◌∙◌, ap, subst, arith, drop-cons, add-one}
 use Rattle.std.proofs.lemmas.List.{drop_all, append_assoc, append-nil}
-use Rattle.operand.specs.Operand.{boolean, operand_datum}
+use Rattle.operand.specs.Operand.{boolean}
 use Rattle.term_core.specs.Datum.{Datum, Entries, entries_of}
 use Rattle.term_core.specs.Datum.Entries.{no_entries, entry}
 use Rattle.term_core.specs.MapPairs.{AreRising}
@@ -12,16 +12,13 @@ use Rattle.mspec_syntax.specs.Expression.Expression.{bound, object, bindings, co
 use Rattle.mspec_syntax.specs.Expression.Assignments.{no_assignments, assignment}
 use Rattle.mspec_syntax.specs.ExpressionView.{tail_expression, IsTailExpression}
 use Rattle.pattern_match.specs.Match.{Substitution}
-use Rattle.mspec_meaning.specs.Meaning.{made_of, before, at_key, joined, value_at, value_of, argument_values, entry_values}
+use Rattle.mspec_scope.specs.Made.{made_of, joined_to}
+use Rattle.mspec_scope.specs.Decided.{decided_at}
+use Rattle.mspec_scope.proofs.KnownLemmas.{split_at}
+use Rattle.mspec_meaning.specs.Meaning.{before, at_key, joined, value_at, value_of, argument_values, entry_values}
 use Rattle.mspec_syntax.specs.Mode.Position.{as_tail}
-use Rattle.mspec_meaning.specs.Value.{joined_to, decided, decided_at}
-use Rattle.pattern_match.specs.Slots.{seen, known}
-use Rattle.operand.specs.declared.operand.Operand.{Operand}
+use Rattle.mspec_meaning.specs.Value.{decided}
 use Rattle.mspec_syntax.specs.declared.mode.Mode.{Mode}
-
--- what is left, from its first element
-pub split_at : {X : Type 0} (xs : List X) (i : ℕ) (x : X) → i < length xs → x ≡ get_or xs i x → drop i xs ≡ x ∷ drop (i + 1) xs
-split_at xs i x h e = drop-cons xs i x h ∙ ap (λ y. y ∷ drop (suc i) xs) (sym e) ∙ ap (λ j. x ∷ drop j xs) (sym (add-one i))
 
 -- pairs, and then those of a map
 abbrev pub entries_before : List (Datum × Datum) → Entries → Entries
@@ -85,15 +82,6 @@ rises-at : (k : Datum) (v : Option Datum) (found : Option Entries) (es : Entries
 rises-at k None found es is h = absurd (let e = is ∙ at_key-none k found in cc)
 rises-at k (Some v) None es is h = absurd (cc)
 rises-at k (Some v) (Some fs) es is h = let same : entry k v fs ≡ es = cc in subst AreRising same (h fs refl)
-
--- the values of the slots that are left, at a slot
-pub known-free : {A : Type 0} (slots : List (Option (Operand A))) (i : ℕ) (slot : Option (Operand A)) → i < length slots → slot ≡ get_or slots i slot → slot ≡ None → known (seen (drop (i + 1) slots)) ≡ known (seen (drop i slots))
-known-free slots i slot h is empty =
-    sym (ap (λ l. known (seen l)) (split_at slots i slot h is) ∙ ap (λ x. known (seen (x ∷ drop (i + 1) slots))) empty)
-
-pub known-bound : {A : Type 0} (slots : List (Option (Operand A))) (i : ℕ) (slot : Option (Operand A)) (part : Operand A) → i < length slots → slot ≡ get_or slots i slot → slot ≡ Some part → operand_datum part ∷ known (seen (drop (i + 1) slots)) ≡ known (seen (drop i slots))
-known-bound slots i slot part h is filled =
-    sym (ap (λ l. known (seen l)) (split_at slots i slot h is) ∙ ap (λ x. known (seen (x ∷ drop (i + 1) slots))) filled)
 
 module _ (mode : Mode) (s : Substitution) (o : Datum) where
   -- the values so far, and those of the arguments that are left

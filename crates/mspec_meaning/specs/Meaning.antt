@@ -1,73 +1,27 @@
 -- What a specification means on an object. (ERTS User's Guide, "Match Specifications in Erlang",
 -- "Semantics".)
-use Rattle.std.specs.Prelude.{◌≡◌, ◌⊎◌, Bool, true, false, Option, Some, None, option_map, List, [], ◌∷◌, codes}
-use Rattle.operand.specs.Operand.{boolean_of, boolean}
-use Rattle.prims.specs.Calls.{function_of}
-use Rattle.primitives.specs.declared.prim.Primitive.{Primitive}
+use Rattle.std.specs.Prelude.{◌≡◌, ◌⊎◌, true, false, Option, Some, None, option_map, List, [], ◌∷◌, codes}
+use Rattle.operand.specs.Operand.{boolean}
 use Rattle.term_core.specs.Datum.{Datum, Entries, cells, items_of}
 use Rattle.term_core.specs.Datum.Entries.{no_entries, entry}
 use Rattle.term_core.specs.Datum.Datum.{atom, tuple, map, nil, cons}
-use Rattle.term_core.specs.Limits.{within_limits}
 use Rattle.mspec_syntax.specs.Expression.{Expression, Expressions, Assignments}
 use Rattle.mspec_syntax.specs.Expression.Expression.{bound, object, bindings, constant, quoted, call, and_also, or_else, new_tuple, new_cell, new_map}
 use Rattle.mspec_syntax.specs.Expression.Expressions.{no_expressions, expression}
 use Rattle.mspec_syntax.specs.Expression.Assignments.{no_assignments, assignment}
-use Rattle.mspec_syntax.specs.Mode.{exit_term, Position}
+use Rattle.mspec_syntax.specs.Mode.{Position}
 use Rattle.mspec_syntax.specs.Mode.Position.{by_itself, as_tail}
 use Rattle.mspec_syntax.specs.Specification.{Clause, Specification}
 use Rattle.pattern_match.specs.Match.{Substitution, values_of, lookup, Matches}
+use Rattle.mspec_scope.specs.Made.{made, made_of}
+use Rattle.mspec_scope.specs.Called.{called}
+use Rattle.mspec_scope.specs.Decided.{and_step, or_step}
 use Rattle.mspec_syntax.specs.declared.mode.Mode.{Mode}
 use Rattle.mspec_syntax.specs.declared.mode.Mode.TheVariants.{Condition, Body}
 
 -- the atom true
 abbrev pub true_term : Datum
 true_term = atom (codes "true")
-
--- what stands for an expression that fails: no value in a condition, 'EXIT' in a body
-abbrev pub failed : Mode → Option Datum
-failed Condition = None
-failed Body = Some exit_term
-
--- a value where there is one, else what stands for a failure
-abbrev pub or_failed : Mode → Option Datum → Option Datum
-or_failed mode None = failed mode
-or_failed mode (Some d) = Some d
-
--- a term that is made, which fails where it passes a limit
-abbrev pub made : Mode → Datum → Option Datum
-made mode d = or_failed mode (within_limits d)
-
--- a term that is made of values, of which in a condition one may be missing
-abbrev pub made_of : Mode → Option Datum → Option Datum
-made_of mode None = None
-made_of mode (Some d) = made mode d
-
--- what a call comes to, of its arguments' values where all have one
-abbrev pub called : Mode → Primitive → Option (List Datum) → Option Datum
-called mode f None = None
-called mode f (Some ds) = or_failed mode (function_of f ds)
-
--- andalso, at the truth value of an argument and what the arguments behind it come to
-abbrev pub and_at : Mode → Option Bool → Option Datum → Option Datum
-and_at mode None rest = failed mode
-and_at mode (Some true) rest = rest
-and_at mode (Some false) rest = Some (boolean false)
-
--- the same at its value
-abbrev pub and_step : Mode → Option Datum → Option Datum → Option Datum
-and_step mode None rest = None
-and_step mode (Some d) rest = and_at mode (boolean_of d) rest
-
--- orelse, at the truth value of an argument and what the arguments behind it come to
-abbrev pub or_at : Mode → Option Bool → Option Datum → Option Datum
-or_at mode None rest = failed mode
-or_at mode (Some true) rest = Some (boolean true)
-or_at mode (Some false) rest = rest
-
--- the same at its value
-abbrev pub or_step : Mode → Option Datum → Option Datum → Option Datum
-or_step mode None rest = None
-or_step mode (Some d) rest = or_at mode (boolean_of d) rest
 
 -- a value and those behind it, where all are there
 abbrev pub before : Option Datum → Option (List Datum) → Option (List Datum)

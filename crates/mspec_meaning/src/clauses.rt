@@ -4,8 +4,8 @@ ghost use Rattle.mspec_meaning.specs.Meaning.{AllHold, IsApplicable, Applies, Me
 ghost use Rattle.mspec_meaning.specs.Applied.{AnswersBy};
 ghost use Rattle.mspec_syntax.specs.declared.mode.Mode.TheVariants.{Condition, Body};
 
-use crate::made::into_term;
-use crate::scope::Scope;
+use crate::value::value;
+use mspec_scope::{Scope, into_term};
 use mspec_syntax::{Clause, Expression, Mode, Spec};
 use pattern_match::matched;
 use std::alloc::{AllocError, Allocator};
@@ -31,7 +31,7 @@ fn all_hold<'a, A: Allocator + Copy>(
         (AllHold conditions.now scope.now.substitution scope.now.object → ⊥)) }
 {
     for condition in conditions {
-        match scope.value(condition)? {
+        match value(scope, condition)? {
             Some(answer) => {
                 if !answer.is_true() {
                     return Ok(false);
@@ -55,7 +55,7 @@ fn body_answer<'a, A: Allocator + Copy>(
     let Some(last) = body.last() else {
         return Ok(None);
     };
-    let value = scope.value(last)?;
+    let value = value(scope, last)?;
     into_term(scope.alloc(), value)
 }
 

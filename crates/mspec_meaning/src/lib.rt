@@ -3,19 +3,15 @@
 //! The contract is that of `evaluate`: it answers on an object what the specification means there
 //! (`Means`, in `specs/Meaning.antt`), or that no memory was given.
 //!
-//! - The values of expressions: `value.rt`, as methods of what they depend on (`scope.rt`); calls in
-//!   `called.rt`, arguments of `andalso` and `orelse` in `decided.rt`, what is made in `made.rt`. A
-//!   value is borrowed until it is put into a term or is the answer (`operand::Value`).
+//! - The values of expressions: `value.rt`. What they depend on, and what calls and terms that are made
+//!   come to: `mspec_scope`. A value is borrowed until it is put into a term or is the answer
+//!   (`operand::Value`).
 //! - Clauses and specifications: `clauses.rt`. When a head matches: `pattern_match`.
 //! - Laws of the meaning: `laws.rt`, `specs/Laws.antt`.
 #![tactic(auto)]
 
-mod called;
 mod clauses;
-mod decided;
 mod laws;
-mod made;
-mod scope;
 mod value;
 
 pub use clauses::evaluate;

@@ -44,16 +44,16 @@ fn read_atom<A: Allocator + Copy>(
         Word::Misnumbered => Err(SpecFault::BadVariableName(clause)),
         Word::Object => Ok(Expression::new(ExpressionKind::Object)),
         Word::Bindings => Ok(Expression::new(ExpressionKind::Bindings)),
-        Word::Underscore | Word::Plain => read_constant(alloc, term),
+        Word::Underscore | Word::Plain => read_constant(term),
     }
 }
 
 /// A term that stands for itself.
-fn read_constant<A: Allocator + Copy>(alloc: A, term: &Term<A>) -> Result<Expression<A>, SpecFault>
+fn read_constant<A: Allocator + Copy>(term: &Term<A>) -> Result<Expression<A>, SpecFault>
     ensures ok { IfOk result (λ e. e ≡ constant term.now) }
     ensures refused { IfErr result (λ f. f ≡ SpecFault.Memory) }
 {
-    Ok(Expression::new(ExpressionKind::Constant(term.copy(alloc)?)))
+    Ok(Expression::new(ExpressionKind::Constant(term.copy()?)))
 }
 
 /// The expression that a term in a condition or the body of the clause is read as.
@@ -69,7 +69,7 @@ fn read_expression<A: Allocator + Copy>(
         Refuses f (expression_faults clause variables.now term.now)) }
 {
     match term.view() {
-        View::Integer(_) | View::Nil | View::Binary(_) => read_constant(alloc, term),
+        View::Integer(_) | View::Nil | View::Binary(_) => read_constant(term),
         View::Atom(characters) => read_atom(alloc, clause, variables, term, characters),
         View::Tuple(elements) => read_tuple(alloc, clause, variables, elements),
         View::List(elements, None) => {
@@ -160,7 +160,7 @@ fn read_call<A: Allocator + Copy>(
 {
     match callee {
         Callee::Quote => {
-            let quoted = arguments[0].copy(alloc)?;
+            let quoted = arguments[0].copy()?;
             Ok(Expression::new(ExpressionKind::Quoted(quoted)))
         }
         Callee::AndAlso => {
@@ -216,7 +216,7 @@ fn read_assignments<A: Allocator + Copy>(
     let mut assignments = Vec::new(alloc);
     for (key, value) in pairs {
         let expression = read_expression(alloc, clause, variables, value)?;
-        let key = key.copy(alloc)?;
+        let key = key.copy()?;
         assignments.push((key, expression))?;
     }
     Ok(assignments)

@@ -80,13 +80,13 @@ fn read_pattern<A: Allocator + Copy>(
 {
     match term.view() {
         View::Integer(_) | View::Nil | View::Binary(_) => {
-            Ok(Pattern::new(PatternKind::Literal(term.copy(alloc)?)))
+            Ok(Pattern::new(PatternKind::Literal(term.copy()?)))
         }
         View::Atom(characters) => match Word::new(characters) {
             Word::Variable(number) => Ok(Pattern::new(PatternKind::Variable(number))),
             Word::Underscore => Ok(Pattern::new(PatternKind::Anything)),
             Word::Misnumbered => Err(SpecFault::BadVariableName(clause)),
-            _ => Ok(Pattern::new(PatternKind::Literal(term.copy(alloc)?))),
+            _ => Ok(Pattern::new(PatternKind::Literal(term.copy()?))),
         },
         View::Tuple(elements) => {
             let elements = read_patterns(alloc, clause, elements)?;
@@ -141,7 +141,7 @@ fn read_fields<A: Allocator + Copy>(
     for (key, value) in pairs {
         test_key(clause, key)?;
         let pattern = read_pattern(alloc, clause, value)?;
-        let key = key.copy(alloc)?;
+        let key = key.copy()?;
         fields.push((key, pattern))?;
     }
     Ok(fields)

@@ -219,14 +219,14 @@ impl<'a, A: Allocator> Operand<'a, A> {
         }
     }
 
-    /// The term that the operand stands for, in memory of its own.
+    /// The term that the operand stands for. A term that is borrowed is copied.
     pub fn to_term(self, alloc: A) -> Result<Term<A>, AllocError>
     where
         A: Copy,
         ensures { IfOk result (λ t. t ≡ operand_datum self.entry) }
     {
         match self {
-            Operand::Term(term) => term.copy(alloc),
+            Operand::Term(term) => term.copy(),
             Operand::Rest(list, count) => list.copy_behind(alloc, count),
             Operand::Int(value) => Ok(Term::int(value)),
             Operand::Bool(value) => boolean_term(alloc, value),

@@ -161,11 +161,11 @@ impl<'a, 'h, A: Allocator + Copy> Value<'a, 'h, A> {
             Value::Rest(list, count) => Ok(Value::Rest(list, *count)),
             Value::Int(value) => Ok(Value::Int(*value)),
             Value::Bool(value) => Ok(Value::Bool(*value)),
-            Value::Made(term) => Ok(Value::Made(Box::new(heap, term.copy(*heap)?)?)),
+            Value::Made(term) => Ok(Value::Made(Box::new(heap, term.copy()?)?)),
         }
     }
 
-    /// The value as a term in memory of its own, copied where it is borrowed.
+    /// The value as a term, copied where it is borrowed.
     pub fn into_term(self, alloc: A) -> Result<Term<A>, AllocError>
         ensures { IfOk result (λ term. term ≡ value_datum self.entry) }
     {

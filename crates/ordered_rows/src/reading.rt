@@ -11,7 +11,7 @@ use part_core::{Fault, Held, PartOp, Reply};
 use std::alloc::{AllocError, Allocator};
 use term_core::Term;
 
-/// The objects of a key, in memory of their own.
+/// Copies of the objects of a key.
 fn objects_of<A: Allocator + Copy>(
     alloc: A,
     rows: &Rows<A>,
@@ -53,19 +53,18 @@ pub fn member<'a, A: Allocator>(
 
 /// Puts a copy of the object of a row behind the others.
 fn put_copy<A: Allocator + Copy>(
-    alloc: A,
     held: &Held<A>,
     objects: &mut Vec<Term<A>, A>,
 ) -> Result<(), AllocError>
     ensures { IfOk result (λ _. objects.new.items ≡ objects.old.items ++ held.now) }
 {
     if let Some(object) = held.object() {
-        objects.push(object.copy(alloc)?)?;
+        objects.push(object.copy()?)?;
     }
     Ok(())
 }
 
-/// The objects of all rows, in memory of their own.
+/// Copies of the objects of all rows.
 pub fn all_objects<A: Allocator + Copy>(
     alloc: A,
     rows: &Rows<A>,
@@ -74,7 +73,7 @@ pub fn all_objects<A: Allocator + Copy>(
 {
     let mut objects = Vec::new(alloc);
     for (_key, held) in rows {
-        put_copy(alloc, held, &mut objects)?;
+        put_copy(held, &mut objects)?;
     }
     Ok(objects)
 }

@@ -30,12 +30,12 @@ pub fn look_from<'r, A: Allocator>(
 }
 
 /// The first key that has an object.
-fn first_key<A: Allocator + Copy>(alloc: A, rows: &Rows<A>) -> Result<Option<Term<A>>, AllocError>
+fn first_key<A: Allocator + Copy>(rows: &Rows<A>) -> Result<Option<Term<A>>, AllocError>
     ensures { IfOk result (λ key. key ≡ first_live rows.now.entries) }
 {
     for (key, held) in rows {
         if !held.is_empty() {
-            return Ok(Some(key.copy(alloc)?));
+            return Ok(Some(key.copy()?));
         }
     }
     Ok(None)
@@ -43,7 +43,6 @@ fn first_key<A: Allocator + Copy>(alloc: A, rows: &Rows<A>) -> Result<Option<Ter
 
 /// The first key behind one that has an object.
 fn key_behind<A: Allocator + Copy>(
-    alloc: A,
     rows: &Rows<A>,
     key: &Term<A>,
 ) -> Result<Option<Term<A>>, AllocError>
@@ -51,21 +50,18 @@ fn key_behind<A: Allocator + Copy>(
 {
     for (next, held) in look_from(rows, Some(key)) {
         if !held.is_empty() {
-            return Ok(Some(next.copy(alloc)?));
+            return Ok(Some(next.copy()?));
         }
     }
     Ok(None)
 }
 
 /// The first key in the order of a walk.
-pub fn first<'a, A: Allocator + Copy>(
-    alloc: A,
-    rows: &Rows<A>,
-) -> Result<Reply<A>, (PartOp<'a, A>, Fault)>
+pub fn first<'a, A: Allocator + Copy>(rows: &Rows<A>) -> Result<Reply<A>, (PartOp<'a, A>, Fault)>
     ensures { (o : Settings) (fixes : List ℕ) (n : ℕ) → IsAnswered OrderedSet o
         (plain_state rows.now.entries fixes) n First (plain_state rows.now.entries fixes) result }
 {
-    match first_key(alloc, rows) {
+    match first_key(rows) {
         Ok(key) => Ok(Reply::AtKey(key)),
         Err(AllocError) => Err((PartOp::First, Fault::Memory)),
     }
@@ -73,14 +69,13 @@ pub fn first<'a, A: Allocator + Copy>(
 
 /// The key behind one.
 pub fn next<'a, A: Allocator + Copy>(
-    alloc: A,
     rows: &Rows<A>,
     key: &'a Term<A>,
 ) -> Result<Reply<A>, (PartOp<'a, A>, Fault)>
     ensures { (o : Settings) (fixes : List ℕ) (n : ℕ) → IsAnswered OrderedSet o
         (plain_state rows.now.entries fixes) n (Next key.now) (plain_state rows.now.entries fixes) result }
 {
-    match key_behind(alloc, rows, key) {
+    match key_behind(rows, key) {
         Ok(next) => Ok(Reply::AtKey(next)),
         Err(AllocError) => Err((PartOp::Next(key), Fault::Memory)),
     }

@@ -56,7 +56,6 @@ fn put_row<A: Allocator + Copy>(
 
 /// Puts an object in, in the place of the one with its key.
 fn put<A: Allocator + Copy>(
-    alloc: A,
     settings: Settings,
     rows: &mut Rows<A>,
     object: Term<A>,
@@ -70,7 +69,7 @@ fn put<A: Allocator + Copy>(
     let Some(key) = key_in(settings.keypos, &object) else {
         return Err((object, Fault::TooSmall));
     };
-    let Ok(key) = key.copy(alloc) else {
+    let Ok(key) = key.copy() else {
         return Err((object, Fault::Memory));
     };
     match put_row(rows, key, object) {
@@ -92,7 +91,6 @@ fn has_object<A: Allocator>(settings: Settings, rows: &Rows<A>, object: &Term<A>
 
 /// Puts an object in, in the place of the one with its key.
 pub fn insert<'a, A: Allocator + Copy>(
-    alloc: A,
     settings: Settings,
     rows: &mut Rows<A>,
     object: Term<A>,
@@ -100,7 +98,7 @@ pub fn insert<'a, A: Allocator + Copy>(
     ensures { (fixes : List ℕ) (n : ℕ) → IsAnswered OrderedSet settings (plain_state rows.old.entries fixes) n
         (Insert object) (plain_state rows.new.entries fixes) result }
 {
-    match put(alloc, settings, rows, object) {
+    match put(settings, rows, object) {
         Ok(()) => Ok(Reply::Done),
         Err((object, fault)) => Err((PartOp::Insert(object), fault)),
     }
@@ -108,7 +106,6 @@ pub fn insert<'a, A: Allocator + Copy>(
 
 /// Puts an object in if its key has none.
 pub fn insert_new<'a, A: Allocator + Copy>(
-    alloc: A,
     settings: Settings,
     rows: &mut Rows<A>,
     object: Term<A>,
@@ -120,7 +117,7 @@ pub fn insert_new<'a, A: Allocator + Copy>(
         let_go(object);
         return Ok(Reply::Flag(false));
     }
-    match put(alloc, settings, rows, object) {
+    match put(settings, rows, object) {
         Ok(()) => Ok(Reply::Flag(true)),
         Err((object, fault)) => Err((PartOp::InsertNew(object), fault)),
     }

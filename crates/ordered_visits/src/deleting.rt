@@ -39,7 +39,7 @@ fn gather_key<A: Allocator + Copy>(
     if !is_chosen(alloc, held, code)? {
         return Ok(0);
     }
-    keys.push(key.copy(alloc)?)?;
+    keys.push(key.copy()?)?;
     Ok(1)
 }
 
@@ -64,7 +64,7 @@ fn chosen_keys<A: Allocator + Copy>(
         left -= gather_key(alloc, key, held, code, &mut keys)?;
         room -= 1;
         if is_over(left, room) {
-            return Ok((keys, Some(cursor_behind(alloc, key)?)));
+            return Ok((keys, Some(cursor_behind(key)?)));
         }
     }
     Ok((keys, None))

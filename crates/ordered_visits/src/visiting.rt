@@ -35,13 +35,10 @@ pub(crate) fn is_over(left: u64, room: u64) -> bool
 }
 
 /// Behind a key.
-pub(crate) fn cursor_behind<A: Allocator + Copy>(
-    alloc: A,
-    key: &Term<A>,
-) -> Result<Cursor<A>, AllocError>
+pub(crate) fn cursor_behind<A: Allocator + Copy>(key: &Term<A>) -> Result<Cursor<A>, AllocError>
     ensures { IfOk result (λ cursor. cursor_of cursor ≡ Behind key.now) }
 {
-    Ok(Cursor::Behind(key.copy(alloc)?))
+    Ok(Cursor::Behind(key.copy()?))
 }
 
 /// What code answers on the object of a row.
@@ -103,7 +100,7 @@ pub(crate) fn answers<A: Allocator + Copy>(
         left -= gather(alloc, held, code, &mut found)?;
         room -= 1;
         if is_over(left, room) {
-            return Ok((found, Some(cursor_behind(alloc, key)?)));
+            return Ok((found, Some(cursor_behind(key)?)));
         }
     }
     Ok((found, None))
@@ -225,7 +222,7 @@ pub(crate) fn count<A: Allocator + Copy>(
         left -= count_chosen(alloc, held, code)?;
         room -= 1;
         if is_over(left, room) {
-            return Ok((wanted - left, Some(cursor_behind(alloc, key)?)));
+            return Ok((wanted - left, Some(cursor_behind(key)?)));
         }
     }
     Ok((wanted - left, None))

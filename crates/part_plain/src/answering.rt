@@ -28,8 +28,8 @@ pub(crate) fn answered<'a, A: Allocator + Copy>(
         (plain_state rows.new.items fixes.new) result }
 {
     match op {
-        PartOp::Insert(object) => return insert(alloc, settings, rows, object),
-        PartOp::InsertNew(object) => return insert_new(alloc, settings, rows, object),
+        PartOp::Insert(object) => return insert(settings, rows, object),
+        PartOp::InsertNew(object) => return insert_new(settings, rows, object),
         PartOp::Lookup(key) => return lookup(alloc, rows, key),
         PartOp::Member(key) => return member(rows, key),
         PartOp::Delete(key) => return delete(rows, fixes, key),
@@ -47,7 +47,7 @@ pub(crate) fn answered<'a, A: Allocator + Copy>(
         PartOp::VisitDelete(code, scope, wanted) => {
             return visit_delete(alloc, settings, rows, fixes, code, scope, wanted);
         }
-        PartOp::First => return first(alloc, settings, rows),
-        PartOp::Next(key) => return next(alloc, settings, rows, key),
+        PartOp::First => return first(settings, rows),
+        PartOp::Next(key) => return next(settings, rows, key),
     }
 }

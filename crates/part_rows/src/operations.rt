@@ -87,13 +87,13 @@ pub(crate) fn code_of<A: Allocator + Copy>(heap: A, term: &Term<A>) -> Option<Ve
 }
 
 /// The cursor that a term says: `{class,Base,Class}` or `{behind,Key}`.
-pub(crate) fn cursor_of<A: Allocator + Copy>(heap: A, term: &Term<A>) -> Option<Cursor<A>> {
+pub(crate) fn cursor_of<A: Allocator + Copy>(term: &Term<A>) -> Option<Cursor<A>> {
     match fields(term)? {
         [tag, base, class] if is_atom(tag, "class") => Some(Cursor::Class {
             base: number(base)?,
             class: number(class)?,
         }),
-        [tag, key] if is_atom(tag, "behind") => Some(Cursor::Behind(key.copy(heap).ok()?)),
+        [tag, key] if is_atom(tag, "behind") => Some(Cursor::Behind(key.copy().ok()?)),
         _ => None,
     }
 }
@@ -121,15 +121,14 @@ pub(crate) fn bare<'a, A: Allocator>(name: &str) -> Option<PartOp<'a, A>>
 
 /// The operation of a name on an object or a key.
 pub(crate) fn keyed<'a, A: Allocator + Copy>(
-    heap: A,
     name: &str,
     operand: &'a Term<A>,
 ) -> Option<PartOp<'a, A>>
     ensures { IfSome result (λ op. IsAsked (act_of op)) }
 {
     match name {
-        "insert" => Some(PartOp::Insert(operand.copy(heap).ok()?)),
-        "insert_new" => Some(PartOp::InsertNew(operand.copy(heap).ok()?)),
+        "insert" => Some(PartOp::Insert(operand.copy().ok()?)),
+        "insert_new" => Some(PartOp::InsertNew(operand.copy().ok()?)),
         "lookup" => Some(PartOp::Lookup(operand)),
         "member" => Some(PartOp::Member(operand)),
         "delete" => Some(PartOp::Delete(operand)),

@@ -69,7 +69,7 @@ fn visited<A: Allocator + Copy, P: Part<A>>(
     if let Some(key) = named_key(place) {
         return visited_in(alloc, part, turn, name, &code, Scope::Named(key), wanted);
     }
-    let cursor = cursor_of(heap, place)?;
+    let cursor = cursor_of(place)?;
     visited_in(
         alloc,
         part,
@@ -109,7 +109,7 @@ fn came<A: Allocator + Copy, P: Part<A>>(
     match fields(op) {
         None => came_of(alloc, part, turn, bare(name_of(op)?)?),
         Some([tag, operand]) => {
-            let op = keyed(heap, name_of(tag)?, operand)?;
+            let op = keyed(name_of(tag)?, operand)?;
             came_of(alloc, part, turn, op)
         }
         Some(op) => visited(alloc, heap, part, turn, op),

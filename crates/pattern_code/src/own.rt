@@ -81,7 +81,7 @@ fn own_term<A: Allocator + Copy>(alloc: A, pattern: &Pattern<A>) -> Result<Term<
     match pattern.kind() {
         PatternKind::Anything => unreachable!(),
         PatternKind::Variable(_) => unreachable!(),
-        PatternKind::Literal(term) => term.copy(alloc),
+        PatternKind::Literal(term) => term.copy(),
         PatternKind::Tuple(elements) => own_tuple(alloc, elements.as_slice()),
         PatternKind::List(elements, tail) => own_list(alloc, elements.as_slice(), tail),
         PatternKind::Map(_) => unreachable!(),

@@ -50,7 +50,7 @@ impl<'s, A: Allocator + Copy> Slots<'s, A> {
         match pattern.kind() {
             PatternKind::Anything => draft.put(Op::Drop),
             PatternKind::Variable(number) => self.write_variable(*number, draft),
-            PatternKind::Literal(term) => draft.put_same(term.copy(self.alloc())?),
+            PatternKind::Literal(term) => draft.put_same(term.copy()?),
             PatternKind::Tuple(elements) => self.write_tuple(elements.as_slice(), draft),
             PatternKind::List(elements, tail) => self.write_list(elements.as_slice(), tail, draft),
             PatternKind::Map(fields) => self.write_map(fields.as_slice(), draft),
@@ -227,7 +227,7 @@ impl<'s, A: Allocator + Copy> Slots<'s, A> {
             (pattern_variables value.now) draft.old draft.new) }
     {
         draft.put(Op::Dup)?;
-        draft.put(Op::Value(key.copy(self.alloc())?, Target::Failing))?;
+        draft.put(Op::Value(key.copy()?, Target::Failing))?;
         self.write_pattern(value, draft)
     }
 }

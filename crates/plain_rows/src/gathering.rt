@@ -12,7 +12,6 @@ use term_core::Term;
 
 /// Puts a copy of the object of a row behind the others, where its key is of a class.
 fn gather<A: Allocator + Copy>(
-    alloc: A,
     settings: Settings,
     row: &Row<A>,
     class: u64,
@@ -24,7 +23,7 @@ fn gather<A: Allocator + Copy>(
 {
     if row.class(settings) == class {
         if let Some(object) = row.object() {
-            objects.push(object.copy(alloc)?)?;
+            objects.push(object.copy()?)?;
         }
     }
     Ok(())
@@ -43,12 +42,12 @@ fn objects_in<A: Allocator + Copy>(
         ++ flat_map (λ r. r.1) (in_class settings first_slots class rows.now)) }
 {
     for row in rows {
-        gather(alloc, settings, row, class, objects)?;
+        gather(settings, row, class, objects)?;
     }
     Ok(())
 }
 
-/// The objects of all classes, in memory of their own.
+/// Copies of the objects of all classes.
 pub fn objects<A: Allocator + Copy>(
     alloc: A,
     settings: Settings,

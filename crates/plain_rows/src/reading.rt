@@ -12,7 +12,7 @@ use part_core::{Fault, PartOp, Reply};
 use std::alloc::{AllocError, Allocator};
 use term_core::Term;
 
-/// The objects of a key, in memory of their own.
+/// Copies of the objects of a key.
 fn objects_of<A: Allocator + Copy>(
     alloc: A,
     rows: &[Row<A>],

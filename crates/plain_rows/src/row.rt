@@ -154,7 +154,7 @@ impl<A: Allocator> Row<A> {
         }
     }
 
-    /// The object in a list, in memory of its own.
+    /// A copy of the object in a list.
     pub fn objects(&self, alloc: A) -> Result<Vec<Term<A>, A>, AllocError>
     where
         A: Copy,
@@ -162,7 +162,7 @@ impl<A: Allocator> Row<A> {
     {
         let mut objects = Vec::new(alloc);
         if let Some(object) = &self.object {
-            objects.push(object.copy(alloc)?)?;
+            objects.push(object.copy()?)?;
         }
         Ok(objects)
     }

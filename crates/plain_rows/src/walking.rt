@@ -42,21 +42,17 @@ fn live_from<A: Allocator>(settings: Settings, rows: &[Row<A>], first: u64) -> O
 }
 
 /// A reply with a copy of a key.
-fn key_reply<A: Allocator + Copy>(
-    alloc: A,
-    key: Option<&Term<A>>,
-) -> Result<Option<Term<A>>, AllocError>
+fn key_reply<A: Allocator + Copy>(key: Option<&Term<A>>) -> Result<Option<Term<A>>, AllocError>
     ensures { IfOk result (λ copy. copy ≡ option_copied key.entry) }
 {
     match key {
-        Some(key) => Ok(Some(key.copy(alloc)?)),
+        Some(key) => Ok(Some(key.copy()?)),
         None => Ok(None),
     }
 }
 
 /// The first key in the order of a walk.
 pub fn first<'a, A: Allocator + Copy>(
-    alloc: A,
     settings: Settings,
     rows: &[Row<A>],
 ) -> Result<Reply<A>, (PartOp<'a, A>, Fault)>
@@ -64,7 +60,7 @@ pub fn first<'a, A: Allocator + Copy>(
     ensures { (fixes : List ℕ) (n : ℕ) → IsAnswered Set settings (plain_state rows.now fixes) n First
         (plain_state rows.now fixes) result }
 {
-    match key_reply(alloc, live_from(settings, rows, 0)) {
+    match key_reply(live_from(settings, rows, 0)) {
         Ok(key) => Ok(Reply::AtKey(key)),
         Err(AllocError) => Err((PartOp::First, Fault::Memory)),
     }
@@ -92,7 +88,6 @@ fn live_behind<A: Allocator>(
 
 /// The key behind one in the order of a walk.
 pub fn next<'a, A: Allocator + Copy>(
-    alloc: A,
     settings: Settings,
     rows: &[Row<A>],
     key: &'a Term<A>,
@@ -106,7 +101,7 @@ pub fn next<'a, A: Allocator + Copy>(
         return Err((PartOp::Next(key), Fault::BadKey));
     };
     let class = class_of(settings, hash);
-    match key_reply(alloc, live_behind(settings, rows, place, class)) {
+    match key_reply(live_behind(settings, rows, place, class)) {
         Ok(behind) => Ok(Reply::AtKey(behind)),
         Err(AllocError) => Err((PartOp::Next(key), Fault::Memory)),
     }

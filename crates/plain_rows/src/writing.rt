@@ -32,7 +32,6 @@ fn has_object<A: Allocator>(settings: Settings, rows: &[Row<A>], object: &Term<A
 
 /// A copy of a key, and room for its row.
 fn prepared<A: Allocator + Copy>(
-    alloc: A,
     rows: &mut Vec<Row<A>, A>,
     key: &Term<A>,
 ) -> Result<Term<A>, AllocError>
@@ -41,12 +40,11 @@ fn prepared<A: Allocator + Copy>(
     ensures room { IfOk result (λ copy. vec_len rows.new < vec_capacity rows.new) }
 {
     rows.reserve(1)?;
-    key.copy(alloc)
+    key.copy()
 }
 
 /// Puts an object in the place of the one with its key, or in a row of its own.
 fn put<A: Allocator + Copy>(
-    alloc: A,
     settings: Settings,
     rows: &mut Vec<Row<A>, A>,
     object: Term<A>,
@@ -67,7 +65,7 @@ fn put<A: Allocator + Copy>(
             Ok(())
         }
         None => {
-            let Ok(key) = prepared(alloc, rows, key) else {
+            let Ok(key) = prepared(rows, key) else {
                 return Err((object, Fault::Memory));
             };
             push_within(rows, Row::new(key, hash, object));
@@ -78,7 +76,6 @@ fn put<A: Allocator + Copy>(
 
 /// Puts an object in, in the place of the one with its key.
 pub fn insert<'a, A: Allocator + Copy>(
-    alloc: A,
     settings: Settings,
     rows: &mut Vec<Row<A>, A>,
     object: Term<A>,
@@ -86,7 +83,7 @@ pub fn insert<'a, A: Allocator + Copy>(
     ensures { (fixes : List ℕ) (n : ℕ) → IsAnswered Set settings (plain_state rows.old.items fixes) n
         (Insert object) (plain_state rows.new.items fixes) result }
 {
-    match put(alloc, settings, rows, object) {
+    match put(settings, rows, object) {
         Ok(()) => Ok(Reply::Done),
         Err((object, fault)) => Err((PartOp::Insert(object), fault)),
     }
@@ -94,7 +91,6 @@ pub fn insert<'a, A: Allocator + Copy>(
 
 /// Puts an object in if its key has none.
 pub fn insert_new<'a, A: Allocator + Copy>(
-    alloc: A,
     settings: Settings,
     rows: &mut Vec<Row<A>, A>,
     object: Term<A>,
@@ -106,7 +102,7 @@ pub fn insert_new<'a, A: Allocator + Copy>(
         let_go(object);
         return Ok(Reply::Flag(false));
     }
-    match put(alloc, settings, rows, object) {
+    match put(settings, rows, object) {
         Ok(()) => Ok(Reply::Flag(true)),
         Err((object, fault)) => Err((PartOp::InsertNew(object), fault)),
     }

@@ -61,7 +61,7 @@ fn repeated<A: Allocator + Copy>(
 ) -> Option<Vec<Term<A>, A>> {
     let mut out = Vec::new(heap);
     for _ in 0..count {
-        out.push(constant.copy(heap).ok()?).ok()?;
+        out.push(constant.copy().ok()?).ok()?;
     }
     Some(out)
 }

@@ -40,7 +40,7 @@ pub(crate) fn insert_all(alloc: Global, table: &mut Ordered, objects: &[Term]) -
 {
     let mut count: usize = 0;
     for object in objects {
-        if put(table, object.copy(alloc).ok()?) {
+        if put(table, object.copy().ok()?) {
             count = count.saturating_add(1);
         }
     }

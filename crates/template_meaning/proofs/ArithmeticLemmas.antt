@@ -13,7 +13,9 @@ use Rattle.mcode.specs.Program.{Program}
 use Rattle.mcode.specs.declared.kind.Kind.{Kind}
 use Rattle.mcode.specs.declared.kind.Kind.TheVariants as kind
 use Rattle.mspec_syntax.specs.declared.mode.Mode.{Mode}
-use Rattle.mspec_meaning.specs.Meaning.{failed, or_failed, called, before}
+use Rattle.mspec_scope.specs.Made.{failed, or_failed}
+use Rattle.mspec_scope.specs.Called.{called}
+use Rattle.mspec_meaning.specs.Meaning.{before}
 use Rattle.assembly.specs.Line.{plain}
 use Rattle.assembly.specs.Assembled.{resolved}
 use Rattle.assembly.specs.Stands.{IsAt, Stands}

@@ -11,7 +11,7 @@ use Rattle.mcode.specs.declared.kind.Kind.{Kind}
 use Rattle.mspec_syntax.specs.Rising.{rank_of}
 use Rattle.mspec_syntax.specs.declared.mode.Mode.{Mode}
 use Rattle.pattern_match.specs.Match.{Substitution, domain, values_of, lookup}
-use Rattle.mspec_meaning.specs.Meaning.{made}
+use Rattle.mspec_scope.specs.Made.{made}
 use Rattle.assembly.specs.Line.{SourceLine, plain}
 use Rattle.assembly.specs.Stands.{Stands}
 use Rattle.assembly.specs.declared.op.Op.TheVariants as op

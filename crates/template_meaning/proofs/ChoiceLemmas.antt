@@ -8,7 +8,8 @@ use Rattle.mcode.specs.Program.{Program, Frame, frame_at}
 use Rattle.mcode.specs.declared.kind.Kind.{Kind}
 use Rattle.mspec_syntax.specs.declared.mode.Mode.{Mode}
 use Rattle.mspec_syntax.specs.declared.mode.Mode.TheVariants.{Condition, Body}
-use Rattle.mspec_meaning.specs.Meaning.{failed, and_at, and_step, or_at, or_step}
+use Rattle.mspec_scope.specs.Made.{failed}
+use Rattle.mspec_scope.specs.Decided.{and_at, and_step, or_at, or_step}
 use Rattle.assembly.specs.Line.{plain, before_label}
 use Rattle.assembly.specs.Assembled.{resolved}
 use Rattle.assembly.specs.Stands.{IsAt, Stands}

@@ -8,7 +8,7 @@ use Rattle.mcode.specs.declared.kind.Kind.{Kind}
 use Rattle.mspec_syntax.specs.Mode.{exit_term}
 use Rattle.mspec_syntax.specs.declared.mode.Mode.{Mode}
 use Rattle.mspec_syntax.specs.declared.mode.Mode.TheVariants.{Condition, Body}
-use Rattle.mspec_meaning.specs.Meaning.{failed, or_failed}
+use Rattle.mspec_scope.specs.Made.{failed, or_failed}
 use Rattle.assembly.specs.Assembled.{resolved}
 use Rattle.assembly.specs.Stands.{Stands}
 use Rattle.expression_code.specs.Expressions.{failure, exit_lines}

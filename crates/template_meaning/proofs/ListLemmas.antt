@@ -10,7 +10,7 @@ use Rattle.mcode.specs.Machine.{Bindings, jump}
 use Rattle.mcode.specs.Program.{Program}
 use Rattle.mcode.specs.declared.kind.Kind.{Kind}
 use Rattle.mspec_syntax.specs.declared.mode.Mode.{Mode}
-use Rattle.mspec_meaning.specs.Meaning.{failed, or_failed}
+use Rattle.mspec_scope.specs.Made.{failed, or_failed}
 use Rattle.assembly.specs.Stands.{Stands}
 use Rattle.assembly.specs.Assembled.{resolved}
 use Rattle.expression_code.specs.Expressions.{failure, exit_lines, cell_lines}

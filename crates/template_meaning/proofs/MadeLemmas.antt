@@ -7,7 +7,7 @@ use Rattle.mcode.specs.Program.{Program}
 use Rattle.mcode.specs.declared.instr.Instr.{Instr}
 use Rattle.mcode.specs.declared.kind.Kind.{Kind}
 use Rattle.mspec_syntax.specs.declared.mode.Mode.{Mode}
-use Rattle.mspec_meaning.specs.Meaning.{or_failed}
+use Rattle.mspec_scope.specs.Made.{or_failed}
 use Rattle.assembly.specs.Assembled.{resolved}
 use Rattle.assembly.specs.Stands.{Stands}
 use Rattle.expression_code.specs.Expressions.{failure, exit_lines}

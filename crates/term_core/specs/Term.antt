@@ -1,6 +1,7 @@
 -- What the parts of a term are seen as.
-use Rattle.std.specs.Prelude.{ℕ, ◌≡◌, ◌<◌, List, length, Option, Some, None}
+use Rattle.std.specs.Prelude.{ℕ, ◌≡◌, ◌<◌, ◌≤◌, List, length, take, Option, Some, None}
 use Rattle.term_core.specs.Datum.{Datum, items_of, entries_of, cells, IsNoList}
+use Rattle.term_core.specs.Datum.Items.{no_items}
 use Rattle.term_core.specs.Datum.Datum.{integer, atom, tuple, map, nil, binary}
 use Rattle.term_core.specs.Limits.{depth}
 use Rattle.term_core.specs.declared.term.Shape.{Shape}
@@ -15,7 +16,9 @@ tail_of (Some d) = d
 abbrev pub datum_of : {A : Type 0} → Shape A → Datum
 datum_of (shape.Integer z) = integer z
 datum_of shape.Nil = nil
+datum_of (shape.Short n cs) = atom (take n cs)
 datum_of (shape.Atom b) = atom b.value.items
+datum_of shape.Unit = tuple no_items
 datum_of (shape.Tuple d b) = tuple (items_of b.value.items)
 datum_of (shape.List d b) = cells b.value.elements.items (tail_of b.value.tail)
 datum_of (shape.Map d b) = map (entries_of b.value.items)
@@ -31,11 +34,13 @@ abbrev pub IsList : ℕ → List Datum → Option Datum → Type 0
 IsList kept elements tail =
     (kept ≡ depth (cells elements (tail_of tail))) × (0 < length elements) × IsTail tail
 
--- A list has an element and no list for a tail, and each depth that is kept is right.
+-- A short atom has the characters that it counts, a list an element and no list for a tail, and each depth that is kept is right.
 abbrev pub IsKept : {A : Type 0} → Shape A → Type 0
 IsKept (shape.Integer z) = Unit {0}
 IsKept shape.Nil = Unit {0}
+IsKept (shape.Short n cs) = n ≤ 3
 IsKept (shape.Atom b) = Unit {0}
+IsKept shape.Unit = Unit {0}
 IsKept (shape.Tuple d b) = d ≡ depth (tuple (items_of b.value.items))
 IsKept (shape.List d b) = IsList d b.value.elements.items b.value.tail
 IsKept (shape.Map d b) = d ≡ depth (map (entries_of b.value.items))

@@ -58,7 +58,9 @@ cells_fall G elements (Some d) some tail = let e = list_falls elements.items (So
 pub parts_fall : {A : Type 0} (G : allocator.Ghosts A) (s : Shape A) → IsKept s → max (deep-Shape A G s) 0 ≤ depth (datum_of s)
 parts_fall G (shape.Integer z) h = omega arith
 parts_fall G shape.Nil h = omega arith
+parts_fall G (shape.Short n cs) h = omega arith
 parts_fall G (shape.Atom b) h = omega arith
+parts_fall G shape.Unit h = omega arith
 parts_fall G (shape.Tuple d b) h = let e = items_fall b.value.items in omega arith
 parts_fall G (shape.List d b) h = let e = cells_fall G b.value.elements b.value.tail h.1 h.2 in omega arith
 parts_fall G (shape.Map d b) h = let e = entries_fall b.value.items in omega arith

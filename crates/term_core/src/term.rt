@@ -1,8 +1,8 @@
 //! The type of terms.
-ghost use Rattle.std.specs.Prelude.{◌≡◌, ◌<◌, ◌≤◌, length, IfOk, IfErr};
+ghost use Rattle.std.specs.Prelude.{◌≡◌, ◌<◌, ◌≤◌, ◌++◌, ◌∷◌, [], length, take, IfOk, IfErr, IfSome, OnOk};
 ghost use Rattle.std.specs.Str.{chars};
 ghost use Rattle.term_core.specs.Datum.{items_of, cells as cells_of, cell_count};
-ghost use Rattle.term_core.specs.Datum.Datum.{nil};
+ghost use Rattle.term_core.specs.Datum.Datum.{atom, nil};
 ghost use Rattle.term_core.specs.Term.{tail_of, datum_of, IsTail, IsList, IsKept};
 ghost use Rattle.term_core.specs.ListParts.{HandsBack};
 ghost use Rattle.term_core.specs.Fault.{IsFault, IsDepthOf};
@@ -23,6 +23,7 @@ pub use copy::{copy_all, copy_tail};
 pub use made::{make_list, make_map, make_tuple};
 use std::alloc::{AllocError, Allocator, Global};
 use std::marker::Model;
+use std::sync::Arc;
 
 /// A term: an integer, an atom, a tuple, a list, a map or a binary.
 #[cycle(term)]
@@ -31,17 +32,25 @@ pub struct Term<A: Allocator = Global> {
     shape: Shape<A>,
 }
 
-/// What a term is, each kind that holds terms with its depth.
+/// The most characters of an atom that needs no memory.
+const SHORT: usize = 3;
+/// What stands where such an atom has no character.
+const NONE: char = '\0';
+
+/// What a term is, each kind that holds terms with its depth. Copies share what they hold. A short atom stands here itself, so
+/// many of these characters, and `{}` holds nothing.
 #[cycle(term)]
 #[derive(Drop)]
 enum Shape<A: Allocator> {
     Integer(i64),
     Nil,
-    Atom(Box<Vec<char, A>, A>),
-    Tuple(u8, Box<Vec<Term<A>, A>, A>),
-    List(u8, Box<Cells<A>, A>),
-    Map(u8, Box<Vec<(Term<A>, Term<A>), A>, A>),
-    Binary(Box<Vec<u8, A>, A>),
+    Short(u8, [char; SHORT]),
+    Atom(Arc<Vec<char, A>, A>),
+    Unit,
+    Tuple(u8, Arc<Vec<Term<A>, A>, A>),
+    List(u8, Arc<Cells<A>, A>),
+    Map(u8, Arc<Vec<(Term<A>, Term<A>), A>, A>),
+    Binary(Arc<Vec<u8, A>, A>),
 }
 
 /// The elements of a list that is not empty, and its tail where that is no list.
@@ -83,12 +92,12 @@ impl<A: Allocator> Model for Term<A> {
     ghost size_decreases = { λ t h. parts_fall A.Allocator t.shape h.1 };
 }
 
-/// A value put into a box, or handed back for want of memory.
-fn boxed<T, A: Allocator>(alloc: A, value: T) -> Result<Box<T, A>, Refused<T>>
+/// A value put where copies share it, or handed back for want of memory.
+fn shared<T, A: Allocator>(alloc: A, value: T) -> Result<Arc<T, A>, Refused<T>>
     ensures ok { IfOk result (λ b. b.value ≡ value) }
     ensures refused { IfErr result (λ r. (r.value ≡ value) × (r.fault ≡ Fault.Memory)) }
 {
-    Box::new(alloc, value).map_err(|failed| Refused {
+    Arc::new(alloc, value).map_err(|failed| Refused {
         value: failed.value,
         fault: Fault::Memory,
     })
@@ -122,6 +131,29 @@ fn character_count(characters: &[char]) -> usize
         count += 1;
     }
     count
+}
+
+/// The atom of so many of three characters.
+fn atom_of_three<A: Allocator>(count: u8, first: char, second: char, third: char) -> Shape<A>
+    requires { count ≤ 3 }
+    ensures value { datum_of result ≡ atom (take count (first ∷ second ∷ third ∷ [])) }
+    ensures kept { IsKept result }
+{
+    Shape::Short(count, [first, second, third])
+}
+
+/// The atom of these characters where they are few enough to stand in the term itself.
+fn short_atom<A: Allocator>(characters: &[char]) -> Option<Shape<A>>
+    ensures value { IfSome result (λ s. datum_of s ≡ atom characters.now) }
+    ensures kept { IfSome result (λ s. IsKept s) }
+{
+    match characters {
+        [] => Some(atom_of_three(0, NONE, NONE, NONE)),
+        [first] => Some(atom_of_three(1, *first, NONE, NONE)),
+        [first, second] => Some(atom_of_three(2, *first, *second, NONE)),
+        [first, second, third] => Some(atom_of_three(3, *first, *second, *third)),
+        _ => None,
+    }
 }
 
 /// How many bytes these are.
@@ -204,7 +236,7 @@ fn with_tail<A: Allocator>(
     ensures refused { IfErr result (λ r. HandsBack r.value elements.items tail
         × (r.fault ≡ Fault.Memory)) }
 {
-    match boxed(alloc, Cells { elements, tail }) {
+    match shared(alloc, Cells { elements, tail }) {
         Ok(cells) => Ok(Term {
             shape: Shape::List(depth, cells),
         }),
@@ -218,12 +250,29 @@ fn with_tail<A: Allocator>(
     }
 }
 
-/// The list of some elements and then those of another list, within its limits.
-fn prepended<A: Allocator>(
+/// Adds copies of a list's elements to others, and copies its tail. Those that were there stay where it is refused.
+fn append_copies<A: Allocator>(
+    elements: &mut Vec<Term<A>, A>,
+    cells: &Cells<A>,
+) -> Result<Option<Term<A>>, AllocError>
+    ensures kept { take (length elements.old.items) elements.new.items ≡ elements.old.items }
+    ensures items { OnOk result (elements.new.items
+        ≡ elements.old.items ++ cells.now.elements.items) }
+    ensures tail { IfOk result (λ t. t ≡ cells.now.tail) }
+{
+    for element in cells.elements.as_slice() {
+        elements.push(element.copy()?)?;
+    }
+    copy_tail(cells.tail.as_ref())
+}
+
+/// The list of some elements and then those of another list that others hold as well, within its limits.
+fn prepended_to_shared<A: Allocator>(
+    alloc: A,
     depth: u8,
     mut elements: Vec<Term<A>, A>,
     kept: u8,
-    mut cells: Box<Cells<A>, A>,
+    cells: Arc<Cells<A>, A>,
 ) -> Result<Term<A>, Refused<ListParts<A>>>
     requires some { 0 < length elements.items }
     requires list { IsList kept cells.value.elements.items cells.value.tail }
@@ -238,7 +287,54 @@ fn prepended<A: Allocator>(
         (Some (cells_of cells.value.elements.items (tail_of cells.value.tail)))
         × (r.fault ≡ Fault.Memory)) }
 {
-    let held = &mut *cells;
+    let count = elements.len();
+    let mut elements = match append_copies(&mut elements, &cells) {
+        Ok(tail) => match shared(alloc, Cells { elements, tail }) {
+            Ok(cells) => {
+                return Ok(Term {
+                    shape: Shape::List(depth, cells),
+                });
+            }
+            Err(refused) => refused.value.elements,
+        },
+        Err(AllocError) => elements,
+    };
+    elements.truncate(count);
+    Err(Refused {
+        value: ListParts {
+            elements,
+            tail: Some(Term {
+                shape: Shape::List(kept, cells),
+            }),
+        },
+        fault: Fault::Memory,
+    })
+}
+
+/// The list of some elements and then those of another list, within its limits.
+fn prepended<A: Allocator>(
+    alloc: A,
+    depth: u8,
+    mut elements: Vec<Term<A>, A>,
+    kept: u8,
+    mut cells: Arc<Cells<A>, A>,
+) -> Result<Term<A>, Refused<ListParts<A>>>
+    requires some { 0 < length elements.items }
+    requires list { IsList kept cells.value.elements.items cells.value.tail }
+    requires list_within { IsTerm (cells_of cells.value.elements.items (tail_of cells.value.tail)) }
+    requires within { IsTerm (cells_of elements.items
+        (cells_of cells.value.elements.items (tail_of cells.value.tail))) }
+    requires depth { depth ≡ depth_of (cells_of elements.items
+        (cells_of cells.value.elements.items (tail_of cells.value.tail))) }
+    ensures ok { IfOk result (λ t. t ≡ cells_of elements.items
+        (cells_of cells.value.elements.items (tail_of cells.value.tail))) }
+    ensures refused { IfErr result (λ r. HandsBack r.value elements.items
+        (Some (cells_of cells.value.elements.items (tail_of cells.value.tail)))
+        × (r.fault ≡ Fault.Memory)) }
+{
+    let Some(held) = Arc::get_mut(&mut cells) else {
+        return prepended_to_shared(alloc, depth, elements, kept, cells);
+    };
     match elements.append(&mut held.elements) {
         Ok(()) => {
             held.elements = elements;
@@ -276,7 +372,7 @@ fn joined<A: Allocator>(
 {
     match tail {
         Shape::Nil => with_nil(alloc, depth, elements),
-        Shape::List(kept, cells) => prepended(depth, elements, kept, cells),
+        Shape::List(kept, cells) => prepended(alloc, depth, elements, kept, cells),
         shape => with_tail(alloc, depth, elements, Some(Term { shape })),
     }
 }
@@ -385,7 +481,10 @@ impl<A: Allocator> Term<A> {
                 fault: Fault::TooLong,
             });
         }
-        let characters = boxed(alloc, characters)?;
+        if let Some(shape) = short_atom(characters.as_slice()) {
+            return Ok(Term { shape });
+        }
+        let characters = shared(alloc, characters)?;
         Ok(Term {
             shape: Shape::Atom(characters),
         })
@@ -403,7 +502,7 @@ impl<A: Allocator> Term<A> {
                 fault: Fault::TooLong,
             });
         }
-        let bytes = boxed(alloc, bytes)?;
+        let bytes = shared(alloc, bytes)?;
         Ok(Term {
             shape: Shape::Binary(bytes),
         })
@@ -415,6 +514,9 @@ impl<A: Allocator> Term<A> {
         ensures refused { IfErr result (λ r. (r.value.items ≡ elements.items)
             × IsFault r.fault (tuple (items_of elements.items))) }
     {
+        if elements.is_empty() {
+            return Ok(Term { shape: Shape::Unit });
+        }
         let deepest = deepest(elements.as_slice());
         if deepest >= MAX_DEPTH {
             return Err(Refused {
@@ -428,7 +530,7 @@ impl<A: Allocator> Term<A> {
                 fault: Fault::TooLong,
             });
         }
-        let elements = boxed(alloc, elements)?;
+        let elements = shared(alloc, elements)?;
         Ok(Term {
             shape: Shape::Tuple(deepest + 1, elements),
         })
@@ -464,7 +566,8 @@ impl<A: Allocator> Term<A> {
         ensures within { IsTerm self.now }
     {
         match &self.shape {
-            Shape::Integer(_) | Shape::Nil | Shape::Atom(_) | Shape::Binary(_) => 1,
+            Shape::Integer(_) | Shape::Nil | Shape::Short(_, _) | Shape::Atom(_) => 1,
+            Shape::Unit | Shape::Binary(_) => 1,
             Shape::Tuple(depth, _) | Shape::List(depth, _) | Shape::Map(depth, _) => *depth,
         }
     }
@@ -479,7 +582,9 @@ impl<A: Allocator> Term<A> {
         match &self.shape {
             Shape::Integer(value) => View::Integer(*value),
             Shape::Nil => View::Nil,
+            Shape::Short(count, characters) => View::Atom(&characters[..usize::from(*count)]),
             Shape::Atom(characters) => View::Atom(characters.as_slice()),
+            Shape::Unit => View::Tuple(&[]),
             Shape::Tuple(_, elements) => View::Tuple(elements.as_slice()),
             Shape::List(_, cells) => View::List(cells.elements.as_slice(), cells.tail.as_ref()),
             Shape::Map(_, pairs) => View::Map(pairs.as_slice()),

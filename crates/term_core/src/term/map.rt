@@ -7,7 +7,8 @@ ghost use Rattle.term_core.specs.Limits.{entries_depth};
 ghost use Rattle.term_core.specs.MapPairs.{AreRising, HasTwice, IsMapOf, IsMapFault, IsMapDepth, IsPairSound, keys_of};
 
 use super::apart::neighbours_differ;
-use super::{Shape, Term, boxed};
+use super::copy::copy_pairs;
+use super::{Shape, Term, shared};
 use crate::fault::{Fault, Refused};
 use crate::{MAX_DEPTH, MAX_MAP};
 use std::alloc::{AllocError, Allocator};
@@ -75,7 +76,7 @@ fn has_twin<A: Allocator>(alloc: A, pairs: &[(Term<A>, Term<A>)]) -> Result<bool
 }
 
 /// The map of pairs whose keys differ.
-fn sorted_map<A: Allocator>(
+fn sorted_map<A: Allocator + Copy>(
     alloc: A,
     depth: u8,
     pairs: Vec<(Term<A>, Term<A>), A>,
@@ -85,12 +86,23 @@ fn sorted_map<A: Allocator>(
     ensures ok { IfOk result (λ t. IsMapOf pairs.items t) }
     ensures refused { IfErr result (λ r. (r.value.items ≡ pairs.items) × (r.fault ≡ Fault.Memory)) }
 {
-    // The box comes first, since nothing may be refused once the pairs have moved.
-    let mut pairs = boxed(alloc, pairs)?;
-    pairs.sort_unstable();
-    Ok(Term {
-        shape: Shape::Map(depth, pairs),
-    })
+    // Copies are sorted, so that the pairs are handed back in their order where there is no memory.
+    let Ok(mut sorted) = copy_pairs(alloc, pairs.as_slice()) else {
+        return Err(Refused {
+            value: pairs,
+            fault: Fault::Memory,
+        });
+    };
+    sorted.sort_unstable();
+    match shared(alloc, sorted) {
+        Ok(sorted) => Ok(Term {
+            shape: Shape::Map(depth, sorted),
+        }),
+        Err(_) => Err(Refused {
+            value: pairs,
+            fault: Fault::Memory,
+        }),
+    }
 }
 
 impl<A: Allocator> Term<A> {
@@ -145,7 +157,7 @@ impl<A: Allocator> Term<A> {
         ensures refused { IfErr result (λ r. (r.value.items ≡ pairs.items)
             × (r.fault ≡ Fault.Memory)) }
     {
-        let pairs = boxed(alloc, pairs)?;
+        let pairs = shared(alloc, pairs)?;
         Ok(Term {
             shape: Shape::Map(depth, pairs),
         })

@@ -19,7 +19,7 @@ fn copy_list<A: Allocator + Copy>(
     ensures { IfOk result (λ t. t ≡ cells elements.now (tail_of (option_copied tail.entry))) }
 {
     let copies = copy_all(alloc, elements)?;
-    let tail = copy_tail(alloc, tail)?;
+    let tail = copy_tail(tail)?;
     match Term::list(alloc, copies, tail) {
         Ok(list) => Ok(list),
         Err(refused) => Err(refused.fault.alloc_error()),
@@ -93,20 +93,20 @@ impl<A: Allocator> Term<A> {
         depth_of_tail(tail)
     }
 
-    /// What is left of a list behind so many of its elements, in memory of its own. Another term is copied as it is.
+    /// What is left of a list behind so many of its elements, as a list of its own, whose elements are copies. Another term is copied as it is.
     pub fn copy_behind(&self, alloc: A, count: usize) -> Result<Self, AllocError>
     where
         A: Copy,
         ensures { IfOk result (λ t. t ≡ rest_of count self.now) }
     {
         let View::List(elements, tail) = self.view() else {
-            return self.copy(alloc);
+            return self.copy();
         };
         if count < elements.len() {
             return copy_list(alloc, &elements[count..], tail);
         }
         match tail {
-            Some(tail) => tail.copy(alloc),
+            Some(tail) => tail.copy(),
             None => Ok(Term::nil()),
         }
     }

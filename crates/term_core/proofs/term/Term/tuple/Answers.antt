@@ -17,8 +17,8 @@ returns-in_err-elements-clause-refused g c =
     let depth = rw c.as_slice.ensures.value at c.deepest-deepest.ensures.value in
     rw (p.1, p.2) (rw (c.in_err-elements.ensures.refused.0, c.in_err-elements.ensures.refused.1) (refl, (omega arith, λ h. omega arith)))
 
-pub invariant_of-result : goal.invariant_of-result
-invariant_of-result g c =
+pub invariant_of-result-2 : goal.invariant_of-result-2
+invariant_of-result-2 g c =
     let made = ap (λ v. v.items) (sym c.in_ok-elements.ensures.ok) in
     let same = c.as_slice.ensures.value ∙ made in
     let depth = rw c.as_slice.ensures.value at c.deepest-deepest.ensures.value in

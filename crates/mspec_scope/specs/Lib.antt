@@ -1,0 +1,4 @@
+pub mod Scope
+pub mod Made
+pub mod Called
+pub mod Decided
