@@ -1,7 +1,8 @@
 //! Terms that are read as specifications, and what these answer.
 use crate::compiled::agrees;
 use mspec_meaning::evaluate;
-use mspec_syntax::{Spec, SpecFault, read_spec};
+use mspec_reader::read_spec;
+use mspec_syntax::{Spec, SpecFault};
 use row_terms::{Outcome, elements, listed, numbered, text, word};
 use std::alloc::{Allocator, Global};
 use term_core::Term;

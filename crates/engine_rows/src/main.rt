@@ -1,16 +1,13 @@
-//! Rows of texts, of terms and of functions, read from standard input and tried on the public calls of the crates: what comes of
-//! each is compared with what it wants, and each row that fails is printed, with how many rows there were of each kind.
+//! Rows of functions, read from standard input and tried on the public calls of the crates: what comes of each is compared with what
+//! it wants, and each row that fails is printed, with how many rows there were of each kind.
 //!
 //! `stdin` has the rows, and at its head the form of each kind. The judge is proved once, and rows cost nothing but their run.
 //!
-//! - `texts`: terms read, written, ordered and hashed; `constructors`: terms made and refused.
 //! - `calls`, `operands`, `values`: functions, what they are given and what they give.
 #![tactic(auto)]
 
 mod calls;
-mod constructors;
 mod operands;
-mod texts;
 mod values;
 
 use row_terms::{Kinds, judge_streams};
@@ -19,17 +16,11 @@ use std::io;
 use std::process::ExitCode;
 use term_core::Term;
 
-/// The kinds of rows of terms and of functions.
-struct TermKinds;
+/// The kinds of rows of functions.
+struct FunctionKinds;
 
-impl Kinds for TermKinds {
+impl Kinds for FunctionKinds {
     fn came(alloc: Global, kind: &str, parts: &[Term], forms: usize) -> Option<Vec<u8>> {
-        if let Some(out) = texts::came(alloc, kind, parts) {
-            return Some(out);
-        }
-        if let Some(out) = constructors::came(alloc, kind, parts) {
-            return Some(out);
-        }
         if let Some(out) = calls::came(alloc, kind, parts, forms) {
             return Some(out);
         }
@@ -48,11 +39,11 @@ impl Kinds for TermKinds {
         }
     }
 
-    fn wants_text(kind: &str) -> bool {
-        matches!(kind, "text" | "canonical" | "hash")
+    fn wants_text(_kind: &str) -> bool {
+        false
     }
 }
 
 fn main(rt: HostRuntime) -> io::Result<ExitCode> {
-    judge_streams::<TermKinds, _, _>(rt.alloc(), &mut rt.stdin(), &mut rt.stdout())
+    judge_streams::<FunctionKinds, _, _>(rt.alloc(), &mut rt.stdin(), &mut rt.stdout())
 }

@@ -1,12 +1,12 @@
 //! Operands: the term that each is, its values, a list taken apart, the limits of a rest.
 use crate::calls::operand;
-use crate::constructors::{refused, size_of};
+use made_terms::copy_tail;
 use operand::Operand;
 use primitives::{Comparison, Function, Primitive};
 use prims::call;
-use row_terms::{Outcome, canonical, elements, text, word};
+use row_terms::{Outcome, canonical, elements, refused, size_of, text, word};
 use std::alloc::Global;
-use term_core::{Term, copy_tail};
+use term_core::Term;
 use term_text::read_terms;
 
 /// Whether an operand is exactly equal to a term.

@@ -1,4 +1,4 @@
-//! Tests that cross crates and that no row of `engine_rows` or `code_rows` says: calls with each request for memory refused in
+//! Tests that cross crates and that no row of `term_rows`, `engine_rows` or `code_rows` says: calls with each request for memory refused in
 //! turn, what takes no memory, and the texts of errors.
 //!
 //! It has no code of its own. What a test here calls is proved in its own crate once, and not a second time with its tests.

@@ -2,7 +2,7 @@
 ghost use Rattle.std.specs.Prelude.{◌≡◌, ◌≤◌, List, IsTrue, IsOk, IfOk, length};
 ghost use Rattle.term_core.specs.Datum.{Datum};
 ghost use Rattle.mcode.specs.Program.{Program};
-ghost use Rattle.verifier.specs.Effect.{needs};
+ghost use Rattle.machine_shapes.specs.Effect.{needs};
 ghost use Rattle.operand_stack.specs.Flow.{IsWithin, IsReady, Does};
 ghost use Rattle.operand_stack.specs.Stack.{stack_at};
 ghost use Rattle.execution.specs.Flow.{HasRoom, IsOfStack, Computes, Looks};

@@ -3,7 +3,7 @@ use Rattle.std.proofs.Common.{◌≡◌, ℕ, ◌≤◌, Option, Some, List, ◌
 use Rattle.std.proofs.lemmas.List.{drop_all, append-nil}
 use Rattle.term_core.specs.Datum.{Datum, cells}
 use Rattle.term_core.specs.Limits.{IsTerm, within_limits}
-use Rattle.term_core.proofs.MadeLemmas.{made-within_limits}
+use Rattle.made_terms.proofs.MadeLemmas.{made-within_limits}
 use Rattle.mspec_syntax.specs.Expression.{Expression, assignments_of, assignment_keys}
 
 -- where no key is left, those so far are all

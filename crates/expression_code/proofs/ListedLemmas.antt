@@ -7,7 +7,7 @@ use Rattle.term_core.specs.Datum.Datum.{nil, map as table}
 use Rattle.term_core.specs.Datum.Entries.{no_entries, entry}
 use Rattle.term_core.specs.Limits.{within_limits}
 use Rattle.term_core.specs.MapPairs.{AreRising, are_apart, keys_of}
-use Rattle.term_core.proofs.ByKeyLemmas.{by_key-rising, are_apart-from_AreApart}
+use Rattle.made_terms.proofs.ByKeyLemmas.{by_key-rising, are_apart-from_AreApart}
 use Rattle.term_core.proofs.MapLemmas.{apart_from_rising}
 use Rattle.mcode.specs.Machine.{map_keys, map_made}
 use Rattle.mspec_syntax.specs.Keys.{AreKeysRising}

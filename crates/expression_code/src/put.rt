@@ -9,11 +9,12 @@ ghost use Rattle.assembly.specs.Line.{plain};
 
 use crate::site::Site;
 use assembly::{Label, Lines, Op, Target};
+use made_terms::make_list;
 use mcode::{Kind, Places};
 use mspec_syntax::{Expression, Mode, exit_term};
 use primitives::Arithmetic;
 use std::alloc::{AllocError, Allocator};
-use term_core::{Term, make_list};
+use term_core::Term;
 
 /// The list of a map's keys.
 pub(crate) fn key_list<A: Allocator + Copy>(

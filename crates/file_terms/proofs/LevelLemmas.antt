@@ -18,9 +18,8 @@ use Rattle.term_core.specs.Fault.{IsFault}
 use Rattle.term_core.specs.Sizes.{list_limit}
 use Rattle.term_core.specs.declared.fault.Fault.{Fault}
 use Rattle.term_core.specs.declared.fault.Fault.TheVariants as fault
-use Rattle.term_core.proofs.LimitLemmas.{item_count-items_of, entry_count-entries_of, cell_count-cells}
+use Rattle.term_core.proofs.LimitLemmas.{item_count-items_of, entry_count-entries_of, cell_count-cells, term-refused}
 use Rattle.term_core.proofs.MapLemmas.{below, apart-no_twin, apart_from_rising, map_from_rising}
-use Rattle.term_core.proofs.RestLemmas.{term-refused}
 use Rattle.file_format.specs.Spelling.{u16_bytes, u32_bytes, constant_bytes, pair_bytes}
 use Rattle.file_format.specs.File.{IsU8}
 use Rattle.file_format.specs.Format.{Format, Begins, BeginsNone, rows, counted, such}

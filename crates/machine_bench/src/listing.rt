@@ -1,7 +1,7 @@
 //! The code of a specification, as a list.
 use compiler::compile;
 use mcode::{Code, Frame, Instr};
-use mspec_syntax::read_spec;
+use mspec_reader::read_spec;
 use std::alloc::Global;
 use term_core::Term;
 use term_text::{read_terms, write_term};

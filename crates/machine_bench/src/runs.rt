@@ -2,7 +2,8 @@
 use compiler::compile;
 use machine::Machine;
 use mspec_meaning::evaluate;
-use mspec_syntax::{Spec, read_spec};
+use mspec_reader::read_spec;
+use mspec_syntax::Spec;
 use std::alloc::Global;
 use std::time::Instant;
 use term_core::Term;

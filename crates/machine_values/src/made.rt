@@ -10,10 +10,11 @@ ghost use Rattle.mcode.specs.Machine.{map_made};
 ghost use Rattle.machine_values.specs.Keys.{keys_at};
 ghost use Rattle.operand.specs.Value.{value_datum};
 
+use made_terms::{copy_all, make_list, make_map};
 use mcode::Code;
 use operand::Value;
 use std::alloc::{AllocError, Allocator};
-use term_core::{Term, copy_all, make_list, make_map};
+use term_core::Term;
 
 /// What was made, where it passes no limit.
 #[inline(never)]

@@ -4,10 +4,11 @@ ghost use Rattle.std.specs.Option.{option_map};
 ghost use Rattle.operand.specs.Value.{value_datum};
 
 use crate::scope::Scope;
+use made_terms::{make_list, make_map, make_tuple};
 use mspec_syntax::{Mode, exit_term};
 use operand::Value;
 use std::alloc::{AllocError, Allocator};
-use term_core::{Term, make_list, make_map, make_tuple};
+use term_core::Term;
 
 /// A value as a term, where there is one.
 pub fn into_term<A: Allocator + Copy>(

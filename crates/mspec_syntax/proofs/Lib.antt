@@ -1,10 +1,8 @@
 pub mod WordLemmas
-pub mod GrammarLemmas
 pub mod PatternLemmas
 pub mod RisingLemmas
 pub mod ExpressionLemmas
 pub mod ExpressionSizes
 pub mod SizeLemmas
-pub mod ReadingLemmas
 pub mod SoundLemmas
 pub mod RankLemmas

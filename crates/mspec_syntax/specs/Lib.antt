@@ -17,5 +17,4 @@ pub mod Grammar
 pub mod Faults
 pub mod Sound
 pub mod FaultNumbers
-pub mod Laws
 pub mod Mode

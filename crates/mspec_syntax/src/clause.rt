@@ -41,7 +41,7 @@ impl<A: Allocator> Clause<A> {
     ghost use Rattle.mspec_syntax.specs.Pattern.{pattern_variables};
 
     /// The clause of these parts, of which the variables are the head's.
-    pub(crate) fn new(
+    pub fn new(
         head: Pattern<A>,
         variables: Variables<A>,
         conditions: Vec<Expression<A>, A>,
@@ -89,8 +89,8 @@ impl<A: Allocator> Clause<A> {
     }
 }
 
-/// A specification, read and found to be one, of at most `MAX_NODES` nodes and `MAX_VARIABLES`
-/// variables.
+/// A specification, read and found to be one, of at most 8,000 nodes and 256 variables
+/// (`IsWithinLimits`).
 #[derive(Drop)]
 pub struct Spec<A: Allocator = Global> {
     clauses: Vec<Clause<A>, A>,
@@ -124,7 +124,7 @@ impl<A: Allocator> Spec<A> {
     ghost use Rattle.mspec_syntax.specs.Sound.{IsSoundClause};
 
     /// The specification of these clauses, of which the variables are the heads'.
-    pub(crate) fn new(clauses: Vec<Clause<A>, A>, variables: Variables<A>) -> Self
+    pub fn new(clauses: Vec<Clause<A>, A>, variables: Variables<A>) -> Self
         requires readable { IsReadable clauses.items }
         requires limits { IsWithinLimits clauses.items }
         requires variables { variables ≡ specification_variables clauses.items }

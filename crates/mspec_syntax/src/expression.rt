@@ -67,7 +67,7 @@ impl<A: Allocator> Expression<A> {
     ghost use Rattle.mspec_syntax.specs.ExpressionView.{expression_of, IsKept};
 
     /// The expression of this kind.
-    pub(crate) fn new(kind: ExpressionKind<A>) -> Self
+    pub fn new(kind: ExpressionKind<A>) -> Self
         requires { IsKept kind }
         ensures { result ≡ expression_of kind }
     {

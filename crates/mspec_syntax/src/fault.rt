@@ -39,7 +39,7 @@ pub enum SpecFault {
     /// A key of a map in the clause's head holds a variable or `'_'`.
     #[error("a key of a map in the head of clause {0} holds a variable or '_'")]
     VariableInMapKey(usize),
-    /// The specification has more than `MAX_NODES` nodes or `MAX_VARIABLES` distinct variables.
+    /// The specification has more than 8,000 nodes or 256 distinct variables.
     #[error("the specification is too large")]
     TooLarge,
 }

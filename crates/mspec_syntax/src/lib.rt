@@ -1,47 +1,33 @@
-//! Match specifications: what `ets` calls a match specification, read from a term.
+//! Match specifications: what `ets` calls a match specification, and which term is read as which.
 //!
-//! The contract is that of `read_spec`: a term that the grammar allows (`IsSpecification`, in
-//! `specs/Grammar.antt`) and that is within the limits is read as the specification that it writes,
-//! and as no other; any other term is refused for its first fault in reading order (`IsRefusal`, in
-//! `specs/Faults.antt`).
+//! The contract is that of `Spec::clauses`: a `Spec` is a specification within the limits that some term is read
+//! as (`IsReadable`, in `specs/Faults.antt`), and all its parts are sound (`IsSoundClause`, in
+//! `specs/Sound.antt`). `mspec_reader` reads one from a term.
 //!
 //! - What is read: `specs/Specification.antt`, of `specs/Pattern.antt` and `specs/Expression.antt`;
 //!   `clause.rt`, `pattern.rt`, `expression.rt`, `variables.rt`. Where expressions stand: `mode.rt`,
 //!   `specs/Mode.antt`.
-//! - What is known of each part of it: `specs/Sound.antt`, by `Spec::clauses`.
-//! - What atoms say: `specs/Word.antt`; `word.rt`.
-//! - Reading: heads in `head.rt`, conditions and bodies in `body.rt`, clauses in `read.rt`, their
-//!   size in `size.rt`.
-//! - Refusals: `fault.rt`.
-//! - A law of reading: `laws.rt`, `specs/Laws.antt`.
+//! - What atoms say: `specs/Word.antt`, `Callee.antt`, `Sought.antt`; `word.rt`.
+//! - Which term is read as which specification: `specs/Grammar.antt`. What is wrong with a term, in reading
+//!   order: `specs/Faults.antt`; `fault.rt`.
 #![tactic(auto)]
 
-mod body;
 mod clause;
 mod expression;
 mod fault;
-mod head;
-mod laws;
 mod mode;
 mod pattern;
-mod read;
-mod size;
 mod variables;
 mod word;
 
 pub use clause::{Clause, Spec};
 pub use expression::{Expression, ExpressionKind};
 pub use fault::SpecFault;
-pub use laws::one_specification_is_read;
 pub use mode::{Mode, exit_term};
 pub use pattern::{Pattern, PatternKind};
-pub use read::read_spec;
 pub use variables::Variables;
+pub use word::{Callee, Sought, Word};
 
-/// The most nodes of a specification: clauses, patterns, keys of maps in patterns, and expressions.
-pub const MAX_NODES: usize = 8_000;
-/// The most distinct variables of a specification.
-pub const MAX_VARIABLES: usize = 256;
 /// The most digits of a variable's number.
 pub const MAX_DIGITS: usize = 8;
 

@@ -55,7 +55,7 @@ impl<A: Allocator> Pattern<A> {
     ghost use Rattle.mspec_syntax.specs.PatternView.{pattern_of, IsKept};
 
     /// The pattern of this kind.
-    pub(crate) fn new(kind: PatternKind<A>) -> Self
+    pub fn new(kind: PatternKind<A>) -> Self
         requires { IsKept kind }
         ensures { result ≡ pattern_of kind }
     {

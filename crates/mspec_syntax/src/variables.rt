@@ -42,7 +42,7 @@ impl<A: Allocator> Variables<A> {
     }
 
     /// The variables of a pattern.
-    pub(crate) fn of_pattern(alloc: A, pattern: &Pattern<A>) -> Result<Self, AllocError>
+    pub fn of_pattern(alloc: A, pattern: &Pattern<A>) -> Result<Self, AllocError>
         ensures { IfOk result (λ v. v ≡ rising (pattern_variables pattern.now)) }
     {
         let mut numbers = Vec::new(alloc);
@@ -51,7 +51,7 @@ impl<A: Allocator> Variables<A> {
     }
 
     /// The variables of all heads together.
-    pub(crate) fn of_clauses(alloc: A, clauses: &[Clause<A>]) -> Result<Self, AllocError>
+    pub fn of_clauses(alloc: A, clauses: &[Clause<A>]) -> Result<Self, AllocError>
         ensures { IfOk result (λ v. v ≡ specification_variables clauses.now) }
     {
         let mut numbers = Vec::new(alloc);

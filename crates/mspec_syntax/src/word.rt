@@ -17,7 +17,7 @@ const ORELSE: [char; 6] = ['o', 'r', 'e', 'l', 's', 'e'];
 
 /// What an atom says in a specification.
 #[derive(Clone, Copy, Debug, PartialEq, Eq)]
-pub(crate) enum Word {
+pub enum Word {
     /// `'$N'`: a variable.
     Variable(u32),
     /// `$` and digits that are no variable's number.
@@ -34,7 +34,7 @@ pub(crate) enum Word {
 
 /// A kind of atom that no key of a map in a head may hold.
 #[derive(Clone, Copy)]
-pub(crate) enum Sought {
+pub enum Sought {
     /// A variable or `'_'`.
     Hole,
     /// `$` and digits that are no variable's number.
@@ -43,7 +43,7 @@ pub(crate) enum Sought {
 
 /// What an atom at the front of a tuple says, by how many terms stand behind it.
 #[derive(Clone, Copy, Debug, PartialEq, Eq)]
-pub(crate) enum Callee {
+pub enum Callee {
     /// `const` of one term, which stands for itself.
     Quote,
     /// `andalso` of one or more arguments.
@@ -61,7 +61,7 @@ impl Callee {
     ghost use Rattle.mspec_syntax.specs.Callee.{callee_of};
 
     /// What the atom of these characters says in front of so many terms.
-    pub(crate) fn new(characters: &[char], arguments: usize) -> Callee
+    pub fn new(characters: &[char], arguments: usize) -> Callee
         ensures { result ≡ callee_of characters.now arguments }
     {
         if arguments == 1 && characters == CONST.as_slice() {
@@ -86,7 +86,7 @@ impl Word {
     ghost use Rattle.mspec_syntax.specs.Word.{word_of, dollar_word};
 
     /// What the atom of these characters says.
-    pub(crate) fn new(characters: &[char]) -> Word
+    pub fn new(characters: &[char]) -> Word
         ensures { result ≡ word_of characters.now }
     {
         match characters {
@@ -97,7 +97,7 @@ impl Word {
     }
 
     /// Whether the atom is of this kind.
-    pub(crate) fn is(self, sought: Sought) -> bool
+    pub fn is(self, sought: Sought) -> bool
         ensures { result ≡ is_sought sought self }
     {
         match sought {

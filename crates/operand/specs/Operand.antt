@@ -3,7 +3,7 @@ use Rattle.std.specs.Prelude.{Bool, true, false, if◌then◌else◌, ℤ, Optio
 use Rattle.std.specs.Cmp.Lexicographic.{pointwise}
 use Rattle.term_core.specs.Datum.{Datum}
 use Rattle.term_core.specs.Datum.Datum.{integer, atom, tuple, map, cons}
-use Rattle.term_core.specs.Rest.{rest_of}
+use Rattle.made_terms.specs.Rest.{rest_of}
 use Rattle.operand.specs.declared.operand.Operand.{Operand}
 use Rattle.operand.specs.declared.operand.Operand.TheVariants as operand
 

@@ -2,7 +2,7 @@
 use Rattle.std.specs.Prelude.{Bool, true, false, ◌&&◌, List, [], ◌∷◌}
 use Rattle.term_core.specs.Datum.{Datum}
 use Rattle.term_core.specs.Datum.Datum.{integer}
-use Rattle.term_core.specs.Rest.{rest_of}
+use Rattle.made_terms.specs.Rest.{rest_of}
 use Rattle.operand.specs.Operand.{boolean}
 use Rattle.operand.specs.declared.value.Value.{Value}
 use Rattle.operand.specs.declared.value.Value.TheVariants as value

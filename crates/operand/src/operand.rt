@@ -4,13 +4,14 @@ ghost use Rattle.std.specs.Str.{chars};
 ghost use Rattle.term_core.specs.Datum.{items_of, entries_of};
 ghost use Rattle.term_core.specs.Datum.Datum.{atom, tuple, map, cons};
 ghost use Rattle.term_core.specs.Limits.{IsSound, ArePairsSound};
-ghost use Rattle.term_core.specs.Rest.{rest_of};
+ghost use Rattle.made_terms.specs.Rest.{rest_of};
 ghost use Rattle.term_core.specs.View.{shown as shown_term, IsSplit};
 ghost use Rattle.operand.specs.View.{shown, IsEnded};
 ghost use Rattle.operand.specs.Operand.{operand_datum, boolean as boolean_atom, boolean_of, integer_of, IsNoCell, IsNoTuple, IsNoMap};
 ghost use Rattle.operand.specs.Order.{IsSimple};
 
 use crate::view::View;
+use made_terms::{copy_behind, view_behind};
 use std::alloc::{AllocError, Allocator, Global};
 use term_core::{Term, View as TermView};
 
@@ -163,7 +164,7 @@ impl<'a, A: Allocator> Operand<'a, A> {
     {
         match self {
             Operand::Term(term) => integer_of(term.view()),
-            Operand::Rest(list, count) => integer_of(list.view_behind(count)),
+            Operand::Rest(list, count) => integer_of(view_behind(list, count)),
             Operand::Int(value) => Some(value),
             Operand::Bool(_) => None,
         }
@@ -189,7 +190,7 @@ impl<'a, A: Allocator> Operand<'a, A> {
     {
         match self {
             Operand::Term(term) => elements_of(term.view()),
-            Operand::Rest(list, count) => elements_of(list.view_behind(count)),
+            Operand::Rest(list, count) => elements_of(view_behind(list, count)),
             Operand::Int(_) | Operand::Bool(_) => None,
         }
     }
@@ -227,7 +228,7 @@ impl<'a, A: Allocator> Operand<'a, A> {
     {
         match self {
             Operand::Term(term) => term.copy(),
-            Operand::Rest(list, count) => list.copy_behind(alloc, count),
+            Operand::Rest(list, count) => copy_behind(alloc, list, count),
             Operand::Int(value) => Ok(Term::int(value)),
             Operand::Bool(value) => boolean_term(alloc, value),
         }

@@ -2,9 +2,10 @@
 ghost use Rattle.std.specs.Prelude.{◌≡◌, ⊤};
 ghost use Rattle.term_core.specs.Order.{rank};
 ghost use Rattle.term_core.specs.Limits.{IsSound, IsTerm};
-ghost use Rattle.term_core.specs.Rest.{rest_of};
+ghost use Rattle.made_terms.specs.Rest.{rest_of};
 ghost use Rattle.operand.specs.View.{shown, IsEnded};
 
+use made_terms::view_behind;
 use std::alloc::{AllocError, Allocator};
 use term_core::{Term, View as TermView};
 
@@ -47,7 +48,7 @@ impl<'a, A: Allocator> View<'a, A> {
         ensures within { IsSound (shown result) }
         ensures whole { IsTerm list.now }
     {
-        match list.view_behind(count) {
+        match view_behind(list, count) {
             TermView::Integer(value) => View::Integer(value),
             TermView::Atom(characters) => View::Atom(characters),
             TermView::Tuple(elements) => View::Tuple(elements),

@@ -10,12 +10,13 @@ use crate::places::Places;
 use machine_values::{
     are_same, computed, field, head, holds, keys_of, list_of, made_value, map_of, tail, value_of,
 };
+use made_terms::make_tuple;
 use mcode::{Code, Kind};
 use operand::Value;
 use primitives::{Arithmetic, Function, Primitive};
 use prims::{call_one, call_two, call_values};
 use std::alloc::{AllocError, Allocator};
-use term_core::{Term, make_tuple};
+use term_core::Term;
 
 /// Goes on where a test holds, else jumps, with so many places taken.
 #[inline(always)]

@@ -4,15 +4,11 @@
 //! `stdin` has the rows, and at its head the form of each kind. The judge is proved once, and rows cost nothing but their run.
 //!
 //! - `plays`: the rows, with memory and with each request refused in turn: `PartCalls` says which part plays a row.
-//! - `steps`: the steps of a row, one after the other; `turns`: one operation, which is handed back where it is refused.
-//! - `operations`: an operation that a term says; `replies`: what a part answers, as a text.
+//!
+//! The steps of a row, turns, operations and replies are in `part_steps`.
 #![tactic(auto)]
 
-mod operations;
 mod plays;
-mod replies;
-mod steps;
-mod turns;
 
 use row_terms::{Kinds, judge_streams};
 use std::alloc::Global;

@@ -1,12 +1,9 @@
 //! Rows that are played, once with memory and again with each request for memory refused in turn.
-use crate::operations::{byte, kind_of};
-use crate::replies::open_fault_text;
-use crate::steps::{Setting, steps_text};
-use crate::turns::{Options, made};
 use part_core::{Kind, OpenFault, Part};
 use part_order::OrderPart;
 use part_plain::PlainPart;
-use row_terms::{Calls, elements, is_atom, short, swept, word, written};
+use part_steps::{Options, Setting, byte, kind_of, made, open_fault_text, steps_text};
+use row_terms::{Calls, elements, short, swept, word, written};
 use std::alloc::{Allocator, Global};
 use term_core::Term;
 use term_text::read_terms;

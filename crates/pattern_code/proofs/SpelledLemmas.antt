@@ -7,7 +7,7 @@ use Rattle.std.proofs.lemmas.List.{append_assoc, append-nil, map-append, drop_al
 use Rattle.term_core.specs.Datum.{Datum, Items, items_of, cells}
 use Rattle.term_core.specs.Datum.Datum.{tuple}
 use Rattle.term_core.specs.Limits.{IsTerm, within_limits}
-use Rattle.term_core.proofs.MadeLemmas.{made-within_limits}
+use Rattle.made_terms.proofs.MadeLemmas.{made-within_limits}
 use Rattle.mspec_syntax.specs.Pattern.{Pattern, patterns_of, cells_of, own_term, own_terms, own_cell, own_item}
 use Rattle.mspec_syntax.specs.Pattern.Pattern.{variable, anything, literal, tuple_of, cell_of, map_of}
 use Rattle.mspec_syntax.specs.Sound.{IsSoundPattern, AreSoundPatterns}

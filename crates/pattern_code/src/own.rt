@@ -6,9 +6,10 @@ ghost use Rattle.mspec_syntax.specs.PatternView.{tail_pattern};
 ghost use Rattle.mspec_syntax.specs.Sound.{IsSoundPattern, AreSoundPatterns};
 ghost use Rattle.pattern_code.specs.Spelled.{spells, all_spell};
 
+use made_terms::{make_list, make_tuple};
 use mspec_syntax::{Pattern, PatternKind};
 use std::alloc::{AllocError, Allocator};
-use term_core::{Term, make_list, make_tuple};
+use term_core::Term;
 
 /// Whether the pattern spells a term.
 #[cycle(spells)]

@@ -5,7 +5,7 @@ use Rattle.term_core.specs.Datum.Datum.{integer, atom, tuple, map, nil, cons, bi
 use Rattle.term_text.specs.Laws.{SpellsOne}
 use Rattle.term_text.specs.Text.{Spells}
 use Rattle.mcode.specs.Program.{Program}
-use Rattle.mspec_syntax.specs.Laws.{HasOneReading}
+use Rattle.mspec_reader.specs.Laws.{HasOneReading}
 use Rattle.mspec_syntax.specs.Specification.{Specification}
 use Rattle.mspec_meaning.specs.Laws.{HasOneMeaning}
 use Rattle.templates.specs.Clauses.{code_of}

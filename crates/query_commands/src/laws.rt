@@ -4,7 +4,7 @@ ghost use Rattle.query_commands.specs.Laws.{OutputIsOne};
 use budget::budget_is_one;
 use code_file::one_code;
 use mspec_meaning::one_answer_is_meant;
-use mspec_syntax::one_specification_is_read;
+use mspec_reader::one_specification_is_read;
 use term_text::a_text_spells_one_list;
 use verifier::depth_is_one;
 

@@ -2,10 +2,11 @@
 //! stands for so many of one.
 use crate::frame::{frames, same_frame};
 use crate::instr::instructions;
+use made_terms::copy_all;
 use mcode::{Builder, Code, Fault, Frame, Instr};
 use row_terms::{elements, fields, is_atom, number, short};
 use std::alloc::Allocator;
-use term_core::{Term, copy_all};
+use term_core::Term;
 
 /// The parts of code.
 #[derive(Drop)]

@@ -1,7 +1,7 @@
 //! What came of a row, as a text.
 use std::alloc::{Allocator, Global};
 use std::io::Write;
-use term_core::Term;
+use term_core::{Fault, Term};
 use term_text::write_term;
 
 /// The text of a tuple or of a list, which is put together element by element. Want of memory is told where it ends.
@@ -140,6 +140,11 @@ pub fn tagged<A: Allocator>(alloc: Global, tag: &str, term: &Term<A>) -> Option<
 /// The text of a tuple of a word and a number.
 pub fn numbered(alloc: Global, tag: &str, number: usize) -> Option<Vec<u8>> {
     Outcome::tuple(alloc).word(tag).number(number).end()
+}
+
+/// The text of a refusal: a tuple of a word and the number of the fault.
+pub fn refused(alloc: Global, fault: Fault) -> Option<Vec<u8>> {
+    numbered(alloc, "refused", usize::from(fault.number()))
 }
 
 /// The canonical texts of terms, a dot behind each and a space between.

@@ -7,7 +7,7 @@ use Rattle.mcode.specs.Program.{Program}
 use Rattle.mcode.specs.declared.kind.Kind.{Kind}
 use Rattle.mcode.specs.declared.kind.Kind.TheVariants as kind
 use Rattle.mspec_syntax.specs.declared.mode.Mode.{Mode}
-use Rattle.verifier.specs.Shape.{Shape, frame_kinds, AreBelow}
+use Rattle.machine_shapes.specs.Shape.{Shape, frame_kinds, AreBelow}
 use Rattle.assembly.specs.Line.{SourceLine, plain}
 use Rattle.assembly.specs.Stands.{IsAt, Stands}
 use Rattle.assembly.specs.declared.op.Op.TheVariants as op

@@ -20,7 +20,7 @@ use Rattle.mspec_syntax.specs.Sound.{IsSoundExpression, IsSoundClause}
 use Rattle.mspec_syntax.specs.Specification.{Clause, clause_variables, clause_nodes}
 use Rattle.mspec_syntax.specs.declared.mode.Mode.TheVariants.{Condition, Body}
 use Rattle.mspec_syntax.proofs.RisingLemmas.{among-rising}
-use Rattle.verifier.specs.Shape.{Shape, start_shape, is_bound, frame_kinds, AreBelow}
+use Rattle.machine_shapes.specs.Shape.{Shape, start_shape, is_bound, frame_kinds, AreBelow}
 use Rattle.assembly.specs.Line.{plain}
 use Rattle.assembly.specs.Stands.{IsAt, Stands}
 use Rattle.assembly.specs.declared.op.Op.TheVariants as op

@@ -23,7 +23,7 @@ use Rattle.mspec_syntax.specs.Rising.{rank_of}
 use Rattle.mspec_syntax.specs.Sound.{IsSoundExpression, AreSoundExpressions, AreSoundAssignments}
 use Rattle.mspec_syntax.specs.declared.mode.Mode.{Mode}
 use Rattle.mspec_syntax.proofs.RankLemmas.{among-first, among-rest}
-use Rattle.verifier.specs.Shape.{Shape, frame_kinds, is_bound, AreBelow}
+use Rattle.machine_shapes.specs.Shape.{Shape, frame_kinds, is_bound, AreBelow}
 use Rattle.assembly.specs.Line.{SourceLine, plain, before_label}
 use Rattle.assembly.specs.Stands.{Stands}
 use Rattle.assembly.specs.declared.op.Op.TheVariants as op

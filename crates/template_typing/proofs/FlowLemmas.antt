@@ -8,8 +8,8 @@ use Rattle.mcode.specs.Program.{Program, frame_at}
 use Rattle.mcode.specs.declared.instr.Instr.{Instr}
 use Rattle.mcode.specs.declared.kind.Kind.{Kind}
 use Rattle.mcode.specs.declared.kind.Kind.TheVariants as kind
-use Rattle.verifier.specs.Effect.{falling_shape}
-use Rattle.verifier.specs.Shape.{Shape, place_kind, frame_kinds, marked, is_bound, AreBelow}
+use Rattle.machine_shapes.specs.Effect.{falling_shape}
+use Rattle.machine_shapes.specs.Shape.{Shape, place_kind, frame_kinds, marked, is_bound, AreBelow}
 use Rattle.verifier.specs.Typing.{Begins}
 use Rattle.template_typing.specs.Flow.{IsFit, Flows}
 

@@ -18,8 +18,8 @@ use Rattle.mspec_syntax.specs.Pattern.Pattern.{variable, anything, literal, tupl
 use Rattle.mspec_syntax.specs.Pattern.Patterns.{no_patterns, pattern}
 use Rattle.mspec_syntax.specs.Pattern.Fields.{no_fields, field}
 use Rattle.mspec_syntax.specs.Rising.{rank_of}
-use Rattle.verifier.specs.Effect.{falling_shape, left_shape}
-use Rattle.verifier.specs.Shape.{Shape, is_bound}
+use Rattle.machine_shapes.specs.Effect.{falling_shape, left_shape}
+use Rattle.machine_shapes.specs.Shape.{Shape, is_bound}
 use Rattle.assembly.specs.Line.{SourceLine, plain}
 use Rattle.assembly.specs.Stands.{IsAt, Stands}
 use Rattle.assembly.specs.declared.op.Op.TheVariants as op

@@ -12,11 +12,11 @@ use Rattle.mcode.specs.declared.instr.Instr.{Instr}
 use Rattle.mcode.specs.declared.instr.Instr.TheVariants as instr
 use Rattle.mspec_syntax.specs.Sound.{IsSoundClause}
 use Rattle.mspec_syntax.specs.Specification.{Specification, clause_nodes, specification_nodes}
-use Rattle.verifier.specs.Effect.{falling_shape, left_shape}
-use Rattle.verifier.specs.Shape.{Shape, start_shape}
+use Rattle.machine_shapes.specs.Effect.{falling_shape, left_shape}
+use Rattle.machine_shapes.specs.Shape.{Shape, start_shape}
 use Rattle.verifier.specs.Typing.{IsFrameFit, IsTypedAt, Begins, falling_into, IsTypedIn, HasShapes, IsDepth, most_places}
 use Rattle.verifier.proofs.OnceLemmas.{shapes_once}
-use Rattle.verifier.proofs.ShapeLemmas.{length-frame_kinds}
+use Rattle.machine_shapes.proofs.ShapeLemmas.{length-frame_kinds}
 use Rattle.assembly.specs.Line.{line_total}
 use Rattle.assembly.specs.Stands.{AreStanding}
 use Rattle.templates.specs.Clauses.{clause_block, blocks_of}

@@ -9,8 +9,8 @@ use Rattle.mcode.specs.declared.instr.Instr.{Instr}
 use Rattle.mcode.specs.declared.kind.Kind.{Kind}
 use Rattle.mspec_syntax.specs.declared.mode.Mode.{Mode}
 use Rattle.mspec_syntax.specs.declared.mode.Mode.TheVariants.{Condition, Body}
-use Rattle.verifier.specs.Effect.{falling_shape, left_shape}
-use Rattle.verifier.specs.Shape.{Shape, frame_kinds, shape_of, is_bound, AreBelow, IsCutBelow}
+use Rattle.machine_shapes.specs.Effect.{falling_shape, left_shape}
+use Rattle.machine_shapes.specs.Shape.{Shape, frame_kinds, shape_of, is_bound, AreBelow, IsCutBelow}
 use Rattle.verifier.specs.Typing.{IsTarget}
 use Rattle.assembly.specs.Assembled.{resolved}
 use Rattle.assembly.specs.Line.{SourceLine}

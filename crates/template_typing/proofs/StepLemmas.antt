@@ -14,8 +14,8 @@ use Rattle.mcode.specs.declared.kind.Kind.TheVariants as kind
 use Rattle.mspec_syntax.specs.Mode.{exit_term}
 use Rattle.mspec_syntax.specs.declared.mode.Mode.{Mode}
 use Rattle.mspec_syntax.specs.declared.mode.Mode.TheVariants.{Condition, Body}
-use Rattle.verifier.specs.Effect.{needs, IsConstantFit, kinds_fit, slot_fits, pushed_kinds, left_bound, top_stays, falling_shape, left_shape, jump_shape}
-use Rattle.verifier.specs.Shape.{Shape, place_kind, frame_kinds, is_bound, AreBelow, IsCutBelow}
+use Rattle.machine_shapes.specs.Effect.{needs, IsConstantFit, kinds_fit, slot_fits, pushed_kinds, left_bound, top_stays, falling_shape, left_shape, jump_shape}
+use Rattle.machine_shapes.specs.Shape.{Shape, place_kind, frame_kinds, is_bound, AreBelow, IsCutBelow}
 use Rattle.verifier.specs.Typing.{IsTarget}
 use Rattle.assembly.specs.Assembled.{resolved}
 use Rattle.assembly.specs.Line.{SourceLine, plain, before_label}

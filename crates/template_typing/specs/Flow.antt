@@ -2,8 +2,8 @@
 use Rattle.std.specs.Prelude.{ℕ, zero, suc, ◌≡◌, ◌≤◌, IsTrue, Some, length, slice_get}
 use Rattle.mcode.specs.Program.{Program, frame_at}
 use Rattle.mcode.specs.declared.instr.Instr.{Instr}
-use Rattle.verifier.specs.Effect.{needs, IsConstantFit, kinds_fit, slot_fits, left_shape, falling_shape}
-use Rattle.verifier.specs.Shape.{Shape}
+use Rattle.machine_shapes.specs.Effect.{needs, IsConstantFit, kinds_fit, slot_fits, left_shape, falling_shape}
+use Rattle.machine_shapes.specs.Shape.{Shape}
 use Rattle.verifier.specs.Typing.{IsTargetFit, IsJumpFit, Begins}
 
 -- the instruction at pc finds what it needs, leaves so many places at most, and may jump where it does; what stands

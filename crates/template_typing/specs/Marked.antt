@@ -4,7 +4,7 @@ use Rattle.mcode.specs.Program.{Program}
 use Rattle.mcode.specs.declared.kind.Kind.{Kind}
 use Rattle.mspec_syntax.specs.Grammar.{is_among}
 use Rattle.mspec_syntax.specs.Rising.{rank_of}
-use Rattle.verifier.specs.Shape.{Shape, is_bound}
+use Rattle.machine_shapes.specs.Shape.{Shape, is_bound}
 use Rattle.assembly.specs.Line.{SourceLine}
 use Rattle.template_typing.specs.Flow.{Flows}
 

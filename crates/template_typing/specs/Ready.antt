@@ -3,8 +3,8 @@ use Rattle.std.specs.Prelude.{ℕ, suc, ◌≡◌, ◌<◌, IsTrue, Some, List, 
 use Rattle.mcode.specs.Program.{Program, Frame, frame_at}
 use Rattle.mcode.specs.declared.instr.Instr.{Instr}
 use Rattle.mcode.specs.declared.kind.Kind.{Kind}
-use Rattle.verifier.specs.Effect.{falling_shape}
-use Rattle.verifier.specs.Shape.{Shape, frame_kinds, is_bound, AreBelow}
+use Rattle.machine_shapes.specs.Effect.{falling_shape}
+use Rattle.machine_shapes.specs.Shape.{Shape, frame_kinds, is_bound, AreBelow}
 use Rattle.verifier.specs.Typing.{Begins}
 use Rattle.assembly.specs.Line.{SourceLine}
 use Rattle.template_typing.specs.Flow.{IsFit, Flows}

@@ -4,7 +4,4 @@ pub mod RowLemmas
 pub mod ViewLemmas
 pub mod MapLemmas
 pub mod DepthLemmas
-pub mod ByKeyLemmas
-pub mod MadeLemmas
 pub mod ProperLemmas
-pub mod RestLemmas

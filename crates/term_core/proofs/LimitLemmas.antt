@@ -5,7 +5,9 @@ use Rattle.term_core.specs.Datum.Datum.{integer, atom, tuple, map, nil, cons, bi
 use Rattle.term_core.specs.Limits.{tail_depth, items_depth, IsTerm, IsSound, AreSound, AreBytes, AreScalars}
 use Rattle.term_core.specs.Term.{tail_of, IsTail, IsList}
 use Rattle.term_core.specs.TermFalls.{depth-cells, tail_depth-cells}
-use Rattle.term_core.specs.Fault.{IsTooLong}
+use Rattle.term_core.specs.Fault.{IsFault, IsTooLong}
+use Rattle.term_core.specs.declared.fault.Fault.{Fault}
+use Rattle.term_core.specs.declared.fault.Fault.TheVariants.{Memory, TooDeep, TooLong, DuplicateKey}
 use Rattle.term_core.specs.declared.TheConstants.{MAX_DEPTH, MAX_CHARACTERS, MAX_TUPLE, MAX_LIST, MAX_BINARY}
 
 -- numbers that are bytes one by one
@@ -96,3 +98,19 @@ cells-not_long (d ∷ ds) tail short some long = omega (arith, cell_count-cells 
 pub cells-append : (xs ys : List Datum) (tail : Datum) → cells (xs ++ ys) tail ≡ cells xs (cells ys tail)
 cells-append [] ys tail = refl
 cells-append (x ∷ xs) ys tail = ap (cons x) (cells-append xs ys tail)
+
+not_too_long : (d : Datum) → IsTerm d → IsTooLong d → ⊥
+not_too_long (integer z) t h = h
+not_too_long (atom cs) t h = let few = t.sound.0 in absurd (omega arith)
+not_too_long (tuple ds) t h = let few = t.sound.0 in absurd (omega arith)
+not_too_long (map es) t h = let few = t.sound.0 in absurd (omega arith)
+not_too_long nil t h = h
+not_too_long (cons head tail) t h = let few = t.sound.0 in absurd (omega arith)
+not_too_long (binary bs) t h = let few = t.sound.0 in absurd (omega arith)
+
+-- what is a term is refused for want of memory alone
+pub term-refused : (f : Fault) (d : Datum) → IsTerm d → IsFault f d → f ≡ Memory
+term-refused Memory d t h = refl
+term-refused TooDeep d t h = let most = t.shallow in absurd (omega arith)
+term-refused TooLong d t h = absurd (not_too_long d t h.1)
+term-refused DuplicateKey d t h = absurd h

@@ -9,7 +9,6 @@ pub mod Term
 pub mod TermFalls
 pub mod ListParts
 pub mod View
-pub mod Rest
 pub mod Fault
 pub mod MapPairs
 pub mod FaultNumbers

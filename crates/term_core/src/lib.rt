@@ -8,7 +8,7 @@ mod term;
 mod view;
 
 pub use fault::{Fault, Refused};
-pub use term::{ListParts, Term, are_apart, copy_all, copy_tail, make_list, make_map, make_tuple};
+pub use term::{ListParts, Term, deepest, neighbours_differ};
 pub use view::View;
 
 /// The greatest depth of a term.

@@ -14,13 +14,9 @@ use crate::{MAX_BINARY, MAX_CHARACTERS, MAX_DEPTH, MAX_LIST, MAX_TUPLE};
 
 mod apart;
 mod copy;
-mod made;
 mod map;
-mod rest;
 
-pub use apart::are_apart;
-pub use copy::{copy_all, copy_tail};
-pub use made::{make_list, make_map, make_tuple};
+pub use apart::neighbours_differ;
 use std::alloc::{AllocError, Allocator, Global};
 use std::marker::Model;
 use std::sync::Arc;
@@ -165,7 +161,7 @@ fn byte_count(bytes: &[u8]) -> usize
 }
 
 /// The greatest depth among these terms, 0 where there is none.
-fn deepest<A: Allocator>(terms: &[Term<A>]) -> u8
+pub fn deepest<A: Allocator>(terms: &[Term<A>]) -> u8
     ensures value { result ≡ items_depth (items_of terms.now) }
     ensures sound { AreSound (items_of terms.now) }
 {
@@ -263,7 +259,10 @@ fn append_copies<A: Allocator>(
     for element in cells.elements.as_slice() {
         elements.push(element.copy()?)?;
     }
-    copy_tail(cells.tail.as_ref())
+    match &cells.tail {
+        None => Ok(None),
+        Some(tail) => Ok(Some(tail.copy()?)),
+    }
 }
 
 /// The list of some elements and then those of another list that others hold as well, within its limits.

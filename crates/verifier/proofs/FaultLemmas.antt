@@ -5,8 +5,8 @@ use Rattle.std.proofs.Common.{arith, refl, sym, ap, subst, ◌∙◌, inl, inr}
 use Rattle.std.proofs.lemmas.Option.{slice_get_within, get_or_from_slice_get}
 use Rattle.mcode.specs.Program.{Program, frame_at}
 use Rattle.mcode.specs.declared.instr.Instr.{Instr}
-use Rattle.verifier.specs.Shape.{Shape}
-use Rattle.verifier.specs.Effect.{falling_shape}
+use Rattle.machine_shapes.specs.Shape.{Shape}
+use Rattle.machine_shapes.specs.Effect.{falling_shape}
 use Rattle.verifier.specs.Typing.{IsFrameFit, IsTypedAt, AreTypedBelow, IsTyped, falling_into}
 use Rattle.verifier.specs.Faults.{IsFaultIn, IsFirstFault, IsFirstUntyped, IsFirstUnfit}
 use Rattle.verifier.specs.Pass.{begun, shape_at}

@@ -3,7 +3,7 @@ use Rattle.std.specs.Prelude.{ℕ, ◌≡◌, ◌<◌, Some, All}
 use Rattle.std.proofs.Common.{sym}
 use Rattle.mcode.specs.Program.{Program, Frame, IsProgram, frame_at, frame_number}
 use Rattle.mcode.proofs.RiseLemmas.{number_stands}
-use Rattle.verifier.specs.Kept.{AreKept}
+use Rattle.machine_shapes.specs.Kept.{AreKept}
 use Rattle.verifier.specs.Typing.{IsFrameFit}
 
 -- what is known of a frame that is found

@@ -11,8 +11,8 @@ use Rattle.mcode.specs.declared.instr.Instr.{Instr}
 use Rattle.mcode.specs.declared.instr.Instr.TheVariants as instr
 use Rattle.mcode.specs.declared.kind.Kind.{Kind}
 use Rattle.mcode.specs.declared.kind.Kind.TheVariants as kind
-use Rattle.verifier.specs.Shape.{Shape}
-use Rattle.verifier.specs.Effect.{needs, slot_fits, pushed_kinds, left_bound, left_shape}
+use Rattle.machine_shapes.specs.Shape.{Shape}
+use Rattle.machine_shapes.specs.Effect.{needs, slot_fits, pushed_kinds, left_bound, left_shape}
 use Rattle.verifier.specs.Leaving.{pushed_for, IsBindable}
 
 -- a list with elements

@@ -1,5 +1,3 @@
-pub mod ShapeLemmas
-pub mod KeyLemmas
 pub mod FrameLemmas
 pub mod LeavingLemmas
 pub mod PassLemmas

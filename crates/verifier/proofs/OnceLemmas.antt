@@ -7,8 +7,8 @@ use Rattle.std.proofs.lemmas.List.{length-take, get_or-take}
 use Rattle.mcode.specs.Instr.{goes_on}
 use Rattle.mcode.specs.Program.{Program, Frame, frame_at}
 use Rattle.mcode.specs.declared.instr.Instr.{Instr}
-use Rattle.verifier.specs.Shape.{Shape}
-use Rattle.verifier.specs.Effect.{needs, IsConstantFit, kinds_fit, slot_fits, left_shape}
+use Rattle.machine_shapes.specs.Shape.{Shape}
+use Rattle.machine_shapes.specs.Effect.{needs, IsConstantFit, kinds_fit, slot_fits, left_shape}
 use Rattle.verifier.specs.Typing.{most_places, IsFrameFit, IsTargetFit, IsJumpFit, AreTypedBelow, IsDepthAt, IsDepth, falling_into}
 use Rattle.verifier.specs.Faults.{JumpsTo, IsFaultIn, IsFirstFault, IsFirstUntyped, IsFirstUnfit, IsEmpty}
 use Rattle.verifier.specs.Pass.{begun}

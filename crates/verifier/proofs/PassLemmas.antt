@@ -12,11 +12,11 @@ use Rattle.mcode.specs.Program.{Program, Frame, frame_at}
 use Rattle.mcode.specs.Instr.{goes_on}
 use Rattle.mcode.specs.declared.instr.Instr.{Instr}
 use Rattle.mcode.specs.declared.instr.Instr.TheVariants as instr
-use Rattle.verifier.specs.Shape.{Shape, shape_of, marked}
-use Rattle.verifier.specs.Effect.{left_shape, falling_shape}
+use Rattle.machine_shapes.specs.Shape.{Shape, shape_of, marked}
+use Rattle.machine_shapes.specs.Effect.{left_shape, falling_shape}
 use Rattle.verifier.specs.Typing.{IsFrameFit, IsTypedAt, AreTypedBelow, Begins, falling_into}
 use Rattle.verifier.specs.Pass.{begun, shape_at, fallen, IsDeepestBelow, AreDepthsBelow, IsWalked}
-use Rattle.verifier.proofs.ShapeLemmas.{length-frame_kinds}
+use Rattle.machine_shapes.proofs.ShapeLemmas.{length-frame_kinds}
 use native.Mathlib.Numerals.{unary_clauses}
 
 -- the state is begun by what falls into it and its frame

@@ -8,7 +8,7 @@ use Rattle.budget.specs.Paths.{AllForward, IsBudget}
 use Rattle.mcode.specs.Program.{Program, Frame, IsProgram}
 use Rattle.mcode.specs.declared.instr.Instr.{Instr}
 use Rattle.mcode.specs.declared.instr.Instr.TheVariants as instr
-use Rattle.verifier.specs.Shape.{Shape}
+use Rattle.machine_shapes.specs.Shape.{Shape}
 use Rattle.verifier.specs.Typing.{IsFrameFit, HasShapes, IsDepth, IsDepthAt}
 use Rattle.verifier.specs.Pass.{shape_at, IsDeepestBelow, IsWalked}
 use Rattle.verifier.specs.Verified.{IsVerified}

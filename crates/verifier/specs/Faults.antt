@@ -3,8 +3,8 @@ use Rattle.std.specs.Prelude.{ℕ, suc, ◌≡◌, ◌<◌, ◌≤◌, ◌⊎◌
 use Rattle.mcode.specs.Instr.{target_of, goes_on}
 use Rattle.mcode.specs.Program.{Program, Frame, frame_at}
 use Rattle.mcode.specs.declared.instr.Instr.{Instr}
-use Rattle.verifier.specs.Shape.{Shape}
-use Rattle.verifier.specs.Effect.{needs, IsConstantFit, kinds_fit, slot_fits, left_shape}
+use Rattle.machine_shapes.specs.Shape.{Shape}
+use Rattle.machine_shapes.specs.Effect.{needs, IsConstantFit, kinds_fit, slot_fits, left_shape}
 use Rattle.verifier.specs.Typing.{most_places, IsFrameFit, IsTargetFit, IsJumpFit, Begins, falling_into, AreTypedBelow}
 use Rattle.verifier.specs.declared.fault.Fault.{Fault}
 use Rattle.verifier.specs.declared.fault.Fault.TheVariants as fault

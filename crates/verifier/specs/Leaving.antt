@@ -7,7 +7,7 @@ use Rattle.mcode.specs.declared.instr.Instr.{Instr}
 use Rattle.mcode.specs.declared.instr.Instr.TheVariants as instr
 use Rattle.mcode.specs.declared.kind.Kind.{Kind}
 use Rattle.mcode.specs.declared.kind.Kind.TheVariants as kind
-use Rattle.verifier.specs.Effect.{pushed_kinds}
+use Rattle.machine_shapes.specs.Effect.{pushed_kinds}
 use Rattle.verifier.specs.declared.leaving.Pushed.{Pushed}
 use Rattle.verifier.specs.declared.leaving.Pushed.TheVariants.{Nothing, One, Twice}
 

@@ -1,9 +1,6 @@
-pub mod Shape
-pub mod Effect
 pub mod Typing
 pub mod Faults
 pub mod FaultNumbers
-pub mod Kept
 pub mod Verified
 pub mod Pass
 pub mod Leaving

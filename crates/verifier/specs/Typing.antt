@@ -4,8 +4,8 @@ use Rattle.std.specs.Option.{option_and_then}
 use Rattle.mcode.specs.Instr.{target_of, goes_on}
 use Rattle.mcode.specs.Program.{Program, Frame, frame_at, place_number}
 use Rattle.mcode.specs.declared.instr.Instr.{Instr}
-use Rattle.verifier.specs.Shape.{Shape, start_shape, shape_of, IsAtOrBelow, IsCutBelow}
-use Rattle.verifier.specs.Effect.{needs, IsConstantFit, kinds_fit, slot_fits, left_shape, jump_shape, falling_shape}
+use Rattle.machine_shapes.specs.Shape.{Shape, start_shape, shape_of, IsAtOrBelow, IsCutBelow}
+use Rattle.machine_shapes.specs.Effect.{needs, IsConstantFit, kinds_fit, slot_fits, left_shape, jump_shape, falling_shape}
 
 -- places of the stack
 abbrev pub most_places : ℕ

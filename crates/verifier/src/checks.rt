@@ -1,17 +1,18 @@
 //! The checks of one instruction, in their order.
 ghost use Rattle.std.specs.Prelude.{◌≡◌, ◌≤◌, ◌↔◌, IsTrue, IfSome, OnOk, IfErr, All, length};
 ghost use Rattle.mcode.specs.Program.{IsProgram};
-ghost use Rattle.verifier.specs.Shape as shapes;
-ghost use Rattle.verifier.specs.Effect.{needs, jump_shape};
-ghost use Rattle.verifier.specs.Kept.{popped_shape};
-ghost use Rattle.verifier.specs.Pass.{AreCounts};
+ghost use Rattle.machine_shapes.specs.Shape as shapes;
+ghost use Rattle.machine_shapes.specs.Effect.{needs, jump_shape};
+ghost use Rattle.machine_shapes.specs.Kept.{popped_shape};
+ghost use Rattle.machine_shapes.specs.Needed.{AreCounts};
 ghost use Rattle.verifier.specs.Typing.{IsFrameFit, IsTargetFit, IsJumpFit, IsTypedAt};
 ghost use Rattle.verifier.specs.Faults.{IsFaultIn, IsLeavingFit, IsDepthFit, IsNamingFit, AreKindsFit};
 
 use crate::MAX_DEPTH;
-use crate::effect::{are_kinds_fit, is_constant_fit, is_slot_fit, left_depth, needed, top_stays};
 use crate::fault::Fault;
-use crate::shape::Shape;
+use machine_shapes::{
+    Shape, are_kinds_fit, is_constant_fit, is_slot_fit, left_depth, needed, top_stays,
+};
 use mcode::{Code, Instr};
 use std::alloc::Allocator;
 

@@ -3,14 +3,13 @@ ghost use Rattle.std.specs.Prelude.{◌≡◌, ◌+◌, ◌<◌, ◌≤◌, ◌+
 ghost use Rattle.std.specs.Option.{option_map_or};
 ghost use Rattle.mcode.specs.Kind.{kind_of as exact_kind};
 ghost use Rattle.mcode.specs.declared.kind.Kind.TheVariants as kind;
-ghost use Rattle.verifier.specs.Effect.{given_kind as kind_given, left_bound, left_shape};
+ghost use Rattle.machine_shapes.specs.Effect.{given_kind as kind_given, left_bound, left_shape};
 ghost use Rattle.verifier.specs.Leaving.{boolean_kind, pushed_for, pushed_list, IsBindable};
 ghost use Rattle.term_core.specs.declared.TheConstants.{MAX_TUPLE};
-ghost use Rattle.verifier.specs.Pass.{AreCounts};
+ghost use Rattle.machine_shapes.specs.Needed.{AreCounts};
 ghost use Rattle.verifier.specs.Typing.{IsTypedAt};
 
-use crate::effect::needed;
-use crate::shape::Shape;
+use machine_shapes::{Shape, needed};
 use mcode::{Code, Instr, Kind};
 use operand::Operand;
 use primitives::Gives;

@@ -7,19 +7,15 @@
 //!
 //! - `verification`: the frames, then each instruction in turn; `pass`: what is known before an instruction, and after one
 //!   more; `checks`: the checks of one instruction in their order.
-//! - `effect`: what an instruction needs; `leaving`: what it leaves; `keys`: constants that are lists of keys.
-//! - `shape`: what is known of a state: kinds of places, of which those that are any aren't kept, and slots.
+//! - `leaving`: what an instruction leaves. What it needs, and what is known of a state, stands in `machine_shapes`.
 //! - `verified`: what `verify` answers; `fault`: why code is refused; `laws`: that no code is both typed and at fault.
 #![tactic(auto)]
 
 mod checks;
-mod effect;
 mod fault;
-mod keys;
 mod laws;
 mod leaving;
 mod pass;
-mod shape;
 mod verification;
 mod verified;
 

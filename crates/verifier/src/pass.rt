@@ -3,16 +3,17 @@ ghost use Rattle.std.specs.Prelude.{◌≡◌, ◌<◌, ◌+◌, ◌⊎◌, ◌�
 ghost use Rattle.mcode.specs.Frame.{frame_of};
 ghost use Rattle.mcode.specs.Program.{frame_at};
 ghost use Rattle.verifier.specs.Faults.{HasNoBeginning, IsFirstUntyped};
-ghost use Rattle.verifier.specs.Kept.{AreKept};
-ghost use Rattle.verifier.specs.Pass.{AreCounts, fallen, IsWalked};
-ghost use Rattle.verifier.specs.Shape.{IsAtOrBelow};
+ghost use Rattle.machine_shapes.specs.Kept.{AreKept};
+ghost use Rattle.machine_shapes.specs.Needed.{AreCounts};
+ghost use Rattle.verifier.specs.Pass.{fallen, IsWalked};
+ghost use Rattle.machine_shapes.specs.Shape.{IsAtOrBelow};
 ghost use Rattle.verifier.specs.Typing.{IsFrameFit, Begins};
 ghost use Rattle.verifier.specs.declared.fault.Fault.TheVariants.{Memory, Frame as FrameFault};
 
 use crate::checks::check;
 use crate::fault::Fault;
 use crate::leaving::leave;
-use crate::shape::Shape;
+use machine_shapes::Shape;
 use mcode::{Code, Frame, Instr};
 use std::alloc::{AllocError, Allocator};
 

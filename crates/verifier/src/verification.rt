@@ -11,10 +11,10 @@ ghost use Rattle.verifier.specs.declared.fault.Fault.TheVariants.{Memory};
 
 use crate::MAX_DEPTH;
 use crate::fault::Fault;
-use crate::keys::key_counts;
 use crate::pass::{Walk, step};
 use crate::verified::Verified;
 use budget::longest;
+use machine_shapes::key_counts;
 use mcode::{Code, Frame};
 use std::alloc::{AllocError, Allocator};
 use term_core::Refused;

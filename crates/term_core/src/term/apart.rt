@@ -1,15 +1,14 @@
-//! Whether terms differ.
-ghost use Rattle.std.specs.Prelude.{◌≡◌, ◌↔◌, map as map_list, IsTrue, IfOk, IsSorted};
+//! Whether neighbours differ.
+ghost use Rattle.std.specs.Prelude.{◌↔◌, map as map_list, IsTrue, IsSorted};
 ghost use Rattle.std.specs.List.{IsDistinct};
 ghost use Rattle.std.specs.Ordering.{eq_by_cmp};
 ghost use Rattle.term_core.specs.Order.{datum_cmp};
-ghost use Rattle.term_core.specs.MapPairs.{are_apart as all_differ};
 
 use super::Term;
-use std::alloc::{AllocError, Allocator};
+use std::alloc::Allocator;
 
 /// Whether all of these terms, which do not fall, differ.
-pub(crate) fn neighbours_differ<A: Allocator>(terms: &[&Term<A>]) -> bool
+pub fn neighbours_differ<A: Allocator>(terms: &[&Term<A>]) -> bool
     requires { IsSorted (λ a b. datum_cmp a.now b.now) terms.now }
     ensures { IsTrue result ↔ IsDistinct (eq_by_cmp datum_cmp)
         (map_list (λ term. term.now) terms.now) }
@@ -20,27 +19,4 @@ pub(crate) fn neighbours_differ<A: Allocator>(terms: &[&Term<A>]) -> bool
         }
     }
     true
-}
-
-/// References to these terms.
-fn references<'a, A: Allocator>(
-    alloc: A,
-    terms: &'a [Term<A>],
-) -> Result<Vec<&'a Term<A>, A>, AllocError>
-    ensures { IfOk result (λ references. map_list (λ term. term.now) references.items ≡ terms.now) }
-{
-    let mut references = Vec::with_capacity(alloc, terms.len())?;
-    for term in terms {
-        references.push(term)?;
-    }
-    Ok(references)
-}
-
-/// Whether no two of these terms are the same. It sorts references to them.
-pub fn are_apart<A: Allocator + Copy>(alloc: A, terms: &[Term<A>]) -> Result<bool, AllocError>
-    ensures { IfOk result (λ apart. apart ≡ all_differ terms.now) }
-{
-    let mut references = references(alloc, terms)?;
-    references.sort_unstable();
-    Ok(neighbours_differ(references.as_slice()))
 }

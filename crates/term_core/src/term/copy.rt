@@ -1,6 +1,5 @@
 //! Copies of terms.
 ghost use Rattle.std.specs.Prelude.{◌≡◌, IfOk};
-ghost use Rattle.std.specs.Option.{option_copied};
 ghost use Rattle.term_core.specs.Term.{datum_of, IsKept};
 
 use super::{Shape, Term};
@@ -36,17 +35,6 @@ fn copy_shape<A: Allocator>(shape: &Shape<A>) -> Result<Shape<A>, AllocError>
     }
 }
 
-/// Copies of these terms.
-pub fn copy_all<A: Allocator>(alloc: A, terms: &[Term<A>]) -> Result<Vec<Term<A>, A>, AllocError>
-    ensures { IfOk result (λ v. v.items ≡ terms.now) }
-{
-    let mut copies = Vec::with_capacity(alloc, terms.len())?;
-    for term in terms {
-        copies.push(term.copy()?)?;
-    }
-    Ok(copies)
-}
-
 /// Copies of these pairs.
 pub(crate) fn copy_pairs<A: Allocator>(
     alloc: A,
@@ -59,14 +47,4 @@ pub(crate) fn copy_pairs<A: Allocator>(
         copies.push((key.copy()?, value.copy()?))?;
     }
     Ok(copies)
-}
-
-/// A copy of a list's tail, where there is one.
-pub fn copy_tail<A: Allocator>(tail: Option<&Term<A>>) -> Result<Option<Term<A>>, AllocError>
-    ensures { IfOk result (λ t. t ≡ option_copied tail.entry) }
-{
-    match tail {
-        None => Ok(None),
-        Some(tail) => Ok(Some(tail.copy()?)),
-    }
 }

@@ -1,6 +1,6 @@
 use Rattle.std.proofs.Common.{arith}
 use Rattle.term_core.proofs.LimitLemmas.{cell_count-sound}
-use Rattle.term_core.proofs.RestLemmas.{rest_of-count, rest_of-next}
+use Rattle.made_terms.proofs.RestLemmas.{rest_of-count, rest_of-next}
 use Rattle.operand.proofs.operand.split_behind.Goals as goal
 
 pub overflow_add-result : goal.overflow_add-result

@@ -1,7 +1,7 @@
 use Rattle.std.proofs.Common.{sym}
 use Rattle.std.specs.Option.{option_copied}
 use Rattle.term_core.specs.Term.{tail_of}
-use Rattle.term_core.proofs.RestLemmas.{rest_of-within, rest_of-past, rest_of-end, no_list-end}
+use Rattle.made_terms.proofs.RestLemmas.{rest_of-within, rest_of-past, rest_of-end, no_list-end}
 use Rattle.operand.proofs.OrderLemmas.{IsSimple-within, whole_tail}
 use Rattle.operand.proofs.operand.whole_behind.Goals as goal
 

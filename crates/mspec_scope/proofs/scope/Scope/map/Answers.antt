@@ -2,7 +2,7 @@ use Rattle.std.proofs.Common.{option_map, sym, ◌∙◌, ap}
 use Rattle.std.proofs.lemmas.Result.{IfOk-weaker}
 use Rattle.term_core.specs.Datum.{entries_of}
 use Rattle.term_core.specs.Datum.Datum.{map}
-use Rattle.term_core.proofs.ByKeyLemmas.{by_key-rising}
+use Rattle.made_terms.proofs.ByKeyLemmas.{by_key-rising}
 use Rattle.term_core.proofs.MapLemmas.{apart-no_twin, apart_from_rising}
 use Rattle.mspec_scope.specs.Made.{made, made_of, or_failed}
 use Rattle.mspec_scope.proofs.scope.Scope.map.Goals as goal

@@ -1,0 +1,4 @@
+pub mod Shape
+pub mod Kept
+pub mod Effect
+pub mod Needed

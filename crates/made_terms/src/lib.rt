@@ -1,0 +1,17 @@
+//! Terms that are made of terms, and what is left of lists.
+//!
+//! - `made`: a tuple, a list or a map of other terms, which is none where it would pass a limit.
+//! - `copies`: copies of rows of terms; `apart`: whether terms differ.
+//! - `rest`: what is left of a list behind some of its elements (`rest_of`, `specs/Rest.antt`), looked at where it stands, or as a
+//!   list of its own.
+#![tactic(auto)]
+
+mod apart;
+mod copies;
+mod made;
+mod rest;
+
+pub use apart::are_apart;
+pub use copies::{copy_all, copy_tail};
+pub use made::{make_list, make_map, make_tuple};
+pub use rest::{copy_behind, depth_behind, view_behind};

@@ -1,0 +1,25 @@
+//! Match specifications read from terms.
+//!
+//! The contract is that of `read_spec`: a term that the grammar allows (`IsSpecification`, in
+//! `mspec_syntax/specs/Grammar.antt`) and that is within the limits is read as the specification that it
+//! writes, and as no other; any other term is refused for its first fault in reading order (`IsRefusal`, in
+//! `mspec_syntax/specs/Faults.antt`).
+//!
+//! - Reading: heads in `head.rt`, conditions and bodies in `body.rt`, clauses in `read.rt`, their
+//!   size in `size.rt`.
+//! - A law of reading: `laws.rt`, `specs/Laws.antt`.
+#![tactic(auto)]
+
+mod body;
+mod head;
+mod laws;
+mod read;
+mod size;
+
+pub use laws::one_specification_is_read;
+pub use read::read_spec;
+
+/// The most nodes of a specification: clauses, patterns, keys of maps in patterns, and expressions.
+pub const MAX_NODES: usize = 8_000;
+/// The most distinct variables of a specification.
+pub const MAX_VARIABLES: usize = 256;

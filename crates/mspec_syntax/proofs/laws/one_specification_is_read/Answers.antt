@@ -1,5 +1,0 @@
-use Rattle.mspec_syntax.proofs.ReadingLemmas.{IsSpecification-one}
-use Rattle.mspec_syntax.proofs.laws.one_specification_is_read.Goals as goal
-
-pub returns : goal.returns
-returns c = λ d s t h k. IsSpecification-one d s t h k

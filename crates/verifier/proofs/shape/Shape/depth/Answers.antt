@@ -1,5 +1,0 @@
-use Rattle.verifier.proofs.ShapeLemmas.{depth_is}
-use Rattle.verifier.proofs.shape.Shape.depth.Goals as goal
-
-pub returns : goal.returns
-returns g c = depth_is _ _ _ _ c.self.view_is
