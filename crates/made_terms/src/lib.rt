@@ -1,5 +1,8 @@
 //! Terms that are made of terms, and what is left of lists.
 //!
+//! The one contract: a tuple, a list or a map is made exactly where it is within the limits of a term (`within_limits`,
+//! `term_core/specs/Limits.antt`), and a copy is equal to what it was made of.
+//!
 //! - `made`: a tuple, a list or a map of other terms, which is none where it would pass a limit.
 //! - `copies`: copies of rows of terms; `apart`: whether terms differ.
 //! - `rest`: what is left of a list behind some of its elements (`rest_of`, `specs/Rest.antt`), looked at where it stands, or as a
