@@ -6,7 +6,7 @@ use Rattle.std.specs.Fmt.{decimal}
 use Rattle.term_text.specs.FaultNumbers as text
 use Rattle.mspec_syntax.specs.FaultNumbers as specification
 use Rattle.code_file.specs.FaultNumbers as file
-use Rattle.verifier.specs.FaultNumbers as code
+use Rattle.instruction_checks.specs.FaultNumbers as code
 use Rattle.command_io.specs.declared.fault.ToolFault.{ToolFault}
 use Rattle.command_io.specs.declared.fault.ToolFault.TheVariants as fault
 

@@ -10,7 +10,8 @@ use Rattle.mspec_syntax.specs.Sound.{IsSoundClause}
 use Rattle.mspec_syntax.specs.Specification.{Specification, IsWithinLimits, specification_variables}
 use Rattle.mspec_meaning.specs.Meaning.{Means}
 use Rattle.mspec_meaning.proofs.MeaningLemmas.{one-meaning}
-use Rattle.verifier.specs.Typing.{IsFrameFit, IsTyped}
+use Rattle.instruction_checks.specs.Fit.{IsFrameFit}
+use Rattle.verifier.specs.Typing.{IsTyped}
 use Rattle.assembly.specs.Assembled.{assembled}
 use Rattle.assembly.specs.Line.{Block}
 use Rattle.assembly.proofs.StandLemmas.{instruction_count}

@@ -26,8 +26,8 @@ use Rattle.machine.specs.Laws.{RunsEndWithTheAnswer}
 use Rattle.verifier.specs.Faults.{IsFirstFault}
 use Rattle.verifier.specs.Laws.{FaultyCodeIsUntyped}
 use Rattle.verifier.specs.Typing.{IsTyped}
-use Rattle.verifier.specs.declared.fault.Fault as code_fault
-use Rattle.verifier.specs.declared.fault.Fault.TheVariants as code
+use Rattle.instruction_checks.specs.declared.fault.Fault as code_fault
+use Rattle.instruction_checks.specs.declared.fault.Fault.TheVariants as code
 use Rattle.command_io.specs.declared.fault.ToolFault.{ToolFault}
 use Rattle.command_io.specs.declared.fault.ToolFault.TheVariants as fault
 use Rattle.query_commands.specs.Code.{IsFileOf, IsNoBinary}

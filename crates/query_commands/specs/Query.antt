@@ -16,8 +16,8 @@ use Rattle.code_file.specs.declared.fault.FileFault.{FileFault}
 use Rattle.code_file.specs.declared.fault.FileFault.TheVariants as file
 use Rattle.verifier.specs.Faults.{IsFirstFault}
 use Rattle.verifier.specs.Typing.{IsTyped}
-use Rattle.verifier.specs.declared.fault.Fault as code_fault
-use Rattle.verifier.specs.declared.fault.Fault.TheVariants as code
+use Rattle.instruction_checks.specs.declared.fault.Fault as code_fault
+use Rattle.instruction_checks.specs.declared.fault.Fault.TheVariants as code
 use Rattle.command_io.specs.declared.fault.ToolFault.{ToolFault}
 use Rattle.command_io.specs.declared.fault.ToolFault.TheVariants as fault
 

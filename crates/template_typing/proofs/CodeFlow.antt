@@ -8,7 +8,8 @@ use Rattle.mcode.specs.Instr.{target_of}
 use Rattle.mcode.specs.Program.{Program, Frame, IsFrame, frame_at, place_number, most_parts}
 use Rattle.mspec_syntax.specs.Sound.{IsSoundClause}
 use Rattle.mspec_syntax.specs.Specification.{Specification, specification_variables, specification_nodes, IsWithinLimits, most_nodes}
-use Rattle.verifier.specs.Typing.{IsTarget, IsFrameFit, IsTyped, IsDepth, most_places}
+use Rattle.instruction_checks.specs.Fit.{IsTarget, IsFrameFit, most_places}
+use Rattle.verifier.specs.Typing.{IsTyped, IsDepth}
 use Rattle.assembly.specs.Assembled.{assembled, frame_of, IsTargetInRange, IsCode}
 use Rattle.assembly.specs.Labels.{AllLabels, AllBlockLabels}
 use Rattle.assembly.specs.Line.{SourceLabel, SourceLine, Block, line_total}

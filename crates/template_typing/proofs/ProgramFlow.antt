@@ -14,7 +14,8 @@ use Rattle.mspec_syntax.specs.Sound.{IsSoundClause}
 use Rattle.mspec_syntax.specs.Specification.{Specification, clause_nodes, specification_nodes}
 use Rattle.machine_shapes.specs.Effect.{falling_shape, left_shape}
 use Rattle.machine_shapes.specs.Shape.{Shape, start_shape}
-use Rattle.verifier.specs.Typing.{IsFrameFit, IsTypedAt, Begins, falling_into, IsTypedIn, HasShapes, IsDepth, most_places}
+use Rattle.instruction_checks.specs.Fit.{IsFrameFit, IsTypedAt, most_places}
+use Rattle.verifier.specs.Typing.{Begins, falling_into, IsTypedIn, HasShapes, IsDepth}
 use Rattle.verifier.proofs.OnceLemmas.{shapes_once}
 use Rattle.machine_shapes.proofs.ShapeLemmas.{length-frame_kinds}
 use Rattle.assembly.specs.Line.{line_total}

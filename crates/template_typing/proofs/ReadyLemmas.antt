@@ -11,7 +11,7 @@ use Rattle.mspec_syntax.specs.declared.mode.Mode.{Mode}
 use Rattle.mspec_syntax.specs.declared.mode.Mode.TheVariants.{Condition, Body}
 use Rattle.machine_shapes.specs.Effect.{falling_shape, left_shape}
 use Rattle.machine_shapes.specs.Shape.{Shape, frame_kinds, shape_of, is_bound, AreBelow, IsCutBelow}
-use Rattle.verifier.specs.Typing.{IsTarget}
+use Rattle.instruction_checks.specs.Fit.{IsTarget}
 use Rattle.assembly.specs.Assembled.{resolved}
 use Rattle.assembly.specs.Line.{SourceLine}
 use Rattle.assembly.specs.Stands.{Stands}

@@ -16,7 +16,7 @@ use Rattle.mspec_syntax.specs.declared.mode.Mode.{Mode}
 use Rattle.mspec_syntax.specs.declared.mode.Mode.TheVariants.{Condition, Body}
 use Rattle.machine_shapes.specs.Effect.{needs, IsConstantFit, kinds_fit, slot_fits, pushed_kinds, left_bound, top_stays, falling_shape, left_shape, jump_shape}
 use Rattle.machine_shapes.specs.Shape.{Shape, place_kind, frame_kinds, is_bound, AreBelow, IsCutBelow}
-use Rattle.verifier.specs.Typing.{IsTarget}
+use Rattle.instruction_checks.specs.Fit.{IsTarget}
 use Rattle.assembly.specs.Assembled.{resolved}
 use Rattle.assembly.specs.Line.{SourceLine, plain, before_label}
 use Rattle.assembly.specs.Stands.{IsAt, Stands}

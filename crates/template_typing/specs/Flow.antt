@@ -4,7 +4,8 @@ use Rattle.mcode.specs.Program.{Program, frame_at}
 use Rattle.mcode.specs.declared.instr.Instr.{Instr}
 use Rattle.machine_shapes.specs.Effect.{needs, IsConstantFit, kinds_fit, slot_fits, left_shape, falling_shape}
 use Rattle.machine_shapes.specs.Shape.{Shape}
-use Rattle.verifier.specs.Typing.{IsTargetFit, IsJumpFit, Begins}
+use Rattle.instruction_checks.specs.Fit.{IsTargetFit, IsJumpFit}
+use Rattle.verifier.specs.Typing.{Begins}
 
 -- the instruction at pc finds what it needs, leaves so many places at most, and may jump where it does; what stands
 -- behind it is not looked at

@@ -7,11 +7,13 @@ use Rattle.mcode.specs.Program.{Program, frame_at}
 use Rattle.mcode.specs.declared.instr.Instr.{Instr}
 use Rattle.machine_shapes.specs.Shape.{Shape}
 use Rattle.machine_shapes.specs.Effect.{falling_shape}
-use Rattle.verifier.specs.Typing.{IsFrameFit, IsTypedAt, AreTypedBelow, IsTyped, falling_into}
-use Rattle.verifier.specs.Faults.{IsFaultIn, IsFirstFault, IsFirstUntyped, IsFirstUnfit}
+use Rattle.instruction_checks.specs.Fit.{IsFrameFit}
+use Rattle.verifier.specs.Typing.{AreTypedBelow, IsTyped, falling_into}
+use Rattle.instruction_checks.specs.Faults.{IsFaultIn}
+use Rattle.verifier.specs.Faults.{IsFirstFault, IsFirstUntyped, IsFirstUnfit}
 use Rattle.verifier.specs.Pass.{begun, shape_at}
-use Rattle.verifier.specs.declared.fault.Fault.{Fault}
-use Rattle.verifier.specs.declared.fault.Fault.TheVariants as fault
+use Rattle.instruction_checks.specs.declared.fault.Fault.{Fault}
+use Rattle.instruction_checks.proofs.FaultLemmas.{contradicts}
 use Rattle.verifier.proofs.PassLemmas.{shape_begun, begins_once}
 
 -- what falls into the next instruction, where this one is there or not
@@ -27,39 +29,6 @@ same_falling p shapes (suc n) typed =
     falls_same p (shapes n) (shape_at p n) (slice_get p.instructions n) (λ i here.
     begins_once p (falling_into p shapes n) (frame_at p.frames n) (shapes n) (typed n i (omega arith) here).begins
     ∙ ap (λ o. begun p o (frame_at p.frames n)) before ∙ sym (shape_begun p n))
-
--- no instruction is typed and at fault
-pub contradicts : (p : Program) (pc : ℕ) (i : Instr) (s : Shape) (told : Fault) → IsTypedAt p pc i s → IsFaultIn p pc i s told → ⊥
-contradicts p pc i s fault.Memory typed why = why
-contradicts p pc i s (fault.JumpOutside at) typed why =
-    let target = typed.target in
-    let target = rw why.1.1 at target in
-    absurd (omega (arith, target.inside, why.1.2))
-contradicts p pc i s (fault.JumpBack at) typed why =
-    let target = typed.target in
-    let target = rw why.1.1 at target in
-    absurd (omega (arith, target.ahead, why.1.3))
-contradicts p pc i s (fault.Frame at) typed why = elim why.1 [
-  | inl h ↦
-      let target = typed.target in
-      let target = rw h.jumps at target in
-      let framed = target.framed in
-      let framed = rw h.bare at framed in
-      absurd (cc)
-  | inr h ↦ h.1 typed.jump
-]
-contradicts p pc i s (fault.Constant at) typed why = why.2 typed.constant
-contradicts p pc i s (fault.Underflow at) typed why = absurd (omega (arith, typed.operands, why.2))
-contradicts p pc i s (fault.Kind at) typed why =
-    let yes = typed.kinds in
-    let none = why.2 in
-    absurd (cc)
-contradicts p pc i s (fault.Unbound at) typed why =
-    let yes = typed.slot in
-    let none = why.2 in
-    absurd (cc)
-contradicts p pc i s (fault.Depth at) typed why = absurd (omega (arith, typed.depth, why.2))
-contradicts p pc i s (fault.FallsOff at) typed why = absurd (omega (arith, typed.last why.2, why.3))
 
 untyped_excludes : (p : Program) (told : Fault) → IsFirstUntyped p told → IsTyped p → ⊥
 untyped_excludes p told first typing =

@@ -1,5 +1,3 @@
-pub mod FrameLemmas
-pub mod LeavingLemmas
 pub mod PassLemmas
 pub mod VerifiedLemmas
 pub mod FaultLemmas

@@ -1,7 +1,5 @@
 pub mod Typing
 pub mod Faults
-pub mod FaultNumbers
 pub mod Verified
 pub mod Pass
-pub mod Leaving
 pub mod Laws

@@ -6,23 +6,17 @@
 //! greatest depth, and only `verify` makes one.
 //!
 //! - `verification`: the frames, then each instruction in turn; `pass`: what is known before an instruction, and after one
-//!   more; `checks`: the checks of one instruction in their order.
-//! - `leaving`: what an instruction leaves. What it needs, and what is known of a state, stands in `machine_shapes`.
-//! - `verified`: what `verify` answers; `fault`: why code is refused; `laws`: that no code is both typed and at fault.
+//!   more. The checks of one instruction and what it leaves stand in `instruction_checks`, what is known of a state in
+//!   `machine_shapes`.
+//! - `verified`: what `verify` answers; `laws`: that no code is both typed and at fault.
 #![tactic(auto)]
 
-mod checks;
-mod fault;
 mod laws;
-mod leaving;
 mod pass;
 mod verification;
 mod verified;
 
-pub use fault::Fault;
+pub use instruction_checks::Fault;
 pub use laws::{depth_is_one, faulty_code_is_untyped, first_fault_is_one};
 pub use verification::verify;
 pub use verified::Verified;
-
-/// The greatest depth of the operand stack.
-pub const MAX_DEPTH: u16 = 16_384;

@@ -7,12 +7,11 @@ ghost use Rattle.machine_shapes.specs.Kept.{AreKept};
 ghost use Rattle.machine_shapes.specs.Needed.{AreCounts};
 ghost use Rattle.verifier.specs.Pass.{fallen, IsWalked};
 ghost use Rattle.machine_shapes.specs.Shape.{IsAtOrBelow};
-ghost use Rattle.verifier.specs.Typing.{IsFrameFit, Begins};
-ghost use Rattle.verifier.specs.declared.fault.Fault.TheVariants.{Memory, Frame as FrameFault};
+ghost use Rattle.instruction_checks.specs.Fit.{IsFrameFit};
+ghost use Rattle.verifier.specs.Typing.{Begins};
+ghost use Rattle.instruction_checks.specs.declared.fault.Fault.TheVariants.{Memory, Frame as FrameFault};
 
-use crate::checks::check;
-use crate::fault::Fault;
-use crate::leaving::leave;
+use instruction_checks::{Fault, check, leave};
 use machine_shapes::Shape;
 use mcode::{Code, Frame, Instr};
 use std::alloc::{AllocError, Allocator};

@@ -1,4 +1,4 @@
-use Rattle.verifier.proofs.checks.check_operands.Goals as goal
+use Rattle.instruction_checks.proofs.checks.check_operands.Goals as goal
 
 pub returns-in-Err-clause-fault : goal.returns-in-Err-clause-fault
 returns-in-Err-clause-fault g c = c.in-Err.ensures.fault c.args.shape.now

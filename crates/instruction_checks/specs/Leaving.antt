@@ -8,8 +8,8 @@ use Rattle.mcode.specs.declared.instr.Instr.TheVariants as instr
 use Rattle.mcode.specs.declared.kind.Kind.{Kind}
 use Rattle.mcode.specs.declared.kind.Kind.TheVariants as kind
 use Rattle.machine_shapes.specs.Effect.{pushed_kinds}
-use Rattle.verifier.specs.declared.leaving.Pushed.{Pushed}
-use Rattle.verifier.specs.declared.leaving.Pushed.TheVariants.{Nothing, One, Twice}
+use Rattle.instruction_checks.specs.declared.leaving.Pushed.{Pushed}
+use Rattle.instruction_checks.specs.declared.leaving.Pushed.TheVariants.{Nothing, One, Twice}
 
 -- the kind of an atom: that of true and false, or any
 abbrev pub boolean_kind : Datum → Kind

@@ -4,10 +4,10 @@ ghost use Rattle.std.specs.Option.{option_map_or};
 ghost use Rattle.mcode.specs.Kind.{kind_of as exact_kind};
 ghost use Rattle.mcode.specs.declared.kind.Kind.TheVariants as kind;
 ghost use Rattle.machine_shapes.specs.Effect.{given_kind as kind_given, left_bound, left_shape};
-ghost use Rattle.verifier.specs.Leaving.{boolean_kind, pushed_for, pushed_list, IsBindable};
+ghost use Rattle.instruction_checks.specs.Leaving.{boolean_kind, pushed_for, pushed_list, IsBindable};
 ghost use Rattle.term_core.specs.declared.TheConstants.{MAX_TUPLE};
 ghost use Rattle.machine_shapes.specs.Needed.{AreCounts};
-ghost use Rattle.verifier.specs.Typing.{IsTypedAt};
+ghost use Rattle.instruction_checks.specs.Fit.{IsTypedAt};
 
 use machine_shapes::{Shape, needed};
 use mcode::{Code, Instr, Kind};
@@ -134,7 +134,7 @@ fn bind<A: Allocator>(shape: &mut Shape<A>, instr: Instr)
 }
 
 /// Turns the state in which an instruction began into the one that it leaves.
-pub(crate) fn leave<A: Allocator>(
+pub fn leave<A: Allocator>(
     code: &Code<A>,
     counts: &[Option<usize>],
     pc: u16,

@@ -4,7 +4,7 @@ use Rattle.std.proofs.Common.{sym}
 use Rattle.mcode.specs.Program.{Program, Frame, IsProgram, frame_at, frame_number}
 use Rattle.mcode.proofs.RiseLemmas.{number_stands}
 use Rattle.machine_shapes.specs.Kept.{AreKept}
-use Rattle.verifier.specs.Typing.{IsFrameFit}
+use Rattle.instruction_checks.specs.Fit.{IsFrameFit}
 
 -- what is known of a frame that is found
 pub record IsFound (p : Program) (pc : ℕ) (f : Frame) : Type 0 where

@@ -1,8 +1,8 @@
 use Rattle.std.proofs.Common.{arith, sym, ap, ◌∙◌}
 use Rattle.mcode.specs.declared.kind.Kind.TheVariants as kind
 use Rattle.term_core.proofs.LimitLemmas.{item_count-items_of}
-use Rattle.verifier.proofs.LeavingLemmas.{kind-cells}
-use Rattle.verifier.proofs.leaving.kind_of.Goals as goal
+use Rattle.instruction_checks.proofs.LeavingLemmas.{kind-cells}
+use Rattle.instruction_checks.proofs.leaving.kind_of.Goals as goal
 
 pub tuple_kind-requires : goal.tuple_kind-requires
 tuple_kind-requires g c =

@@ -1,6 +1,6 @@
 use Rattle.mcode.specs.Frame.{frame_of}
-use Rattle.verifier.proofs.FrameLemmas.{frame_found}
-use Rattle.verifier.proofs.checks.is_jump_fit.Goals as goal
+use Rattle.instruction_checks.proofs.FrameLemmas.{frame_found}
+use Rattle.instruction_checks.proofs.checks.is_jump_fit.Goals as goal
 
 pub is_cut_below-requires-clause-frame : goal.is_cut_below-requires-clause-frame
 is_cut_below-requires-clause-frame g c =

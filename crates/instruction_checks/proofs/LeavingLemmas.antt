@@ -3,7 +3,7 @@ use Rattle.std.specs.Prelude.{ℕ, ◌≡◌, ◌+◌, ◌<◌, ◌≤◌, ◌++
 use Rattle.std.proofs.Common.{arith, refl, ap, ap₂, ◌∙◌}
 use Rattle.std.proofs.lemmas.Bool.{ltb-true}
 use Rattle.std.proofs.lemmas.List.{length-append}
-use Rattle.verifier.specs.declared.TheConstants.{MAX_DEPTH}
+use Rattle.instruction_checks.specs.declared.TheConstants.{MAX_DEPTH}
 use Rattle.term_core.specs.Datum.{Datum, cells}
 use Rattle.mcode.specs.Kind.{kind_of}
 use Rattle.mcode.specs.Program.{Program}
@@ -13,7 +13,7 @@ use Rattle.mcode.specs.declared.kind.Kind.{Kind}
 use Rattle.mcode.specs.declared.kind.Kind.TheVariants as kind
 use Rattle.machine_shapes.specs.Shape.{Shape}
 use Rattle.machine_shapes.specs.Effect.{needs, slot_fits, pushed_kinds, left_bound, left_shape}
-use Rattle.verifier.specs.Leaving.{pushed_for, IsBindable}
+use Rattle.instruction_checks.specs.Leaving.{pushed_for, IsBindable}
 
 -- a list with elements
 pub kind-cells : (ds : List Datum) (tail : Datum) → 0 < length ds → kind.Cons ≡ kind_of (cells ds tail)

@@ -41,7 +41,7 @@ pub enum Fault {
 
 impl From<AllocError> for Fault {
     ghost use Rattle.std.specs.Prelude.{◌≡◌};
-    ghost use Rattle.verifier.specs.declared.fault.Fault.TheVariants.{Memory};
+    ghost use Rattle.instruction_checks.specs.declared.fault.Fault.TheVariants.{Memory};
 
     ghost from_gives = { λ _ e. e ≡ Memory };
 
@@ -52,7 +52,7 @@ impl From<AllocError> for Fault {
 
 impl Fault {
     ghost use Rattle.std.specs.Prelude.{◌≡◌};
-    ghost use Rattle.verifier.specs.FaultNumbers.{number_of, pc_of};
+    ghost use Rattle.instruction_checks.specs.FaultNumbers.{number_of, pc_of};
 
     /// The number that the fault has in what programs print.
     pub const fn number(self) -> u8

@@ -1,7 +1,7 @@
 -- The numbers that faults have in what programs print, and the instruction that they name.
 use Rattle.std.specs.Prelude.{ℕ, Option, Some, None}
-use Rattle.verifier.specs.declared.fault.Fault.{Fault}
-use Rattle.verifier.specs.declared.fault.Fault.TheVariants.{Memory, Underflow, Kind, Unbound, JumpOutside, JumpBack, Frame, FallsOff, Constant, Depth}
+use Rattle.instruction_checks.specs.declared.fault.Fault.{Fault}
+use Rattle.instruction_checks.specs.declared.fault.Fault.TheVariants.{Memory, Underflow, Kind, Unbound, JumpOutside, JumpBack, Frame, FallsOff, Constant, Depth}
 
 -- the number that programs print
 abbrev pub number_of : Fault → ℕ

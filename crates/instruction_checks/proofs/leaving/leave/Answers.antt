@@ -1,5 +1,5 @@
-use Rattle.verifier.proofs.LeavingLemmas.{bindable, left_is, bound_kept, room_left}
-use Rattle.verifier.proofs.leaving.leave.Goals as goal
+use Rattle.instruction_checks.proofs.LeavingLemmas.{bindable, left_is, bound_kept, room_left}
+use Rattle.instruction_checks.proofs.leaving.leave.Goals as goal
 
 pub bind-requires : goal.bind-requires
 bind-requires g c =

@@ -5,8 +5,8 @@ ghost use Rattle.machine_shapes.specs.Shape as shapes;
 ghost use Rattle.machine_shapes.specs.Effect.{needs, jump_shape};
 ghost use Rattle.machine_shapes.specs.Kept.{popped_shape};
 ghost use Rattle.machine_shapes.specs.Needed.{AreCounts};
-ghost use Rattle.verifier.specs.Typing.{IsFrameFit, IsTargetFit, IsJumpFit, IsTypedAt};
-ghost use Rattle.verifier.specs.Faults.{IsFaultIn, IsLeavingFit, IsDepthFit, IsNamingFit, AreKindsFit};
+ghost use Rattle.instruction_checks.specs.Fit.{IsFrameFit, IsTargetFit, IsJumpFit, IsTypedAt};
+ghost use Rattle.instruction_checks.specs.Faults.{IsFaultIn, IsLeavingFit, IsDepthFit, IsNamingFit, AreKindsFit};
 
 use crate::MAX_DEPTH;
 use crate::fault::Fault;
@@ -137,8 +137,10 @@ fn check_depth<A: Allocator>(
     Ok(())
 }
 
-/// Whether an instruction is typed in a state.
-pub(crate) fn check<A: Allocator>(
+/// Whether an instruction is typed in a state. Its target is looked at first, then its constant, the number of its operands,
+/// their kinds, its slot, the depth that it leaves, the state with which it jumps, and that it isn't the last where it
+/// goes on; the first of these that fails is the fault.
+pub fn check<A: Allocator>(
     code: &Code<A>,
     counts: &[Option<usize>],
     pc: u16,

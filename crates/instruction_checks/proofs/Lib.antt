@@ -1,0 +1,3 @@
+pub mod FrameLemmas
+pub mod LeavingLemmas
+pub mod FaultLemmas

@@ -1,0 +1,4 @@
+pub mod Fit
+pub mod Faults
+pub mod FaultNumbers
+pub mod Leaving
