@@ -1,13 +1,13 @@
 -- What holds of the code of every specification.
-use Rattle.std.proofs.Common.{◌≡◌, ℕ, ◌+◌, ◌*◌, ◌≤◌, ◌<◌, List, length, sym, ◌∙◌, ap, subst, arith, Option, Some, None}
-use Rattle.std.specs.Prelude.{IfSome, All}
+use Rattle.std.proofs.Common.{◌≡◌, ℕ, List, length, ◌∙◌, ap, subst, arith, Option}
+use Rattle.std.specs.Prelude.{All}
 use Rattle.term_core.specs.Datum.{Datum}
 use Rattle.mcode.specs.Answer.{answer_of}
 use Rattle.mcode.specs.Machine.{Runs}
-use Rattle.mcode.specs.Program.{Program, Frame, frame_at}
+use Rattle.mcode.specs.Program.{Program, Frame}
 use Rattle.machine.specs.Laws.{RunsEndWithTheAnswer}
 use Rattle.mspec_syntax.specs.Sound.{IsSoundClause}
-use Rattle.mspec_syntax.specs.Specification.{Specification, IsWithinLimits, specification_variables}
+use Rattle.mspec_syntax.specs.Specification.{Specification, specification_variables}
 use Rattle.mspec_meaning.specs.Meaning.{Means}
 use Rattle.mspec_meaning.proofs.MeaningLemmas.{one-meaning}
 use Rattle.instruction_checks.specs.Fit.{IsFrameFit}

@@ -1,5 +1,5 @@
 -- What the words of the command line ask for is what `clap` makes of them.
-use Rattle.std.proofs.Common.{◌≡◌, ◌≢◌, ◌∙◌, ◌⊎◌, ℕ, Bool, true, false, true≢false, ◌==◌, List, [], ◌∷◌, ◌++◌}
+use Rattle.std.proofs.Common.{◌≡◌, ◌≢◌, ◌∙◌, ℕ, Bool, true, false, true≢false, ◌==◌, List, [], ◌∷◌, ◌++◌}
 use Rattle.std.proofs.Common.{Option, Some, None, option_map, Result, Ok, Err, IsErrAnd, Global, refl, sym, subst, ap}
 use Rattle.std.proofs.Common.{inl, inr, codes, fold, take, ◌+◌, one-add, length, arith}
 use Rattle.std.proofs.lemmas.List.{append_assoc, append-nil}

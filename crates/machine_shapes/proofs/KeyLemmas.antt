@@ -1,7 +1,7 @@
 -- Constants that are lists of keys, and the kinds at the top.
-use Rattle.std.specs.Prelude.{◌≡◌, Bool, true, false, if◌then◌else◌, Option, Some, None, List, [], ◌∷◌, length, slice_get}
+use Rattle.std.specs.Prelude.{◌≡◌, Bool, true, false, if◌then◌else◌, Option, Some, None, List, ◌∷◌, length, slice_get}
 use Rattle.std.specs.Option.{option_map, option_and_then}
-use Rattle.std.proofs.Common.{refl, sym, ap, ◌∙◌, cond}
+use Rattle.std.proofs.Common.{refl, ap, ◌∙◌, cond}
 use Rattle.term_core.specs.Datum.{Datum, proper_elements}
 use Rattle.term_core.specs.MapPairs.{are_apart}
 use Rattle.mcode.specs.declared.instr.Instr.{Instr}

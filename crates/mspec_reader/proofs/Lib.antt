@@ -1,2 +1,1 @@
-pub mod GrammarLemmas
 pub mod ReadingLemmas

@@ -1,11 +1,10 @@
 -- Expressions, clauses and specifications read from terms: what is read has no fault, and readings of lists from the
 -- readings of their elements.
-use Rattle.std.proofs.Common.{◌≡◌, ℕ, suc, ◌+◌, ◌<◌, ◌≤◌, true, inl, inr, Option, Some, None, option_map, MatchResult, Result, Ok, Err, IfOk, IfErr, List, [], ◌∷◌, ◌++◌, length, get_or, drop, refl, sym, ◌∙◌, ap, subst, arith, add-one}
+use Rattle.std.proofs.Common.{◌≡◌, ℕ, suc, ◌+◌, ◌<◌, ◌≤◌, true, inl, inr, Option, Some, None, MatchResult, Result, Ok, Err, IfOk, IfErr, List, [], ◌∷◌, ◌++◌, length, get_or, drop, refl, sym, ◌∙◌, ap, subst, arith, add-one}
 use Rattle.std.proofs.lemmas.List.{append_assoc, append-nil, drop_all}
-use Rattle.term_core.specs.Datum.{Datum, Items, items_of, cells, IsNoList, proper_elements}
+use Rattle.term_core.specs.Datum.{Datum, Items, items_of, cells, proper_elements}
 use Rattle.term_core.specs.Datum.Datum.{integer, atom, tuple, map, nil, cons, binary}
 use Rattle.term_core.specs.Datum.Items.{no_items, item}
-use Rattle.term_core.specs.Term.{tail_of, IsTail}
 use Rattle.mspec_syntax.specs.Pattern.{Pattern, pattern_variables}
 use Rattle.mspec_syntax.specs.Pattern.Pattern.{tuple_of, cell_of, map_of}
 use Rattle.mspec_syntax.specs.Expression.{Expression}

@@ -7,7 +7,7 @@ use Rattle.term_core.specs.Datum.Datum.{integer, atom, tuple, map, nil, cons, bi
 use Rattle.mspec_syntax.specs.Pattern.{Pattern, patterns_of, fields_of, cells_of, pattern_size, patterns_size, fields_size, pattern_variables, patterns_variables, pattern_nodes, patterns_nodes, tail_nodes, IsNoListPattern}
 use Rattle.mspec_syntax.specs.PatternView.{tail_pattern, IsTailPattern}
 use Rattle.mspec_syntax.specs.Pattern.{literal_tail_nodes}
-use Rattle.mspec_syntax.specs.Expression.{Expression, expressions_of, assignments_of, new_cells, expression_size, expressions_size, assignments_size, expression_nodes, expressions_nodes, rest_nodes, IsNoListExpression}
+use Rattle.mspec_syntax.specs.Expression.{Expression, expressions_of, new_cells, expression_size, expressions_size, expression_nodes, expressions_nodes, rest_nodes, IsNoListExpression}
 use Rattle.mspec_syntax.specs.Expression.Expression.{bound, object, bindings, constant, quoted, call, and_also, or_else, new_tuple, new_cell, new_map}
 use Rattle.mspec_syntax.proofs.ExpressionSizes.{size-some, new_cells-size}
 use Rattle.mspec_syntax.specs.ExpressionView.{tail_expression, IsTailExpression}

@@ -6,7 +6,7 @@ use Rattle.term_core.specs.Datum.{Datum}
 use Rattle.command_io.specs.Lines.{Passes, EndsBy}
 use Rattle.command_io.specs.declared.fault.ToolFault.{ToolFault}
 use Rattle.command_io.specs.declared.fault.ToolFault.TheVariants as fault
-use Rattle.query_commands.specs.Answers.{Report, AreLines, Puts, report_line, WritesLines, WritesBeginning, StopsLines}
+use Rattle.query_commands.specs.Answers.{Report, AreLines, Puts, report_line, WritesLines, StopsLines}
 
 -- what is answered on an object
 abbrev Relation : Type 1

@@ -4,7 +4,6 @@ use Rattle.term_core.specs.Datum.{Datum}
 use Rattle.term_core.specs.Datum.Datum.{integer, atom, tuple, map, nil, cons, binary}
 use Rattle.term_text.specs.Laws.{SpellsOne}
 use Rattle.term_text.specs.Text.{Spells}
-use Rattle.mcode.specs.Program.{Program}
 use Rattle.mspec_reader.specs.Laws.{HasOneReading}
 use Rattle.mspec_syntax.specs.Specification.{Specification}
 use Rattle.mspec_meaning.specs.Laws.{HasOneMeaning}
@@ -16,8 +15,7 @@ use Rattle.budget.specs.Paths.{IsBudget}
 use Rattle.verifier.specs.Laws.{DepthIsOne}
 use Rattle.verifier.specs.Typing.{IsDepth}
 use Rattle.command_io.specs.Lines.{line}
-use Rattle.command_io.specs.Terms.{OfTerms}
-use Rattle.query_commands.specs.Answers.{Report, report_line, AreLines, WritesLines}
+use Rattle.query_commands.specs.Answers.{Report, report_line, AreLines}
 use Rattle.query_commands.specs.Answers.Report.{answers, outcomes}
 use Rattle.query_commands.specs.Code.{WritesFile, WritesVerdict, verdict}
 use Rattle.query_commands.specs.Laws.{IsOne, OutputIsOne}

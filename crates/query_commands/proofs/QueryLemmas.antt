@@ -4,7 +4,7 @@ use Rattle.std.specs.Option.{option_copied}
 use Rattle.term_core.specs.Datum.{Datum}
 use Rattle.term_core.specs.Datum.Datum.{integer, atom, tuple, map, nil, cons, binary}
 use Rattle.term_core.specs.Datum.{cells}
-use Rattle.term_core.specs.Term.{tail_of, IsTail}
+use Rattle.term_core.specs.Term.{tail_of}
 use Rattle.term_core.specs.View.{shown, IsSplit}
 use Rattle.term_core.specs.declared.view.View.{View}
 use Rattle.term_core.specs.declared.view.View.TheVariants as view

@@ -3,7 +3,7 @@ use Rattle.std.specs.Option.{option_copied}
 use Rattle.std.proofs.lemmas.Result.{err_from_is_err_and}
 use Rattle.term_core.proofs.DepthLemmas.{items_depth-at, entries_depth-at, elements-fall, tail-falls}
 use Rattle.mspec_syntax.proofs.PatternLemmas.{ReadsFront-more, ReadsFront-all, ReadsFront-refuses, FieldsFront-more, FieldsFront-all, FieldsFront-refuses_key, FieldsFront-refuses_value, proper-IsPattern, improper-IsPattern, elements-Refuses, tail-Refuses, elements-some, tail-no_list}
-use Rattle.mspec_reader.proofs.head.+pattern.Goals as goal
+use Rattle.mspec_head.proofs.head.+pattern.Goals as goal
 
 pub read_fields-returns-in_err-test_key-clause-refused :
     goal.read_fields-returns-in_err-test_key-clause-refused

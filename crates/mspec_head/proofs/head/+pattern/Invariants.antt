@@ -3,7 +3,7 @@ use Rattle.std.proofs.Common.{◌+◌, ◌*◌}
 use Rattle.term_core.specs.Datum.{items_of, entries_of}
 use Rattle.term_core.specs.Limits.{depth, items_depth, entries_depth}
 use Rattle.mspec_syntax.proofs.PatternLemmas.{ReadsFront, FieldsFront}
-use Rattle.mspec_reader.proofs.head.+pattern.Given as goal
+use Rattle.mspec_head.proofs.head.+pattern.Given as goal
 
 abbrev pub decreases-read_pattern : goal.decreases-read_pattern
 decreases-read_pattern g l = 2 * depth l.term.now

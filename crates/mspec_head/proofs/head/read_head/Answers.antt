@@ -1,7 +1,7 @@
 use Rattle.term_core.specs.Term.{tail_of}
 use Rattle.std.specs.Option.{option_copied}
 use Rattle.mspec_syntax.proofs.PatternLemmas.{list-head}
-use Rattle.mspec_reader.proofs.head.read_head.Goals as goal
+use Rattle.mspec_head.proofs.head.read_head.Goals as goal
 
 pub returns-in-List-clause-refused : goal.returns-in-List-clause-refused
 returns-in-List-clause-refused g c =

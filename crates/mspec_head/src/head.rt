@@ -145,8 +145,8 @@ fn read_fields<A: Allocator + Copy>(
     Ok(fields)
 }
 
-/// The head of a clause.
-pub(crate) fn read_head<A: Allocator + Copy>(
+/// The head of a clause, which this term is.
+pub fn read_head<A: Allocator + Copy>(
     alloc: A,
     clause: usize,
     term: &Term<A>,

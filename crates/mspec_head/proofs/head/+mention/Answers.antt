@@ -2,8 +2,8 @@ use Rattle.std.proofs.Common.{ap, arith}
 use Rattle.std.specs.Option.{option_copied}
 use Rattle.mspec_syntax.specs.Sought.{is_sought}
 use Rattle.term_core.proofs.DepthLemmas.{items_depth-at, entries_depth-at, elements-fall, tail-falls}
-use Rattle.mspec_reader.proofs.GrammarLemmas.{mentions-proper, mentions-in_elements, mentions-in_tail}
-use Rattle.mspec_reader.proofs.head.+mention.Goals as goal
+use Rattle.mspec_head.proofs.GrammarLemmas.{mentions-proper, mentions-in_elements, mentions-in_tail}
+use Rattle.mspec_head.proofs.head.+mention.Goals as goal
 
 pub any_mentions-mentions-requires : goal.any_mentions-mentions-requires
 any_mentions-mentions-requires g t c κs within =

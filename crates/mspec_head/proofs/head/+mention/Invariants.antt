@@ -4,7 +4,7 @@ use Rattle.term_core.specs.Datum.{items_of, entries_of}
 use Rattle.term_core.specs.Limits.{depth, items_depth, entries_depth}
 use Rattle.mspec_syntax.specs.Sought.{is_sought}
 use Rattle.mspec_syntax.specs.Grammar.{items_mention, entries_mention}
-use Rattle.mspec_reader.proofs.head.+mention.Given as goal
+use Rattle.mspec_head.proofs.head.+mention.Given as goal
 
 abbrev pub decreases-mentions : goal.decreases-mentions
 decreases-mentions g l = 2 * depth l.term.now
