@@ -16,8 +16,8 @@ use Rattle.term_core.specs.Order.{IsBelow, datum_cmp}
 use Rattle.term_core.specs.OrderLaws.{IsBelow-less}
 use Rattle.term_core.specs.Fault.{IsFault}
 use Rattle.term_core.specs.Sizes.{list_limit}
-use Rattle.term_core.specs.declared.fault.Fault.{Fault}
-use Rattle.term_core.specs.declared.fault.Fault.TheVariants as fault
+use Rattle.term_fault.specs.declared.fault.Fault.{Fault}
+use Rattle.term_fault.specs.declared.fault.Fault.TheVariants as fault
 use Rattle.term_core.proofs.LimitLemmas.{item_count-items_of, entry_count-entries_of, cell_count-cells, term-refused}
 use Rattle.term_core.proofs.MapLemmas.{below, apart-no_twin, apart_from_rising, map_from_rising}
 use Rattle.file_format.specs.Spelling.{u16_bytes, u32_bytes, constant_bytes, pair_bytes}
@@ -37,7 +37,7 @@ use Rattle.file_terms.specs.Causes.{BeginsWith, IsNameless, IsUnordered, IsPastL
 use Rattle.file_terms.specs.Reads.{Blames, IsRefuted, IsStop, BlamesBehind, BlamesWithin, AtFront, AtTerm, InPair, BehindPairs, InPairs, limit_stop}
 use Rattle.file_terms.specs.Keys.{IsAboveKeys}
 use Rattle.file_terms.proofs.StopLemmas.{blames_behind, stop_none}
-use Rattle.file_terms.proofs.RowLemmas.{IsRowSoFar, such_rows_none, rows_none, such_counted_none, ends_with_last}
+use Rattle.file_terms.proofs.RowLemmas.{IsRowSoFar, row_start, row_step, row_end, plain_step, plain_end, such_rows_none, rows_none, such_counted_none, ends_with_last}
 
 -- ---- blames
 
@@ -269,6 +269,19 @@ tuple_begins room level bytes r n t ds s next h k l =
           ∙ ap (λ (x : List ℕ). x ++ s) (sym (tuple_bytes ds));
     }
 
+-- a term is the row of one
+pub row_of_one : (room : ℕ) (bytes : List ℕ) (d : Datum) (s : List ℕ) → Begins (constant_format room) bytes d s → IsRowSoFar (constant_format room) (λ _. Unit {0}) bytes (d ∷ []) s 1
+row_of_one room bytes d s h = plain_step (constant_format room) bytes [] bytes 0 d s (row_start (constant_format room) (λ _. Unit {0}) bytes tt) h
+
+pub tuple_of_one : (room level : ℕ) (bytes r t : List ℕ) (d : Datum) (s : List ℕ) → suc room ≡ level → Begins u8_format bytes 3 r → Begins u16_format r 1 t → Begins (constant_format room) t d s
+    → Begins (constant_format level) bytes (tuple (items_of (d ∷ []))) s
+tuple_of_one room level bytes r t d s next h k l = tuple_begins room level bytes r 1 t (d ∷ []) s next h k (plain_end (constant_format room) t (d ∷ []) s 1 (row_of_one room t d s l))
+
+pub tuple_of_two : (room level : ℕ) (bytes r t : List ℕ) (d : Datum) (u : List ℕ) (e : Datum) (s : List ℕ) → suc room ≡ level → Begins u8_format bytes 3 r → Begins u16_format r 2 t
+    → Begins (constant_format room) t d u → Begins (constant_format room) u e s → Begins (constant_format level) bytes (tuple (items_of (d ∷ e ∷ []))) s
+tuple_of_two room level bytes r t d u e s next h k l m =
+    tuple_begins room level bytes r 2 t (d ∷ e ∷ []) s next h k (plain_end (constant_format room) t (d ∷ e ∷ []) s 2 (plain_step (constant_format room) t (d ∷ []) u 1 e s (row_of_one room t d u l) m))
+
 -- ---- pairs and maps
 
 abbrev AbovePairs : List (Datum × Datum) → Datum × Datum → Type 0
@@ -412,6 +425,12 @@ map_begins room level bytes r n t ps s next h k l =
       parts = h.parts ∙ ap (λ (x : List ℕ). 4 ∷ x) all.parts
           ∙ ap (λ (x : List ℕ). x ++ s) (sym (map_bytes ps));
     }
+
+pub map_of_one : (room level : ℕ) (bytes r t : List ℕ) (p : Datum × Datum) (s : List ℕ) → suc room ≡ level → Begins u8_format bytes 4 r → Begins u16_format r 1 t
+    → Begins (such (pair_format room) (λ q. RisingPairs ([] ++ q ∷ []))) t p s → Begins (constant_format level) bytes (map (entries_of (p ∷ []))) s
+map_of_one room level bytes r t p s next h k l =
+    map_begins room level bytes r 1 t (p ∷ []) s next h k
+    (row_end (pair_format room) RisingPairs t (p ∷ []) s 1 (row_step (pair_format room) RisingPairs t [] t 0 p s (row_start (pair_format room) RisingPairs t tt) l))
 
 pub map_made : (level : ℕ) (bytes : List ℕ) (ps : List (Datum × Datum)) (s : List ℕ) (f : Fault) → level < 256 → RisingPairs ps → Begins (constant_format level) bytes (map (entries_of ps)) s → IsMapFault f ps → f ≡ fault.Memory
 map_made level bytes ps s fault.Memory small up h k = refl

@@ -2,8 +2,8 @@
 use Rattle.std.specs.Prelude.{ℕ, ◌≡◌, ◌<◌, ◌⊎◌, List, [], ◌++◌, length, Result, Ok, Err}
 use Rattle.std.specs.List.{flat_map}
 use Rattle.term_core.specs.Datum.{Datum}
-use Rattle.term_core.specs.declared.fault.Fault.{Fault}
-use Rattle.term_core.specs.declared.fault.Fault.TheVariants as fault
+use Rattle.term_fault.specs.declared.fault.Fault.{Fault}
+use Rattle.term_fault.specs.declared.fault.Fault.TheVariants as fault
 use Rattle.file_format.specs.Spelling.{constant_bytes, pair_bytes}
 use Rattle.file_format.specs.Format.{Format, Begins, BeginsNone}
 use Rattle.file_terms.specs.declared.stop.Cause.{Cause}

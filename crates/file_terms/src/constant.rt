@@ -1,10 +1,10 @@
 //! Constants at the front of a file's rest.
 ghost use Rattle.std.specs.Prelude.{◌≡◌, ◌≢◌, ◌<◌, ◌≤◌, ◌↔◌, ◌++◌, ◌∷◌, [], IsTrue};
 ghost use Rattle.std.specs.List.{flat_map, AllByRecursion};
-ghost use Rattle.term_core.specs.declared.fault.Fault.TheVariants as Refusal;
+ghost use Rattle.term_fault.specs.declared.fault.Fault.TheVariants as Refusal;
 ghost use Rattle.file_format.specs.Spelling.{pair_bytes};
 ghost use Rattle.file_format.specs.Format.{Begins, rows, such};
-ghost use Rattle.file_format.specs.Formats.{u8_format, length_format, constant_format, utf8_format, binary_format, pair_format, RisingPairs};
+ghost use Rattle.file_format.specs.Formats.{u8_format, u16_format, length_format, constant_format, utf8_format, binary_format, pair_format, RisingPairs};
 ghost use Rattle.file_terms.specs.Causes.{BeginsWith};
 ghost use Rattle.file_terms.specs.Reads.{Reads, Blames, BlamesWithin, BlamesBehind, AtTerm, BehindPairs, InPairs, limit_stop};
 ghost use Rattle.file_terms.specs.Keys.{IsAboveKeys};
@@ -12,6 +12,7 @@ ghost use Rattle.file_terms.specs.declared.stop.Stop.TheVariants.{Memory as OutO
 
 use crate::number::{read_i64, read_u8, read_u16, read_u32, take};
 use crate::stop::{Cause, Stop};
+use made_terms::{atom_of_text, map_of_pairs};
 use std::alloc::Allocator;
 use std::str::from_utf8;
 use term_core::{Fault, MAX_BINARY, MAX_LIST, Term};
@@ -113,7 +114,7 @@ fn read_atom<'a, A: Allocator + Copy>(
         bytes.now result }
 {
     let (text, behind) = read_text(bytes, rest)?;
-    match Term::atom(alloc, text) {
+    match atom_of_text(alloc, text) {
         Ok(atom) => {
             // Asked for the proof: a term is within its limits.
             let _depth = atom.depth();
@@ -192,12 +193,15 @@ pub fn read_constant<A: Allocator + Copy>(
     }
 }
 
-/// How many places a row of so many items begins with: those that it needs, and no more than a row that grows has at first, since a count is
-/// not believed before its items are there.
+/// The most places that a row begins with.
+const FIRST_PLACES: usize = 16;
+
+/// How many places a row of so many items begins with: those that it needs, and no more than some, since a count is not believed
+/// before its items are there.
 fn first_places(count: u32) -> usize
-    ensures { result ≤ 4 }
+    ensures { result ≤ 16 }
 {
-    (count as usize).min(4)
+    (count as usize).min(FIRST_PLACES)
 }
 
 /// So many terms, one after the other.
@@ -221,6 +225,51 @@ fn read_elements<A: Allocator + Copy>(
     Ok((elements, rest))
 }
 
+/// The tuple of one element, behind its tag and its count: without a row.
+#[cycle(constant)]
+fn read_tuple_of_one<'a, A: Allocator + Copy>(
+    alloc: A,
+    bytes: &[u8],
+    rest: &[u8],
+    behind: &'a [u8],
+    room: u8,
+) -> Result<(Term<A>, &'a [u8]), Stop>
+    requires tag { Begins u8_format bytes.now 3 rest.now }
+    requires count { Begins u16_format rest.now 1 behind.now }
+    requires room { 0 < room }
+    ensures { Reads (constant_format room) (BlamesWithin room bytes.now) (λ r. (r.0, r.1.now))
+        bytes.now result }
+{
+    let (element, behind) = read_constant(alloc, behind, room - 1)?;
+    match Term::tuple_of_one(alloc, element) {
+        Ok(tuple) => Ok((tuple, behind)),
+        Err(refused) => Err(memory_alone(refused.fault)),
+    }
+}
+
+/// The tuple of two elements, behind its tag and its count: without a row.
+#[cycle(constant)]
+fn read_tuple_of_two<'a, A: Allocator + Copy>(
+    alloc: A,
+    bytes: &[u8],
+    rest: &[u8],
+    behind: &'a [u8],
+    room: u8,
+) -> Result<(Term<A>, &'a [u8]), Stop>
+    requires tag { Begins u8_format bytes.now 3 rest.now }
+    requires count { Begins u16_format rest.now 2 behind.now }
+    requires room { 0 < room }
+    ensures { Reads (constant_format room) (BlamesWithin room bytes.now) (λ r. (r.0, r.1.now))
+        bytes.now result }
+{
+    let (first, between) = read_constant(alloc, behind, room - 1)?;
+    let (second, behind) = read_constant(alloc, between, room - 1)?;
+    match Term::tuple_of_two(alloc, [first, second]) {
+        Ok(tuple) => Ok((tuple, behind)),
+        Err(refused) => Err(memory_alone(refused.fault)),
+    }
+}
+
 /// A tuple, behind its tag.
 #[cycle(constant)]
 fn read_tuple<'a, A: Allocator + Copy>(
@@ -235,6 +284,11 @@ fn read_tuple<'a, A: Allocator + Copy>(
         bytes.now result }
 {
     let (count, behind) = read_u16(rest)?;
+    match count {
+        1 => return read_tuple_of_one(alloc, bytes, rest, behind, room),
+        2 => return read_tuple_of_two(alloc, bytes, rest, behind, room),
+        _ => {}
+    }
     let (elements, behind) = read_elements(alloc, u32::from(count), behind, room - 1)?;
     match Term::tuple(alloc, elements) {
         Ok(tuple) => Ok((tuple, behind)),
@@ -285,6 +339,29 @@ fn read_pairs<A: Allocator + Copy>(
     Ok((pairs, rest))
 }
 
+/// The map of one pair, behind its tag and its count: without a row.
+#[cycle(constant)]
+fn read_map_of_one<'a, A: Allocator + Copy>(
+    alloc: A,
+    bytes: &[u8],
+    rest: &[u8],
+    behind: &'a [u8],
+    room: u8,
+) -> Result<(Term<A>, &'a [u8]), Stop>
+    requires tag { Begins u8_format bytes.now 4 rest.now }
+    requires count { Begins u16_format rest.now 1 behind.now }
+    requires room { 0 < room }
+    ensures { Reads (constant_format room) (BlamesWithin room bytes.now) (λ r. (r.0, r.1.now))
+        bytes.now result }
+{
+    let before = Vec::new(alloc);
+    let ((key, value), behind) = read_pair(alloc, before.as_slice(), behind, room - 1)?;
+    match Term::map_of_one(alloc, key, value) {
+        Ok(map) => Ok((map, behind)),
+        Err(refused) => Err(memory_alone(refused.fault)),
+    }
+}
+
 /// A map, behind its tag.
 #[cycle(constant)]
 fn read_map<'a, A: Allocator + Copy>(
@@ -299,8 +376,11 @@ fn read_map<'a, A: Allocator + Copy>(
         bytes.now result }
 {
     let (count, behind) = read_u16(rest)?;
+    if count == 1 {
+        return read_map_of_one(alloc, bytes, rest, behind, room);
+    }
     let (pairs, behind) = read_pairs(alloc, count, behind, room - 1)?;
-    match Term::map(alloc, pairs) {
+    match map_of_pairs(alloc, pairs) {
         Ok(map) => Ok((map, behind)),
         Err(refused) => Err(memory_alone(refused.fault)),
     }

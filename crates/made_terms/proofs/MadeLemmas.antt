@@ -10,8 +10,8 @@ use Rattle.term_core.specs.Fault.{IsFault, IsTooLong}
 use Rattle.term_core.specs.Limits.{depth, IsSound, IsTerm, is_too_long, is_past_limits, within_limits}
 use Rattle.term_core.specs.MapPairs.{HasTwice, IsMapFault, by_key}
 use Rattle.term_core.specs.declared.TheConstants.{MAX_DEPTH, MAX_CHARACTERS, MAX_TUPLE, MAX_MAP, MAX_LIST, MAX_BINARY}
-use Rattle.term_core.specs.declared.fault.Fault.{Fault}
-use Rattle.term_core.specs.declared.fault.Fault.TheVariants.{Memory, TooDeep, TooLong, DuplicateKey}
+use Rattle.term_fault.specs.declared.fault.Fault.{Fault}
+use Rattle.term_fault.specs.declared.fault.Fault.TheVariants.{Memory, TooDeep, TooLong, DuplicateKey}
 use Rattle.made_terms.proofs.ByKeyLemmas.{by_key-IsPermutation}
 use Rattle.term_core.proofs.LimitLemmas.{entry_count-entries_of}
 use Rattle.term_core.proofs.MapLemmas.{Pair, entries_depth-permutation}

@@ -5,6 +5,7 @@ ghost use Rattle.term_core.specs.Datum.Datum.{map, tuple};
 ghost use Rattle.term_core.specs.Limits.{within_limits};
 ghost use Rattle.term_core.specs.MapPairs.{HasTwice, by_key};
 
+use crate::map::map_of_pairs;
 use std::alloc::{AllocError, Allocator};
 use term_core::{Fault, Term};
 
@@ -69,7 +70,7 @@ pub fn make_map<A: Allocator + Copy>(
     requires { ¬ HasTwice pairs.items }
     ensures { IfOk result (λ made. made ≡ within_limits (map (entries_of (by_key pairs.items)))) }
 {
-    match Term::map(alloc, pairs) {
+    match map_of_pairs(alloc, pairs) {
         Ok(map) => {
             // Read for the proof, which knows a term that was read to be within its limits.
             let _ = map.depth();

@@ -11,7 +11,7 @@ ghost use Rattle.operand.specs.Operand.{operand_datum, boolean as boolean_atom, 
 ghost use Rattle.operand.specs.Order.{IsSimple};
 
 use crate::view::View;
-use made_terms::{copy_behind, view_behind};
+use made_terms::{atom_of_text, copy_behind, view_behind};
 use std::alloc::{AllocError, Allocator, Global};
 use term_core::{Term, View as TermView};
 
@@ -64,7 +64,7 @@ fn boolean_text(value: bool) -> &'static str
 fn boolean_term<A: Allocator + Copy>(alloc: A, value: bool) -> Result<Term<A>, AllocError>
     ensures { IfOk result (λ t. t ≡ boolean_atom value) }
 {
-    match Term::atom(alloc, boolean_text(value)) {
+    match atom_of_text(alloc, boolean_text(value)) {
         Ok(atom) => Ok(atom),
         Err(fault) => Err(fault.alloc_error()),
     }

@@ -20,8 +20,8 @@ use Rattle.term_core.specs.Order.{IsBelow, datum_cmp}
 use Rattle.term_core.specs.OrderLaws.{datum_cmp_total, datum_cmp-says, datum_cmp-same, IsBelow-less}
 use Rattle.term_core.specs.Fault.{IsTooLong}
 use Rattle.term_core.specs.MapPairs.{AreRising, HasTwice, IsMapDepth, IsMapFault, IsMapOf, IsPairSound, keys_of}
-use Rattle.term_core.specs.declared.fault.Fault.{Fault}
-use Rattle.term_core.specs.declared.fault.Fault.TheVariants.{Memory}
+use Rattle.term_fault.specs.declared.fault.Fault.{Fault}
+use Rattle.term_fault.specs.declared.fault.Fault.TheVariants.{Memory}
 use Rattle.term_core.specs.declared.TheConstants.{MAX_DEPTH}
 use Rattle.term_core.proofs.LimitLemmas.{entry_count-entries_of}
 
@@ -282,20 +282,32 @@ pairs_sound [] sound up = tt
 pairs_sound (e ∷ es) sound up = (sound.0.0, sound.0.1, up.0, pairs_sound es sound.1 up.1)
 
 -- what makes a map
-pub map-IsTerm : (level : ℕ) (xs ys : List Pair) → IsMapDepth level xs → IsPermutation xs ys → AreRising (entries_of ys) → IsTerm (map (entries_of ys)) × (level ≡ depth (map (entries_of ys)))
-map-IsTerm level xs ys h moved up =
-    let deep = entries_depth-permutation xs ys moved in
-    let long = length_permutation xs ys moved in
+pub map-IsTerm : (level : ℕ) (ps : List Pair) → IsMapDepth level ps → AreRising (entries_of ps) → IsTerm (map (entries_of ps)) × (level ≡ depth (map (entries_of ps)))
+map-IsTerm level ps h up =
     let short = h.short in
     let shallow = h.shallow in
     let is = h.depth in
-    let sound = recursion_from_All IsPairSound ys (All-permutation IsPairSound xs ys moved h.sound) in (
+    let sound = recursion_from_All IsPairSound ps h.sound in (
       record {
-        sound = (omega (arith, entry_count-entries_of ys), pairs_sound ys sound up);
+        sound = (omega (arith, entry_count-entries_of ps), pairs_sound ps sound up);
         shallow = omega arith;
       },
-      omega arith,
+      is,
     )
+
+-- the depth of the same pairs in another order
+pub map_depth-permutation : (level : ℕ) (xs ys : List Pair) → IsMapDepth level xs → IsPermutation xs ys → IsMapDepth level ys
+map_depth-permutation level xs ys h moved =
+    let deep = entries_depth-permutation xs ys moved in
+    let long = length_permutation xs ys moved in
+    let short = h.short in
+    let is = h.depth in
+    record {
+      depth = omega arith;
+      shallow = h.shallow;
+      short = omega arith;
+      sound = All-permutation IsPairSound xs ys moved h.sound;
+    }
 
 -- what has a depth is within the limits
 pub within_limits : (level : ℕ) (es : List Pair) → IsMapDepth level es → (depth (map (entries_of es)) ≤ MAX_DEPTH) × ¬ IsTooLong (map (entries_of es))

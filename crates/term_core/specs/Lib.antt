@@ -11,4 +11,3 @@ pub mod ListParts
 pub mod View
 pub mod Fault
 pub mod MapPairs
-pub mod FaultNumbers

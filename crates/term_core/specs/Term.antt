@@ -1,5 +1,5 @@
 -- What the parts of a term are seen as.
-use Rattle.std.specs.Prelude.{ℕ, ◌≡◌, ◌<◌, ◌≤◌, List, length, take, Option, Some, None}
+use Rattle.std.specs.Prelude.{ℕ, ◌≡◌, ◌<◌, ◌≤◌, List, [], ◌∷◌, length, take, Option, Some, None}
 use Rattle.term_core.specs.Datum.{Datum, items_of, entries_of, cells, IsNoList}
 use Rattle.term_core.specs.Datum.Items.{no_items}
 use Rattle.term_core.specs.Datum.Datum.{integer, atom, tuple, map, nil, binary}
@@ -19,8 +19,11 @@ datum_of shape.Nil = nil
 datum_of (shape.Short n cs) = atom (take n cs)
 datum_of (shape.Atom b) = atom b.value.items
 datum_of shape.Unit = tuple no_items
+datum_of (shape.TupleOfOne d b) = tuple (items_of (b.value ∷ []))
+datum_of (shape.TupleOfTwo d b) = tuple (items_of b.value)
 datum_of (shape.Tuple d b) = tuple (items_of b.value.items)
 datum_of (shape.List d b) = cells b.value.elements.items (tail_of b.value.tail)
+datum_of (shape.MapOfOne d b) = map (entries_of (b.value ∷ []))
 datum_of (shape.Map d b) = map (entries_of b.value.items)
 datum_of (shape.Binary b) = binary b.value.items
 
@@ -41,7 +44,10 @@ IsKept shape.Nil = Unit {0}
 IsKept (shape.Short n cs) = n ≤ 3
 IsKept (shape.Atom b) = Unit {0}
 IsKept shape.Unit = Unit {0}
+IsKept (shape.TupleOfOne d b) = d ≡ depth (tuple (items_of (b.value ∷ [])))
+IsKept (shape.TupleOfTwo d b) = d ≡ depth (tuple (items_of b.value))
 IsKept (shape.Tuple d b) = d ≡ depth (tuple (items_of b.value.items))
 IsKept (shape.List d b) = IsList d b.value.elements.items b.value.tail
+IsKept (shape.MapOfOne d b) = d ≡ depth (map (entries_of (b.value ∷ [])))
 IsKept (shape.Map d b) = d ≡ depth (map (entries_of b.value.items))
 IsKept (shape.Binary b) = Unit {0}

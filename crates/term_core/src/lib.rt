@@ -1,14 +1,13 @@
 //! Terms.
 #![tactic(auto)]
 
-mod fault;
 mod hash;
 mod order;
 mod term;
 mod view;
 
-pub use fault::{Fault, Refused};
-pub use term::{ListParts, Term, deepest, neighbours_differ};
+pub use term::{ListParts, Term, deepest};
+pub use term_fault::{Fault, Refused};
 pub use view::View;
 
 /// The greatest depth of a term.

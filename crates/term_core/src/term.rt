@@ -1,6 +1,5 @@
 //! The type of terms.
 ghost use Rattle.std.specs.Prelude.{◌≡◌, ◌<◌, ◌≤◌, ◌++◌, ◌∷◌, [], length, take, IfOk, IfErr, IfSome, OnOk};
-ghost use Rattle.std.specs.Str.{chars};
 ghost use Rattle.term_core.specs.Datum.{items_of, cells as cells_of, cell_count};
 ghost use Rattle.term_core.specs.Datum.Datum.{atom, nil};
 ghost use Rattle.term_core.specs.Term.{tail_of, datum_of, IsTail, IsList, IsKept};
@@ -8,18 +7,16 @@ ghost use Rattle.term_core.specs.ListParts.{HandsBack};
 ghost use Rattle.term_core.specs.Fault.{IsFault, IsDepthOf};
 ghost use Rattle.term_core.specs.Limits.{IsTerm, IsSound, tail_depth, depth as depth_of, items_depth, AreSound, AreBytes, AreScalars};
 
-use crate::fault::{Fault, Refused};
 use crate::view::View;
 use crate::{MAX_BINARY, MAX_CHARACTERS, MAX_DEPTH, MAX_LIST, MAX_TUPLE};
-
-mod apart;
-mod copy;
-mod map;
-
-pub use apart::neighbours_differ;
 use std::alloc::{AllocError, Allocator, Global};
 use std::marker::Model;
+use std::slice;
 use std::sync::Arc;
+use term_fault::{Fault, Refused};
+
+mod copy;
+mod map;
 
 /// A term: an integer, an atom, a tuple, a list, a map or a binary.
 #[cycle(term)]
@@ -34,7 +31,7 @@ const SHORT: usize = 3;
 const NONE: char = '\0';
 
 /// What a term is, each kind that holds terms with its depth. Copies share what they hold. A short atom stands here itself, so
-/// many of these characters, and `{}` holds nothing.
+/// many of these characters, `{}` holds nothing, and the shortest tuples and maps may hold what is in them without a row.
 #[cycle(term)]
 #[derive(Drop)]
 enum Shape<A: Allocator> {
@@ -43,8 +40,11 @@ enum Shape<A: Allocator> {
     Short(u8, [char; SHORT]),
     Atom(Arc<Vec<char, A>, A>),
     Unit,
+    TupleOfOne(u8, Arc<Term<A>, A>),
+    TupleOfTwo(u8, Arc<[Term<A>; 2], A>),
     Tuple(u8, Arc<Vec<Term<A>, A>, A>),
     List(u8, Arc<Cells<A>, A>),
+    MapOfOne(u8, Arc<(Term<A>, Term<A>), A>),
     Map(u8, Arc<Vec<(Term<A>, Term<A>), A>, A>),
     Binary(Arc<Vec<u8, A>, A>),
 }
@@ -97,22 +97,6 @@ fn shared<T, A: Allocator>(alloc: A, value: T) -> Result<Arc<T, A>, Refused<T>>
         value: failed.value,
         fault: Fault::Memory,
     })
-}
-
-/// How many characters a text has.
-#[tactic(auto, using(std::proofs::lemmas::Str::chars_from_encodes))]
-fn text_length(text: &str) -> usize
-    ensures { result ≡ length (chars text.now) }
-{
-    text.chars().count()
-}
-
-/// The characters of a text.
-#[tactic(auto, using(std::proofs::lemmas::Str::chars_from_encodes))]
-fn characters_of<A: Allocator>(alloc: A, text: &str) -> Result<Vec<char, A>, AllocError>
-    ensures { IfOk result (λ v. v.items ≡ chars text.now) }
-{
-    text.chars().collect(alloc)
 }
 
 /// How many characters these are.
@@ -423,7 +407,7 @@ fn with_nil<A: Allocator>(
 }
 
 impl<A: Allocator> Term<A> {
-    ghost use Rattle.std.specs.Prelude.{◌≡◌, IfOk, IfErr};
+    ghost use Rattle.std.specs.Prelude.{◌≡◌, ◌∷◌, [], IfOk, IfErr};
     ghost use Rattle.std.specs.Option.{option_copied};
     ghost use Rattle.term_core.specs.Datum.{items_of, cells as cells_of, proper_elements};
     ghost use Rattle.term_core.specs.Term.{tail_of};
@@ -447,22 +431,6 @@ impl<A: Allocator> Term<A> {
         ensures { result ≡ nil }
     {
         Term { shape: Shape::Nil }
-    }
-
-    /// The atom of this text's characters. More than `MAX_CHARACTERS` are refused.
-    pub fn atom(alloc: A, text: &str) -> Result<Self, Fault>
-    where
-        A: Copy,
-        ensures ok { IfOk result (λ t. t ≡ atom (chars text.now)) }
-        ensures refused { IfErr result (λ fault. IsFault fault (atom (chars text.now))) }
-    {
-        if text_length(text) > MAX_CHARACTERS {
-            return Err(Fault::TooLong);
-        }
-        let Ok(characters) = characters_of(alloc, text) else {
-            return Err(Fault::Memory);
-        };
-        Term::from_characters(alloc, characters).map_err(|refused| refused.fault)
     }
 
     /// The atom of these characters. More than `MAX_CHARACTERS` are refused.
@@ -535,6 +503,44 @@ impl<A: Allocator> Term<A> {
         })
     }
 
+    /// The tuple of one element, in the least memory. A tuple deeper than `MAX_DEPTH` is refused.
+    pub fn tuple_of_one(alloc: A, element: Term<A>) -> Result<Self, Refused<Term<A>>>
+        ensures ok { IfOk result (λ t. t ≡ tuple (items_of (element ∷ []))) }
+        ensures refused { IfErr result (λ r. (r.value ≡ element)
+            × IsFault r.fault (tuple (items_of (element ∷ [])))) }
+    {
+        let deepest = element.depth();
+        if deepest >= MAX_DEPTH {
+            return Err(Refused {
+                value: element,
+                fault: Fault::TooDeep,
+            });
+        }
+        let element = shared(alloc, element)?;
+        Ok(Term {
+            shape: Shape::TupleOfOne(deepest + 1, element),
+        })
+    }
+
+    /// The tuple of two elements, in the least memory. A tuple deeper than `MAX_DEPTH` is refused.
+    pub fn tuple_of_two(alloc: A, elements: [Term<A>; 2]) -> Result<Self, Refused<[Term<A>; 2]>>
+        ensures ok { IfOk result (λ t. t ≡ tuple (items_of elements)) }
+        ensures refused { IfErr result (λ r. (r.value ≡ elements)
+            × IsFault r.fault (tuple (items_of elements))) }
+    {
+        let deepest = deepest(&elements[..]);
+        if deepest >= MAX_DEPTH {
+            return Err(Refused {
+                value: elements,
+                fault: Fault::TooDeep,
+            });
+        }
+        let elements = shared(alloc, elements)?;
+        Ok(Term {
+            shape: Shape::TupleOfTwo(deepest + 1, elements),
+        })
+    }
+
     /// The list of these elements followed by a tail. A tail that is a list is joined on; without elements it is the
     /// tail, or `[]` where there is none. More than `MAX_LIST` elements are refused, and a list deeper than `MAX_DEPTH`.
     pub fn list(
@@ -567,6 +573,8 @@ impl<A: Allocator> Term<A> {
         match &self.shape {
             Shape::Integer(_) | Shape::Nil | Shape::Short(_, _) | Shape::Atom(_) => 1,
             Shape::Unit | Shape::Binary(_) => 1,
+            Shape::TupleOfOne(depth, _) | Shape::TupleOfTwo(depth, _) => *depth,
+            Shape::MapOfOne(depth, _) => *depth,
             Shape::Tuple(depth, _) | Shape::List(depth, _) | Shape::Map(depth, _) => *depth,
         }
     }
@@ -584,8 +592,11 @@ impl<A: Allocator> Term<A> {
             Shape::Short(count, characters) => View::Atom(&characters[..usize::from(*count)]),
             Shape::Atom(characters) => View::Atom(characters.as_slice()),
             Shape::Unit => View::Tuple(&[]),
+            Shape::TupleOfOne(_, element) => View::Tuple(slice::from_ref(&**element)),
+            Shape::TupleOfTwo(_, elements) => View::Tuple(&elements[..]),
             Shape::Tuple(_, elements) => View::Tuple(elements.as_slice()),
             Shape::List(_, cells) => View::List(cells.elements.as_slice(), cells.tail.as_ref()),
+            Shape::MapOfOne(_, pair) => View::Map(slice::from_ref(&**pair)),
             Shape::Map(_, pairs) => View::Map(pairs.as_slice()),
             Shape::Binary(bytes) => View::Binary(bytes.as_slice()),
         }

@@ -3,7 +3,7 @@ ghost use Rattle.std.specs.Prelude.{◌≡◌, [], ◌∷◌, pos, IfSome};
 ghost use Rattle.term_core.specs.Datum.Datum.{integer};
 ghost use Rattle.term_core.specs.MapPairs.{keys_of};
 
-use made_terms::{are_apart, copy_all, copy_tail, make_list, make_map, make_tuple};
+use made_terms::{are_apart, atom_of_text, copy_all, copy_tail, make_list, make_map, make_tuple, map_of_pairs};
 use row_terms::{
     Calls, Outcome, canonical, length, name, refused, size_of, swept, text, word, written,
 };
@@ -71,7 +71,7 @@ fn list_with_tail<A: Allocator + Copy>(heap: A, mut elements: Vec<Term<A>, A>) -
 }
 
 fn map<A: Allocator + Copy>(heap: A, terms: Vec<Term<A>, A>) -> Option<Made<A>> {
-    match Term::map(heap, paired(heap, terms)?) {
+    match map_of_pairs(heap, paired(heap, terms)?) {
         Ok(map) => Some(Ok(map)),
         Err(refused) => Some(Err(Refused {
             value: unpaired(heap, refused.value)?,
@@ -206,7 +206,7 @@ fn makes<A: Allocator + Copy>(
 }
 
 fn atom<A: Allocator + Copy>(alloc: Global, heap: A, given: &[u8]) -> Option<Vec<u8>> {
-    match Term::atom(heap, str::from_utf8(given).ok()?) {
+    match atom_of_text(heap, str::from_utf8(given).ok()?) {
         Ok(term) => canonical(alloc, &term),
         Err(fault) => refusal(alloc, fault, true),
     }
@@ -301,7 +301,7 @@ fn sized(alloc: Global, call: &str, given: &[u8]) -> Option<Vec<u8>> {
 
 /// The size of the atom of these characters, or the refusal.
 fn sized_atom(alloc: Global, given: &[u8]) -> Option<Vec<u8>> {
-    match Term::atom(alloc, str::from_utf8(given).ok()?) {
+    match atom_of_text(alloc, str::from_utf8(given).ok()?) {
         Ok(term) => size_of(alloc, &term),
         Err(fault) => refusal(alloc, fault, true),
     }

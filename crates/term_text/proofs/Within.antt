@@ -15,8 +15,8 @@ use Rattle.term_core.specs.Order.{datum_cmp}
 use Rattle.term_core.specs.OrderLaws.{datum_cmp-same}
 use Rattle.term_core.specs.Fault.{IsFault, IsTooLong}
 use Rattle.term_core.specs.MapPairs.{HasTwice, IsMapFault}
-use Rattle.term_core.specs.declared.fault.Fault.{Fault}
-use Rattle.term_core.specs.declared.fault.Fault.TheVariants as faults
+use Rattle.term_fault.specs.declared.fault.Fault.{Fault}
+use Rattle.term_fault.specs.declared.fault.Fault.TheVariants as faults
 use Rattle.term_core.specs.declared.TheConstants.{MAX_CHARACTERS, MAX_TUPLE, MAX_MAP, MAX_LIST, MAX_BINARY, MAX_DEPTH}
 use Rattle.term_text.specs.Text.{Spelled, Elements, Pair, Pairs, code_point}
 use Rattle.term_text.specs.Text.Spelled.{an_integer, a_word, a_quoted_atom, an_empty_string, a_string, an_empty_tuple, a_tuple, an_empty_list, a_list, a_list_with_tail, an_empty_map, a_map, an_empty_binary, a_binary}

@@ -17,6 +17,7 @@ use crate::token::{
     Marks, Opening, after_gap, begin, behind, behind_both, dot, expect, expect_both, integer,
     quoted, stop, word,
 };
+use made_terms::map_of_pairs;
 use std::alloc::{AllocError, Allocator};
 use std::collections::BTreeMap;
 use term_core::{Fault, MAX_BINARY, MAX_CHARACTERS, MAX_DEPTH, MAX_LIST, MAX_MAP, MAX_TUPLE, Term};
@@ -304,7 +305,7 @@ fn map_of<A: Allocator + Copy>(alloc: A, pairs: Pairs<A>) -> Result<Term<A>, Sto
     ensures { Gives (λ t. t) result (Ok (map (entries_of pairs.entries))) }
 {
     let pairs = in_order(alloc, pairs)?;
-    match Term::map(alloc, pairs) {
+    match map_of_pairs(alloc, pairs) {
         Ok(map) => Ok(map),
         Err(refused) => Err(memory_alone(refused.fault)),
     }

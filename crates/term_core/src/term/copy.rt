@@ -29,22 +29,17 @@ fn copy_shape<A: Allocator>(shape: &Shape<A>) -> Result<Shape<A>, AllocError>
         Shape::Short(count, characters) => Ok(Shape::Short(*count, *characters)),
         Shape::Atom(characters) => Ok(Shape::Atom(Arc::try_clone(characters)?)),
         Shape::Binary(bytes) => Ok(Shape::Binary(Arc::try_clone(bytes)?)),
+        Shape::TupleOfOne(depth, element) => Ok(Shape::TupleOfOne(
+            *depth,
+            Arc::try_clone(element)?,
+        )),
+        Shape::MapOfOne(depth, pair) => Ok(Shape::MapOfOne(*depth, Arc::try_clone(pair)?)),
+        Shape::TupleOfTwo(depth, elements) => Ok(Shape::TupleOfTwo(
+            *depth,
+            Arc::try_clone(elements)?,
+        )),
         Shape::Tuple(depth, elements) => Ok(Shape::Tuple(*depth, Arc::try_clone(elements)?)),
         Shape::List(depth, cells) => Ok(Shape::List(*depth, Arc::try_clone(cells)?)),
         Shape::Map(depth, pairs) => Ok(Shape::Map(*depth, Arc::try_clone(pairs)?)),
     }
-}
-
-/// Copies of these pairs.
-pub(crate) fn copy_pairs<A: Allocator>(
-    alloc: A,
-    pairs: &[(Term<A>, Term<A>)],
-) -> Result<Vec<(Term<A>, Term<A>), A>, AllocError>
-    ensures { IfOk result (λ v. v.items ≡ pairs.now) }
-{
-    let mut copies = Vec::with_capacity(alloc, pairs.len())?;
-    for (key, value) in pairs {
-        copies.push((key.copy()?, value.copy()?))?;
-    }
-    Ok(copies)
 }

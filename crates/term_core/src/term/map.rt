@@ -1,152 +1,41 @@
-//! Maps, made of pairs in any order.
-ghost use Rattle.std.specs.Prelude.{◌≡◌, ◌<◌, ◌≤◌, ◌↔◌, length, map as map_list, IsTrue, IfOk, IfErr};
-ghost use Rattle.std.specs.List.{AllByRecursion};
-ghost use Rattle.term_core.specs.Datum.{Datum, entries_of};
+//! Maps of pairs whose keys rise.
+ghost use Rattle.std.specs.Prelude.{◌≡◌, ◌∷◌, [], IfOk, IfErr};
+ghost use Rattle.term_core.specs.Datum.{entries_of};
 ghost use Rattle.term_core.specs.Datum.Datum.{map};
-ghost use Rattle.term_core.specs.Limits.{entries_depth};
-ghost use Rattle.term_core.specs.MapPairs.{AreRising, HasTwice, IsMapOf, IsMapFault, IsMapDepth, IsPairSound, keys_of};
+ghost use Rattle.term_core.specs.Fault.{IsFault};
+ghost use Rattle.term_core.specs.MapPairs.{AreRising, IsMapDepth};
 
-use super::apart::neighbours_differ;
-use super::copy::copy_pairs;
 use super::{Shape, Term, shared};
-use crate::fault::{Fault, Refused};
-use crate::{MAX_DEPTH, MAX_MAP};
-use std::alloc::{AllocError, Allocator};
-
-/// The greatest depth among the keys and values of these pairs, 0 where there is none.
-fn deepest_pair<A: Allocator>(pairs: &[(Term<A>, Term<A>)]) -> u8
-    ensures value { result ≡ entries_depth (entries_of pairs.now) }
-    ensures sound { AllByRecursion IsPairSound pairs.now }
-{
-    let mut deepest = 0;
-    for pair in pairs {
-        deepest = deepest.max(pair.0.depth()).max(pair.1.depth());
-    }
-    deepest
-}
-
-/// How deep the map of these pairs is, or which limit it is past.
-fn map_depth<A: Allocator>(pairs: &[(Term<A>, Term<A>)]) -> Result<u8, Fault>
-    ensures ok { IfOk result (λ d. IsMapDepth d pairs.now) }
-    ensures refused { IfErr result (λ fault. IsMapFault fault pairs.now) }
-{
-    let deepest = deepest_pair(pairs);
-    if deepest >= MAX_DEPTH {
-        return Err(Fault::TooDeep);
-    }
-    if pairs.len() > MAX_MAP {
-        return Err(Fault::TooLong);
-    }
-    Ok(deepest + 1)
-}
-
-/// Whether each key stands before the next.
-fn is_rising<A: Allocator>(pairs: &[(Term<A>, Term<A>)]) -> bool
-    ensures { IsTrue result ↔ AreRising (entries_of pairs.now) }
-{
-    for later in 1..pairs.len() {
-        if pairs[later - 1].0 >= pairs[later].0 {
-            return false;
-        }
-    }
-    true
-}
-
-/// The keys of these pairs.
-fn keys<'a, A: Allocator>(
-    alloc: A,
-    pairs: &'a [(Term<A>, Term<A>)],
-) -> Result<Vec<&'a Term<A>, A>, AllocError>
-    ensures { IfOk result (λ keys. map_list (λ key. key.now) keys.items ≡ keys_of pairs.now) }
-{
-    let mut keys = Vec::with_capacity(alloc, pairs.len())?;
-    for pair in pairs {
-        keys.push(&pair.0)?;
-    }
-    Ok(keys)
-}
-
-/// Whether a key stands twice among these pairs.
-fn has_twin<A: Allocator>(alloc: A, pairs: &[(Term<A>, Term<A>)]) -> Result<bool, AllocError>
-    ensures { IfOk result (λ twin. IsTrue twin ↔ HasTwice pairs.now) }
-{
-    let mut keys = keys(alloc, pairs)?;
-    keys.sort_unstable();
-    Ok(!neighbours_differ(keys.as_slice()))
-}
-
-/// The map of pairs whose keys differ.
-fn sorted_map<A: Allocator + Copy>(
-    alloc: A,
-    depth: u8,
-    pairs: Vec<(Term<A>, Term<A>), A>,
-) -> Result<Term<A>, Refused<Vec<(Term<A>, Term<A>), A>>>
-    requires within { IsMapDepth depth pairs.items }
-    requires apart { ¬ HasTwice pairs.items }
-    ensures ok { IfOk result (λ t. IsMapOf pairs.items t) }
-    ensures refused { IfErr result (λ r. (r.value.items ≡ pairs.items) × (r.fault ≡ Fault.Memory)) }
-{
-    // Copies are sorted, so that the pairs are handed back in their order where there is no memory.
-    let Ok(mut sorted) = copy_pairs(alloc, pairs.as_slice()) else {
-        return Err(Refused {
-            value: pairs,
-            fault: Fault::Memory,
-        });
-    };
-    sorted.sort_unstable();
-    match shared(alloc, sorted) {
-        Ok(sorted) => Ok(Term {
-            shape: Shape::Map(depth, sorted),
-        }),
-        Err(_) => Err(Refused {
-            value: pairs,
-            fault: Fault::Memory,
-        }),
-    }
-}
+use crate::MAX_DEPTH;
+use std::alloc::Allocator;
+use term_fault::{Fault, Refused};
 
 impl<A: Allocator> Term<A> {
-    /// The map of these pairs, which may come in any order. More than `MAX_MAP` are refused, a map deeper than
-    /// `MAX_DEPTH`, and a key that stands twice.
-    pub fn map(
+    /// The map of one pair, in the least memory. A map deeper than `MAX_DEPTH` is refused.
+    pub fn map_of_one(
         alloc: A,
-        pairs: Vec<(Term<A>, Term<A>), A>,
-    ) -> Result<Self, Refused<Vec<(Term<A>, Term<A>), A>>>
-    where
-        A: Copy,
-        ensures ok { IfOk result (λ t. IsMapOf pairs.items t) }
-        ensures only { IfOk result (λ t. (d : Datum) → IsMapOf pairs.items d → d ≡ t) }
-        ensures apart { IfOk result (λ t. ¬ HasTwice pairs.items) }
-        ensures refused { IfErr result (λ r. (r.value.items ≡ pairs.items)
-            × IsMapFault r.fault pairs.items) }
+        key: Term<A>,
+        value: Term<A>,
+    ) -> Result<Self, Refused<(Term<A>, Term<A>)>>
+        ensures ok { IfOk result (λ t. t ≡ map (entries_of ((key, value) ∷ []))) }
+        ensures refused { IfErr result (λ r. (r.value ≡ (key, value))
+            × IsFault r.fault (map (entries_of ((key, value) ∷ [])))) }
     {
-        let depth = match map_depth(pairs.as_slice()) {
-            Ok(depth) => depth,
-            Err(fault) => {
-                return Err(Refused {
-                    value: pairs,
-                    fault,
-                });
-            }
-        };
-        if is_rising(pairs.as_slice()) {
-            return Term::from_rising(alloc, depth, pairs);
+        let deepest = key.depth().max(value.depth());
+        if deepest >= MAX_DEPTH {
+            return Err(Refused {
+                value: (key, value),
+                fault: Fault::TooDeep,
+            });
         }
-        match has_twin(alloc, pairs.as_slice()) {
-            Ok(false) => sorted_map(alloc, depth, pairs),
-            Ok(true) => Err(Refused {
-                value: pairs,
-                fault: Fault::DuplicateKey,
-            }),
-            Err(AllocError) => Err(Refused {
-                value: pairs,
-                fault: Fault::Memory,
-            }),
-        }
+        let pair = shared(alloc, (key, value))?;
+        Ok(Term {
+            shape: Shape::MapOfOne(deepest + 1, pair),
+        })
     }
 
     /// The map, this deep, of pairs within the limits whose keys rise.
-    pub(crate) fn from_rising(
+    pub fn from_rising(
         alloc: A,
         depth: u8,
         pairs: Vec<(Term<A>, Term<A>), A>,

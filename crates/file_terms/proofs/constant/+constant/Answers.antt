@@ -1,10 +1,10 @@
-use Rattle.std.proofs.Common.{◌-◌, arith, refl}
+use Rattle.std.proofs.Common.{◌-◌, [], ◌∷◌, ◌∙◌, arith, refl}
 use Rattle.std.proofs.lemmas.Result.{err_from_is_err_and}
-use Rattle.term_core.specs.Datum.Datum.{tuple}
-use Rattle.term_core.specs.Datum.{items_of, cells}
+use Rattle.term_core.specs.Datum.Datum.{tuple, map}
+use Rattle.term_core.specs.Datum.{items_of, entries_of, cells}
 use Rattle.file_format.specs.Formats.{constant_format, pair_format, RisingPairs}
-use Rattle.file_terms.proofs.RowLemmas.{row_step, plain_step, not_so}
-use Rattle.file_terms.proofs.LevelLemmas.{tag_short, level_past, nil_begins, tag_unnamed, elements_stop, tuple_short, tuple_stop, tuple_begins, made, pair_key_stop, pair_value_stop, key_unordered, pair_begins, pairs_stop, map_short, map_stop, map_begins, map_made, map_term, list_short, list_stop, tail_stop, tail_joined, tail_no_cell, list_begins}
+use Rattle.file_terms.proofs.RowLemmas.{row_start, row_step, plain_step, not_so}
+use Rattle.file_terms.proofs.LevelLemmas.{tag_short, level_past, nil_begins, tag_unnamed, elements_stop, tuple_short, tuple_stop, tuple_begins, row_of_one, tuple_of_one, tuple_of_two, made, pair_key_stop, pair_value_stop, key_unordered, pair_begins, pairs_stop, map_short, map_stop, map_begins, map_of_one, map_made, map_term, list_short, list_stop, tail_stop, tail_joined, tail_no_cell, list_begins}
 use Rattle.file_terms.proofs.constant.+constant.Goals as goal
 
 pub read_constant-returns-in_err-tag : goal.read_constant-returns-in_err-tag
@@ -50,6 +50,48 @@ read_tuple-memory_alone-requires g t c =
     let begun = tuple_begins (c.args.room - 1) c.args.room c.args.bytes.now c.args.rest.now c.in_ok-count.count c.in_ok-count.behind.now c.in_ok-elements.elements.items c.in_ok-elements.behind.now (omega arith) c.requires.tag c.in_ok-count.ensures (rw c.from.ensures at c.in_ok-elements.ensures) in
     made c.args.room c.args.bytes.now (tuple (items_of c.in_ok-elements.elements.items)) c.in_ok-elements.behind.now c.in-Err.refused.fault (omega arith) begun c.in-Err.ensures.refused.1
 
+pub read_tuple_of_one-returns-in_err-element : goal.read_tuple_of_one-returns-in_err-element
+read_tuple_of_one-returns-in_err-element g t c =
+    let room = c.args.room - 1 in
+    let start = row_start (constant_format room) (λ _. Unit {0}) c.args.behind.now tt in
+    let p = err_from_is_err_and c.from_residual.result c.from_residual.ensures.1 in
+    rw (p.1, p.2) (tuple_stop room c.args.room c.args.bytes.now c.args.rest.now 1 c.args.behind.now _ (omega arith) c.requires.tag c.requires.count
+    (elements_stop room 1 c.args.behind.now [] c.args.behind.now 0 _ start (omega arith) c.in_err-element.ensures))
+
+pub read_tuple_of_one-returns-in-Ok : goal.read_tuple_of_one-returns-in-Ok
+read_tuple_of_one-returns-in-Ok g t c =
+    rw c.in-Ok.ensures.ok (tuple_of_one (c.args.room - 1) c.args.room c.args.bytes.now c.args.rest.now c.args.behind.now c.in_ok-element.element c.in_ok-element.behind.now (omega arith) c.requires.tag c.requires.count c.in_ok-element.ensures)
+
+pub read_tuple_of_one-memory_alone-requires : goal.read_tuple_of_one-memory_alone-requires
+read_tuple_of_one-memory_alone-requires g t c =
+    let begun = tuple_of_one (c.args.room - 1) c.args.room c.args.bytes.now c.args.rest.now c.args.behind.now c.in_ok-element.element c.in_ok-element.behind.now (omega arith) c.requires.tag c.requires.count c.in_ok-element.ensures in
+    made c.args.room c.args.bytes.now (tuple (items_of (c.in_ok-element.element ∷ []))) c.in_ok-element.behind.now c.in-Err.refused.fault (omega arith) begun c.in-Err.ensures.refused.1
+
+pub read_tuple_of_two-returns-in_err-first : goal.read_tuple_of_two-returns-in_err-first
+read_tuple_of_two-returns-in_err-first g t c =
+    let room = c.args.room - 1 in
+    let start = row_start (constant_format room) (λ _. Unit {0}) c.args.behind.now tt in
+    let p = err_from_is_err_and c.from_residual.result c.from_residual.ensures.1 in
+    rw (p.1, p.2) (tuple_stop room c.args.room c.args.bytes.now c.args.rest.now 2 c.args.behind.now _ (omega arith) c.requires.tag c.requires.count
+    (elements_stop room 2 c.args.behind.now [] c.args.behind.now 0 _ start (omega arith) c.in_err-first.ensures))
+
+pub read_tuple_of_two-returns-in_err-second : goal.read_tuple_of_two-returns-in_err-second
+read_tuple_of_two-returns-in_err-second g t c =
+    let room = c.args.room - 1 in
+    let first = row_of_one room c.args.behind.now c.in_ok-first.first c.in_ok-first.between.now c.in_ok-first.ensures in
+    let p = err_from_is_err_and c.from_residual-in_err-second.result c.from_residual-in_err-second.ensures.1 in
+    rw (p.1, p.2) (tuple_stop room c.args.room c.args.bytes.now c.args.rest.now 2 c.args.behind.now _ (omega arith) c.requires.tag c.requires.count
+    (elements_stop room 2 c.args.behind.now (c.in_ok-first.first ∷ []) c.in_ok-first.between.now 1 _ first (omega arith) c.in_err-second.ensures))
+
+pub read_tuple_of_two-returns-in-Ok : goal.read_tuple_of_two-returns-in-Ok
+read_tuple_of_two-returns-in-Ok g t c =
+    rw c.in-Ok.ensures.ok (tuple_of_two (c.args.room - 1) c.args.room c.args.bytes.now c.args.rest.now c.args.behind.now c.in_ok-first.first c.in_ok-first.between.now c.in_ok-second.second c.in_ok-second.behind.now (omega arith) c.requires.tag c.requires.count c.in_ok-first.ensures c.in_ok-second.ensures)
+
+pub read_tuple_of_two-memory_alone-requires : goal.read_tuple_of_two-memory_alone-requires
+read_tuple_of_two-memory_alone-requires g t c =
+    let begun = tuple_of_two (c.args.room - 1) c.args.room c.args.bytes.now c.args.rest.now c.args.behind.now c.in_ok-first.first c.in_ok-first.between.now c.in_ok-second.second c.in_ok-second.behind.now (omega arith) c.requires.tag c.requires.count c.in_ok-first.ensures c.in_ok-second.ensures in
+    made c.args.room c.args.bytes.now (tuple (items_of (c.in_ok-first.first ∷ c.in_ok-second.second ∷ []))) c.in_ok-second.behind.now c.in-Err.refused.fault (omega arith) begun c.in-Err.ensures.refused.1
+
 pub read_pair-returns-in_err-key : goal.read_pair-returns-in_err-key
 read_pair-returns-in_err-key g t c =
     let p = err_from_is_err_and c.from_residual.result c.from_residual.ensures.1 in
@@ -75,6 +117,23 @@ pub read_pairs-loop-read-preserved : goal.read_pairs-loop-read-preserved
 read_pairs-loop-read-preserved g t c =
     rw c.in_ok-push.ensures.items
     (row_step (pair_format c.args.room) RisingPairs c.args.bytes.now c.loop-read.pairs.items c.loop-read.rest.now c.loop-read._read c.in_ok-pair.pair c.in_ok-pair.behind.now c.loop-read.invariant (rw c.as_slice.ensures.value at c.in_ok-pair.ensures))
+
+pub read_map_of_one-returns-in_err-key : goal.read_map_of_one-returns-in_err-key
+read_map_of_one-returns-in_err-key g t c =
+    let room = c.args.room - 1 in
+    let start = row_start (pair_format room) RisingPairs c.args.behind.now tt in
+    let p = err_from_is_err_and c.from_residual.result c.from_residual.ensures.1 in
+    rw (p.1, p.2) (map_stop room c.args.room c.args.bytes.now c.args.rest.now 1 c.args.behind.now _ (omega arith) c.requires.tag c.requires.count
+    (pairs_stop room 1 c.args.behind.now [] c.args.behind.now 0 _ start (omega arith) (rw (c.as_slice.ensures.value ∙ c.new-before.ensures.items) at c.in_err-key.ensures)))
+
+pub read_map_of_one-returns-in-Ok : goal.read_map_of_one-returns-in-Ok
+read_map_of_one-returns-in-Ok g t c =
+    rw c.in-Ok.ensures.ok (map_of_one (c.args.room - 1) c.args.room c.args.bytes.now c.args.rest.now c.args.behind.now (c.in_ok-key.key, c.in_ok-key.value) c.in_ok-key.behind.now (omega arith) c.requires.tag c.requires.count (rw (c.as_slice.ensures.value ∙ c.new-before.ensures.items) at c.in_ok-key.ensures))
+
+pub read_map_of_one-memory_alone-requires : goal.read_map_of_one-memory_alone-requires
+read_map_of_one-memory_alone-requires g t c =
+    let begun = map_of_one (c.args.room - 1) c.args.room c.args.bytes.now c.args.rest.now c.args.behind.now (c.in_ok-key.key, c.in_ok-key.value) c.in_ok-key.behind.now (omega arith) c.requires.tag c.requires.count (rw (c.as_slice.ensures.value ∙ c.new-before.ensures.items) at c.in_ok-key.ensures) in
+    made c.args.room c.args.bytes.now (map (entries_of ((c.in_ok-key.key, c.in_ok-key.value) ∷ []))) c.in_ok-key.behind.now c.in-Err.refused.fault (omega arith) begun c.in-Err.ensures.refused.1
 
 pub read_map-returns-in_err-count : goal.read_map-returns-in_err-count
 read_map-returns-in_err-count g t c =

@@ -19,6 +19,15 @@ decreases-read_pairs g l = 4 * l.room + 2
 abbrev pub decreases-read_tuple : goal.decreases-read_tuple
 decreases-read_tuple g l = 4 * l.room - 1
 
+abbrev pub decreases-read_tuple_of_one : goal.decreases-read_tuple_of_one
+decreases-read_tuple_of_one g l = 4 * l.room - 2
+
+abbrev pub decreases-read_tuple_of_two : goal.decreases-read_tuple_of_two
+decreases-read_tuple_of_two g l = 4 * l.room - 2
+
+abbrev pub decreases-read_map_of_one : goal.decreases-read_map_of_one
+decreases-read_map_of_one g l = 4 * l.room - 2
+
 abbrev pub decreases-read_map : goal.decreases-read_map
 decreases-read_map g l = 4 * l.room - 1
 

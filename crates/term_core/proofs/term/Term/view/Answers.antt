@@ -1,4 +1,4 @@
-use Rattle.std.proofs.Common.{refl}
+use Rattle.std.proofs.Common.{refl, arith}
 use Rattle.term_core.proofs.term.Term.view.Goals as goal
 
 pub shared_ref_as_front-result : goal.shared_ref_as_front-result
@@ -6,3 +6,12 @@ shared_ref_as_front-result g c = rw c.from.ensures (rw c.in-Short.is at c.self.i
 
 pub slice_bounds-result-end-in-Unit : goal.slice_bounds-result-end-in-Unit
 slice_bounds-result-end-in-Unit g c = refl
+
+pub from_ref-requires : goal.from_ref-requires
+from_ref-requires g c = omega arith
+
+pub from_ref-requires-in-MapOfOne : goal.from_ref-requires-in-MapOfOne
+from_ref-requires-in-MapOfOne g c = omega arith
+
+pub shared_whole_as_slice-result : goal.shared_whole_as_slice-result
+shared_whole_as_slice-result g c = omega arith
