@@ -1,4 +1,3 @@
 pub mod SpelledLemmas
-pub mod WrittenLemmas
 pub mod WritableLemmas
 pub mod WriteLemmas

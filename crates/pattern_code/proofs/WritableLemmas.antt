@@ -6,10 +6,10 @@ use Rattle.mspec_syntax.specs.Grammar.{is_among}
 use Rattle.mspec_syntax.specs.Pattern.{Pattern, Patterns, Fields, patterns_of, fields_of, cells_of, pattern_variables, patterns_variables, fields_variables, pattern_nodes, patterns_nodes, tail_nodes}
 use Rattle.mspec_syntax.specs.Pattern.Pattern.{variable, anything, literal, tuple_of, cell_of, map_of}
 use Rattle.mspec_syntax.proofs.RankLemmas.{among-first}
+use Rattle.pattern_draft.proofs.WrittenLemmas.{among-append}
 use Rattle.pattern_code.specs.Patterns.{pattern_count}
 use Rattle.pattern_code.specs.Writable.{HaveSlots, IsWritable, AreWritable, AreFieldsWritable}
 use Rattle.pattern_code.proofs.SpelledLemmas.{split_at}
-use Rattle.pattern_code.proofs.WrittenLemmas.{among-append}
 
 -- ---- nodes
 

@@ -9,12 +9,13 @@ use Rattle.mspec_syntax.specs.Pattern.Patterns.{no_patterns, pattern}
 use Rattle.assembly.specs.Line.{SourceLine, plain}
 use Rattle.assembly.specs.declared.op.Op.TheVariants as op
 use Rattle.assembly.specs.declared.op.Target.TheVariants.{Failing}
-use Rattle.pattern_code.specs.Patterns.{pattern_count, same_lines, same_or, unless_anything, pattern_lines, element_lines, field_lines, head_lines}
+use Rattle.pattern_draft.specs.Leaves.{same_lines}
+use Rattle.pattern_draft.specs.Written.{Draft, Tracks, Puts, Writes}
+use Rattle.pattern_draft.proofs.WrittenLemmas.{tracks-none, puts-then, then-puts, writes-then, writes-same, puts-writes}
+use Rattle.pattern_code.specs.Patterns.{pattern_count, same_or, unless_anything, pattern_lines, element_lines, field_lines, head_lines}
 use Rattle.pattern_code.specs.Spelled.{spells, all_spell}
 use Rattle.pattern_code.specs.Writable.{is_anything}
-use Rattle.pattern_code.specs.Written.{Draft, Tracks, Puts, Writes}
 use Rattle.pattern_code.proofs.SpelledLemmas.{and-left, and-right, split_at, some-cell, some-item, some-map, tuple-spells, cells-spell}
-use Rattle.pattern_code.proofs.WrittenLemmas.{tracks-none, puts-then, then-puts, writes-then, writes-same, puts-writes}
 use Rattle.pattern_code.proofs.WritableLemmas.{count-length}
 
 -- ---- patterns that spell a term

@@ -1,4 +1,3 @@
 pub mod Patterns
 pub mod Spelled
 pub mod Writable
-pub mod Written

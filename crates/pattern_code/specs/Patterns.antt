@@ -1,9 +1,7 @@
 -- The code of patterns: what is matched is on the top, and is popped; where it doesn't match, the clause fails.
-use Rattle.std.specs.Prelude.{ℕ, suc, if◌then◌else◌, Option, Some, None, option_map, List, [], ◌∷◌, ◌++◌}
+use Rattle.std.specs.Prelude.{ℕ, suc, Option, Some, None, option_map, List, [], ◌∷◌, ◌++◌}
 use Rattle.term_core.specs.Datum.{Datum}
 use Rattle.term_core.specs.Datum.Datum.{tuple}
-use Rattle.mspec_syntax.specs.Grammar.{is_among}
-use Rattle.mspec_syntax.specs.Rising.{rank_of}
 use Rattle.mspec_syntax.specs.Pattern.{Pattern, Patterns, Fields, pattern_variables, own_term, own_terms}
 use Rattle.mspec_syntax.specs.Pattern.Pattern.{variable, anything, literal, tuple_of, cell_of, map_of}
 use Rattle.mspec_syntax.specs.Pattern.Patterns.{no_patterns, pattern}
@@ -11,21 +9,12 @@ use Rattle.mspec_syntax.specs.Pattern.Fields.{no_fields, field}
 use Rattle.assembly.specs.Line.{SourceLine, plain}
 use Rattle.assembly.specs.declared.op.Op.TheVariants as op
 use Rattle.assembly.specs.declared.op.Target.TheVariants.{Failing}
+use Rattle.pattern_draft.specs.Leaves.{same_lines, variable_lines}
 
 -- how many elements
 abbrev pub pattern_count : Patterns → ℕ
 pattern_count no_patterns = 0
 pattern_count (pattern p ps) = suc (pattern_count ps)
-
--- a term that has to be the same
-abbrev pub same_lines : Datum → List SourceLine
-same_lines d = plain (op.Const d) ∷ plain (op.Equal Failing) ∷ []
-
--- a variable: it is bound, or where it is bound already, its value has to be the same
-abbrev pub variable_lines : List ℕ → List ℕ → ℕ → List SourceLine
-variable_lines vs known n =
-    if is_among known n then plain (op.Get (rank_of vs n)) ∷ plain (op.Equal Failing) ∷ []
-    else plain (op.Bind (rank_of vs n)) ∷ []
 
 -- a pattern in which neither a variable, '_' nor a map stands is the term that it spells
 abbrev pub same_or : Option Datum → List SourceLine → List SourceLine

@@ -6,11 +6,10 @@ ghost use Rattle.mspec_syntax.specs.Pattern.{pattern_variables, pattern_nodes};
 ghost use Rattle.mspec_syntax.specs.Sound.{IsSoundPattern};
 ghost use Rattle.pattern_code.specs.Patterns.{head_lines};
 
-use crate::draft::Draft;
-use crate::slots::Slots;
-use crate::write::is_anything;
+use crate::write::{is_anything, write_pattern};
 use assembly::{Lines, Op};
 use mspec_syntax::{Pattern, Variables};
+use pattern_draft::{Draft, Slots};
 use std::alloc::{AllocError, Allocator};
 
 /// Puts the lines of a clause's head before others, where `slots` are the variables of the specification, in the order of
@@ -34,6 +33,6 @@ pub fn write_head<A: Allocator + Copy>(
     let mut draft = Draft::new(alloc, slots.len())?;
     draft.put(Op::Load)?;
     let writer = Slots::new(alloc, slots);
-    writer.write_pattern(head, &mut draft)?;
+    write_pattern(&writer, head, &mut draft)?;
     draft.prepend_to(lines)
 }

@@ -31,7 +31,8 @@ use Rattle.assembly.specs.Stands.{IsAt, Stands}
 use Rattle.assembly.specs.declared.op.Op.TheVariants as op
 use Rattle.assembly.specs.declared.op.Target.TheVariants.{Failing}
 use Rattle.assembly.proofs.StandLemmas.{stands_front, stands_back}
-use Rattle.pattern_code.specs.Patterns.{pattern_count, same_lines, variable_lines, same_or, unless_anything, pattern_lines, element_lines, field_lines}
+use Rattle.pattern_draft.specs.Leaves.{same_lines, variable_lines}
+use Rattle.pattern_code.specs.Patterns.{pattern_count, same_or, unless_anything, pattern_lines, element_lines, field_lines}
 use Rattle.templates.proofs.VariableLemmas.{among_left, among_right}
 use Rattle.template_meaning.specs.Known.{Names, seen_at, own_slots, AreKept, Decides}
 use Rattle.template_meaning.specs.Reach.{at, Comes}

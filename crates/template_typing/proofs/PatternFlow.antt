@@ -26,7 +26,8 @@ use Rattle.assembly.specs.declared.op.Op.TheVariants as op
 use Rattle.assembly.specs.declared.op.Target.TheVariants.{Failing}
 use Rattle.assembly.proofs.StandLemmas.{stands_front, stands_back}
 use Rattle.pattern_match.proofs.OwnLemmas.{own-variables}
-use Rattle.pattern_code.specs.Patterns.{pattern_count, same_lines, variable_lines, same_or, unless_anything, pattern_lines, element_lines, field_lines}
+use Rattle.pattern_draft.specs.Leaves.{same_lines, variable_lines}
+use Rattle.pattern_code.specs.Patterns.{pattern_count, same_or, unless_anything, pattern_lines, element_lines, field_lines}
 use Rattle.templates.specs.Writable.{AreAmong}
 use Rattle.templates.proofs.VariableLemmas.{among_joined, among_left, among_right, one_among}
 use Rattle.template_typing.specs.Flow.{IsFit, Flows}

@@ -22,7 +22,8 @@ use Rattle.assembly.specs.declared.op.Op.TheVariants as op
 use Rattle.assembly.specs.declared.op.Target.TheVariants.{Failing}
 use Rattle.expression_code.specs.Expressions.{Site, lines_at}
 use Rattle.expression_code.proofs.LengthLemmas.{lines-length}
-use Rattle.pattern_code.specs.Patterns.{pattern_count, same_or, unless_anything, variable_lines, pattern_lines, element_lines, field_lines, head_lines}
+use Rattle.pattern_draft.specs.Leaves.{variable_lines}
+use Rattle.pattern_code.specs.Patterns.{pattern_count, same_or, unless_anything, pattern_lines, element_lines, field_lines, head_lines}
 use Rattle.templates.specs.Clauses.{condition_lines, body_lines, site_of, clause_block, blocks_of}
 
 -- ---- patterns

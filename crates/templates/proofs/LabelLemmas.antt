@@ -38,7 +38,8 @@ use Rattle.assembly.specs.declared.op.Target.TheVariants.{Failing, Ahead}
 use Rattle.expression_code.specs.Expressions.{Site, failure, exit_lines, cell_lines, cell_count, bindings_lines, all_true_lines, none_true_lines, lines_at, argument_lines, value_lines, test_lines, choice_lines}
 use Rattle.expression_code.proofs.LineLemmas.{get_line}
 use Rattle.mspec_syntax.proofs.RankLemmas.{rank-below, among-first, among-rest}
-use Rattle.pattern_code.specs.Patterns.{pattern_count, same_or, unless_anything, variable_lines, pattern_lines, element_lines, field_lines, head_lines}
+use Rattle.pattern_draft.specs.Leaves.{variable_lines}
+use Rattle.pattern_code.specs.Patterns.{pattern_count, same_or, unless_anything, pattern_lines, element_lines, field_lines, head_lines}
 use Rattle.templates.specs.Clauses.{condition_lines, body_lines, site_of, clause_block, blocks_of}
 use Rattle.templates.specs.Labels.{AreIntegerPlaces, IsGoodLabel, AreGoodLabels}
 use Rattle.templates.specs.Writable.{AreAmong}

@@ -2,9 +2,9 @@
 use Rattle.std.proofs.Common.{suc, ◌+◌, ◌*◌, drop}
 use Rattle.mspec_syntax.specs.Pattern.{pattern_size, patterns_size, fields_size, patterns_of, fields_of, cells_of, pattern_variables, patterns_variables, fields_variables}
 use Rattle.mspec_syntax.specs.PatternView.{tail_pattern}
+use Rattle.pattern_draft.specs.Written.{Draft, Writes}
 use Rattle.pattern_code.specs.Patterns.{pattern_lines, element_lines, field_lines}
-use Rattle.pattern_code.specs.Written.{Draft, Writes}
-use Rattle.pattern_code.proofs.slots.Slots.+write.Given as goal
+use Rattle.pattern_code.proofs.write.+write.Given as goal
 
 abbrev pub decreases-write_pattern : goal.decreases-write_pattern
 decreases-write_pattern g l = 5 * pattern_size l.pattern.now + 1
@@ -39,15 +39,15 @@ decreases-write_field g l = 5 * pattern_size l.value.now + 2
 
 abbrev pub invariant-write_elements-loop-place : goal.invariant-write_elements-loop-place
 invariant-write_elements-loop-place g l =
-    (new : Draft) → Writes l.self (λ k. element_lines l.self k (suc l.place) (patterns_of (drop l.place l.elements))) (patterns_variables (patterns_of (drop l.place l.elements))) l.draft new
-    → Writes l.self (λ k. element_lines l.self k 1 (patterns_of l.elements)) (patterns_variables (patterns_of l.elements)) l.initial.draft new
+    (new : Draft) → Writes l.slots (λ k. element_lines l.slots k (suc l.place) (patterns_of (drop l.place l.elements))) (patterns_variables (patterns_of (drop l.place l.elements))) l.draft new
+    → Writes l.slots (λ k. element_lines l.slots k 1 (patterns_of l.elements)) (patterns_variables (patterns_of l.elements)) l.initial.draft new
 
 abbrev pub invariant-write_list-loop-place : goal.invariant-write_list-loop-place
 invariant-write_list-loop-place g l =
-    (new : Draft) → Writes l.self (λ k. pattern_lines l.self k (cells_of (drop l.place l.elements) (tail_pattern l.tail))) (pattern_variables (cells_of (drop l.place l.elements) (tail_pattern l.tail))) l.draft new
-    → Writes l.self (λ k. pattern_lines l.self k (cells_of l.elements (tail_pattern l.tail))) (pattern_variables (cells_of l.elements (tail_pattern l.tail))) l.initial.draft new
+    (new : Draft) → Writes l.slots (λ k. pattern_lines l.slots k (cells_of (drop l.place l.elements) (tail_pattern l.tail))) (pattern_variables (cells_of (drop l.place l.elements) (tail_pattern l.tail))) l.draft new
+    → Writes l.slots (λ k. pattern_lines l.slots k (cells_of l.elements (tail_pattern l.tail))) (pattern_variables (cells_of l.elements (tail_pattern l.tail))) l.initial.draft new
 
 abbrev pub invariant-write_fields-loop-place : goal.invariant-write_fields-loop-place
 invariant-write_fields-loop-place g l =
-    (new : Draft) → Writes l.self (λ k. field_lines l.self k (fields_of (drop l.place l.fields))) (fields_variables (fields_of (drop l.place l.fields))) l.draft new
-    → Writes l.self (λ k. field_lines l.self k (fields_of l.fields)) (fields_variables (fields_of l.fields)) l.initial.draft new
+    (new : Draft) → Writes l.slots (λ k. field_lines l.slots k (fields_of (drop l.place l.fields))) (fields_variables (fields_of (drop l.place l.fields))) l.draft new
+    → Writes l.slots (λ k. field_lines l.slots k (fields_of l.fields)) (fields_variables (fields_of l.fields)) l.initial.draft new

@@ -7,7 +7,7 @@ use std::marker::Model;
 
 /// The variables of a specification, of which each has the slot of its rank, and the allocator of their code.
 #[derive(Drop)]
-pub(crate) struct Slots<'s, A: Allocator> {
+pub struct Slots<'s, A: Allocator> {
     alloc: A,
     numbers: &'s Variables<A>,
 }
@@ -28,11 +28,11 @@ impl<'s, A: Allocator + Copy> Slots<'s, A> {
     ghost use Rattle.mcode.specs.Program.{most_slots};
     ghost use Rattle.mspec_syntax.specs.Grammar.{is_among};
     ghost use Rattle.mspec_syntax.specs.Rising.{rank_of};
-    ghost use Rattle.pattern_code.specs.Patterns.{variable_lines};
-    ghost use Rattle.pattern_code.specs.Written.{Writes};
+    ghost use Rattle.pattern_draft.specs.Leaves.{variable_lines};
+    ghost use Rattle.pattern_draft.specs.Written.{Writes};
 
     /// The slots of these variables.
-    pub(crate) fn new(alloc: A, numbers: &'s Variables<A>) -> Self
+    pub fn new(alloc: A, numbers: &'s Variables<A>) -> Self
         requires { length numbers.now ≤ most_slots }
         ensures { result ≡ numbers.now }
     {
@@ -40,7 +40,7 @@ impl<'s, A: Allocator + Copy> Slots<'s, A> {
     }
 
     /// The allocator of code.
-    pub(crate) fn alloc(&self) -> A {
+    pub fn alloc(&self) -> A {
         self.alloc
     }
 
@@ -53,8 +53,8 @@ impl<'s, A: Allocator + Copy> Slots<'s, A> {
         rank as u8
     }
 
-    /// Puts what binds a variable, or tests that the top is what it is bound to.
-    pub(crate) fn write_variable(&self, number: u32, draft: &mut Draft<A>) -> Result<(), AllocError>
+    /// Puts what binds a variable, or tests that the top is what it is bound to. An `Err` is want of memory.
+    pub fn write_variable(&self, number: u32, draft: &mut Draft<A>) -> Result<(), AllocError>
         requires { is_among self.now number ≡ true }
         ensures { OnOk result (Writes self.now (λ known. variable_lines self.now known number)
             (number ∷ []) draft.old draft.new) }

@@ -1,7 +1,7 @@
 -- the instructions that are left stand before the lines so far
 use Rattle.std.proofs.Common.{◌≡◌, ◌++◌, map, length}
 use Rattle.assembly.specs.Line.{plain}
-use Rattle.pattern_code.proofs.draft.prepend_all.Given as goal
+use Rattle.pattern_draft.proofs.draft.prepend_all.Given as goal
 
 abbrev pub invariant-loop-op : goal.invariant-loop-op
 invariant-loop-op g l =

@@ -1,6 +1,6 @@
 use Rattle.std.proofs.lemmas.Result.{on_ok_weaker}
-use Rattle.pattern_code.proofs.WrittenLemmas.{known-writes, new-writes}
-use Rattle.pattern_code.proofs.slots.Slots.write_variable.Goals as goal
+use Rattle.pattern_draft.proofs.WrittenLemmas.{known-writes, new-writes}
+use Rattle.pattern_draft.proofs.slots.Slots.write_variable.Goals as goal
 
 pub returns-then-bind : goal.returns-then-bind
 returns-then-bind g c =

@@ -8,8 +8,8 @@ use Rattle.mspec_syntax.proofs.RankLemmas.{rank-below}
 use Rattle.assembly.specs.Line.{SourceLine, plain}
 use Rattle.assembly.specs.declared.op.Op.TheVariants as op
 use Rattle.assembly.specs.declared.op.Target.TheVariants.{Failing}
-use Rattle.pattern_code.specs.Patterns.{variable_lines}
-use Rattle.pattern_code.specs.Written.{Draft, Tracks, Puts, Writes}
+use Rattle.pattern_draft.specs.Leaves.{variable_lines}
+use Rattle.pattern_draft.specs.Written.{Draft, Tracks, Puts, Writes}
 
 or-true : (b : Bool) → (b || true) ≡ true
 or-true true = refl

@@ -9,7 +9,7 @@ use term_core::Term;
 
 /// Instructions, none of which has a label behind it, and which slots are bound behind them.
 #[derive(Drop)]
-pub(crate) struct Draft<A: Allocator> {
+pub struct Draft<A: Allocator> {
     bound: Vec<bool, A>,
     ops: Vec<Op<Term<A>>, A>,
 }
@@ -17,7 +17,7 @@ pub(crate) struct Draft<A: Allocator> {
 impl<A: Allocator> Model for Draft<A> {
     ghost use Rattle.std.specs.Prelude.{map};
     ghost use Rattle.assembly.specs.Line.{plain};
-    ghost use Rattle.pattern_code.specs.Written.{Draft};
+    ghost use Rattle.pattern_draft.specs.Written.{Draft};
     ghost use Rattle.std.specs.Coded.{codes};
     ghost use Rattle.term_core.specs.DatumCode.{datum_code};
 
@@ -31,11 +31,11 @@ impl<A: Allocator> Model for Draft<A> {
 impl<A: Allocator> Draft<A> {
     ghost use Rattle.std.specs.Prelude.{◌≡◌, ◌∷◌, [], ◌++◌, ◌<◌, length, get_or, set, replicate, false, true, IfOk, OnOk};
     ghost use Rattle.assembly.specs.Line.{plain};
-    ghost use Rattle.pattern_code.specs.Patterns.{same_lines};
-    ghost use Rattle.pattern_code.specs.Written.{Puts};
+    ghost use Rattle.pattern_draft.specs.Leaves.{same_lines};
+    ghost use Rattle.pattern_draft.specs.Written.{Puts};
 
-    /// No instruction, with so many slots, of which none is bound.
-    pub(crate) fn new(alloc: A, slots: usize) -> Result<Self, AllocError>
+    /// No instruction, with so many slots, of which none is bound. An `Err` is want of memory.
+    pub fn new(alloc: A, slots: usize) -> Result<Self, AllocError>
     where
         A: Copy,
         ensures { IfOk result (λ d. d ≡ record { bound = replicate slots false; lines = [] }) }
@@ -63,8 +63,8 @@ impl<A: Allocator> Draft<A> {
         was
     }
 
-    /// Puts an instruction behind the others.
-    pub(crate) fn put(&mut self, op: Op<Term<A>>) -> Result<(), AllocError>
+    /// Puts an instruction behind the others. An `Err` is want of memory.
+    pub fn put(&mut self, op: Op<Term<A>>) -> Result<(), AllocError>
         ensures { OnOk result (Puts (plain op ∷ []) self.old self.new) }
     {
         match self.ops.push(op) {
@@ -73,16 +73,16 @@ impl<A: Allocator> Draft<A> {
         }
     }
 
-    /// Puts what tests that the top is this term.
-    pub(crate) fn put_same(&mut self, term: Term<A>) -> Result<(), AllocError>
+    /// Puts what tests that the top is this term. An `Err` is want of memory.
+    pub fn put_same(&mut self, term: Term<A>) -> Result<(), AllocError>
         ensures { OnOk result (Puts (same_lines term) self.old self.new) }
     {
         self.put(Op::Const(term))?;
         self.put(Op::Equal(Target::Failing))
     }
 
-    /// Moves the instructions before the lines.
-    pub(crate) fn prepend_to(&mut self, lines: &mut Lines<A>) -> Result<(), AllocError>
+    /// Moves the instructions before the lines. An `Err` is want of memory.
+    pub fn prepend_to(&mut self, lines: &mut Lines<A>) -> Result<(), AllocError>
         ensures { OnOk result (lines.new ≡ self.old.lines ++ lines.old) }
     {
         prepend_all(&mut self.ops, lines)
