@@ -2,14 +2,16 @@
 # Times `ets_tool run`, as `rt run` builds it, over inputs that are made here: objects {N,a} in growing numbers, without and
 # with a condition, a term 255 deep, a list of a million integers, a map of 65,535 pairs in falling order, specifications of up to
 # 8,000 nodes and 256 variables, and a long list that a condition looks at. Time and memory are to be linear. Then it times
-# `machine_bench`: the largest code verified, with frames at a third of its instructions and at nearly all; what compiling, running and
-# evaluating takes of a short specification over a million pairs, of growing bodies, and of a body that is one long list.
+# `file_bench`: the largest code verified, with frames at a third of its instructions and at nearly all; and `machine_bench`: what
+# compiling, running and evaluating takes of a short specification over a million pairs, of growing bodies, and of a body that is one
+# long list.
 # usage: bench/run.sh
 set -eu
 top=$(cd "$(dirname "$0")/.." && pwd)
 program=$top/crates/ets_tool/out/ets_tool
+verifier=$top/crates/file_bench/out/file_bench
 machine=$top/crates/machine_bench/out/machine_bench
-for built in "$program" "$machine"; do
+for built in "$program" "$verifier" "$machine"; do
   [ -x "$built" ] || { echo "bench/run.sh: no program at $built: build it by 'rt run </dev/null' in its crate" >&2; exit 2; }
 done
 work=$(mktemp -d)
@@ -39,9 +41,9 @@ variables() {
 looked_at() {
   awk -v n="$1" 'BEGIN { print "[{{'\''$1'\''},[{is_list,'\''$1'\''},{'\''=:='\'',{hd,{tl,'\''$1'\''}},1}],[{length,'\''$1'\''}]}]."; printf "{[0"; for (i = 1; i < n; i++) printf ",%d", i; print "]}." }'
 }
-measure_machine() {
+measure_verifier() {
   name=$1 word=$2
-  { command time -f '%e %M' "$machine" "$word" > "$work/out"; } 2> "$work/time"
+  { command time -f '%e %M' "$verifier" "$word" > "$work/out"; } 2> "$work/time"
   printf '%-28s %8s counted  %s s, KB at most\n' "$name" "$(cat "$work/out")" "$(tail -n 1 "$work/time")"
 }
 measure() {
@@ -57,8 +59,8 @@ for n in 10000 100000 1000000; do conditions "$n" > "$work/in"; measure "$n obje
 for n in 665 1330 2660; do nodes "$n" > "$work/in"; measure "$((n * 3)) nodes in a body" "$work/in"; done
 for n in 64 128 256; do variables "$n" > "$work/in"; measure "$n variables, 1,000 objects" "$work/in"; done
 for n in 10000 100000 1000000; do looked_at "$n" > "$work/in"; measure "a list of $n in a condition" "$work/in"; done
-measure_machine "verify, a third framed" third
-measure_machine "verify, nearly all framed" each
+measure_verifier "verify, a third framed" third
+measure_verifier "verify, nearly all framed" each
 { echo "[{{'_','\$1'},[],['\$1']}]."; yes '{1,true}.' | head -n 1000000; } > "$work/in"
 "$machine" objects < "$work/in"
 for n in 665 1330 2660; do nodes "$n" > "$work/in"; echo "$((n * 3)) nodes in a body"; "$machine" objects < "$work/in"; done

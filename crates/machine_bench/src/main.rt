@@ -1,16 +1,11 @@
-//! Times the compiler, the verifier and the machine from outside: `bench/run.sh` and `bench/against_erlang` run this program, once for each word.
+//! Times the compiler, the machine and the evaluator from outside: `bench/run.sh` and `bench/against_erlang` run this program, once for each word.
 //!
-//! - `third`: verifies 65,535 instructions with 256 slots, a frame at every third.
-//! - `each`: verifies 65,535 instructions with 256 slots, a frame at nearly each one.
-//! - `objects`: compiles the specification that standard input begins with, and runs and evaluates it on the objects behind it.
-//! - `code`: compiles it, and lists its code.
-//! - `file`: decodes the code file that standard input is, encodes its code again, and verifies it.
+//! - `objects`: compiles the specification that standard input begins with, and runs and evaluates it on the objects behind it (`runs.rt`).
+//! - `code`: compiles it, and lists its code (`listing.rt`).
 //!
-//! It prints the budget of what it verified, the time of a compilation and of an object, the code, or the times of a file.
+//! It prints the time of a compilation and of an object, or the code.
 #![tactic(auto)]
 
-mod files;
-mod largest;
 mod listing;
 mod runs;
 
@@ -24,19 +19,11 @@ fn input(rt: &HostRuntime) -> Option<Vec<u8>> {
     Some(input)
 }
 
-/// Writes the line of a budget.
-fn write_budget(budget: u64, lines: &mut String) -> Option<()> {
-    writeln!(lines, "{budget}").ok()
-}
-
 /// Writes the lines of a word. There are none where there is no such word or it can't be done.
 fn write_word(rt: &HostRuntime, word: &str, lines: &mut String) -> Option<()> {
     match word {
-        "third" => write_budget(largest::budget_framed_at_each_third(rt.alloc())?, lines),
-        "each" => write_budget(largest::budget_framed_at_each(rt.alloc())?, lines),
         "objects" => runs::write(rt, input(rt)?.as_slice(), lines),
         "code" => listing::write(rt.alloc(), input(rt)?.as_slice(), lines),
-        "file" => files::write(rt, input(rt)?.as_slice(), lines),
         _ => None,
     }
 }
@@ -55,7 +42,7 @@ fn main(rt: HostRuntime) -> anyhow::Result<ExitCode> {
         }
         None => {
             let usage =
-                "usage: machine_bench third|each, objects|code < TERMS, of which the first is a specification, or file < CODE_FILE\n";
+                "usage: machine_bench objects|code < TERMS, of which the first is a specification\n";
             rt.stderr().write_all(usage.as_bytes())?;
             Ok(ExitCode::FAILURE)
         }

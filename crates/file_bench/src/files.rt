@@ -1,9 +1,9 @@
 //! What a code file costs: its reading, its writing, and its verification.
+use crate::largest::budget_of;
 use code_file::{decode, encode};
 use mcode::Code;
 use std::alloc::Global;
 use std::time::Instant;
-use verifier::verify;
 
 /// The nanoseconds since a moment.
 fn nanoseconds_since(rt: &HostRuntime, began: Instant) -> Option<u64> {
@@ -22,11 +22,6 @@ fn write_encoding(rt: &HostRuntime, code: &Code, lines: &mut String) -> Option<(
     let bytes = encoded(rt.alloc(), code)?;
     let took = nanoseconds_since(rt, began)?;
     writeln!(lines, "encode {took} ns, {bytes} bytes").ok()
-}
-
-/// The budget of code, none where it isn't typed.
-fn budget_of(alloc: Global, code: Code) -> Option<u64> {
-    Some(u64::from(verify(alloc, code).ok()?.budget()))
 }
 
 /// Writes the line of what verifying takes.

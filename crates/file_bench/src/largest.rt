@@ -74,8 +74,8 @@ fn framed_at_each(alloc: Global) -> Option<Code> {
     Some(code.finish())
 }
 
-/// The budget of code.
-fn budget_of(alloc: Global, code: Code) -> Option<u64> {
+/// The budget of code, none where it isn't typed.
+pub(crate) fn budget_of(alloc: Global, code: Code) -> Option<u64> {
     Some(u64::from(verify(alloc, code).ok()?.budget()))
 }
 
