@@ -193,15 +193,17 @@ pub fn read_constant<A: Allocator + Copy>(
     }
 }
 
-/// The most places that a row begins with.
-const FIRST_PLACES: usize = 16;
+/// The most terms that a row has places for at first.
+const FIRST_TERMS: usize = 16;
+/// The most pairs that a row has places for at first.
+const FIRST_PAIRS: usize = 8;
 
-/// How many places a row of so many items begins with: those that it needs, and no more than some, since a count is not believed
-/// before its items are there.
-fn first_places(count: u32) -> usize
-    ensures { result ≤ 16 }
+/// How many places a row of so many items begins with: those that it needs, and at most so many, since a count is not believed before
+/// its items are there.
+fn first_places(count: u32, most: usize) -> usize
+    ensures { result ≤ most }
 {
-    (count as usize).min(FIRST_PLACES)
+    (count as usize).min(most)
 }
 
 /// So many terms, one after the other.
@@ -215,7 +217,7 @@ fn read_elements<A: Allocator + Copy>(
     ensures { Reads (rows (constant_format room) count) (BlamesBehind (AtTerm count) room bytes.now)
         (λ r. (r.0.items, r.1.now)) bytes.now result }
 {
-    let mut elements = Vec::with_capacity(alloc, first_places(count))?;
+    let mut elements = Vec::with_capacity(alloc, first_places(count, FIRST_TERMS))?;
     let mut rest = bytes;
     for _read in 0..count {
         let (element, behind) = read_constant(alloc, rest, room)?;
@@ -329,7 +331,7 @@ fn read_pairs<A: Allocator + Copy>(
     ensures { Reads (such (rows (pair_format room) count) RisingPairs)
         (BlamesBehind (InPairs count) room bytes.now) (λ r. (r.0.items, r.1.now)) bytes.now result }
 {
-    let mut pairs = Vec::with_capacity(alloc, first_places(u32::from(count)))?;
+    let mut pairs = Vec::with_capacity(alloc, first_places(u32::from(count), FIRST_PAIRS))?;
     let mut rest = bytes;
     for _read in 0..count {
         let (pair, behind) = read_pair(alloc, pairs.as_slice(), rest, room)?;
