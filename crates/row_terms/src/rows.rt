@@ -1,8 +1,7 @@
 //! Rows of a text, and what comes of them.
 use crate::outcome::canonical;
-use crate::parts::{fields, name};
 use crate::tally::Tally;
-use crate::texts::text;
+use row_parts::{fields, name, text};
 use std::alloc::{AllocError, Global};
 use std::io::{self, Read, Write};
 use std::process::ExitCode;
