@@ -1,5 +1,5 @@
 //! Constants at the front of a file's rest.
-ghost use Rattle.std.specs.Prelude.{◌≡◌, ◌≢◌, ◌<◌, ◌≤◌, ◌↔◌, ◌++◌, ◌∷◌, [], IsTrue};
+ghost use Rattle.std.specs.Prelude.{◌≡◌, ◌≢◌, ◌<◌, ◌≤◌, ◌↔◌, ◌++◌, ◌∷◌, [], IsTrue, ◌*◌, max, vec_len, vec_capacity};
 ghost use Rattle.std.specs.List.{flat_map, AllByRecursion};
 ghost use Rattle.term_fault.specs.declared.fault.Fault.TheVariants as Refusal;
 ghost use Rattle.file_format.specs.Spelling.{pair_bytes};
@@ -13,7 +13,7 @@ ghost use Rattle.file_terms.specs.declared.stop.Stop.TheVariants.{Memory as OutO
 use crate::number::{read_i64, read_u8, read_u16, read_u32, take};
 use crate::stop::{Cause, Stop};
 use made_terms::{atom_of_text, map_of_pairs};
-use std::alloc::Allocator;
+use std::alloc::{AllocError, Allocator};
 use std::str::from_utf8;
 use term_core::{Fault, MAX_BINARY, MAX_LIST, Term};
 
@@ -206,6 +206,17 @@ fn first_places(count: u32, most: usize) -> usize
     (count as usize).min(most)
 }
 
+/// Makes room in a row that is full and of which so many items are left: for these, but for no more than are there.
+fn make_room<T, A: Allocator>(row: &mut Vec<T, A>, left: u32) -> Result<(), AllocError>
+    ensures same { row.new.items ≡ row.old.items }
+    ensures room { vec_capacity row.new ≤ max (vec_capacity row.old) (2 * vec_len row.old) }
+{
+    if row.len() == row.capacity() {
+        row.reserve_exact(first_places(left, row.len()))?;
+    }
+    Ok(())
+}
+
 /// So many terms, one after the other.
 #[cycle(constant)]
 fn read_elements<A: Allocator + Copy>(
@@ -219,8 +230,9 @@ fn read_elements<A: Allocator + Copy>(
 {
     let mut elements = Vec::with_capacity(alloc, first_places(count, FIRST_TERMS))?;
     let mut rest = bytes;
-    for _read in 0..count {
+    for read in 0..count {
         let (element, behind) = read_constant(alloc, rest, room)?;
+        make_room(&mut elements, count - read)?;
         elements.push(element)?;
         rest = behind;
     }
@@ -333,8 +345,9 @@ fn read_pairs<A: Allocator + Copy>(
 {
     let mut pairs = Vec::with_capacity(alloc, first_places(u32::from(count), FIRST_PAIRS))?;
     let mut rest = bytes;
-    for _read in 0..count {
+    for read in 0..count {
         let (pair, behind) = read_pair(alloc, pairs.as_slice(), rest, room)?;
+        make_room(&mut pairs, u32::from(count - read))?;
         pairs.push(pair)?;
         rest = behind;
     }

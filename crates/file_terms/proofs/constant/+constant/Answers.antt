@@ -25,12 +25,12 @@ read_constant-returns-in_default g t c =
 pub read_elements-returns-in_err-element : goal.read_elements-returns-in_err-element
 read_elements-returns-in_err-element g t c =
     let p = err_from_is_err_and c.from_residual-in_err-element.result c.from_residual-in_err-element.ensures.1 in
-    rw (p.1, p.2) (elements_stop c.args.room c.args.count c.args.bytes.now c.loop-read.elements.items c.loop-read.rest.now c.loop-read._read _ c.loop-read.invariant c.loop-read-test.true c.in_err-element.ensures)
+    rw (p.1, p.2) (elements_stop c.args.room c.args.count c.args.bytes.now c.loop-read.elements.items c.loop-read.rest.now c.loop-read.read _ c.loop-read.invariant c.loop-read-test.true c.in_err-element.ensures)
 
 pub read_elements-loop-read-preserved : goal.read_elements-loop-read-preserved
 read_elements-loop-read-preserved g t c =
-    rw c.in_ok-push.ensures.items
-    (plain_step (constant_format c.args.room) c.args.bytes.now c.loop-read.elements.items c.loop-read.rest.now c.loop-read._read c.in_ok-element.element c.in_ok-element.behind.now c.loop-read.invariant c.in_ok-element.ensures)
+    rw (c.in_ok-push.ensures.items, c.make_room.ensures.same)
+    (plain_step (constant_format c.args.room) c.args.bytes.now c.loop-read.elements.items c.loop-read.rest.now c.loop-read.read c.in_ok-element.element c.in_ok-element.behind.now c.loop-read.invariant c.in_ok-element.ensures)
 
 pub read_tuple-returns-in_err-count : goal.read_tuple-returns-in_err-count
 read_tuple-returns-in_err-count g t c =
@@ -111,12 +111,12 @@ read_pair-returns g t c = pair_begins c.args.room c.args.before.now c.args.bytes
 pub read_pairs-returns-in_err-pair : goal.read_pairs-returns-in_err-pair
 read_pairs-returns-in_err-pair g t c =
     let p = err_from_is_err_and c.from_residual-in_err-pair.result c.from_residual-in_err-pair.ensures.1 in
-    rw (p.1, p.2) (pairs_stop c.args.room c.args.count c.args.bytes.now c.loop-read.pairs.items c.loop-read.rest.now c.loop-read._read _ c.loop-read.invariant c.loop-read-test.true (rw c.as_slice.ensures.value at c.in_err-pair.ensures))
+    rw (p.1, p.2) (pairs_stop c.args.room c.args.count c.args.bytes.now c.loop-read.pairs.items c.loop-read.rest.now c.loop-read.read _ c.loop-read.invariant c.loop-read-test.true (rw c.as_slice.ensures.value at c.in_err-pair.ensures))
 
 pub read_pairs-loop-read-preserved : goal.read_pairs-loop-read-preserved
 read_pairs-loop-read-preserved g t c =
-    rw c.in_ok-push.ensures.items
-    (row_step (pair_format c.args.room) RisingPairs c.args.bytes.now c.loop-read.pairs.items c.loop-read.rest.now c.loop-read._read c.in_ok-pair.pair c.in_ok-pair.behind.now c.loop-read.invariant (rw c.as_slice.ensures.value at c.in_ok-pair.ensures))
+    rw (c.in_ok-push.ensures.items, c.make_room.ensures.same)
+    (row_step (pair_format c.args.room) RisingPairs c.args.bytes.now c.loop-read.pairs.items c.loop-read.rest.now c.loop-read.read c.in_ok-pair.pair c.in_ok-pair.behind.now c.loop-read.invariant (rw c.as_slice.ensures.value at c.in_ok-pair.ensures))
 
 pub read_map_of_one-returns-in_err-key : goal.read_map_of_one-returns-in_err-key
 read_map_of_one-returns-in_err-key g t c =

@@ -35,7 +35,7 @@ abbrev pub decreases-read_list : goal.decreases-read_list
 decreases-read_list g l = 4 * l.room - 1
 
 abbrev pub invariant-read_elements-loop-read : goal.invariant-read_elements-loop-read
-invariant-read_elements-loop-read g l = IsRowSoFar (constant_format l.room) (λ _. Unit {0}) l.bytes l.elements.items l.rest l._read
+invariant-read_elements-loop-read g l = IsRowSoFar (constant_format l.room) (λ _. Unit {0}) l.bytes l.elements.items l.rest l.read
 
 abbrev pub invariant-read_pairs-loop-read : goal.invariant-read_pairs-loop-read
-invariant-read_pairs-loop-read g l = IsRowSoFar (pair_format l.room) RisingPairs l.bytes l.pairs.items l.rest l._read
+invariant-read_pairs-loop-read g l = IsRowSoFar (pair_format l.room) RisingPairs l.bytes l.pairs.items l.rest l.read
