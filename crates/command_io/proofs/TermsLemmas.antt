@@ -2,7 +2,7 @@
 use Rattle.std.proofs.Common.{◌≡◌, ◌≢◌, ◌↔◌, ℕ, inl, inr, Option, Some, None, List, [], ◌∷◌, length, refl, arith}
 use Rattle.std.specs.Str.{IsValidUpTo}
 use Rattle.term_core.specs.Datum.{Datum}
-use Rattle.term_text.specs.Text.{Spells}
+use Rattle.text_reader.specs.Text.{Spells}
 use Rattle.term_text.specs.Causes.{HasCause}
 use Rattle.term_text.specs.declared.fault.TextFault.{TextFault}
 use Rattle.term_text.specs.declared.fault.TextFault.TheVariants as text

@@ -1,6 +1,6 @@
 //! The terms of an input.
 ghost use Rattle.std.specs.Prelude.{◌≡◌, IfOk, IfErr};
-ghost use Rattle.term_text.specs.Text.{Spells};
+ghost use Rattle.text_reader.specs.Text.{Spells};
 ghost use Rattle.command_io.specs.Terms.{OfInput, HasTerms, IsUnread, IsUnspelled, of_text};
 
 use crate::fault::ToolFault;

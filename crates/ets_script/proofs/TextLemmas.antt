@@ -8,7 +8,7 @@ use Rattle.term_core.specs.Datum.{Datum, items_of, cells}
 use Rattle.term_core.specs.Datum.Datum.{integer, atom, nil}
 use Rattle.term_core.specs.Datum.Items.{no_items, item}
 use Rattle.operand.specs.Operand.{boolean}
-use Rattle.term_text.specs.Character.{open_brace, close_brace, open_bracket, close_bracket, comma}
+use Rattle.text_tokens.specs.Character.{open_brace, close_brace, open_bracket, close_bracket, comma}
 use Rattle.term_text.specs.Canonical.{canonical, items_text, more_items_text, is_reserved}
 use Rattle.term_text.proofs.Bytes.{tuple_bytes, items_bytes, more_items_bytes, no_more_items, list_bytes}
 use Rattle.command_io.specs.Lines.{text_of, line}

@@ -2,7 +2,7 @@
 use Rattle.std.specs.Prelude.{ℕ, ◌⊎◌, Option, List}
 use Rattle.std.specs.Io.KnownBytes.{Keeps}
 use Rattle.term_core.specs.Datum.{Datum}
-use Rattle.term_text.specs.Text.{Spells}
+use Rattle.text_reader.specs.Text.{Spells}
 use Rattle.command_io.specs.Terms.{OfInput, IsUnspelled}
 use Rattle.command_io.specs.declared.fault.ToolFault.{ToolFault}
 use Rattle.ets_script.specs.Run.{StopsReplies}

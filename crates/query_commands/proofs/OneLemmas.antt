@@ -3,7 +3,7 @@ use Rattle.std.proofs.Common.{◌≡◌, ℕ, ◌++◌, List, [], ◌∷◌, Opt
 use Rattle.term_core.specs.Datum.{Datum}
 use Rattle.term_core.specs.Datum.Datum.{integer, atom, tuple, map, nil, cons, binary}
 use Rattle.term_text.specs.Laws.{SpellsOne}
-use Rattle.term_text.specs.Text.{Spells}
+use Rattle.text_reader.specs.Text.{Spells}
 use Rattle.mspec_reader.specs.Laws.{HasOneReading}
 use Rattle.mspec_syntax.specs.Specification.{Specification}
 use Rattle.mspec_meaning.specs.Laws.{HasOneMeaning}

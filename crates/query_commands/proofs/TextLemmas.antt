@@ -7,7 +7,7 @@ use Rattle.term_core.specs.Datum.{Datum}
 use Rattle.term_core.specs.Datum.Datum.{integer}
 use Rattle.term_core.specs.Datum.Items.{no_items, item}
 use Rattle.std.specs.Str.{encode_utf8_all}
-use Rattle.term_text.specs.Character.{open_brace, close_brace, comma}
+use Rattle.text_tokens.specs.Character.{open_brace, close_brace, comma}
 use Rattle.term_text.specs.Canonical.{canonical, items_text, more_items_text, is_reserved}
 use Rattle.term_text.proofs.Bytes.{tuple_bytes, items_bytes, more_items_bytes, no_more_items}
 use Rattle.command_io.specs.Lines.{text_of, line}

@@ -1,13 +1,3 @@
-pub mod Steps
-pub mod Tokens
-pub mod Items
-pub mod Words
-pub mod Shorter
-pub mod Keys
-pub mod Sound
-pub mod Whole
-pub mod Texts
-pub mod Readers
 pub mod Publics
 pub mod Written
 pub mod ReadBack
@@ -15,5 +5,3 @@ pub mod Bytes
 pub mod Ends
 pub mod Blames
 pub mod BlamesTerms
-pub mod Within
-pub mod Constructed

@@ -1,8 +1,5 @@
 //! Why a text can't be read.
-ghost use Rattle.std.specs.Prelude.{◌≡◌};
-ghost use Rattle.term_text.specs.declared.fault.Stop.TheVariants.{Memory};
 
-use std::alloc::{AllocError, AllocFailed};
 use thiserror::Error;
 
 /// Why a text can't be read, and the byte of the input at which that is met, counted from 0.
@@ -68,39 +65,5 @@ impl TextFault {
             | TextFault::IntegerRange(at)
             | TextFault::UnsupportedEscape(at) => Some(at),
         }
-    }
-}
-
-/// What is wrong at a place of a text.
-#[derive(Clone, Copy, PartialEq, Eq)]
-pub(crate) enum Cause {
-    TooDeep,
-    TooLong,
-    DuplicateKey,
-    Syntax,
-    IntegerRange,
-    UnsupportedEscape,
-}
-
-/// Why reading stops: for want of memory, or at a place that is counted in the characters from there to the end.
-#[derive(Clone, Copy)]
-pub(crate) enum Stop {
-    Memory,
-    At(Cause, usize),
-}
-
-impl From<AllocError> for Stop {
-    ghost from_gives = { λ _ e. e ≡ Memory };
-
-    fn from(_refused: AllocError) -> Stop {
-        Stop::Memory
-    }
-}
-
-impl<T: Drop> From<AllocFailed<T>> for Stop {
-    ghost from_gives = { λ _ e. e ≡ Memory };
-
-    fn from(_refused: AllocFailed<T>) -> Stop {
-        Stop::Memory
     }
 }

@@ -1,21 +1,20 @@
 //! Term text: terms read from text and written as text.
 //!
-//! The contract: `read_terms` answers the terms that a text spells (`Spells`, in `specs/Text.antt`) and refuses any other
-//! text, naming what stands at the place of the refusal (`HasCause`, in `specs/Causes.antt`); `write_term` writes the one
-//! canonical text of a term, and `write_binary` that of a binary of any size (`canonical`, in `specs/Canonical.antt`); the law `canonical_text_is_read_back` says that a
-//! canonical text spells its term and no other.
+//! The contract: `read_terms` answers the terms that a text spells (`Spells`, in `specs/Text.antt` of `text_reader`) and refuses
+//! any other text, naming what stands at the place of the refusal (`HasCause`, in `specs/Causes.antt`); `write_term` writes the
+//! one canonical text of a term, and `write_binary` that of a binary of any size (`canonical`, in `specs/Canonical.antt`); the law
+//! `canonical_text_is_read_back` says that a canonical text spells its term and no other.
 //!
-//! - Reading: `text.rt` for bytes, `read.rt` for characters by `token.rt`, which follow `specs/Reading.antt`.
+//! - Reading: `text.rt`, for bytes, over the characters that `text_reader` reads.
 //! - Writing: `write.rt`.
-//! - Refusals, by the byte where they are met: `fault.rt`, `specs/Fault.antt`, `specs/FaultNumbers.antt`.
-//! - The law: `law.rt`, proved in `proofs/Written.antt` and `proofs/ReadBack.antt`.
+//! - Refusals, by the byte where they are met: `fault.rt`, `specs/Fault.antt`, `specs/FaultNumbers.antt`; that what one names
+//!   stands there: `proofs/Blames.antt`, `proofs/BlamesTerms.antt`.
+//! - The laws: `law.rt`, proved in `proofs/Written.antt` and `proofs/ReadBack.antt`.
 #![tactic(auto)]
 
 mod fault;
 mod law;
-mod read;
 mod text;
-mod token;
 mod write;
 
 pub use fault::TextFault;
