@@ -2,6 +2,7 @@
 use budget::{all_forward, longest};
 use mcode::Code;
 use primitives::Primitive;
+use row_answers::{CodeTerms, accepted};
 use row_code::{Built, Part, Parts, build, code_of, instruction, is_code, parts_of};
 use row_terms::{Outcome, digits, function, primitive, short, truth_name, word};
 use std::alloc::{Allocator, Global};
@@ -118,12 +119,13 @@ fn are_depths(verified: &Verified, parts: &Parts<Global>) -> bool {
     true
 }
 
-/// The budget and the depth of verified code.
-pub(crate) fn accepted<A: Allocator>(alloc: Global, code: &Verified<A>) -> Option<Vec<u8>> {
-    let out = Outcome::tuple(alloc).word("accepted");
-    out.number(code.budget() as usize)
-        .number(usize::from(code.depth()))
-        .end()
+/// Code that is said by its parts.
+pub(crate) struct BuiltCode;
+
+impl CodeTerms for BuiltCode {
+    fn verified_of<A: Allocator + Copy>(heap: A, term: &Term<A>) -> Option<Verified<A>> {
+        verify(heap, code_of(heap, term)?).ok()
+    }
 }
 
 /// The number of a fault of code, and the instruction that it names; none for want of memory.

@@ -1,41 +1,33 @@
-//! Rows of specifications and of code, read from standard input and tried on the public calls of the crates: what comes of each
-//! is compared with what it wants, and each row that fails is printed, with how many rows there were of each kind.
+//! Rows of code, read from standard input and tried on the public calls of the crates: what comes of each is compared with what it wants,
+//! and each row that fails is printed, with how many rows there were of each kind.
 //!
 //! `stdin` has the rows, and at its head the form of each kind. The judge is proved once, and rows cost nothing but their run.
 //!
-//! - `specifications`: terms that are read as specifications, and what these answer.
-//! - `compiled`: the code of specifications, which answers what they do.
-//! - `codes`: code that is built and verified; `runs`: what it answers.
-//! - `sweeps`: the same with each request for memory refused in turn, and what takes no memory.
+//! - `codes`: code that is built and verified.
+//! - `sweeps`: the same, and runs, with each request for memory refused in turn, and what takes no memory.
+//!
+//! What code answers is in `row_answers`; the code of specifications has its rows in `specification_rows`.
 #![tactic(auto)]
 
 mod codes;
-mod compiled;
-mod runs;
-mod specifications;
 mod sweeps;
 
+use codes::BuiltCode;
 use row_terms::{Kinds, judge_streams};
 use std::alloc::Global;
 use std::io;
 use std::process::ExitCode;
 use term_core::Term;
 
-/// The kinds of rows of specifications and of code.
+/// The kinds of rows of code.
 struct CodeKinds;
 
 impl Kinds for CodeKinds {
     fn came(alloc: Global, kind: &str, parts: &[Term], _forms: usize) -> Option<Vec<u8>> {
-        if let Some(out) = specifications::came(alloc, kind, parts) {
-            return Some(out);
-        }
-        if let Some(out) = compiled::came(alloc, kind, parts) {
-            return Some(out);
-        }
         if let Some(out) = codes::came(alloc, kind, parts) {
             return Some(out);
         }
-        if let Some(out) = runs::came(alloc, kind, parts) {
+        if let Some(out) = row_answers::came::<BuiltCode>(alloc, kind, parts) {
             return Some(out);
         }
         sweeps::came(alloc, kind, parts)

@@ -12,10 +12,12 @@ mod files;
 mod hostile;
 mod sweeps;
 
+use row_sweeps::swept_row;
 use row_terms::{Kinds, judge_streams};
 use std::alloc::Global;
 use std::io;
 use std::process::ExitCode;
+use sweeps::FileCalls;
 use term_core::Term;
 
 /// The kinds of rows of code files.
@@ -29,7 +31,7 @@ impl Kinds for FileKinds {
         if let Some(out) = hostile::came(alloc, kind, parts) {
             return Some(out);
         }
-        sweeps::came(alloc, kind, parts)
+        swept_row::<FileCalls>(alloc, kind, parts)
     }
 
     fn forms(_kind: &str) -> usize {

@@ -1,8 +1,8 @@
 //! Calls with each request for memory refused in turn.
 use crate::files::{encoded, verdict};
-use row_terms::{Calls, swept, text};
+use row_sweeps::Calls;
 use std::alloc::{Allocator, Global};
-use term_core::{Term, View};
+use term_core::View;
 use term_text::read_terms;
 
 /// Whether the code of a text is written as the binary behind it; none for want of memory.
@@ -18,7 +18,7 @@ fn written<A: Allocator + Copy>(alloc: Global, heap: A, given: &[u8]) -> Option<
 }
 
 /// The calls of rows of refused memory.
-struct FileCalls;
+pub(crate) struct FileCalls;
 
 impl Calls for FileCalls {
     const MOST_REQUESTS: u64 = 2_000;
@@ -35,16 +35,4 @@ impl Calls for FileCalls {
             _ => None,
         }
     }
-}
-
-/// What comes of a row of refused memory.
-pub(crate) fn came(alloc: Global, kind: &str, parts: &[Term]) -> Option<Vec<u8>> {
-    let [given, _] = parts else {
-        return None;
-    };
-    let given = text(alloc, given)?;
-    if kind.starts_with("swept_") {
-        return swept::<FileCalls>(alloc, kind, given.as_slice());
-    }
-    None
 }

@@ -2,7 +2,7 @@
 //!
 //! What is read from a row is generic in the allocator, so that a test may refuse memory meanwhile.
 //!
-//! - `parts`: names, numbers and lists in a row; `texts`: a text, in pieces that may be repeated.
+//! - `parts`: names, numbers and lists in a row; `texts`: a text, in pieces that may be repeated, and the term that it says.
 //! - `functions`: a function by its name.
 #![tactic(auto)]
 
@@ -12,4 +12,4 @@ mod texts;
 
 pub use functions::{arithmetic, function, primitive};
 pub use parts::{elements, fields, is_atom, name, number, short};
-pub use texts::text;
+pub use texts::{term_of, text};

@@ -2,10 +2,11 @@
 //!
 //! A text is a list of pieces: a character's number, a string, a binary of bytes, `{Count,Piece}` for so many of one string
 //! or binary, and `{First,Count,Before,After}` for so many numbers that rise from the first, each between two strings. So a
-//! string is a text too.
+//! string is a text too. The bytes of a text may say terms.
 use crate::parts::{elements, fields, number};
 use std::alloc::Allocator;
 use term_core::{Term, View};
+use term_text::read_terms;
 
 /// The character whose number a term is.
 fn character<A: Allocator>(term: &Term<A>) -> Option<char> {
@@ -120,4 +121,9 @@ pub fn text<A: Allocator + Copy>(heap: A, pieces: &Term<A>) -> Option<Vec<u8, A>
         push_piece(heap, &mut out, piece)?;
     }
     Some(out)
+}
+
+/// The only term that a text says.
+pub fn term_of<A: Allocator + Copy>(heap: A, text: &[u8]) -> Option<Term<A>> {
+    read_terms(heap, text).ok()?.pop()
 }

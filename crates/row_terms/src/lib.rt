@@ -6,21 +6,18 @@
 //!   `outcome`: what came, as a text that is put together.
 //! - What stands in a row is `row_parts`, passed on.
 //! - `sizes`: how deep and how long a term is.
-//! - `sweeps`: calls with each request for memory refused in turn.
 #![tactic(auto)]
 
 mod outcome;
 mod rows;
 mod sizes;
-mod sweeps;
 mod tally;
 
 pub use outcome::{
     Outcome, canonical, digits, listed, numbered, refused, tagged, truth_name, word, written,
 };
 pub use row_parts::{
-    arithmetic, elements, fields, function, is_atom, name, number, primitive, short, text,
+    arithmetic, elements, fields, function, is_atom, name, number, primitive, short, term_of, text,
 };
 pub use rows::{Kinds, judge_streams};
 pub use sizes::{length, size_of};
-pub use sweeps::{Calls, swept};

@@ -3,10 +3,11 @@ ghost use Rattle.std.specs.Prelude.{◌≡◌, [], ◌∷◌, pos, IfSome};
 ghost use Rattle.term_core.specs.Datum.Datum.{integer};
 ghost use Rattle.term_core.specs.MapPairs.{keys_of};
 
-use made_terms::{are_apart, atom_of_text, copy_all, copy_tail, make_list, make_map, make_tuple, map_of_pairs};
-use row_terms::{
-    Calls, Outcome, canonical, length, name, refused, size_of, swept, text, word, written,
+use made_terms::{
+    are_apart, atom_of_text, copy_all, copy_tail, make_list, make_map, make_tuple, map_of_pairs,
 };
+use row_sweeps::{Calls, swept};
+use row_terms::{Outcome, canonical, length, name, refused, size_of, text, word, written};
 use std::alloc::{Allocator, Global};
 use term_core::{Fault, ListParts, Refused, Term, View};
 use term_text::read_terms;

@@ -1,16 +1,13 @@
 //! Specifications that are compiled.
-use crate::codes::accepted;
 use compiler::compile;
-use machine::Machine;
-use mspec_meaning::evaluate;
 use mspec_reader::read_spec;
-use mspec_syntax::Spec;
-use row_code::{code_of, is_code, parts_of};
+use row_answers::{CodeTerms, accepted, agrees};
+use row_code::{is_code, parts_of};
 use row_terms::{canonical, elements, fields, is_atom, text, word};
 use std::alloc::{Allocator, Global};
 use term_core::Term;
 use term_text::read_terms;
-use verifier::{Verified, verify};
+use verifier::Verified;
 
 /// The specification of a term `{compile,Specification}`.
 fn to_compile<A: Allocator>(term: &Term<A>) -> Option<&Term<A>> {
@@ -20,61 +17,13 @@ fn to_compile<A: Allocator>(term: &Term<A>) -> Option<&Term<A>> {
     }
 }
 
-/// The verified code that a term says: that of a specification, or of parts.
-pub(crate) fn verified_of<A: Allocator + Copy>(heap: A, term: &Term<A>) -> Option<Verified<A>> {
-    match to_compile(term) {
-        Some(specification) => compile(heap, &read_spec(heap, specification).ok()?).ok(),
-        None => verify(heap, code_of(heap, term)?).ok(),
+/// Code that is said by its specification.
+pub(crate) struct CompiledCode;
+
+impl CodeTerms for CompiledCode {
+    fn verified_of<A: Allocator + Copy>(heap: A, term: &Term<A>) -> Option<Verified<A>> {
+        compile(heap, &read_spec(heap, to_compile(term)?).ok()?).ok()
     }
-}
-
-/// Whether two answers are the same.
-fn same<A: Allocator>(left: Option<&Term<A>>, right: Option<&Term<A>>) -> bool {
-    match (left, right) {
-        (Some(left), Some(right)) => left == right,
-        (None, None) => true,
-        _ => false,
-    }
-}
-
-/// Whether a machine answers what its specification does.
-fn agrees_on<'a, A: Allocator + Copy>(
-    heap: A,
-    machine: &mut Machine<'a, '_, A>,
-    specification: &Spec<A>,
-    object: &'a Term<A>,
-) -> Option<bool> {
-    let (ran, _) = machine.run(object).ok()?;
-    let meant = evaluate(heap, specification, object).ok()?;
-    Some(same(ran.as_ref(), meant.as_ref()))
-}
-
-/// Whether a machine answers what its specification does, on each of these objects.
-fn all_agree_on<'a, A: Allocator + Copy>(
-    heap: A,
-    machine: &mut Machine<'a, '_, A>,
-    specification: &Spec<A>,
-    objects: &'a [Term<A>],
-) -> Option<bool> {
-    for object in objects {
-        if !agrees_on(heap, machine, specification, object)? {
-            return Some(false);
-        }
-    }
-    Some(true)
-}
-
-/// Whether the code of a specification answers what the specification does, on each of these objects; none for want of memory.
-pub(crate) fn agrees<A: Allocator + Copy>(
-    heap: A,
-    specification: &Spec<A>,
-    objects: &[Term<A>],
-) -> Option<bool> {
-    let code = compile(heap, specification).ok()?;
-    let mut machine = Machine::new(&heap, &code).ok()?;
-    let agree = all_agree_on(heap, &mut machine, specification, objects);
-    machine.finish();
-    agree
 }
 
 /// The first of these specifications of which the code answers something else on one of these objects.

@@ -1,10 +1,9 @@
 //! Terms that are read as specifications, and what these answer.
-use crate::compiled::agrees;
-use mspec_meaning::evaluate;
 use mspec_reader::read_spec;
-use mspec_syntax::{Spec, SpecFault};
-use row_terms::{Outcome, elements, listed, numbered, text, word};
-use std::alloc::{Allocator, Global};
+use mspec_syntax::SpecFault;
+use row_answers::{answers_of, answers_of_text};
+use row_terms::{Outcome, elements, numbered, text};
+use std::alloc::Global;
 use term_core::Term;
 use term_text::read_terms;
 
@@ -31,48 +30,6 @@ fn read(alloc: Global, term: &Term) -> Option<Vec<u8>> {
 fn read_text(alloc: Global, given: &Term) -> Option<Vec<u8>> {
     let terms = read_terms(alloc, text(alloc, given)?.as_slice()).ok()?;
     read(alloc, terms.first()?)
-}
-
-/// The answers of a specification on objects, with memory from `heap`.
-fn answers<A: Allocator + Copy>(
-    alloc: Global,
-    heap: A,
-    spec: &Spec<A>,
-    objects: &[Term<A>],
-) -> Option<Vec<u8>> {
-    let mut answers = Vec::new(heap);
-    for object in objects {
-        if let Some(answer) = evaluate(heap, spec, object).ok()? {
-            answers.push(answer).ok()?;
-        }
-    }
-    listed(alloc, answers.as_slice())
-}
-
-/// The answers of the specification that a term is read as, where its code has the same.
-fn answers_of<A: Allocator + Copy>(
-    alloc: Global,
-    heap: A,
-    term: &Term<A>,
-    objects: &[Term<A>],
-) -> Option<Vec<u8>> {
-    let specification = read_spec(heap, term).ok()?;
-    if agrees(heap, &specification, objects)? {
-        answers(alloc, heap, &specification, objects)
-    } else {
-        word(alloc, "code_differs")
-    }
-}
-
-/// The answers of the first term of a text on those behind it.
-pub(crate) fn answers_of_text<A: Allocator + Copy>(
-    alloc: Global,
-    heap: A,
-    given: &[u8],
-) -> Option<Vec<u8>> {
-    let terms = read_terms(heap, given).ok()?;
-    let (spec, objects) = terms.as_slice().split_first()?;
-    answers_of(alloc, heap, spec, objects)
 }
 
 /// What comes of a row of specifications.

@@ -1,7 +1,8 @@
 //! Calls with each request for memory refused in turn.
-use crate::outcome::word;
 use failing_alloc::{Failing, sweep};
+use row_terms::{text, word};
 use std::alloc::{Allocator, Global};
+use term_core::Term;
 
 /// Calls on a text that a program knows.
 pub trait Calls {
@@ -36,5 +37,17 @@ pub fn swept<C: Calls>(alloc: Global, call: &str, given: &[u8]) -> Option<Vec<u8
         Some(out)
     } else {
         word(alloc, "another_without_memory")
+    }
+}
+
+/// What comes of a row of a text and of what is wanted, whose kind is `swept_` and what is called.
+pub fn swept_row<C: Calls>(alloc: Global, kind: &str, parts: &[Term]) -> Option<Vec<u8>> {
+    let [given, _] = parts else {
+        return None;
+    };
+    if kind.starts_with("swept_") {
+        swept::<C>(alloc, kind, text(alloc, given)?.as_slice())
+    } else {
+        None
     }
 }

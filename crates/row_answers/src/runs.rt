@@ -1,5 +1,5 @@
 //! What code answers on objects.
-use crate::compiled::verified_of;
+use crate::codes::CodeTerms;
 use machine::{Machine, run, run_true};
 use row_terms::{Outcome, elements, is_atom, text, word};
 use std::alloc::Global;
@@ -78,28 +78,28 @@ fn ran_each(alloc: Global, code: &Verified, objects: &[Term]) -> Option<Vec<u8>>
 }
 
 /// The answer of the code that a term says.
-fn ran_code(alloc: Global, code: &Term, object: &Term) -> Option<Vec<u8>> {
-    ran(alloc, &verified_of(alloc, code)?, object)
+fn ran_code<C: CodeTerms>(alloc: Global, code: &Term, object: &Term) -> Option<Vec<u8>> {
+    ran(alloc, &C::verified_of(alloc, code)?, object)
 }
 
 /// The answers of the code on each of a list of objects, by one machine.
-fn ran_code_on_each(alloc: Global, code: &Term, objects: &Term) -> Option<Vec<u8>> {
-    let code = verified_of(alloc, code)?;
+fn ran_code_on_each<C: CodeTerms>(alloc: Global, code: &Term, objects: &Term) -> Option<Vec<u8>> {
+    let code = C::verified_of(alloc, code)?;
     ran_each(alloc, &code, elements(objects)?)
 }
 
 /// The answer of the code on the first term of a text.
-fn ran_on_text(alloc: Global, code: &Term, given: &Term) -> Option<Vec<u8>> {
+fn ran_on_text<C: CodeTerms>(alloc: Global, code: &Term, given: &Term) -> Option<Vec<u8>> {
     let objects = read_terms(alloc, text(alloc, given)?.as_slice()).ok()?;
-    ran_code(alloc, code, objects.first()?)
+    ran_code::<C>(alloc, code, objects.first()?)
 }
 
 /// What comes of a row of runs.
-pub(crate) fn came(alloc: Global, kind: &str, parts: &[Term]) -> Option<Vec<u8>> {
+pub fn came<C: CodeTerms>(alloc: Global, kind: &str, parts: &[Term]) -> Option<Vec<u8>> {
     match (kind, parts) {
-        ("run", [code, object, _]) => ran_code(alloc, code, object),
-        ("run_text", [code, given, _]) => ran_on_text(alloc, code, given),
-        ("run_each", [code, objects, _]) => ran_code_on_each(alloc, code, objects),
+        ("run", [code, object, _]) => ran_code::<C>(alloc, code, object),
+        ("run_text", [code, given, _]) => ran_on_text::<C>(alloc, code, given),
+        ("run_each", [code, objects, _]) => ran_code_on_each::<C>(alloc, code, objects),
         _ => None,
     }
 }

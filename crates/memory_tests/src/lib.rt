@@ -1,15 +1,12 @@
-//! Tests that cross crates and that no row of `term_rows`, `engine_rows` or `code_rows` says: calls with each request for memory refused in
-//! turn, what takes no memory, and the texts of errors.
+//! Tests of memory: the allocator that refuses; terms, their texts, operands and values with each request refused in turn; and what takes
+//! no memory. Commands are refused it in `refusal_tests`, code and specifications in rows of `code_rows` and `specification_rows`.
 //!
 //! It has no code of its own. What a test here calls is proved in its own crate once, and not a second time with its tests.
 //!
 //! - `failing`: the allocator that refuses; `sweeps`: calls with each request refused in turn.
 //! - `terms`, `text`: terms made, copied, read and written; `functions`: operands and values.
-//! - `commands`: commands of the program, whose readers and writers fail; `texts`: what refusals are called.
 #![tactic(auto)]
 
-#[cfg(test)]
-mod commands;
 #[cfg(test)]
 mod failing;
 #[cfg(test)]
@@ -20,5 +17,3 @@ mod sweeps;
 mod terms;
 #[cfg(test)]
 mod text;
-#[cfg(test)]
-mod texts;

@@ -3,7 +3,7 @@ use failing_alloc::Failing;
 use operand::{Operand, Value};
 use primitives::{BooleanFunction, Comparison, Extreme, Function, Primitive, TupleFunction};
 use prims::{call, call_values};
-use row_terms::is_atom;
+use row_terms::{is_atom, term_of};
 use std::alloc::{Allocator, Global};
 use std::test::*;
 use term_core::Term;
@@ -79,11 +79,6 @@ pub(super) fn are_copied<A: Allocator + Copy>(heap: A) -> Option<bool> {
     Some(true)
 }
 
-/// The only term of a text.
-fn term<A: Allocator + Copy>(heap: A, text: &[u8]) -> Option<Term<A>> {
-    read_terms(heap, text).ok()?.pop()
-}
-
 /// The number one, and the only term of a text as a value that was made.
 fn one_and_made<'a, 'h, A: Allocator + Copy>(
     heap: &'h A,
@@ -92,7 +87,7 @@ fn one_and_made<'a, 'h, A: Allocator + Copy>(
     let mut values = Vec::new(*heap);
     values.push(Value::Int(1)).ok()?;
     values
-        .push(Value::made(heap, term(*heap, text)?).ok()?)
+        .push(Value::made(heap, term_of(*heap, text)?).ok()?)
         .ok()?;
     Some(values)
 }

@@ -1,24 +1,8 @@
-//! The program with both of its streams, where help can't be written or memory is refused.
-use super::{FILE, FailingWriter, INPUT};
-use ets_commands::{Request, run_request, run_words};
+//! Commands of the program with each request for memory refused in turn.
+use ets_commands::{Request, run_request};
 use failing_alloc::{Failing, sweep};
+use failing_streams::{FILE, INPUT};
 use std::alloc::Global;
-
-/// The status of `help` where standard output fails behind its beginning, and what it writes on standard error.
-fn left_by_unwritten_help(alloc: Global) -> (u8, Vec<u8>) {
-    let mut reader = "".as_bytes();
-    let mut out = FailingWriter { calls_left: 3 };
-    let mut err = Vec::new(alloc);
-    let words = ["ets_tool", "help"];
-    let status = run_words(alloc, words.as_slice(), &mut reader, &mut out, &mut err);
-    (status, err)
-}
-
-#[test]
-fn help_that_cannot_be_written_is_refused(rt: HostRuntime) {
-    let (status, err) = left_by_unwritten_help(rt.alloc());
-    assert!(rt; status == 4 && err.as_slice() == b"error E71\n".as_slice());
-}
 
 /// Whether what was told is the line of want of memory, or nothing.
 fn tells_no_memory(err: &[u8]) -> bool {

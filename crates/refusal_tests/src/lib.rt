@@ -1,0 +1,14 @@
+//! Tests of refusals: commands with each request for memory refused in turn, and what refusals are called.
+//!
+//! It has no code of its own. What a test here calls is proved in its own crate once, and not a second time with its tests.
+//!
+//! - `queries`: queries by themselves; `requests`: commands of the program, with the line and the status of a refusal.
+//! - `texts`: what refusals are called.
+#![tactic(auto)]
+
+#[cfg(test)]
+mod queries;
+#[cfg(test)]
+mod requests;
+#[cfg(test)]
+mod texts;
