@@ -276,9 +276,58 @@ fn read_tuple_of_two<'a, A: Allocator + Copy>(
     ensures { Reads (constant_format room) (BlamesWithin room bytes.now) (λ r. (r.0, r.1.now))
         bytes.now result }
 {
-    let (first, between) = read_constant(alloc, behind, room - 1)?;
-    let (second, behind) = read_constant(alloc, between, room - 1)?;
+    let (first, after_first) = read_constant(alloc, behind, room - 1)?;
+    let (second, behind) = read_constant(alloc, after_first, room - 1)?;
     match Term::tuple_of_two(alloc, [first, second]) {
+        Ok(tuple) => Ok((tuple, behind)),
+        Err(refused) => Err(memory_alone(refused.fault)),
+    }
+}
+
+/// The tuple of three elements, behind its tag and its count: without a row.
+#[cycle(constant)]
+fn read_tuple_of_three<'a, A: Allocator + Copy>(
+    alloc: A,
+    bytes: &[u8],
+    rest: &[u8],
+    behind: &'a [u8],
+    room: u8,
+) -> Result<(Term<A>, &'a [u8]), Stop>
+    requires tag { Begins u8_format bytes.now 3 rest.now }
+    requires count { Begins u16_format rest.now 3 behind.now }
+    requires room { 0 < room }
+    ensures { Reads (constant_format room) (BlamesWithin room bytes.now) (λ r. (r.0, r.1.now))
+        bytes.now result }
+{
+    let (first, after_first) = read_constant(alloc, behind, room - 1)?;
+    let (second, after_second) = read_constant(alloc, after_first, room - 1)?;
+    let (third, behind) = read_constant(alloc, after_second, room - 1)?;
+    match Term::tuple_of_three(alloc, [first, second, third]) {
+        Ok(tuple) => Ok((tuple, behind)),
+        Err(refused) => Err(memory_alone(refused.fault)),
+    }
+}
+
+/// The tuple of four elements, behind its tag and its count: without a row.
+#[cycle(constant)]
+fn read_tuple_of_four<'a, A: Allocator + Copy>(
+    alloc: A,
+    bytes: &[u8],
+    rest: &[u8],
+    behind: &'a [u8],
+    room: u8,
+) -> Result<(Term<A>, &'a [u8]), Stop>
+    requires tag { Begins u8_format bytes.now 3 rest.now }
+    requires count { Begins u16_format rest.now 4 behind.now }
+    requires room { 0 < room }
+    ensures { Reads (constant_format room) (BlamesWithin room bytes.now) (λ r. (r.0, r.1.now))
+        bytes.now result }
+{
+    let (first, after_first) = read_constant(alloc, behind, room - 1)?;
+    let (second, after_second) = read_constant(alloc, after_first, room - 1)?;
+    let (third, after_third) = read_constant(alloc, after_second, room - 1)?;
+    let (fourth, behind) = read_constant(alloc, after_third, room - 1)?;
+    match Term::tuple_of_four(alloc, [first, second, third, fourth]) {
         Ok(tuple) => Ok((tuple, behind)),
         Err(refused) => Err(memory_alone(refused.fault)),
     }
@@ -301,6 +350,8 @@ fn read_tuple<'a, A: Allocator + Copy>(
     match count {
         1 => return read_tuple_of_one(alloc, bytes, rest, behind, room),
         2 => return read_tuple_of_two(alloc, bytes, rest, behind, room),
+        3 => return read_tuple_of_three(alloc, bytes, rest, behind, room),
+        4 => return read_tuple_of_four(alloc, bytes, rest, behind, room),
         _ => {}
     }
     let (elements, behind) = read_elements(alloc, u32::from(count), behind, room - 1)?;

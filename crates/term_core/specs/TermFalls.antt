@@ -63,6 +63,8 @@ parts_fall G (shape.Atom b) h = omega arith
 parts_fall G shape.Unit h = omega arith
 parts_fall G (shape.TupleOfOne d b) h = omega arith
 parts_fall G (shape.TupleOfTwo d b) h = let e = items_fall b.value in omega arith
+parts_fall G (shape.TupleOfThree d b) h = let e = items_fall b.value in omega arith
+parts_fall G (shape.TupleOfFour d b) h = let e = items_fall b.value in omega arith
 parts_fall G (shape.Tuple d b) h = let e = items_fall b.value.items in omega arith
 parts_fall G (shape.List d b) h = let e = cells_fall G b.value.elements b.value.tail h.1 h.2 in omega arith
 parts_fall G (shape.MapOfOne d b) h = omega arith

@@ -42,6 +42,8 @@ enum Shape<A: Allocator> {
     Unit,
     TupleOfOne(u8, Arc<Term<A>, A>),
     TupleOfTwo(u8, Arc<[Term<A>; 2], A>),
+    TupleOfThree(u8, Arc<[Term<A>; 3], A>),
+    TupleOfFour(u8, Arc<[Term<A>; 4], A>),
     Tuple(u8, Arc<Vec<Term<A>, A>, A>),
     List(u8, Arc<Cells<A>, A>),
     MapOfOne(u8, Arc<(Term<A>, Term<A>), A>),
@@ -541,6 +543,44 @@ impl<A: Allocator> Term<A> {
         })
     }
 
+    /// The tuple of three elements, in the least memory. A tuple deeper than `MAX_DEPTH` is refused.
+    pub fn tuple_of_three(alloc: A, elements: [Term<A>; 3]) -> Result<Self, Refused<[Term<A>; 3]>>
+        ensures ok { IfOk result (λ t. t ≡ tuple (items_of elements)) }
+        ensures refused { IfErr result (λ r. (r.value ≡ elements)
+            × IsFault r.fault (tuple (items_of elements))) }
+    {
+        let deepest = deepest(&elements[..]);
+        if deepest >= MAX_DEPTH {
+            return Err(Refused {
+                value: elements,
+                fault: Fault::TooDeep,
+            });
+        }
+        let elements = shared(alloc, elements)?;
+        Ok(Term {
+            shape: Shape::TupleOfThree(deepest + 1, elements),
+        })
+    }
+
+    /// The tuple of four elements, in the least memory. A tuple deeper than `MAX_DEPTH` is refused.
+    pub fn tuple_of_four(alloc: A, elements: [Term<A>; 4]) -> Result<Self, Refused<[Term<A>; 4]>>
+        ensures ok { IfOk result (λ t. t ≡ tuple (items_of elements)) }
+        ensures refused { IfErr result (λ r. (r.value ≡ elements)
+            × IsFault r.fault (tuple (items_of elements))) }
+    {
+        let deepest = deepest(&elements[..]);
+        if deepest >= MAX_DEPTH {
+            return Err(Refused {
+                value: elements,
+                fault: Fault::TooDeep,
+            });
+        }
+        let elements = shared(alloc, elements)?;
+        Ok(Term {
+            shape: Shape::TupleOfFour(deepest + 1, elements),
+        })
+    }
+
     /// The list of these elements followed by a tail. A tail that is a list is joined on; without elements it is the
     /// tail, or `[]` where there is none. More than `MAX_LIST` elements are refused, and a list deeper than `MAX_DEPTH`.
     pub fn list(
@@ -574,6 +614,7 @@ impl<A: Allocator> Term<A> {
             Shape::Integer(_) | Shape::Nil | Shape::Short(_, _) | Shape::Atom(_) => 1,
             Shape::Unit | Shape::Binary(_) => 1,
             Shape::TupleOfOne(depth, _) | Shape::TupleOfTwo(depth, _) => *depth,
+            Shape::TupleOfThree(depth, _) | Shape::TupleOfFour(depth, _) => *depth,
             Shape::MapOfOne(depth, _) => *depth,
             Shape::Tuple(depth, _) | Shape::List(depth, _) | Shape::Map(depth, _) => *depth,
         }
@@ -594,6 +635,8 @@ impl<A: Allocator> Term<A> {
             Shape::Unit => View::Tuple(&[]),
             Shape::TupleOfOne(_, element) => View::Tuple(slice::from_ref(&**element)),
             Shape::TupleOfTwo(_, elements) => View::Tuple(&elements[..]),
+            Shape::TupleOfThree(_, elements) => View::Tuple(&elements[..]),
+            Shape::TupleOfFour(_, elements) => View::Tuple(&elements[..]),
             Shape::Tuple(_, elements) => View::Tuple(elements.as_slice()),
             Shape::List(_, cells) => View::List(cells.elements.as_slice(), cells.tail.as_ref()),
             Shape::MapOfOne(_, pair) => View::Map(slice::from_ref(&**pair)),

@@ -38,6 +38,14 @@ fn copy_shape<A: Allocator>(shape: &Shape<A>) -> Result<Shape<A>, AllocError>
             *depth,
             Arc::try_clone(elements)?,
         )),
+        Shape::TupleOfThree(depth, elements) => Ok(Shape::TupleOfThree(
+            *depth,
+            Arc::try_clone(elements)?,
+        )),
+        Shape::TupleOfFour(depth, elements) => Ok(Shape::TupleOfFour(
+            *depth,
+            Arc::try_clone(elements)?,
+        )),
         Shape::Tuple(depth, elements) => Ok(Shape::Tuple(*depth, Arc::try_clone(elements)?)),
         Shape::List(depth, cells) => Ok(Shape::List(*depth, Arc::try_clone(cells)?)),
         Shape::Map(depth, pairs) => Ok(Shape::Map(*depth, Arc::try_clone(pairs)?)),

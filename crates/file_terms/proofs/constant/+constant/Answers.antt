@@ -4,7 +4,7 @@ use Rattle.term_core.specs.Datum.Datum.{tuple, map}
 use Rattle.term_core.specs.Datum.{items_of, entries_of, cells}
 use Rattle.file_format.specs.Formats.{constant_format, pair_format, RisingPairs}
 use Rattle.file_terms.proofs.RowLemmas.{row_start, row_step, plain_step, not_so}
-use Rattle.file_terms.proofs.LevelLemmas.{tag_short, level_past, nil_begins, tag_unnamed, elements_stop, tuple_short, tuple_stop, tuple_begins, row_of_one, tuple_of_one, tuple_of_two, made, pair_key_stop, pair_value_stop, key_unordered, pair_begins, pairs_stop, map_short, map_stop, map_begins, map_of_one, map_made, map_term, list_short, list_stop, tail_stop, tail_joined, tail_no_cell, list_begins}
+use Rattle.file_terms.proofs.LevelLemmas.{tag_short, level_past, nil_begins, tag_unnamed, elements_stop, tuple_short, tuple_stop, tuple_begins, row_of_one, row_of_two, row_of_three, row_of_four, tuple_of_row, made, pair_key_stop, pair_value_stop, key_unordered, pair_begins, pairs_stop, map_short, map_stop, map_begins, map_of_one, map_made, map_term, list_short, list_stop, tail_stop, tail_joined, tail_no_cell, list_begins}
 use Rattle.file_terms.proofs.constant.+constant.Goals as goal
 
 pub read_constant-returns-in_err-tag : goal.read_constant-returns-in_err-tag
@@ -53,44 +53,134 @@ read_tuple-memory_alone-requires g t c =
 pub read_tuple_of_one-returns-in_err-element : goal.read_tuple_of_one-returns-in_err-element
 read_tuple_of_one-returns-in_err-element g t c =
     let room = c.args.room - 1 in
-    let start = row_start (constant_format room) (λ _. Unit {0}) c.args.behind.now tt in
+    let row = row_start (constant_format room) (λ _. Unit {0}) c.args.behind.now tt in
     let p = err_from_is_err_and c.from_residual.result c.from_residual.ensures.1 in
     rw (p.1, p.2) (tuple_stop room c.args.room c.args.bytes.now c.args.rest.now 1 c.args.behind.now _ (omega arith) c.requires.tag c.requires.count
-    (elements_stop room 1 c.args.behind.now [] c.args.behind.now 0 _ start (omega arith) c.in_err-element.ensures))
+    (elements_stop room 1 c.args.behind.now [] c.args.behind.now 0 _ row (omega arith) c.in_err-element.ensures))
 
 pub read_tuple_of_one-returns-in-Ok : goal.read_tuple_of_one-returns-in-Ok
 read_tuple_of_one-returns-in-Ok g t c =
-    rw c.in-Ok.ensures.ok (tuple_of_one (c.args.room - 1) c.args.room c.args.bytes.now c.args.rest.now c.args.behind.now c.in_ok-element.element c.in_ok-element.behind.now (omega arith) c.requires.tag c.requires.count c.in_ok-element.ensures)
+    let room = c.args.room - 1 in
+    let row = row_of_one room c.args.behind.now c.in_ok-element.element c.in_ok-element.behind.now c.in_ok-element.ensures in
+    rw c.in-Ok.ensures.ok (tuple_of_row room c.args.room 1 c.args.bytes.now c.args.rest.now c.args.behind.now (c.in_ok-element.element ∷ []) c.in_ok-element.behind.now (omega arith) c.requires.tag c.requires.count row)
 
 pub read_tuple_of_one-memory_alone-requires : goal.read_tuple_of_one-memory_alone-requires
 read_tuple_of_one-memory_alone-requires g t c =
-    let begun = tuple_of_one (c.args.room - 1) c.args.room c.args.bytes.now c.args.rest.now c.args.behind.now c.in_ok-element.element c.in_ok-element.behind.now (omega arith) c.requires.tag c.requires.count c.in_ok-element.ensures in
+    let room = c.args.room - 1 in
+    let row = row_of_one room c.args.behind.now c.in_ok-element.element c.in_ok-element.behind.now c.in_ok-element.ensures in
+    let begun = tuple_of_row room c.args.room 1 c.args.bytes.now c.args.rest.now c.args.behind.now (c.in_ok-element.element ∷ []) c.in_ok-element.behind.now (omega arith) c.requires.tag c.requires.count row in
     made c.args.room c.args.bytes.now (tuple (items_of (c.in_ok-element.element ∷ []))) c.in_ok-element.behind.now c.in-Err.refused.fault (omega arith) begun c.in-Err.ensures.refused.1
 
 pub read_tuple_of_two-returns-in_err-first : goal.read_tuple_of_two-returns-in_err-first
 read_tuple_of_two-returns-in_err-first g t c =
     let room = c.args.room - 1 in
-    let start = row_start (constant_format room) (λ _. Unit {0}) c.args.behind.now tt in
+    let row = row_start (constant_format room) (λ _. Unit {0}) c.args.behind.now tt in
     let p = err_from_is_err_and c.from_residual.result c.from_residual.ensures.1 in
     rw (p.1, p.2) (tuple_stop room c.args.room c.args.bytes.now c.args.rest.now 2 c.args.behind.now _ (omega arith) c.requires.tag c.requires.count
-    (elements_stop room 2 c.args.behind.now [] c.args.behind.now 0 _ start (omega arith) c.in_err-first.ensures))
+    (elements_stop room 2 c.args.behind.now [] c.args.behind.now 0 _ row (omega arith) c.in_err-first.ensures))
 
 pub read_tuple_of_two-returns-in_err-second : goal.read_tuple_of_two-returns-in_err-second
 read_tuple_of_two-returns-in_err-second g t c =
     let room = c.args.room - 1 in
-    let first = row_of_one room c.args.behind.now c.in_ok-first.first c.in_ok-first.between.now c.in_ok-first.ensures in
+    let row = row_of_one room c.args.behind.now c.in_ok-first.first c.in_ok-first.after_first.now c.in_ok-first.ensures in
     let p = err_from_is_err_and c.from_residual-in_err-second.result c.from_residual-in_err-second.ensures.1 in
     rw (p.1, p.2) (tuple_stop room c.args.room c.args.bytes.now c.args.rest.now 2 c.args.behind.now _ (omega arith) c.requires.tag c.requires.count
-    (elements_stop room 2 c.args.behind.now (c.in_ok-first.first ∷ []) c.in_ok-first.between.now 1 _ first (omega arith) c.in_err-second.ensures))
+    (elements_stop room 2 c.args.behind.now (c.in_ok-first.first ∷ []) c.in_ok-first.after_first.now 1 _ row (omega arith) c.in_err-second.ensures))
 
 pub read_tuple_of_two-returns-in-Ok : goal.read_tuple_of_two-returns-in-Ok
 read_tuple_of_two-returns-in-Ok g t c =
-    rw c.in-Ok.ensures.ok (tuple_of_two (c.args.room - 1) c.args.room c.args.bytes.now c.args.rest.now c.args.behind.now c.in_ok-first.first c.in_ok-first.between.now c.in_ok-second.second c.in_ok-second.behind.now (omega arith) c.requires.tag c.requires.count c.in_ok-first.ensures c.in_ok-second.ensures)
+    let room = c.args.room - 1 in
+    let row = row_of_two room c.args.behind.now c.in_ok-first.first c.in_ok-first.after_first.now c.in_ok-second.second c.in_ok-second.behind.now c.in_ok-first.ensures c.in_ok-second.ensures in
+    rw c.in-Ok.ensures.ok (tuple_of_row room c.args.room 2 c.args.bytes.now c.args.rest.now c.args.behind.now (c.in_ok-first.first ∷ c.in_ok-second.second ∷ []) c.in_ok-second.behind.now (omega arith) c.requires.tag c.requires.count row)
 
 pub read_tuple_of_two-memory_alone-requires : goal.read_tuple_of_two-memory_alone-requires
 read_tuple_of_two-memory_alone-requires g t c =
-    let begun = tuple_of_two (c.args.room - 1) c.args.room c.args.bytes.now c.args.rest.now c.args.behind.now c.in_ok-first.first c.in_ok-first.between.now c.in_ok-second.second c.in_ok-second.behind.now (omega arith) c.requires.tag c.requires.count c.in_ok-first.ensures c.in_ok-second.ensures in
+    let room = c.args.room - 1 in
+    let row = row_of_two room c.args.behind.now c.in_ok-first.first c.in_ok-first.after_first.now c.in_ok-second.second c.in_ok-second.behind.now c.in_ok-first.ensures c.in_ok-second.ensures in
+    let begun = tuple_of_row room c.args.room 2 c.args.bytes.now c.args.rest.now c.args.behind.now (c.in_ok-first.first ∷ c.in_ok-second.second ∷ []) c.in_ok-second.behind.now (omega arith) c.requires.tag c.requires.count row in
     made c.args.room c.args.bytes.now (tuple (items_of (c.in_ok-first.first ∷ c.in_ok-second.second ∷ []))) c.in_ok-second.behind.now c.in-Err.refused.fault (omega arith) begun c.in-Err.ensures.refused.1
+
+pub read_tuple_of_three-returns-in_err-first : goal.read_tuple_of_three-returns-in_err-first
+read_tuple_of_three-returns-in_err-first g t c =
+    let room = c.args.room - 1 in
+    let row = row_start (constant_format room) (λ _. Unit {0}) c.args.behind.now tt in
+    let p = err_from_is_err_and c.from_residual.result c.from_residual.ensures.1 in
+    rw (p.1, p.2) (tuple_stop room c.args.room c.args.bytes.now c.args.rest.now 3 c.args.behind.now _ (omega arith) c.requires.tag c.requires.count
+    (elements_stop room 3 c.args.behind.now [] c.args.behind.now 0 _ row (omega arith) c.in_err-first.ensures))
+
+pub read_tuple_of_three-returns-in_err-second : goal.read_tuple_of_three-returns-in_err-second
+read_tuple_of_three-returns-in_err-second g t c =
+    let room = c.args.room - 1 in
+    let row = row_of_one room c.args.behind.now c.in_ok-first.first c.in_ok-first.after_first.now c.in_ok-first.ensures in
+    let p = err_from_is_err_and c.from_residual-in_err-second.result c.from_residual-in_err-second.ensures.1 in
+    rw (p.1, p.2) (tuple_stop room c.args.room c.args.bytes.now c.args.rest.now 3 c.args.behind.now _ (omega arith) c.requires.tag c.requires.count
+    (elements_stop room 3 c.args.behind.now (c.in_ok-first.first ∷ []) c.in_ok-first.after_first.now 1 _ row (omega arith) c.in_err-second.ensures))
+
+pub read_tuple_of_three-returns-in_err-third : goal.read_tuple_of_three-returns-in_err-third
+read_tuple_of_three-returns-in_err-third g t c =
+    let room = c.args.room - 1 in
+    let row = row_of_two room c.args.behind.now c.in_ok-first.first c.in_ok-first.after_first.now c.in_ok-second.second c.in_ok-second.after_second.now c.in_ok-first.ensures c.in_ok-second.ensures in
+    let p = err_from_is_err_and c.from_residual-in_err-third.result c.from_residual-in_err-third.ensures.1 in
+    rw (p.1, p.2) (tuple_stop room c.args.room c.args.bytes.now c.args.rest.now 3 c.args.behind.now _ (omega arith) c.requires.tag c.requires.count
+    (elements_stop room 3 c.args.behind.now (c.in_ok-first.first ∷ c.in_ok-second.second ∷ []) c.in_ok-second.after_second.now 2 _ row (omega arith) c.in_err-third.ensures))
+
+pub read_tuple_of_three-returns-in-Ok : goal.read_tuple_of_three-returns-in-Ok
+read_tuple_of_three-returns-in-Ok g t c =
+    let room = c.args.room - 1 in
+    let row = row_of_three room c.args.behind.now c.in_ok-first.first c.in_ok-first.after_first.now c.in_ok-second.second c.in_ok-second.after_second.now c.in_ok-third.third c.in_ok-third.behind.now c.in_ok-first.ensures c.in_ok-second.ensures c.in_ok-third.ensures in
+    rw c.in-Ok.ensures.ok (tuple_of_row room c.args.room 3 c.args.bytes.now c.args.rest.now c.args.behind.now (c.in_ok-first.first ∷ c.in_ok-second.second ∷ c.in_ok-third.third ∷ []) c.in_ok-third.behind.now (omega arith) c.requires.tag c.requires.count row)
+
+pub read_tuple_of_three-memory_alone-requires : goal.read_tuple_of_three-memory_alone-requires
+read_tuple_of_three-memory_alone-requires g t c =
+    let room = c.args.room - 1 in
+    let row = row_of_three room c.args.behind.now c.in_ok-first.first c.in_ok-first.after_first.now c.in_ok-second.second c.in_ok-second.after_second.now c.in_ok-third.third c.in_ok-third.behind.now c.in_ok-first.ensures c.in_ok-second.ensures c.in_ok-third.ensures in
+    let begun = tuple_of_row room c.args.room 3 c.args.bytes.now c.args.rest.now c.args.behind.now (c.in_ok-first.first ∷ c.in_ok-second.second ∷ c.in_ok-third.third ∷ []) c.in_ok-third.behind.now (omega arith) c.requires.tag c.requires.count row in
+    made c.args.room c.args.bytes.now (tuple (items_of (c.in_ok-first.first ∷ c.in_ok-second.second ∷ c.in_ok-third.third ∷ []))) c.in_ok-third.behind.now c.in-Err.refused.fault (omega arith) begun c.in-Err.ensures.refused.1
+
+pub read_tuple_of_four-returns-in_err-first : goal.read_tuple_of_four-returns-in_err-first
+read_tuple_of_four-returns-in_err-first g t c =
+    let room = c.args.room - 1 in
+    let row = row_start (constant_format room) (λ _. Unit {0}) c.args.behind.now tt in
+    let p = err_from_is_err_and c.from_residual.result c.from_residual.ensures.1 in
+    rw (p.1, p.2) (tuple_stop room c.args.room c.args.bytes.now c.args.rest.now 4 c.args.behind.now _ (omega arith) c.requires.tag c.requires.count
+    (elements_stop room 4 c.args.behind.now [] c.args.behind.now 0 _ row (omega arith) c.in_err-first.ensures))
+
+pub read_tuple_of_four-returns-in_err-second : goal.read_tuple_of_four-returns-in_err-second
+read_tuple_of_four-returns-in_err-second g t c =
+    let room = c.args.room - 1 in
+    let row = row_of_one room c.args.behind.now c.in_ok-first.first c.in_ok-first.after_first.now c.in_ok-first.ensures in
+    let p = err_from_is_err_and c.from_residual-in_err-second.result c.from_residual-in_err-second.ensures.1 in
+    rw (p.1, p.2) (tuple_stop room c.args.room c.args.bytes.now c.args.rest.now 4 c.args.behind.now _ (omega arith) c.requires.tag c.requires.count
+    (elements_stop room 4 c.args.behind.now (c.in_ok-first.first ∷ []) c.in_ok-first.after_first.now 1 _ row (omega arith) c.in_err-second.ensures))
+
+pub read_tuple_of_four-returns-in_err-third : goal.read_tuple_of_four-returns-in_err-third
+read_tuple_of_four-returns-in_err-third g t c =
+    let room = c.args.room - 1 in
+    let row = row_of_two room c.args.behind.now c.in_ok-first.first c.in_ok-first.after_first.now c.in_ok-second.second c.in_ok-second.after_second.now c.in_ok-first.ensures c.in_ok-second.ensures in
+    let p = err_from_is_err_and c.from_residual-in_err-third.result c.from_residual-in_err-third.ensures.1 in
+    rw (p.1, p.2) (tuple_stop room c.args.room c.args.bytes.now c.args.rest.now 4 c.args.behind.now _ (omega arith) c.requires.tag c.requires.count
+    (elements_stop room 4 c.args.behind.now (c.in_ok-first.first ∷ c.in_ok-second.second ∷ []) c.in_ok-second.after_second.now 2 _ row (omega arith) c.in_err-third.ensures))
+
+pub read_tuple_of_four-returns-in_err-fourth : goal.read_tuple_of_four-returns-in_err-fourth
+read_tuple_of_four-returns-in_err-fourth g t c =
+    let room = c.args.room - 1 in
+    let row = row_of_three room c.args.behind.now c.in_ok-first.first c.in_ok-first.after_first.now c.in_ok-second.second c.in_ok-second.after_second.now c.in_ok-third.third c.in_ok-third.after_third.now c.in_ok-first.ensures c.in_ok-second.ensures c.in_ok-third.ensures in
+    let p = err_from_is_err_and c.from_residual-in_err-fourth.result c.from_residual-in_err-fourth.ensures.1 in
+    rw (p.1, p.2) (tuple_stop room c.args.room c.args.bytes.now c.args.rest.now 4 c.args.behind.now _ (omega arith) c.requires.tag c.requires.count
+    (elements_stop room 4 c.args.behind.now (c.in_ok-first.first ∷ c.in_ok-second.second ∷ c.in_ok-third.third ∷ []) c.in_ok-third.after_third.now 3 _ row (omega arith) c.in_err-fourth.ensures))
+
+pub read_tuple_of_four-returns-in-Ok : goal.read_tuple_of_four-returns-in-Ok
+read_tuple_of_four-returns-in-Ok g t c =
+    let room = c.args.room - 1 in
+    let row = row_of_four room c.args.behind.now c.in_ok-first.first c.in_ok-first.after_first.now c.in_ok-second.second c.in_ok-second.after_second.now c.in_ok-third.third c.in_ok-third.after_third.now c.in_ok-fourth.fourth c.in_ok-fourth.behind.now c.in_ok-first.ensures c.in_ok-second.ensures c.in_ok-third.ensures c.in_ok-fourth.ensures in
+    rw c.in-Ok.ensures.ok (tuple_of_row room c.args.room 4 c.args.bytes.now c.args.rest.now c.args.behind.now (c.in_ok-first.first ∷ c.in_ok-second.second ∷ c.in_ok-third.third ∷ c.in_ok-fourth.fourth ∷ []) c.in_ok-fourth.behind.now (omega arith) c.requires.tag c.requires.count row)
+
+pub read_tuple_of_four-memory_alone-requires : goal.read_tuple_of_four-memory_alone-requires
+read_tuple_of_four-memory_alone-requires g t c =
+    let room = c.args.room - 1 in
+    let row = row_of_four room c.args.behind.now c.in_ok-first.first c.in_ok-first.after_first.now c.in_ok-second.second c.in_ok-second.after_second.now c.in_ok-third.third c.in_ok-third.after_third.now c.in_ok-fourth.fourth c.in_ok-fourth.behind.now c.in_ok-first.ensures c.in_ok-second.ensures c.in_ok-third.ensures c.in_ok-fourth.ensures in
+    let begun = tuple_of_row room c.args.room 4 c.args.bytes.now c.args.rest.now c.args.behind.now (c.in_ok-first.first ∷ c.in_ok-second.second ∷ c.in_ok-third.third ∷ c.in_ok-fourth.fourth ∷ []) c.in_ok-fourth.behind.now (omega arith) c.requires.tag c.requires.count row in
+    made c.args.room c.args.bytes.now (tuple (items_of (c.in_ok-first.first ∷ c.in_ok-second.second ∷ c.in_ok-third.third ∷ c.in_ok-fourth.fourth ∷ []))) c.in_ok-fourth.behind.now c.in-Err.refused.fault (omega arith) begun c.in-Err.ensures.refused.1
 
 pub read_pair-returns-in_err-key : goal.read_pair-returns-in_err-key
 read_pair-returns-in_err-key g t c =

@@ -25,6 +25,12 @@ decreases-read_tuple_of_one g l = 4 * l.room - 2
 abbrev pub decreases-read_tuple_of_two : goal.decreases-read_tuple_of_two
 decreases-read_tuple_of_two g l = 4 * l.room - 2
 
+abbrev pub decreases-read_tuple_of_three : goal.decreases-read_tuple_of_three
+decreases-read_tuple_of_three g l = 4 * l.room - 2
+
+abbrev pub decreases-read_tuple_of_four : goal.decreases-read_tuple_of_four
+decreases-read_tuple_of_four g l = 4 * l.room - 2
+
 abbrev pub decreases-read_map_of_one : goal.decreases-read_map_of_one
 decreases-read_map_of_one g l = 4 * l.room - 2
 

@@ -15,3 +15,10 @@ from_ref-requires-in-MapOfOne g c = omega arith
 
 pub shared_whole_as_slice-result : goal.shared_whole_as_slice-result
 shared_whole_as_slice-result g c = omega arith
+
+pub shared_whole_as_slice-result-in-TupleOfThree :
+    goal.shared_whole_as_slice-result-in-TupleOfThree
+shared_whole_as_slice-result-in-TupleOfThree g c = omega arith
+
+pub shared_whole_as_slice-result-in-TupleOfFour : goal.shared_whole_as_slice-result-in-TupleOfFour
+shared_whole_as_slice-result-in-TupleOfFour g c = omega arith
