@@ -1,9 +1,6 @@
 -- Terms with so many levels left: what is read of those with parts, and what is refused.
 use Rattle.std.specs.Str.{encode_utf8_all, chars}
 use Rattle.std.specs.List.{flat_map, AllByRecursion}
-use Rattle.std.specs.declared.cmp.Ordering.{Ordering}
-use Rattle.std.specs.declared.cmp.Ordering.TheVariants.{Less, Equal, Greater}
-use Rattle.std.specs.Ordering.{is_lt}
 use Rattle.std.proofs.Common.{◌≡◌, ◌≢◌, ℕ, zero, suc, ◌-◌, ◌<◌, ◌≤◌, List, [], ◌∷◌, ◌++◌, length, refl, sym, ap, subst, ◌∙◌, append_assoc, arith, Bool, true, false, ◌&&◌, inl, inr}
 use Rattle.std.proofs.lemmas.List.{append-nil, length-append}
 use Rattle.std.proofs.Math.Utf8.{scalars}
@@ -12,14 +9,13 @@ use Rattle.term_core.specs.Datum.{Datum, items_of, entries_of, cells, cell_count
 use Rattle.term_core.specs.Datum.Datum.{integer, atom, tuple, map, nil, cons, binary}
 use Rattle.term_core.specs.Limits.{AreScalars, IsTerm}
 use Rattle.term_core.specs.MapPairs.{IsMapOf, IsMapFault}
-use Rattle.term_core.specs.Order.{IsBelow, datum_cmp}
-use Rattle.term_core.specs.OrderLaws.{IsBelow-less}
+use Rattle.term_core.specs.Order.{IsBelow}
 use Rattle.term_core.specs.Fault.{IsFault}
 use Rattle.term_core.specs.Sizes.{list_limit}
 use Rattle.term_fault.specs.declared.fault.Fault.{Fault}
 use Rattle.term_fault.specs.declared.fault.Fault.TheVariants as fault
 use Rattle.term_core.proofs.LimitLemmas.{item_count-items_of, entry_count-entries_of, cell_count-cells, term-refused}
-use Rattle.term_core.proofs.MapLemmas.{below, apart-no_twin, apart_from_rising, map_from_rising}
+use Rattle.term_core.proofs.MapLemmas.{apart-no_twin, apart_from_rising, map_from_rising}
 use Rattle.file_format.specs.Spelling.{u16_bytes, u32_bytes, constant_bytes, pair_bytes}
 use Rattle.file_format.specs.File.{IsU8}
 use Rattle.file_format.specs.Format.{Format, Begins, BeginsNone, rows, counted, such}
@@ -35,7 +31,7 @@ use Rattle.file_terms.specs.declared.stop.Stop.{Stop}
 use Rattle.file_terms.specs.declared.stop.Stop.TheVariants as stops
 use Rattle.file_terms.specs.Causes.{BeginsWith, IsNameless, IsUnordered, IsPastLimit, IsOpening}
 use Rattle.file_terms.specs.Reads.{Blames, IsRefuted, IsStop, BlamesBehind, BlamesWithin, AtFront, AtTerm, InPair, BehindPairs, InPairs, limit_stop}
-use Rattle.file_terms.specs.Keys.{IsAboveKeys}
+use Rattle.term_order.specs.Keys.{IsAboveKeys}
 use Rattle.file_terms.proofs.StopLemmas.{blames_behind, stop_none}
 use Rattle.file_terms.proofs.RowLemmas.{IsRowSoFar, row_start, row_step, row_end, plain_step, plain_end, such_rows_none, rows_none, such_counted_none, ends_with_last}
 
@@ -310,23 +306,6 @@ rising_front : (xs : List (Datum × Datum)) (z : Datum × Datum) (zs : List (Dat
 rising_front [] z zs up = (tt, tt)
 rising_front (x ∷ []) z zs up = (up.0, (tt, tt))
 rising_front (x ∷ x' ∷ xs) z zs up = (up.0, rising_front (x' ∷ xs) z zs up.1)
-
--- above the last key, seen from that key
-pub above_last : (front : List (Datum × Datum)) (p : Datum × Datum) (key : Datum) → (IsBelow p.0 key → IsAboveKeys (front ++ p ∷ []) key) × (IsAboveKeys (front ++ p ∷ []) key → IsBelow p.0 key)
-above_last [] p key = (λ h. h, λ h. h)
-above_last (q ∷ []) p key = (λ h. h, λ h. h)
-above_last (q ∷ q' ∷ front) p key = above_last (q' ∷ front) p key
-
-less_only : (o : Ordering) → is_lt o ≡ true → o ≡ Less
-less_only Less h = refl
-less_only Equal h = absurd (cc)
-less_only Greater h = absurd (cc)
-
-pub key_above : (ps front : List (Datum × Datum)) (p : Datum × Datum) (key : Datum) (b : Bool) → ps ≡ front ++ p ∷ [] → b ≡ is_lt (datum_cmp p.0 key) → (b ≡ true → IsAboveKeys ps key) × (IsAboveKeys ps key → b ≡ true)
-key_above ps front p key b is test = (
-  λ so. subst (λ qs. IsAboveKeys qs key) (sym is) ((above_last front p key).0 (below p.0 key (less_only (datum_cmp p.0 key) (sym test ∙ so)))),
-  λ above. test ∙ ap is_lt (IsBelow-less p.0 key ((above_last front p key).1 (subst (λ qs. IsAboveKeys qs key) is above))),
-)
 
 pair_behind : (room : ℕ) (before : List (Datum × Datum)) (bytes : List ℕ) (blames : Cause → ℕ → Type 0) (stop : Stop) → IsStop (pair_format room) bytes blames stop → IsStop (such (pair_format room) (AbovePairs before)) bytes blames stop
 pair_behind room before bytes blames stop h = stop_none (pair_format room) (such (pair_format room) (AbovePairs before)) bytes bytes blames stop (λ none p s k. none p s (record { fits = k.fits.0; parts = k.parts })) h

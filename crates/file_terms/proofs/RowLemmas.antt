@@ -1,10 +1,9 @@
 -- Rows that a loop reads, one value after the other.
 use Rattle.std.specs.List.{flat_map, AllByRecursion}
-use Rattle.std.specs.Prelude.{slice_get, IsTrue}
-use Rattle.std.proofs.Common.{◌≡◌, ℕ, ◌<◌, List, [], ◌∷◌, ◌++◌, length, refl, sym, ap, subst, ◌∙◌, append_assoc, arith, suc, ◌+◌, ◌-◌, true, false, Some, None}
+use Rattle.std.specs.Prelude.{IsTrue}
+use Rattle.std.proofs.Common.{◌≡◌, ℕ, ◌<◌, List, [], ◌∷◌, ◌++◌, length, refl, sym, ap, subst, ◌∙◌, append_assoc, arith, ◌+◌, true, false}
 use Rattle.std.proofs.lemmas.List.{append-nil, length-append}
 use Rattle.std.proofs.lemmas.List.Concat.{flat_map-append}
-use Rattle.std.proofs.lemmas.Option.{none-some, same_Some}
 use Rattle.file_format.specs.Format.{Format, Begins, BeginsNone, rows, counted, such}
 use Rattle.file_format.proofs.FormatLemmas.{IsPrefixFree, rows_go_on, counted_first, counted_rest, counted_begins}
 use Rattle.file_terms.specs.declared.stop.Stop.{Stop}
@@ -82,24 +81,6 @@ pub such_counted_stop : {X : Type 0} (N : Format ℕ) (F : Format X) (P : List X
     → Begins N bytes n r → IsStop (such (rows F n) P) r (Blames r) stop → IsStop (such (counted N F) P) bytes (Blames bytes) stop
 such_counted_stop N F P free bytes n r stop h k =
     stop_behind (such (rows F n) P) (such (counted N F) P) (N.spell n) r bytes stop h.parts (such_counted_none N F P free bytes n r h) k
-
--- ---- what rises
-
-one_less : (n : ℕ) → suc (suc n) - 1 ≡ suc (suc n - 1)
-one_less n = omega arith
-
-pub last_is : {X : Type 0} (xs : List X) (x : X) → Some x ≡ slice_get xs (length xs - 1) → (front : List X) × (xs ≡ front ++ x ∷ [])
-last_is [] x is = absurd (none-some x (sym is))
-last_is (y ∷ []) x is = ([], ap (λ z. z ∷ []) (sym (same_Some x y is)))
-last_is (y ∷ z ∷ xs) x is = let rest = last_is (z ∷ xs) x (is ∙ ap (slice_get (y ∷ z ∷ xs)) (one_less (length xs))) in (y ∷ rest.0, ap (λ zs. y ∷ zs) rest.1)
-
-pub no_last : {X : Type 0} (xs : List X) → None ≡ slice_get xs (length xs - 1) → xs ≡ []
-no_last [] is = refl
-no_last (y ∷ []) is = absurd (none-some y is)
-no_last (y ∷ z ∷ xs) is = absurd (cons_not_nil z xs (no_last (z ∷ xs) (is ∙ ap (slice_get (y ∷ z ∷ xs)) (one_less (length xs)))))
-  where
-    cons_not_nil : {X : Type 0} (z : X) (xs : List X) → z ∷ xs ≡ [] → ⊥
-    cons_not_nil z xs is = cc
 
 -- ---- what a loop knows
 

@@ -1,3 +1,2 @@
 pub mod Causes
 pub mod Reads
-pub mod Keys

@@ -7,7 +7,6 @@ ghost use Rattle.file_format.specs.Format.{Begins, rows, such};
 ghost use Rattle.file_format.specs.Formats.{u8_format, u16_format, length_format, constant_format, utf8_format, binary_format, pair_format, RisingPairs};
 ghost use Rattle.file_terms.specs.Causes.{BeginsWith};
 ghost use Rattle.file_terms.specs.Reads.{Reads, Blames, BlamesWithin, BlamesBehind, AtTerm, BehindPairs, InPairs, limit_stop};
-ghost use Rattle.file_terms.specs.Keys.{IsAboveKeys};
 ghost use Rattle.file_terms.specs.declared.stop.Stop.TheVariants.{Memory as OutOfMemory};
 
 use crate::number::{read_i64, read_u8, read_u16, read_u32, take};
@@ -16,6 +15,7 @@ use made_terms::{atom_of_text, map_of_pairs};
 use std::alloc::{AllocError, Allocator};
 use std::str::from_utf8;
 use term_core::{Fault, MAX_BINARY, MAX_LIST, Term};
+use term_order::is_key_above;
 
 /// The tag of a list.
 const LIST: u8 = 6;
@@ -154,16 +154,6 @@ fn begins_list(bytes: &[u8]) -> bool
     match bytes.first() {
         Some(tag) => *tag == LIST,
         None => false,
-    }
-}
-
-/// Whether a key stands above the last of these pairs.
-fn is_key_above<A: Allocator>(before: &[(Term<A>, Term<A>)], key: &Term<A>) -> bool
-    ensures { IsTrue result ↔ IsAboveKeys before.now key.now }
-{
-    match before.last() {
-        Some(last) => last.0 < *key,
-        None => true,
     }
 }
 

@@ -76,18 +76,33 @@ fn a_copy_takes_no_memory(rt: HostRuntime) {
     assert_eq!(rt; is_copied_without_memory(rt.alloc(), b"7."), Some(true));
 }
 
-/// How many requests for memory a tuple of one element takes, with one of two as well, and with a map of one pair.
-fn requests_of_the_shortest(alloc: Global) -> Option<(u64, u64, u64)> {
+/// How many requests for memory were made in all once there was a tuple of one element, one of two as well, of three, of four, and a map of
+/// one pair.
+fn requests_of_the_shortest(alloc: Global) -> Option<[u64; 5]> {
     let counting = Failing::counting(alloc);
     let _one = Term::tuple_of_one(&counting, Term::int(1)).ok()?;
-    let of_one = counting.requests();
+    let with_one = counting.requests();
     let _two = Term::tuple_of_two(&counting, [Term::int(1), Term::int(2)]).ok()?;
-    let of_two = counting.requests();
+    let with_two = counting.requests();
+    let _three = Term::tuple_of_three(&counting, [Term::int(1), Term::int(2), Term::int(3)]).ok()?;
+    let with_three = counting.requests();
+    let _four = Term::tuple_of_four(
+        &counting,
+        [Term::int(1), Term::int(2), Term::int(3), Term::int(4)],
+    )
+    .ok()?;
+    let with_four = counting.requests();
     let _map = Term::map_of_one(&counting, Term::int(1), Term::int(2)).ok()?;
-    Some((of_one, of_two, counting.requests()))
+    Some([
+        with_one,
+        with_two,
+        with_three,
+        with_four,
+        counting.requests(),
+    ])
 }
 
 #[test]
 fn the_shortest_tuples_and_maps_take_one_block(rt: HostRuntime) {
-    assert_eq!(rt; requests_of_the_shortest(rt.alloc()), Some((1, 2, 3)));
+    assert_eq!(rt; requests_of_the_shortest(rt.alloc()), Some([1, 2, 3, 4, 5]));
 }

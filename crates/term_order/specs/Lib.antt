@@ -1,3 +1,4 @@
+pub mod Keys
 pub mod Laws
 pub use Rattle.term_core.specs.Datum
 pub use Rattle.term_core.specs.Limits

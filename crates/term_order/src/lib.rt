@@ -1,13 +1,15 @@
-//! The order of terms and the hash of keys, as functions of two terms and of one.
+//! The order of terms and the hash of keys, as functions of terms.
 //!
 //! `compare` answers by the order that `IsBelow` states (`specs/` of `term_core`, `Order.antt`), which `order_is_total`
-//! shows to be a total order; `key_hash` is the hash of its `KeyHash.antt`.
+//! shows to be a total order; `is_key_above` tells whether a key may follow rising keys (`specs/Keys.antt`); `key_hash`
+//! is the hash of `KeyHash.antt` of `term_core`.
 #![tactic(auto)]
 
-ghost use Rattle.std.specs.Prelude.{◌≡◌};
+ghost use Rattle.std.specs.Prelude.{◌≡◌, ◌↔◌, IsTrue};
 ghost use Rattle.std.specs.Ordering.{MatchOrdering};
 ghost use Rattle.term_core.specs.KeyHash.{key_hash};
 ghost use Rattle.term_core.specs.Order.{IsBelow, datum_cmp};
+ghost use Rattle.term_order.specs.Keys.{IsAboveKeys};
 ghost use Rattle.term_order.specs.Laws.{IsTotal};
 
 use std::alloc::Allocator;
@@ -23,6 +25,17 @@ pub fn compare<A: Allocator>(a: &Term<A>, b: &Term<A>) -> Ordering
     ensures value { result ≡ datum_cmp a.now b.now }
 {
     a.cmp(b)
+}
+
+/// Whether a key stands above the last of these pairs, or there is none. Takes no memory, and time linear in the smaller
+/// of the two keys.
+pub fn is_key_above<A: Allocator>(before: &[(Term<A>, Term<A>)], key: &Term<A>) -> bool
+    ensures { IsTrue result ↔ IsAboveKeys before.now key.now }
+{
+    match before.last() {
+        Some(last) => last.0 < *key,
+        None => true,
+    }
 }
 
 /// The hash of a key, a number modulo 2^64: which part and which slot of a table hold it. Takes no memory, and time

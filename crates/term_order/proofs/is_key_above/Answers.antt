@@ -1,6 +1,5 @@
-use Rattle.file_terms.proofs.RowLemmas.{last_is}
-use Rattle.file_terms.proofs.LevelLemmas.{key_above}
-use Rattle.file_terms.proofs.constant.is_key_above.Goals as goal
+use Rattle.term_order.proofs.KeyLemmas.{last_is, key_above}
+use Rattle.term_order.proofs.is_key_above.Goals as goal
 
 pub returns-in-Some : goal.returns-in-Some
 returns-in-Some g c =
