@@ -26,17 +26,11 @@ write_all-loop-place-init g t c =
 
 pub write_all-overflow_cast-place : goal.write_all-overflow_cast-place
 write_all-overflow_cast-place g t c =
-    let p = c.args.self.now in
-    let d = c.args.depth in
-    let ints = c.args.integers.now in
     let es = c.args.expressions.now in
     omega (arith, length-size es, c.requires.room)
 
 pub write_all-overflow_add-depth : goal.write_all-overflow_add-depth
 write_all-overflow_add-depth g t c =
-    let p = c.args.self.now in
-    let d = c.args.depth in
-    let ints = c.args.integers.now in
     let es = c.args.expressions.now in
     omega (arith, length-size es, c.requires.room)
 
@@ -85,17 +79,11 @@ write_values-loop-place-init g t c =
 
 pub write_values-overflow_cast-place : goal.write_values-overflow_cast-place
 write_values-overflow_cast-place g t c =
-    let p = c.args.self.now in
-    let d = c.args.depth in
-    let ints = c.args.integers.now in
     let es = c.args.assignments.now in
     omega (arith, length-assignments es, c.requires.room)
 
 pub write_values-overflow_add-depth : goal.write_values-overflow_add-depth
 write_values-overflow_add-depth g t c =
-    let p = c.args.self.now in
-    let d = c.args.depth in
-    let ints = c.args.integers.now in
     let es = c.args.assignments.now in
     omega (arith, length-assignments es, c.requires.room)
 
@@ -284,17 +272,12 @@ write_or-returns g t c =
 
 pub write_function-overflow_cast-count : goal.write_function-overflow_cast-count
 write_function-overflow_cast-count g t c =
-    let p = c.args.self.now in
-    let d = c.args.depth in
-    let ints = c.args.integers.now in
     let es = c.args.arguments.now in
     omega (arith, length-size es, c.requires.room)
 
 pub write_function-failure-requires : goal.write_function-failure-requires
 write_function-failure-requires g t c =
     let p = c.args.self.now in
-    let d = c.args.depth in
-    let ints = c.args.integers.now in
     near p.mode 1 (omega arith)
 
 pub write_function-write_all-requires : goal.write_function-write_all-requires
@@ -317,17 +300,12 @@ write_function-returns g t c =
 
 pub write_tuple-overflow_cast-count : goal.write_tuple-overflow_cast-count
 write_tuple-overflow_cast-count g t c =
-    let p = c.args.self.now in
-    let d = c.args.depth in
-    let ints = c.args.integers.now in
     let es = c.args.elements.now in
     omega (arith, length-size es, c.requires.room)
 
 pub write_tuple-failure-requires : goal.write_tuple-failure-requires
 write_tuple-failure-requires g t c =
     let p = c.args.self.now in
-    let d = c.args.depth in
-    let ints = c.args.integers.now in
     near p.mode 1 (omega arith)
 
 pub write_tuple-write_all-requires : goal.write_tuple-write_all-requires
@@ -359,8 +337,6 @@ write_map-key_list-requires g t c =
 pub write_map-failure-requires : goal.write_map-failure-requires
 write_map-failure-requires g t c =
     let p = c.args.self.now in
-    let d = c.args.depth in
-    let ints = c.args.integers.now in
     near p.mode 1 (omega arith)
 
 pub write_map-write_values-requires : goal.write_map-write_values-requires
@@ -383,9 +359,6 @@ write_map-returns g t c =
 
 pub write_list-put_exit-requires : goal.write_list-put_exit-requires
 write_list-put_exit-requires g t c =
-    let p = c.args.self.now in
-    let d = c.args.depth in
-    let ints = c.args.integers.now in
     let es = c.args.elements.now in
     let tail = c.args.tail.now in
     omega (arith, c.requires.written.room, new_cells-size es (tail_expression tail), size-some (tail_expression tail))
@@ -401,18 +374,12 @@ write_list-put_cells-requires g t c =
 
 pub write_list-overflow_cast-elements : goal.write_list-overflow_cast-elements
 write_list-overflow_cast-elements g t c =
-    let p = c.args.self.now in
-    let d = c.args.depth in
-    let ints = c.args.integers.now in
     let es = c.args.elements.now in
     let tail = c.args.tail.now in
     omega (arith, c.requires.written.room, new_cells-size es (tail_expression tail), length-size es)
 
 pub write_list-overflow_add-depth : goal.write_list-overflow_add-depth
 write_list-overflow_add-depth g t c =
-    let p = c.args.self.now in
-    let d = c.args.depth in
-    let ints = c.args.integers.now in
     let es = c.args.elements.now in
     let tail = c.args.tail.now in
     omega (arith, c.requires.written.room, new_cells-size es (tail_expression tail), length-size es)
@@ -519,7 +486,6 @@ write_arithmetic-overflow_sub-len g t c =
     let p = c.args.self.now in
     let d = c.args.depth in
     let ints = c.args.integers.now in
-    let es = c.args.arguments.now in
     omega (arith, longer (lines_at p (suc d) (ints ++ (d, Int) ∷ []) c.index-arguments-1.result by_itself) c.put_arithmetic.new.lines c.write_second.new.lines c.in_ok-write_second.ensures, c.len.ensures, c.len-end.ensures)
 
 pub write_arithmetic-failure_behind-failure-requires : goal.write_arithmetic-failure_behind-failure-requires
@@ -688,7 +654,6 @@ write_one-returns-in-List g t c =
     let ints = c.args.integers.now in
     let e = c.args.expression.now in
     let is = rw c.in-List.is at c.kind.ensures.value in
-    let kept = rw c.in-List.is at c.kind.ensures.kept in
     let es = c.in-List.elements.items in
     let tail = tail_expression c.in-List.tail in
     let same = c.as_slice-in-List.ensures.value in
