@@ -1,5 +1,5 @@
 use Rattle.std.proofs.Common.{refl}
-use Rattle.file_terms.proofs.RowLemmas.{last_is}
+use Rattle.term_order.proofs.KeyLemmas.{last_is}
 use Rattle.code_file.proofs.frame.last_place.Goals as goal
 
 pub returns-in-Some : goal.returns-in-Some
