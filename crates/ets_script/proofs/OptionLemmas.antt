@@ -43,7 +43,7 @@ made_from name kind keypos parts sessions o e = absurd (none-some o e)
 
 openable : (serves : Kind → Bool) (name : ℕ) (kind : Kind) (x y z : ℤ) (o : Options) → IsTrue (serves o.kind) → AreFrom name kind (number_within 1 65535 x) (number_within 1 64 y) (number_within 1 16 z) o → IsOpenable serves o
 openable serves name kind x y z o served from = record {
-  served = record { kind = served; keypos = number_in 1 65535 x o.keypos from.keypos_is; parts = number_in 1 64 y o.parts from.parts_is; sessions = number_in 1 16 z o.sessions from.sessions_is };
+  served = record { kind = served; ranges = record { keypos = number_in 1 65535 x o.keypos from.keypos_is; parts = number_in 1 64 y o.parts from.parts_is; sessions = number_in 1 16 z o.sessions from.sessions_is } };
   whole = λ ordered. eqb-true o.parts 1 (subst (λ b. IsTrue (not b || o.parts == 1)) ordered from.whole);
 }
 

@@ -1,24 +1,17 @@
 //! The table that is open in a script, and which sessions have left it.
 ghost use Rattle.std.specs.Prelude.{◌≡◌, IfSome};
-ghost use Rattle.part_core.specs.Settings.{is_set};
 ghost use Rattle.script_commands.specs.Commands.{ask_of};
 ghost use Rattle.ets_script.specs.Opened.{IsNoted};
 ghost use Rattle.ets_script.specs.Script.{number_within, options_with, is_leaving};
 
 use crate::reply::Reply;
 use crate::table::Table;
-use part_core::{Kind, Part};
+use part_core::{Kind, MAX_KEYPOS, MAX_PARTS, MAX_SESSIONS, Part};
 use script_commands::Ask;
 use std::alloc::{AllocError, Allocator, Global};
 use tables::Options;
 use term_core::Term;
 
-/// The greatest place of a key.
-const MOST_KEYPOS: u16 = 65_535;
-/// The most parts of a table.
-const MOST_PARTS: u8 = 64;
-/// The most sessions of a table.
-const MOST_SESSIONS: u8 = 16;
 /// The number of a session that isn't there, or has left.
 const STRANGER_SESSION: u8 = 61;
 
@@ -26,7 +19,7 @@ const STRANGER_SESSION: u8 = 61;
 fn keypos_in(value: i64) -> Option<u16>
     ensures { result ≡ number_within 1 65535 value }
 {
-    if value < 1 || i64::from(MOST_KEYPOS) < value {
+    if value < 1 || i64::from(MAX_KEYPOS) < value {
         return None;
     }
     Some(value as u16)
@@ -42,18 +35,6 @@ fn small_in(value: i64, most: u8) -> Option<u8>
     Some(value as u8)
 }
 
-/// Whether a table of the kind holds at most one object a key.
-fn is_set(kind: Kind) -> bool
-    ensures { result ≡ is_set kind }
-{
-    match kind {
-        Kind::Set => true,
-        Kind::OrderedSet => true,
-        Kind::Bag => false,
-        Kind::DuplicateBag => false,
-    }
-}
-
 /// The options of a table that can be opened, none where the numbers are outside their ranges, an ordered set has more than one part, or
 /// the table may hold more than one object a key.
 pub(crate) fn options_in(
@@ -67,9 +48,9 @@ pub(crate) fn options_in(
         (number_within 1 64 parts) (number_within 1 16 sessions) }
 {
     let keypos = keypos_in(keypos)?;
-    let parts = small_in(parts, MOST_PARTS)?;
-    let sessions = small_in(sessions, MOST_SESSIONS)?;
-    if !is_set(kind) {
+    let parts = small_in(parts, MAX_PARTS)?;
+    let sessions = small_in(sessions, MAX_SESSIONS)?;
+    if !kind.is_set() {
         return None;
     }
     if kind.is_ordered() && parts != 1 {

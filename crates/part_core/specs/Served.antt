@@ -8,9 +8,13 @@ abbrev pub settings_with : Kind → ℕ → ℕ → ℕ → Settings
 settings_with kind keypos parts sessions =
     record { kind = kind; keypos = keypos; parts = parts; sessions = sessions }
 
--- the place of the key from 1 to 65,535, one to 64 parts, one to 16 sessions, and a kind that is served
-pub record IsServed (serves : Kind → Bool) (o : Settings) : Type 0 where
-  pub kind : IsTrue (serves o.kind)
+-- the place of the key from 1 to 65,535, one to 64 parts, one to 16 sessions
+pub record AreInRange (o : Settings) : Type 0 where
   pub keypos : (1 ≤ o.keypos) × (o.keypos ≤ 65535)
   pub parts : (1 ≤ o.parts) × (o.parts ≤ 64)
   pub sessions : (1 ≤ o.sessions) × (o.sessions ≤ 16)
+
+-- a kind that is served, and each number in its range
+pub record IsServed (serves : Kind → Bool) (o : Settings) : Type 0 where
+  pub kind : IsTrue (serves o.kind)
+  pub ranges : AreInRange o

@@ -1,6 +1,6 @@
 //! The kinds of tables.
 ghost use Rattle.std.specs.Prelude.{◌≡◌};
-ghost use Rattle.part_core.specs.Settings.{is_ordered};
+ghost use Rattle.part_core.specs.Settings.{is_ordered, is_set};
 
 /// What a table holds of a key, and the order in which it is walked (STDLIB Reference Manual, ets:new/2).
 #[derive(Clone, Copy, Debug, PartialEq, Eq)]
@@ -21,5 +21,12 @@ impl Kind {
         ensures { result ≡ is_ordered self }
     {
         matches!(self, Kind::OrderedSet)
+    }
+
+    /// Whether the table holds at most one object a key.
+    pub fn is_set(self) -> bool
+        ensures { result ≡ is_set self }
+    {
+        matches!(self, Kind::Set | Kind::OrderedSet)
     }
 }

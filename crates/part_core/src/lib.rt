@@ -39,4 +39,4 @@ pub use op::{Cursor, PartOp, Scope};
 pub use part::Part;
 pub use reply::{Reply, is_counted};
 pub use room::push_within;
-pub use settings::Settings;
+pub use settings::{MAX_KEYPOS, MAX_PARTS, MAX_SESSIONS, Settings};

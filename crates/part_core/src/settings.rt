@@ -1,5 +1,15 @@
 //! What is settled of a part when it is made.
+ghost use Rattle.std.specs.Prelude.{◌↔◌, IsTrue};
+ghost use Rattle.part_core.specs.Served.{AreInRange};
+
 use crate::kind::Kind;
+
+/// The greatest place of a key in an object.
+pub const MAX_KEYPOS: u16 = 65_535;
+/// The most parts of a table.
+pub const MAX_PARTS: u8 = 64;
+/// The most sessions of a table.
+pub const MAX_SESSIONS: u8 = 16;
 
 /// What all parts of a table have in common.
 #[derive(Clone, Copy, Debug, PartialEq, Eq)]
@@ -12,4 +22,17 @@ pub struct Settings {
     pub parts: u8,
     /// How many sessions use it, numbered from 0.
     pub sessions: u8,
+}
+
+impl Settings {
+    /// Whether each number is in its range: keypos from 1 to 65,535, 1 to 64 parts, 1 to 16 sessions.
+    pub fn are_in_range(&self) -> bool
+        ensures { IsTrue result ↔ AreInRange self.now }
+    {
+        0 < self.keypos
+            && 0 < self.parts
+            && self.parts <= MAX_PARTS
+            && 0 < self.sessions
+            && self.sessions <= MAX_SESSIONS
+    }
 }

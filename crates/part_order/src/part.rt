@@ -1,6 +1,6 @@
 //! A part whose rows stand in a tree by their keys.
 ghost use Rattle.std.specs.Prelude.{◌↔◌, IsTrue};
-ghost use Rattle.part_core.specs.Served.{settings_with, IsServed};
+ghost use Rattle.part_core.specs.Served.{IsServed};
 ghost use Rattle.part_order.specs.Served.{serves};
 
 use crate::answering::answered;
@@ -38,15 +38,10 @@ impl<A: Allocator> Model for OrderPart<A> {
 }
 
 /// Whether a part is made for these settings.
-fn is_served(kind: Kind, keypos: u16, parts: u8, sessions: u8) -> bool
-    ensures { IsTrue result ↔ IsServed serves (settings_with kind keypos parts sessions) }
+fn is_served(settings: Settings) -> bool
+    ensures { IsTrue result ↔ IsServed serves settings }
 {
-    matches!(kind, Kind::OrderedSet)
-        && keypos > 0
-        && 0 < parts
-        && parts <= 64
-        && 0 < sessions
-        && sessions <= 16
+    matches!(settings.kind, Kind::OrderedSet) && settings.are_in_range()
 }
 
 impl<A: Allocator + Copy> OrderPart<A> {
@@ -110,15 +105,15 @@ impl<A: Allocator + Copy> Part<A> for OrderPart<A> {
         ensures refused { IsErrOf result OpenFault.BadOptions
             → ¬ (IsServed serves (settings_with kind keypos parts sessions)) }
     {
-        if !is_served(kind, keypos, parts, sessions) {
-            return Err(OpenFault::BadOptions);
-        }
         let settings = Settings {
             kind,
             keypos,
             parts,
             sessions,
         };
+        if !is_served(settings) {
+            return Err(OpenFault::BadOptions);
+        }
         let Ok(fixes) = no_fixes(alloc, sessions) else {
             return Err(OpenFault::Memory);
         };

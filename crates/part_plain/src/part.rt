@@ -1,6 +1,6 @@
 //! A part whose rows stand in one list.
 ghost use Rattle.std.specs.Prelude.{◌↔◌, IsTrue};
-ghost use Rattle.part_core.specs.Served.{settings_with, IsServed};
+ghost use Rattle.part_core.specs.Served.{IsServed};
 ghost use Rattle.part_plain.specs.Served.{serves};
 
 use crate::answering::answered;
@@ -39,15 +39,10 @@ impl<A: Allocator> Model for PlainPart<A> {
 }
 
 /// Whether a part is made for these settings.
-fn is_served(kind: Kind, keypos: u16, parts: u8, sessions: u8) -> bool
-    ensures { IsTrue result ↔ IsServed serves (settings_with kind keypos parts sessions) }
+fn is_served(settings: Settings) -> bool
+    ensures { IsTrue result ↔ IsServed serves settings }
 {
-    matches!(kind, Kind::Set)
-        && keypos > 0
-        && 0 < parts
-        && parts <= 64
-        && 0 < sessions
-        && sessions <= 16
+    matches!(settings.kind, Kind::Set) && settings.are_in_range()
 }
 
 impl<A: Allocator + Copy> PlainPart<A> {
@@ -111,15 +106,15 @@ impl<A: Allocator + Copy> Part<A> for PlainPart<A> {
         ensures refused { IsErrOf result OpenFault.BadOptions
             → ¬ (IsServed serves (settings_with kind keypos parts sessions)) }
     {
-        if !is_served(kind, keypos, parts, sessions) {
-            return Err(OpenFault::BadOptions);
-        }
         let settings = Settings {
             kind,
             keypos,
             parts,
             sessions,
         };
+        if !is_served(settings) {
+            return Err(OpenFault::BadOptions);
+        }
         let Ok(fixes) = no_fixes(alloc, sessions) else {
             return Err(OpenFault::Memory);
         };
