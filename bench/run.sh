@@ -2,15 +2,15 @@
 # Times `ets_tool run`, as `rt run` builds it, over inputs that are made here: objects {N,a} in growing numbers, without and
 # with a condition, a term 255 deep, a list of a million integers, a map of 65,535 pairs in falling order, specifications of up to
 # 8,000 nodes and 256 variables, and a long list that a condition looks at. Time and memory are to be linear. Then it times
-# `file_bench`: the largest code verified, with frames at a third of its instructions and at nearly all; and `machine_bench`: what
+# `bench_files`: the largest code verified, with frames at a third of its instructions and at nearly all; and `bench_machine`: what
 # compiling, running and evaluating takes of a short specification over a million pairs, of growing bodies, and of a body that is one
 # long list.
 # usage: bench/run.sh
 set -eu
 top=$(cd "$(dirname "$0")/.." && pwd)
 program=$top/crates/ets_tool/out/ets_tool
-verifier=$top/crates/file_bench/out/file_bench
-machine=$top/crates/machine_bench/out/machine_bench
+verifier=$top/crates/bench_files/out/bench_files
+machine=$top/crates/bench_machine/out/bench_machine
 for built in "$program" "$verifier" "$machine"; do
   [ -x "$built" ] || { echo "bench/run.sh: no program at $built: build it by 'rt run </dev/null' in its crate" >&2; exit 2; }
 done

@@ -11,20 +11,20 @@ use Rattle.mcode.specs.declared.fault.Fault.{Fault}
 use Rattle.mcode.specs.declared.fault.Fault.TheVariants as refusal
 use Rattle.mcode.specs.declared.kind.Kind.{Kind}
 use Rattle.mcode.specs.declared.instr.Instr.{Instr}
-use Rattle.file_format.specs.Format.{Format, Begins, BeginsNone, rows, counted, such, both}
-use Rattle.file_format.specs.Spelling.{u16_bytes, frame_bytes}
-use Rattle.file_format.specs.Formats.{u16_format, constant_format, place_format, frame_format, frame_rest_format, constants_format, instructions_format, frames_format, body_format, body_of}
-use Rattle.file_format.proofs.NumberLemmas.{u16_free}
-use Rattle.file_format.proofs.FrameLemmas.{frame_parts, frame_from}
-use Rattle.file_format.proofs.FormatLemmas.{IsPrefixFree, both_first, both_rest, counted_first, counted_rest, both_begins}
-use Rattle.file_terms.specs.declared.stop.Cause.{Cause}
-use Rattle.file_terms.specs.declared.stop.Cause.TheVariants as causes
-use Rattle.file_terms.specs.declared.stop.Stop.{Stop}
-use Rattle.file_terms.specs.declared.stop.Stop.TheVariants as stops
-use Rattle.file_terms.specs.Causes.{IsPastLimit, IsUnordered}
-use Rattle.file_terms.specs.Reads.{Blames, BlamesWithin, IsRefuted, IsStop, Reads}
-use Rattle.file_terms.proofs.RowLemmas.{ends_with_last, IsRowSoFar, row_start, row_step, rows_none}
-use Rattle.file_terms.proofs.StopLemmas.{stop_none, stop_behind, stop_before}
+use Rattle.code_format.specs.Format.{Format, Begins, BeginsNone, rows, counted, such, both}
+use Rattle.code_format.specs.Spelling.{u16_bytes, frame_bytes}
+use Rattle.code_format.specs.Formats.{u16_format, constant_format, place_format, frame_format, frame_rest_format, constants_format, instructions_format, frames_format, body_format, body_of}
+use Rattle.code_format.proofs.NumberLemmas.{u16_free}
+use Rattle.code_format.proofs.FrameLemmas.{frame_parts, frame_from}
+use Rattle.code_format.proofs.FormatLemmas.{IsPrefixFree, both_first, both_rest, counted_first, counted_rest, both_begins}
+use Rattle.code_file.specs.declared.stop.Cause.{Cause}
+use Rattle.code_file.specs.declared.stop.Cause.TheVariants as causes
+use Rattle.code_file.specs.declared.stop.Stop.{Stop}
+use Rattle.code_file.specs.declared.stop.Stop.TheVariants as stops
+use Rattle.code_file.specs.Causes.{IsPastLimit, IsUnordered}
+use Rattle.code_file.specs.Reads.{Blames, BlamesWithin, IsRefuted, IsStop, Reads}
+use Rattle.code_file.proofs.RowLemmas.{ends_with_last, IsRowSoFar, row_start, row_step, rows_none}
+use Rattle.code_file.proofs.StopLemmas.{stop_none, stop_behind, stop_before}
 use Rattle.code_file.specs.Rising.{LastIs}
 use Rattle.code_file.specs.Parts.{with_frames, IsNextRead, with_instructions}
 use Rattle.code_file.proofs.FrameLemmas.{frame_begins}

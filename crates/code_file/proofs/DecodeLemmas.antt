@@ -8,15 +8,15 @@ use Rattle.term_core.specs.Limits.{IsTerm}
 use Rattle.term_core.specs.Sizes.{depth_limit}
 use Rattle.mcode.specs.Program.{Program, Frame, IsFrame, IsTelling, most_slots}
 use Rattle.mcode.specs.declared.kind.Kind.{Kind}
-use Rattle.file_format.specs.Spelling.{u16_bytes}
-use Rattle.file_format.specs.File.{IsU8, HoldsArguments, HoldsPlace, HoldsFrame, Spells, magic, version, file_bytes}
-use Rattle.file_format.specs.Format.{Begins}
-use Rattle.file_format.specs.Formats.{u16_format, constant_format, place_format, frame_format, body_format, body_of}
-use Rattle.file_format.proofs.FormatLemmas.{both_rest}
-use Rattle.file_format.proofs.NumberLemmas.{u16_free}
-use Rattle.file_format.proofs.FileLemmas.{body_free, rest_begins}
-use Rattle.file_terms.specs.declared.stop.Stop.{Stop}
-use Rattle.file_terms.specs.Reads.{Blames, IsStop}
+use Rattle.code_format.specs.Spelling.{u16_bytes}
+use Rattle.code_format.specs.File.{IsU8, HoldsArguments, HoldsPlace, HoldsFrame, Spells, magic, version, file_bytes}
+use Rattle.code_format.specs.Format.{Begins}
+use Rattle.code_format.specs.Formats.{u16_format, constant_format, place_format, frame_format, body_format, body_of}
+use Rattle.code_format.proofs.FormatLemmas.{both_rest}
+use Rattle.code_format.proofs.NumberLemmas.{u16_free}
+use Rattle.code_format.proofs.FileLemmas.{body_free, rest_begins}
+use Rattle.code_file.specs.declared.stop.Stop.{Stop}
+use Rattle.code_file.specs.Reads.{Blames, IsStop}
 use Rattle.code_file.specs.declared.fault.FileFault.TheVariants as faults
 use Rattle.code_file.specs.Faults.{IsNoFile, IsHeader, IsRead, fault_of}
 use Rattle.code_file.proofs.HeaderLemmas.{slots_format, stopped}

@@ -5,20 +5,20 @@ use Rattle.std.proofs.Common.{◌≡◌, ◌≢◌, ℕ, ◌<◌, List, [], ◌�
 use Rattle.mcode.specs.Program.{Frame, Rise, place_number}
 use Rattle.mcode.specs.declared.kind.Kind.{Kind}
 use Rattle.mcode.specs.declared.kind.Kind.TheVariants as kind
-use Rattle.file_format.specs.Spelling.{u16_bytes, kind_bytes, place_bytes}
-use Rattle.file_format.specs.File.{IsU8}
-use Rattle.file_format.specs.Format.{Begins, BeginsNone, both, rows, such}
-use Rattle.file_format.specs.Formats.{u8_format, u16_format, kind_format, place_format, places_format, slots_format, frame_rest_format, frame_format}
-use Rattle.file_format.proofs.FormatLemmas.{both_begins, both_rest}
-use Rattle.file_format.proofs.NumberLemmas.{u8_free, u16_free}
-use Rattle.file_format.proofs.InstructionLemmas.{head_is}
-use Rattle.file_format.proofs.FrameLemmas.{KindOpened, RisingSlots, flat_bytes, frame_to, kind_opened, kind_rest, kind_spelled, kind_tag, places_free, slot_rows, slots_from, slots_to}
-use Rattle.file_terms.specs.declared.stop.Cause.TheVariants.{BadOpcode, NotCanonical}
-use Rattle.file_terms.specs.declared.stop.Stop.{Stop}
-use Rattle.file_terms.specs.Causes.{BeginsWith, IsNameless, IsUnordered}
-use Rattle.file_terms.specs.Reads.{Blames, IsRefuted, IsStop}
-use Rattle.file_terms.proofs.StopLemmas.{stop_none, stop_behind, stop_before, both_stop_first, both_stop_second}
-use Rattle.file_terms.proofs.RowLemmas.{such_stop, IsRowSoFar, row_stop, such_counted_begins, such_counted_stop, such_counted_stop_first, ends_with_last}
+use Rattle.code_format.specs.Spelling.{u16_bytes, kind_bytes, place_bytes}
+use Rattle.code_format.specs.File.{IsU8}
+use Rattle.code_format.specs.Format.{Begins, BeginsNone, both, rows, such}
+use Rattle.code_format.specs.Formats.{u8_format, u16_format, kind_format, place_format, places_format, slots_format, frame_rest_format, frame_format}
+use Rattle.code_format.proofs.FormatLemmas.{both_begins, both_rest}
+use Rattle.code_format.proofs.NumberLemmas.{u8_free, u16_free}
+use Rattle.code_format.proofs.InstructionLemmas.{head_is}
+use Rattle.code_format.proofs.FrameLemmas.{KindOpened, RisingSlots, flat_bytes, frame_to, kind_opened, kind_rest, kind_spelled, kind_tag, places_free, slot_rows, slots_from, slots_to}
+use Rattle.code_file.specs.declared.stop.Cause.TheVariants.{BadOpcode, NotCanonical}
+use Rattle.code_file.specs.declared.stop.Stop.{Stop}
+use Rattle.code_file.specs.Causes.{BeginsWith, IsNameless, IsUnordered}
+use Rattle.code_file.specs.Reads.{Blames, IsRefuted, IsStop}
+use Rattle.code_file.proofs.StopLemmas.{stop_none, stop_behind, stop_before, both_stop_first, both_stop_second}
+use Rattle.code_file.proofs.RowLemmas.{such_stop, IsRowSoFar, row_stop, such_counted_begins, such_counted_stop, such_counted_stop_first, ends_with_last}
 use Rattle.code_file.specs.Rising.{LastIs}
 use Rattle.code_file.proofs.RiseLemmas.{rise_above, not_above, rise_front}
 

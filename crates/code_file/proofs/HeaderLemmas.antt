@@ -4,19 +4,19 @@ use Rattle.std.proofs.lemmas.List.{length-append}
 use Rattle.term_core.specs.Datum.{Datum}
 use Rattle.mcode.specs.Program.{Program, Frame}
 use Rattle.mcode.specs.declared.instr.Instr.{Instr}
-use Rattle.file_format.specs.Spelling.{u16_bytes}
-use Rattle.file_format.specs.File.{Spells, magic, version}
-use Rattle.file_format.specs.Format.{Format, Begins, BeginsNone, both}
-use Rattle.file_format.specs.Formats.{u16_format, body_format, body_of}
-use Rattle.file_format.proofs.FormatLemmas.{both_first, both_rest}
-use Rattle.file_format.proofs.NumberLemmas.{u16_free}
-use Rattle.file_format.proofs.FileLemmas.{rest_begins}
-use Rattle.file_terms.specs.declared.stop.Cause.{Cause}
-use Rattle.file_terms.specs.declared.stop.Cause.TheVariants as causes
-use Rattle.file_terms.specs.declared.stop.Stop.{Stop}
-use Rattle.file_terms.specs.declared.stop.Stop.TheVariants as stops
-use Rattle.file_terms.specs.Reads.{Blames, IsStop}
-use Rattle.file_terms.proofs.StopLemmas.{blames_behind}
+use Rattle.code_format.specs.Spelling.{u16_bytes}
+use Rattle.code_format.specs.File.{Spells, magic, version}
+use Rattle.code_format.specs.Format.{Format, Begins, BeginsNone, both}
+use Rattle.code_format.specs.Formats.{u16_format, body_format, body_of}
+use Rattle.code_format.proofs.FormatLemmas.{both_first, both_rest}
+use Rattle.code_format.proofs.NumberLemmas.{u16_free}
+use Rattle.code_format.proofs.FileLemmas.{rest_begins}
+use Rattle.code_file.specs.declared.stop.Cause.{Cause}
+use Rattle.code_file.specs.declared.stop.Cause.TheVariants as causes
+use Rattle.code_file.specs.declared.stop.Stop.{Stop}
+use Rattle.code_file.specs.declared.stop.Stop.TheVariants as stops
+use Rattle.code_file.specs.Reads.{Blames, IsStop}
+use Rattle.code_file.proofs.StopLemmas.{blames_behind}
 use Rattle.code_file.specs.declared.fault.FileFault.TheVariants as faults
 use Rattle.code_file.specs.Faults.{IsFileFault, IsNoFile, IsHeader, fault_of, at_byte}
 

@@ -1,41 +1,41 @@
 -- What is read behind an opcode, and what refuses it.
 use Rattle.std.specs.Prelude.{◌↔◌}
 use Rattle.std.proofs.Common.{◌≡◌, ◌≢◌, ℕ, ◌<◌, ◌^◌, List, [], ◌∷◌, ◌++◌, length, refl, sym, ap, ◌∙◌, arith, Some, None}
-use Rattle.primitives.specs.Numbers.{function_number, arithmetic_number}
-use Rattle.primitives.specs.declared.prim.Function.{Function}
-use Rattle.primitives.specs.declared.prim.Function.TheVariants as function
-use Rattle.primitives.specs.declared.prim.Test.TheVariants as test
-use Rattle.primitives.specs.declared.prim.BooleanFunction.TheVariants as boolean
-use Rattle.primitives.specs.declared.prim.Comparison.TheVariants as comparison
-use Rattle.primitives.specs.declared.prim.Extreme.TheVariants as extreme
-use Rattle.primitives.specs.declared.prim.IntegerFunction.TheVariants as integer
-use Rattle.primitives.specs.declared.prim.TupleFunction.TheVariants as tuple
-use Rattle.primitives.specs.declared.prim.ListFunction.TheVariants as list
-use Rattle.primitives.specs.declared.prim.MapFunction.TheVariants as map
-use Rattle.primitives.specs.declared.prim.SizeFunction.TheVariants as size
-use Rattle.primitives.specs.declared.prim.Arithmetic.{Arithmetic}
-use Rattle.primitives.specs.declared.prim.Arithmetic.TheVariants as arithmetic
+use Rattle.prims_table.specs.Numbers.{function_number, arithmetic_number}
+use Rattle.prims_table.specs.declared.prim.Function.{Function}
+use Rattle.prims_table.specs.declared.prim.Function.TheVariants as function
+use Rattle.prims_table.specs.declared.prim.Test.TheVariants as test
+use Rattle.prims_table.specs.declared.prim.BooleanFunction.TheVariants as boolean
+use Rattle.prims_table.specs.declared.prim.Comparison.TheVariants as comparison
+use Rattle.prims_table.specs.declared.prim.Extreme.TheVariants as extreme
+use Rattle.prims_table.specs.declared.prim.IntegerFunction.TheVariants as integer
+use Rattle.prims_table.specs.declared.prim.TupleFunction.TheVariants as tuple
+use Rattle.prims_table.specs.declared.prim.ListFunction.TheVariants as list
+use Rattle.prims_table.specs.declared.prim.MapFunction.TheVariants as map
+use Rattle.prims_table.specs.declared.prim.SizeFunction.TheVariants as size
+use Rattle.prims_table.specs.declared.prim.Arithmetic.{Arithmetic}
+use Rattle.prims_table.specs.declared.prim.Arithmetic.TheVariants as arithmetic
 use Rattle.mcode.specs.declared.instr.Instr.TheVariants as instr
-use Rattle.file_format.specs.declared.opcode.Opcode.{Opcode}
-use Rattle.file_format.specs.declared.opcode.Opcode.TheVariants as opcode
-use Rattle.file_format.specs.declared.opcode.Bare.{Bare}
-use Rattle.file_format.specs.declared.opcode.Bare.TheVariants as bare
-use Rattle.file_format.specs.declared.opcode.Slotted.{Slotted}
-use Rattle.file_format.specs.declared.opcode.Slotted.TheVariants as slotted
-use Rattle.file_format.specs.declared.opcode.Single.{Single}
-use Rattle.file_format.specs.declared.opcode.Single.TheVariants as single
-use Rattle.file_format.specs.declared.opcode.Double.{Double}
-use Rattle.file_format.specs.declared.opcode.Double.TheVariants as double
-use Rattle.file_format.specs.Opcodes.{bare_instr, slotted_instr, single_instr, double_instr, opcode_number}
-use Rattle.file_format.specs.Format.{Format, Begins, BeginsNone, both}
-use Rattle.file_format.specs.Formats.{u8_format, u16_format, opcode_format, function_format, arithmetic_format, instruction_format}
-use Rattle.file_format.proofs.InstructionLemmas.{arith_in, arithmetic_free, call_in, function_free, head_is, one_in, opcode_of, opened, parts_of, rest_bytes, self_opened, slot_in, spelled, two_in}
-use Rattle.file_terms.specs.declared.stop.Cause.{Cause}
-use Rattle.file_terms.specs.declared.stop.Cause.TheVariants.{BadOpcode}
-use Rattle.file_terms.specs.declared.stop.Stop.{Stop}
-use Rattle.file_terms.specs.Causes.{IsNameless}
-use Rattle.file_terms.specs.Reads.{Blames, IsRefuted, IsStop}
-use Rattle.file_terms.proofs.StopLemmas.{stop_none, stop_behind, stop_before, both_stop_first, both_stop_second}
+use Rattle.code_format.specs.declared.opcode.Opcode.{Opcode}
+use Rattle.code_format.specs.declared.opcode.Opcode.TheVariants as opcode
+use Rattle.code_format.specs.declared.opcode.Bare.{Bare}
+use Rattle.code_format.specs.declared.opcode.Bare.TheVariants as bare
+use Rattle.code_format.specs.declared.opcode.Slotted.{Slotted}
+use Rattle.code_format.specs.declared.opcode.Slotted.TheVariants as slotted
+use Rattle.code_format.specs.declared.opcode.Single.{Single}
+use Rattle.code_format.specs.declared.opcode.Single.TheVariants as single
+use Rattle.code_format.specs.declared.opcode.Double.{Double}
+use Rattle.code_format.specs.declared.opcode.Double.TheVariants as double
+use Rattle.code_format.specs.Opcodes.{bare_instr, slotted_instr, single_instr, double_instr, opcode_number}
+use Rattle.code_format.specs.Format.{Format, Begins, BeginsNone, both}
+use Rattle.code_format.specs.Formats.{u8_format, u16_format, opcode_format, function_format, arithmetic_format, instruction_format}
+use Rattle.code_format.proofs.InstructionLemmas.{arith_in, arithmetic_free, call_in, function_free, head_is, one_in, opcode_of, opened, parts_of, rest_bytes, self_opened, slot_in, spelled, two_in}
+use Rattle.code_file.specs.declared.stop.Cause.{Cause}
+use Rattle.code_file.specs.declared.stop.Cause.TheVariants.{BadOpcode}
+use Rattle.code_file.specs.declared.stop.Stop.{Stop}
+use Rattle.code_file.specs.Causes.{IsNameless}
+use Rattle.code_file.specs.Reads.{Blames, IsRefuted, IsStop}
+use Rattle.code_file.proofs.StopLemmas.{stop_none, stop_behind, stop_before, both_stop_first, both_stop_second}
 
 -- ---- what is read behind an opcode
 

@@ -1,3 +1,8 @@
+pub mod NumberLemmas
+pub mod StopLemmas
+pub mod RowLemmas
+pub mod LeafLemmas
+pub mod LevelLemmas
 pub mod RiseLemmas
 pub mod InstructionLemmas
 pub mod FrameLemmas

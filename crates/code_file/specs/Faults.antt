@@ -1,15 +1,15 @@
 -- What the faults of a file say, and that there is no code in it.
 use Rattle.std.specs.Prelude.{ℕ, ◌≡◌, ◌≢◌, ◌<◌, ◌≤◌, ◌⊎◌, ◌-◌, List, ◌++◌, length, take}
 use Rattle.mcode.specs.Program.{Program, most_slots}
-use Rattle.file_format.specs.Spelling.{u16_bytes}
-use Rattle.file_format.specs.File.{Spells, IsU16, magic, version}
-use Rattle.file_format.specs.Format.{Begins}
-use Rattle.file_format.specs.Formats.{body_format, body_of}
-use Rattle.file_terms.specs.Causes.{BeginsWith, IsCause}
-use Rattle.file_terms.specs.declared.stop.Cause.{Cause}
-use Rattle.file_terms.specs.declared.stop.Cause.TheVariants as causes
-use Rattle.file_terms.specs.declared.stop.Stop.{Stop}
-use Rattle.file_terms.specs.declared.stop.Stop.TheVariants as stops
+use Rattle.code_format.specs.Spelling.{u16_bytes}
+use Rattle.code_format.specs.File.{Spells, IsU16, magic, version}
+use Rattle.code_format.specs.Format.{Begins}
+use Rattle.code_format.specs.Formats.{body_format, body_of}
+use Rattle.code_file.specs.Causes.{BeginsWith, IsCause}
+use Rattle.code_file.specs.declared.stop.Cause.{Cause}
+use Rattle.code_file.specs.declared.stop.Cause.TheVariants as causes
+use Rattle.code_file.specs.declared.stop.Stop.{Stop}
+use Rattle.code_file.specs.declared.stop.Stop.TheVariants as stops
 use Rattle.code_file.specs.declared.fault.FileFault.{FileFault}
 use Rattle.code_file.specs.declared.fault.FileFault.TheVariants as faults
 

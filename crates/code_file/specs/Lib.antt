@@ -1,3 +1,5 @@
+pub mod Causes
+pub mod Reads
 pub mod FaultNumbers
 pub mod Rising
 pub mod Faults

@@ -3,18 +3,20 @@ ghost use Rattle.std.specs.Prelude.{◌≡◌, ◌<◌, length, ◌++◌, ◌∷
 ghost use Rattle.std.specs.List.{flat_map};
 ghost use Rattle.mcode.specs.Program.{Rise, frame_number, most_parts};
 ghost use Rattle.mcode.specs.declared.fault.Fault.TheVariants as Refusal;
-ghost use Rattle.file_format.specs.Spelling.{frame_bytes};
-ghost use Rattle.file_format.specs.Format.{Begins, rows, such};
-ghost use Rattle.file_format.specs.Formats.{constant_format, constants_format, instruction_format, instructions_format, frame_format, frames_format};
+ghost use Rattle.code_format.specs.Spelling.{frame_bytes};
+ghost use Rattle.code_format.specs.Format.{Begins, rows, such};
+ghost use Rattle.code_format.specs.Formats.{constant_format, constants_format, instruction_format, instructions_format, frame_format, frames_format};
 ghost use Rattle.term_core.specs.Sizes.{depth_limit};
-ghost use Rattle.file_terms.specs.Reads.{Reads, Blames, IsStop};
+ghost use Rattle.code_file.specs.Reads.{Reads, Blames, IsStop};
 ghost use Rattle.code_file.specs.Parts.{with_constants, with_instructions, with_frames, IsNextRead};
 ghost use Rattle.code_file.specs.Rising.{LastIs};
-ghost use Rattle.file_terms.specs.declared.stop.Stop.TheVariants.{Memory as OutOfMemory};
+ghost use Rattle.code_file.specs.declared.stop.Stop.TheVariants.{Memory as OutOfMemory};
 
+use crate::constant::read_constant;
 use crate::frame::{is_above, read_frame_at};
 use crate::instr::read_instr;
-use file_terms::{Cause, Stop, read_constant, read_u16};
+use crate::number::read_u16;
+use crate::stop::{Cause, Stop};
 use mcode::{Builder, Fault};
 use std::alloc::Allocator;
 use term_core::{MAX_DEPTH, Term};

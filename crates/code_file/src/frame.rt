@@ -2,13 +2,14 @@
 ghost use Rattle.std.specs.Prelude.{◌≡◌, ◌<◌, ◌↔◌, ◌++◌, ◌∷◌, [], IsTrue, IfSome, IfOk};
 ghost use Rattle.std.specs.List.{flat_map};
 ghost use Rattle.mcode.specs.Program.{Rise, place_number};
-ghost use Rattle.file_format.specs.Spelling.{place_bytes};
-ghost use Rattle.file_format.specs.Format.{rows, such};
-ghost use Rattle.file_format.specs.Formats.{u8_format, kind_format, place_format, places_format, slots_format, frame_rest_format};
-ghost use Rattle.file_terms.specs.Reads.{Reads, Blames};
+ghost use Rattle.code_format.specs.Spelling.{place_bytes};
+ghost use Rattle.code_format.specs.Format.{rows, such};
+ghost use Rattle.code_format.specs.Formats.{u8_format, kind_format, place_format, places_format, slots_format, frame_rest_format};
+ghost use Rattle.code_file.specs.Reads.{Reads, Blames};
 ghost use Rattle.code_file.specs.Rising.{LastIs};
 
-use file_terms::{Cause, Stop, read_u8, read_u16};
+use crate::number::{read_u8, read_u16};
+use crate::stop::{Cause, Stop};
 use mcode::{Frame, Kind, Places, Slots};
 use std::alloc::Allocator;
 

@@ -1,11 +1,12 @@
 //! The front of a code file: the magic, the version and the number of slots.
 ghost use Rattle.std.specs.Prelude.{◌≡◌, ◌≢◌, ◌++◌, IfOk, IfErr};
-ghost use Rattle.file_format.specs.File.{magic};
+ghost use Rattle.code_format.specs.File.{magic};
 ghost use Rattle.code_file.specs.Faults.{IsNoFile, IsHeader, fault_of};
 ghost use Rattle.code_file.specs.declared.fault.FileFault.TheVariants.{Memory as OutOfMemory};
 
 use crate::fault::FileFault;
-use file_terms::{Cause, Stop, read_u16};
+use crate::number::read_u16;
+use crate::stop::{Cause, Stop};
 
 /// EMSC, with which each code file begins.
 const MAGIC: [u8; 4] = [69, 77, 83, 67];

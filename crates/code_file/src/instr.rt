@@ -1,13 +1,14 @@
 //! Instructions at the front of a file's rest.
-ghost use Rattle.file_format.specs.declared.opcode.Opcode.TheVariants as Opcode;
-ghost use Rattle.file_format.specs.Format.{Begins, both};
-ghost use Rattle.file_format.specs.Formats.{u16_format, opcode_format, function_format, arithmetic_format, instruction_format};
-ghost use Rattle.file_terms.specs.Reads.{Reads, Blames};
+ghost use Rattle.code_format.specs.declared.opcode.Opcode.TheVariants as Opcode;
+ghost use Rattle.code_format.specs.Format.{Begins, both};
+ghost use Rattle.code_format.specs.Formats.{u16_format, opcode_format, function_format, arithmetic_format, instruction_format};
+ghost use Rattle.code_file.specs.Reads.{Reads, Blames};
 
-use file_format::Opcode;
-use file_terms::{Cause, Stop, read_u8, read_u16};
+use crate::number::{read_u8, read_u16};
+use crate::stop::{Cause, Stop};
+use code_format::Opcode;
 use mcode::Instr;
-use primitives::{Arithmetic, Function};
+use prims_table::{Arithmetic, Function};
 
 /// An opcode.
 fn read_opcode(bytes: &[u8]) -> Result<(Opcode, &[u8]), Stop>

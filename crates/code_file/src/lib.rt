@@ -1,21 +1,28 @@
 //! Code files: code as bytes, for files that strangers made as well.
 //!
-//! The contract: `decode` answers code that a file spells (`Spells` of `file_format`), and refuses only what is no code file,
+//! The contract: `decode` answers code that a file spells (`Spells` of `code_format`), and refuses only what is no code file,
 //! memory aside, by a fault that says what is wrong and where (`IsNoFile`, in `specs/Faults.antt`). `encode` writes a file, and the
 //! laws `one_code` and `read_back` say that reading and writing are inverse.
 //!
-//! - `fault`: why a file can't be read; `instr`: instructions; `frame`: frames.
+//! Each reader of a part answers the value at the front of some bytes and the rest, or why no value is at the front (`Stop`),
+//! with what stands at the place (`specs/Reads.antt`, `specs/Causes.antt`). Places are counted in the bytes that are left.
+//!
+//! - `stop`: why a reader stops; `number`: numbers and rows of bytes; `constant`: terms, at most 255 levels deep; `instr`:
+//!   instructions; `frame`: frames.
 //! - `body`: the parts of code, read into a builder; `header`: the magic, the version and the number of slots; `reading`:
-//!   whole files.
+//!   whole files; `fault`: why a file can't be read.
 #![tactic(auto)]
 
 mod body;
+mod constant;
 mod fault;
 mod frame;
 mod header;
 mod instr;
+mod number;
 mod reading;
+mod stop;
 
+pub use code_format::{encode, one_code, read_back};
 pub use fault::FileFault;
-pub use file_format::{encode, one_code, read_back};
 pub use reading::decode;

@@ -1,17 +1,17 @@
 //! Whole code files, read.
 ghost use Rattle.std.specs.Prelude.{◌≡◌, ◌≢◌, IfOk, IfErr};
 ghost use Rattle.mcode.specs.Building.{empty_program};
-ghost use Rattle.file_format.specs.Formats.{body_format};
-ghost use Rattle.file_format.specs.File.{Spells};
-ghost use Rattle.file_terms.specs.Reads.{Reads, Blames};
-ghost use Rattle.file_format.specs.Formats.{body_of};
+ghost use Rattle.code_format.specs.Formats.{body_format};
+ghost use Rattle.code_format.specs.File.{Spells};
+ghost use Rattle.code_file.specs.Reads.{Reads, Blames};
+ghost use Rattle.code_format.specs.Formats.{body_of};
 ghost use Rattle.code_file.specs.Faults.{IsNoFile, IsRead};
 ghost use Rattle.code_file.specs.declared.fault.FileFault.TheVariants.{Memory as OutOfMemory};
 
 use crate::body::{read_constants, read_frames, read_instrs};
 use crate::fault::FileFault;
 use crate::header::{file_fault, read_header};
-use file_terms::Stop;
+use crate::stop::Stop;
 use mcode::{Builder, Code};
 use std::alloc::Allocator;
 

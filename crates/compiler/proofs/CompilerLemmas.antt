@@ -10,16 +10,16 @@ use Rattle.mspec_syntax.specs.Sound.{IsSoundClause}
 use Rattle.mspec_syntax.specs.Specification.{Specification, specification_variables}
 use Rattle.mspec_meaning.specs.Meaning.{Means}
 use Rattle.mspec_meaning.proofs.MeaningLemmas.{one-meaning}
-use Rattle.instruction_checks.specs.Fit.{IsFrameFit}
+use Rattle.verifier_types.specs.Fit.{IsFrameFit}
 use Rattle.verifier.specs.Typing.{IsTyped}
-use Rattle.assembly.specs.Assembled.{assembled}
-use Rattle.assembly.specs.Line.{Block}
-use Rattle.assembly.proofs.StandLemmas.{instruction_count}
-use Rattle.templates.specs.Clauses.{blocks_of, code_of}
-use Rattle.templates.proofs.CountLemmas.{code_size}
-use Rattle.template_meaning.specs.Laws.{AreFramesInside, CodeRunsAsMeant}
-use Rattle.template_typing.specs.Laws.{IsGoodCode, CodeIsTyped}
-use Rattle.template_typing.proofs.CodeFlow.{depth_within_nodes, found_frame}
+use Rattle.compiler_assembly.specs.Assembled.{assembled}
+use Rattle.compiler_assembly.specs.Line.{Block}
+use Rattle.compiler_assembly.proofs.StandLemmas.{instruction_count}
+use Rattle.compiler_clauses.specs.Clauses.{blocks_of, code_of}
+use Rattle.compiler_clauses.proofs.CountLemmas.{code_size}
+use Rattle.compiler.specs.Meaning.{AreFramesInside, CodeRunsAsMeant}
+use Rattle.compiler.specs.Typing.{IsGoodCode, CodeIsTyped}
+use Rattle.compiler.proofs.CodeFlow.{depth_within_nodes, found_frame}
 use Rattle.compiler.specs.Laws.{CodeAnswersAsMeant, CodeIsShort, CodeIsShallow}
 
 -- the code of a specification's blocks is its code

@@ -6,7 +6,7 @@ use Rattle.mspec_syntax.specs.Sound.{IsSoundClause}
 use Rattle.mspec_syntax.specs.Specification.{Specification, IsWithinLimits, specification_nodes}
 use Rattle.mspec_meaning.specs.Meaning.{Means}
 use Rattle.verifier.specs.Typing.{IsDepth}
-use Rattle.templates.specs.Clauses.{code_of}
+use Rattle.compiler_clauses.specs.Clauses.{code_of}
 
 -- what a specification means on an object, its code answers
 abbrev pub CodeAnswersAsMeant : Type 0

@@ -1,1 +1,10 @@
+pub mod Reach
+pub mod Spread
+pub mod Shown
+pub mod Known
+pub mod Meaning
+pub mod Flow
+pub mod Ready
+pub mod Marked
+pub mod Typing
 pub mod Laws

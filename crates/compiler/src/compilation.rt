@@ -4,17 +4,17 @@ ghost use Rattle.term_core.specs.Datum.{Datum};
 ghost use Rattle.mcode.specs.Answer.{answer_of};
 ghost use Rattle.mcode.specs.Machine.{Runs};
 ghost use Rattle.mspec_meaning.specs.Meaning.{Means};
-ghost use Rattle.templates.specs.Clauses.{code_of};
-ghost use Rattle.template_typing.specs.Laws.{IsGoodCode};
+ghost use Rattle.compiler_clauses.specs.Clauses.{code_of};
+ghost use Rattle.compiler.specs.Typing.{IsGoodCode};
 
-use assembly::assemble;
+use crate::meaning::code_runs_as_meant;
+use crate::typing::code_of_specifications_is_typed;
+use compiler_assembly::assemble;
+use compiler_clauses::write_blocks;
 use machine::runs_end_with_the_answer;
 use mcode::Code;
 use mspec_syntax::Spec;
 use std::alloc::{AllocError, Allocator};
-use template_meaning::code_runs_as_meant;
-use template_typing::code_of_specifications_is_typed;
-use templates::write_blocks;
 use verifier::{Fault, Verified, faulty_code_is_untyped, verify};
 
 /// That the code of a specification is within the limits of code, and typed.

@@ -1,9 +1,9 @@
 //! Laws of the code of specifications, each the contract of a function that does nothing.
 ghost use Rattle.compiler.specs.Laws.{CodeAnswersAsMeant, CodeIsShort, CodeIsShallow};
 
+use crate::meaning::code_runs_as_meant;
+use crate::typing::code_of_specifications_is_typed;
 use machine::runs_end_with_the_answer;
-use template_meaning::code_runs_as_meant;
-use template_typing::code_of_specifications_is_typed;
 
 /// What the evaluator answers, the code answers, on every object.
 pub fn compiled_code_answers_as_meant()

@@ -1,16 +1,29 @@
 //! The compiler: specifications become verified code.
 //!
-//! The one contract: `compile` gives the code that `code_of` of `templates/specs/Clauses.antt` says, verified, and every run
+//! The one contract: `compile` gives the code that `code_of` of `compiler_clauses/specs/Clauses.antt` says, verified, and every run
 //! of it ends in what the specification means. It fails for want of memory alone: the code of a specification is
 //! within the limits of code, and the verifier accepts it.
 //!
-//! - `compilation`: the code of a specification; `laws`: what such code meets, how long and how deep it is.
-//! - The templates: `templates`, `pattern_code`, `expression_code`; out of lines code: `assembly`. What the code does
-//!   is proved in `template_meaning`, that it is typed in `template_typing`.
+//! - `compilation`: the code of a specification; `laws`: what such code meets, how long and how deep it is. The lines of the
+//!   templates: `compiler_clauses`, `compiler_patterns`, `compiler_expressions`; out of lines code: `compiler_assembly`.
+//! - `meaning`: a law, each run of such code ends in what the specification means (`specs/Meaning.antt`). Runs are put together of
+//!   parts (`Comes` of `specs/Reach.antt`): the lines of an expression push its value, those of a pattern bind what it matches, and
+//!   where one fails the run comes to the next clause with nothing on the stack. Expressions: `proofs/ExpressionLemmas.antt`, by
+//!   `FailLemmas`, `MadeLemmas`, `ListLemmas`, `ArithmeticLemmas`, `ChoiceLemmas` and `BindingLemmas`; patterns:
+//!   `proofs/PatternLemmas.antt`, over slots as `specs/Known.antt` sees them; clauses and specifications: `proofs/ClauseLemmas.antt`.
+//! - `typing`: a law, the verifier accepts such code, whatever the specification (`specs/Typing.antt`). It is proved line by line:
+//!   what an instruction needs and leaves is `IsFit` of `specs/Flow.antt`, in states with places and slots as `specs/Ready.antt` and
+//!   `specs/Marked.antt` say. Expressions: `proofs/ExpressionFlow.antt`, by `StepLemmas`, `ChoiceFlow` and `ArithmeticFlow`;
+//!   patterns: `proofs/PatternFlow.antt`; clauses: `proofs/ClauseFlow.antt`; the code as a whole: `proofs/ProgramFlow.antt`,
+//!   `proofs/CodeFlow.antt`.
 #![tactic(auto)]
 
 mod compilation;
 mod laws;
+mod meaning;
+mod typing;
 
 pub use compilation::compile;
 pub use laws::{code_is_shallow, code_is_short, compiled_code_answers_as_meant};
+pub use meaning::code_runs_as_meant;
+pub use typing::code_of_specifications_is_typed;

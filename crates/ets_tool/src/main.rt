@@ -1,11 +1,11 @@
 //! `ets_tool`: match specifications of ets over terms, from standard input to standard output.
 //!
-//! It is `run_program` of `ets_commands` on the words and the three streams that the process has.
+//! It is `run_program` of `tool_cli` on the words and the three streams that the process has.
 #![tactic(auto)]
 
-use ets_commands::run_program;
 use std::io;
 use std::process::ExitCode;
+use tool_cli::run_program;
 
 fn main(rt: HostRuntime) -> ExitCode {
     let mut reader = rt.stdin();

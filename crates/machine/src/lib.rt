@@ -6,7 +6,7 @@
 //! places and slots, it takes no memory.
 //!
 //! - `runs`: a `Machine`, which is made once and runs on any number of objects, and runs on one object. What a run does is in
-//!   `execution`.
+//!   `machine_step`.
 //! - `laws`: that a run has one end, that typed code is never stuck and ends with its answer (`answer_of` of
 //!   `mcode/specs/Answer.antt`), and that no run passes the budget.
 #![tactic(auto)]
@@ -18,5 +18,5 @@ pub use laws::{
     machine_is_deterministic, runs_end_with_the_answer, runs_stay_within_the_budget,
     typed_code_ends, typed_code_is_never_stuck,
 };
-pub use operand_stack::{INLINE_PLACES, INLINE_SLOTS};
+pub use machine_stack::{INLINE_PLACES, INLINE_SLOTS};
 pub use runs::{Machine, run, run_true};

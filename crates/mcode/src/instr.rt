@@ -1,7 +1,7 @@
 //! The instructions of the machine.
 ghost use Rattle.std.specs.Prelude.{◌≡◌, IsTrue, ◌↔◌};
 
-use primitives::{Arithmetic, Function};
+use prims_table::{Arithmetic, Function};
 
 /// An instruction. The top is the last place of the operand stack; arguments and elements are pushed from the left. A
 /// jump goes to the instruction of that number and cuts the stack to the depth of the frame there. After an instruction

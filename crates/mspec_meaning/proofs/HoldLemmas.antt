@@ -4,10 +4,10 @@ use Rattle.std.proofs.lemmas.List.{drop_all}
 use Rattle.term_core.specs.Datum.{Datum}
 use Rattle.mspec_syntax.specs.Expression.{Expression}
 use Rattle.mspec_syntax.specs.Specification.{Clause, Specification}
-use Rattle.pattern_match.specs.Match.{Substitution, Matches}
-use Rattle.pattern_match.specs.Slots.{NeverMatches}
-use Rattle.pattern_match.proofs.MatchLemmas.{one-match}
-use Rattle.mspec_scope.proofs.KnownLemmas.{split_at}
+use Rattle.mspec_match.specs.Match.{Substitution, Matches}
+use Rattle.mspec_match.specs.Slots.{NeverMatches}
+use Rattle.mspec_match.proofs.MatchLemmas.{one-match}
+use Rattle.mspec_meaning.proofs.KnownLemmas.{split_at}
 use Rattle.mspec_meaning.specs.Meaning.{value_of, true_term, AllHold, Means, IsApplicable, Applies, body_value}
 use Rattle.mspec_syntax.specs.declared.mode.Mode.TheVariants.{Condition, Body}
 

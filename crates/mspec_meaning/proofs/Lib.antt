@@ -1,3 +1,4 @@
+pub mod KnownLemmas
 pub mod HoldLemmas
 pub mod ValueLemmas
 pub mod MeaningLemmas

@@ -3,9 +3,9 @@ use Rattle.std.proofs.Common.{◌≡◌, inl, inr, ℕ, ◌<◌, ◌==◌, ◌||
 use Rattle.std.specs.List.{All}
 use Rattle.std.specs.Option.{IsSome}
 use Rattle.std.proofs.lemmas.List.Elements.{All-nil, All-cons, All-head, All-tail}
-use Rattle.operand.specs.Operand.{boolean_of}
+use Rattle.term_operand.specs.Operand.{boolean_of}
 use Rattle.prims.specs.Calls.{function_of}
-use Rattle.primitives.specs.declared.prim.Primitive.{Primitive}
+use Rattle.prims_table.specs.declared.prim.Primitive.{Primitive}
 use Rattle.term_core.specs.Datum.{Datum, Entries, cells, items_of}
 use Rattle.term_core.specs.Datum.Datum.{tuple, map as table, nil}
 use Rattle.term_core.specs.Limits.{within_limits}
@@ -16,15 +16,15 @@ use Rattle.mspec_syntax.specs.Expression.Expressions.{no_expressions, expression
 use Rattle.mspec_syntax.specs.Expression.Assignments.{no_assignments, assignment}
 use Rattle.mspec_syntax.specs.Specification.{Clause, Specification, clause_variables}
 use Rattle.mspec_syntax.specs.Sound.{IsSoundExpression, AreSoundExpressions, AreSoundAssignments, IsSoundClause}
-use Rattle.pattern_match.specs.Match.{Substitution, domain, values_of, lookup}
-use Rattle.mspec_scope.specs.Made.{or_failed, made_of}
-use Rattle.mspec_scope.specs.Called.{called}
-use Rattle.mspec_scope.specs.Decided.{and_at, and_step, or_at, or_step}
+use Rattle.mspec_match.specs.Match.{Substitution, domain, values_of, lookup}
+use Rattle.mspec_meaning.specs.Made.{or_failed, made_of}
+use Rattle.mspec_meaning.specs.Called.{called}
+use Rattle.mspec_meaning.specs.Decided.{and_at, and_step, or_at, or_step}
 use Rattle.mspec_meaning.specs.Meaning.{before, at_key, joined, made_list, value_at, argument_values, entry_values, all_true, any_true, body_value, Applies, IsApplicable, Means}
 use Rattle.mspec_syntax.specs.Mode.{Position}
 use Rattle.mspec_syntax.specs.Mode.Position.{by_itself, as_tail}
 use Rattle.mspec_syntax.specs.declared.mode.Mode.TheVariants.{Body}
-use Rattle.pattern_match.proofs.MatchLemmas.{one-match}
+use Rattle.mspec_match.proofs.MatchLemmas.{one-match}
 
 pub one-meaning : (spec : Specification) (o : Datum) (a b : Option Datum) → Means spec o a → Means spec o b → a ≡ b
 one-meaning [] o a b h k = h ∙ sym k

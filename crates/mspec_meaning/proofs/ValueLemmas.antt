@@ -1,7 +1,7 @@
 -- Values of expressions, part by part.
 use Rattle.std.proofs.Common.{◌≡◌, ℕ, ◌+◌, ◌<◌, ◌≤◌, Bool, true, false, not, IfSome, Option, Some, None, option_map, Box, List, [], ◌∷◌, ◌++◌, length, get_or, drop, refl, sym, ◌∙◌, ap, subst, arith}
 use Rattle.std.proofs.lemmas.List.{drop_all, append_assoc, append-nil}
-use Rattle.operand.specs.Operand.{boolean}
+use Rattle.term_operand.specs.Operand.{boolean}
 use Rattle.term_core.specs.Datum.{Datum, Entries, entries_of}
 use Rattle.term_core.specs.Datum.Entries.{no_entries, entry}
 use Rattle.term_core.specs.MapPairs.{AreRising}
@@ -11,10 +11,10 @@ use Rattle.mspec_syntax.specs.Keys.{AreKeysRising, IsBelowNext}
 use Rattle.mspec_syntax.specs.Expression.Expression.{bound, object, bindings, constant, quoted, call, and_also, or_else, new_tuple, new_cell, new_map}
 use Rattle.mspec_syntax.specs.Expression.Assignments.{no_assignments, assignment}
 use Rattle.mspec_syntax.specs.ExpressionView.{tail_expression, IsTailExpression}
-use Rattle.pattern_match.specs.Match.{Substitution}
-use Rattle.mspec_scope.specs.Made.{made_of, joined_to}
-use Rattle.mspec_scope.specs.Decided.{decided_at}
-use Rattle.mspec_scope.proofs.KnownLemmas.{split_at}
+use Rattle.mspec_match.specs.Match.{Substitution}
+use Rattle.mspec_meaning.specs.Made.{made_of, joined_to}
+use Rattle.mspec_meaning.specs.Decided.{decided_at}
+use Rattle.mspec_meaning.proofs.KnownLemmas.{split_at}
 use Rattle.mspec_meaning.specs.Meaning.{before, at_key, joined, value_at, value_of, argument_values, entry_values}
 use Rattle.mspec_syntax.specs.Mode.Position.{as_tail}
 use Rattle.mspec_meaning.specs.Value.{decided}

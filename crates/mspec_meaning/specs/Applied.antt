@@ -2,7 +2,7 @@
 use Rattle.std.specs.Prelude.{◌≡◌}
 use Rattle.term_core.specs.Datum.{Datum}
 use Rattle.mspec_syntax.specs.Specification.{Clause}
-use Rattle.pattern_match.specs.Match.{Substitution}
+use Rattle.mspec_match.specs.Match.{Substitution}
 use Rattle.mspec_meaning.specs.Meaning.{Applies, IsApplicable, body_value}
 use Rattle.mspec_meaning.specs.declared.clauses.Applied.{Applied}
 use Rattle.mspec_meaning.specs.declared.clauses.Applied.TheVariants as applied

@@ -4,7 +4,7 @@ use Rattle.std.specs.List.{All}
 use Rattle.std.specs.Option.{IsSome}
 use Rattle.term_core.specs.Datum.{Datum}
 use Rattle.mspec_syntax.specs.Specification.{Clause, Specification}
-use Rattle.pattern_match.specs.Match.{Substitution}
+use Rattle.mspec_match.specs.Match.{Substitution}
 use Rattle.mspec_syntax.specs.Sound.{IsSoundClause}
 use Rattle.mspec_meaning.specs.Meaning.{Applies, IsApplicable, Means, body_value}
 

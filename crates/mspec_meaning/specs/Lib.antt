@@ -1,3 +1,7 @@
+pub mod Scope
+pub mod Made
+pub mod Called
+pub mod Decided
 pub mod Meaning
 pub mod Value
 pub mod Applied

@@ -1,7 +1,7 @@
 -- What a specification means on an object. (ERTS User's Guide, "Match Specifications in Erlang",
 -- "Semantics".)
 use Rattle.std.specs.Prelude.{◌≡◌, ◌⊎◌, true, false, Option, Some, None, option_map, List, [], ◌∷◌, codes}
-use Rattle.operand.specs.Operand.{boolean}
+use Rattle.term_operand.specs.Operand.{boolean}
 use Rattle.term_core.specs.Datum.{Datum, Entries, cells, items_of}
 use Rattle.term_core.specs.Datum.Entries.{no_entries, entry}
 use Rattle.term_core.specs.Datum.Datum.{atom, tuple, map, nil, cons}
@@ -12,10 +12,10 @@ use Rattle.mspec_syntax.specs.Expression.Assignments.{no_assignments, assignment
 use Rattle.mspec_syntax.specs.Mode.{Position}
 use Rattle.mspec_syntax.specs.Mode.Position.{by_itself, as_tail}
 use Rattle.mspec_syntax.specs.Specification.{Clause, Specification}
-use Rattle.pattern_match.specs.Match.{Substitution, values_of, lookup, Matches}
-use Rattle.mspec_scope.specs.Made.{made, made_of}
-use Rattle.mspec_scope.specs.Called.{called}
-use Rattle.mspec_scope.specs.Decided.{and_step, or_step}
+use Rattle.mspec_match.specs.Match.{Substitution, values_of, lookup, Matches}
+use Rattle.mspec_meaning.specs.Made.{made, made_of}
+use Rattle.mspec_meaning.specs.Called.{called}
+use Rattle.mspec_meaning.specs.Decided.{and_step, or_step}
 use Rattle.mspec_syntax.specs.declared.mode.Mode.{Mode}
 use Rattle.mspec_syntax.specs.declared.mode.Mode.TheVariants.{Condition, Body}
 

@@ -2,7 +2,7 @@
 use Rattle.std.specs.Prelude.{Bool, true, false, Option}
 use Rattle.term_core.specs.Datum.{Datum}
 use Rattle.mspec_syntax.specs.Expression.{Expressions}
-use Rattle.pattern_match.specs.Match.{Substitution}
+use Rattle.mspec_match.specs.Match.{Substitution}
 use Rattle.mspec_meaning.specs.Meaning.{all_true, any_true}
 use Rattle.mspec_syntax.specs.declared.mode.Mode.{Mode}
 

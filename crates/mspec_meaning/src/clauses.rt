@@ -4,10 +4,11 @@ ghost use Rattle.mspec_meaning.specs.Meaning.{AllHold, IsApplicable, Applies, Me
 ghost use Rattle.mspec_meaning.specs.Applied.{AnswersBy};
 ghost use Rattle.mspec_syntax.specs.declared.mode.Mode.TheVariants.{Condition, Body};
 
+use crate::made::into_term;
+use crate::scope::Scope;
 use crate::value::value;
-use mspec_scope::{Scope, into_term};
+use mspec_match::matched;
 use mspec_syntax::{Clause, Expression, Mode, Spec};
-use pattern_match::matched;
 use std::alloc::{AllocError, Allocator};
 use term_core::Term;
 

@@ -3,15 +3,21 @@
 //! The contract is that of `evaluate`: it answers on an object what the specification means there
 //! (`Means`, in `specs/Meaning.antt`), or that no memory was given.
 //!
-//! - The values of expressions: `value.rt`. What they depend on, and what calls and terms that are made
-//!   come to: `mspec_scope`. A value is borrowed until it is put into a term or is the answer
-//!   (`operand::Value`).
-//! - Clauses and specifications: `clauses.rt`. When a head matches: `pattern_match`.
+//! - What the value of an expression depends on, where it stands, what the variables are bound to, and the object:
+//!   `scope.rt`. What comes of the values of its parts: terms that are made, and what stands for a failure, `made.rt`;
+//!   calls, `called.rt`; arguments of `andalso` and `orelse`, `decided.rt`.
+//! - The values of expressions: `value.rt`. A value is borrowed until it is put into a term or is the answer
+//!   (`term_operand::Value`).
+//! - Clauses and specifications: `clauses.rt`. When a head matches: `mspec_match`.
 //! - Laws of the meaning: `laws.rt`, `specs/Laws.antt`.
 #![tactic(auto)]
 
+mod called;
 mod clauses;
+mod decided;
 mod laws;
+mod made;
+mod scope;
 mod value;
 
 pub use clauses::evaluate;

@@ -3,17 +3,19 @@ ghost use Rattle.std.specs.Prelude.{◌≡◌, map, IfOk};
 ghost use Rattle.std.specs.Option.{option_map};
 ghost use Rattle.mspec_syntax.specs.Expression.{expressions_of, assignments_of};
 ghost use Rattle.mspec_syntax.specs.ExpressionView.{tail_expression};
-ghost use Rattle.mspec_scope.specs.Made.{joined_to, made_of};
+ghost use Rattle.mspec_meaning.specs.Made.{joined_to, made_of};
 ghost use Rattle.mspec_meaning.specs.Meaning.{value_of, argument_values, entry_values};
 ghost use Rattle.mspec_meaning.specs.Value.{decided};
-ghost use Rattle.operand.specs.Value.{value_datum};
+ghost use Rattle.term_operand.specs.Value.{value_datum};
 ghost use Rattle.term_core.specs.Datum.{entries_of};
 
-use mspec_scope::{Scope, Verdict, into_term, push_element, push_entry};
+use crate::decided::Verdict;
+use crate::made::{into_term, push_element, push_entry};
+use crate::scope::Scope;
 use mspec_syntax::{Expression, ExpressionKind};
-use operand::Value;
 use std::alloc::{AllocError, Allocator};
 use term_core::Term;
+use term_operand::Value;
 
 /// The value of an expression; none where it fails.
 #[cycle(value)]

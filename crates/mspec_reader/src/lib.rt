@@ -5,12 +5,12 @@
 //! writes, and as no other; any other term is refused for its first fault in reading order (`IsRefusal`, in
 //! `mspec_syntax/specs/Faults.antt`).
 //!
-//! - Reading: conditions and bodies in `body.rt`, clauses in `read.rt`, their size in `size.rt`; heads are read by
-//!   `mspec_head`.
+//! - Heads: `head.rt`, conditions and bodies: `body.rt`, clauses: `read.rt`, their size: `size.rt`.
 //! - A law of reading: `laws.rt`, `specs/Laws.antt`.
 #![tactic(auto)]
 
 mod body;
+mod head;
 mod laws;
 mod read;
 mod size;

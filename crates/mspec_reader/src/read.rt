@@ -6,9 +6,9 @@ ghost use Rattle.mspec_syntax.specs.Grammar.{triple, IsNoTriple, IsClause, AreCl
 ghost use Rattle.mspec_syntax.specs.Faults.{clause_faults, clauses_faults, specification_faults, Refuses, IsRefusal, IsReadable, IsSizeRefusal};
 
 use crate::body::{read_body, read_conditions};
+use crate::head::read_head;
 use crate::size::after_clauses;
 use crate::{MAX_NODES, MAX_VARIABLES};
-use mspec_head::read_head;
 use mspec_syntax::{Clause, Spec, SpecFault, Variables};
 use std::alloc::Allocator;
 use term_core::{Term, View};

@@ -12,7 +12,7 @@ use Rattle.term_core.specs.Term.{tail_of, IsTail}
 use Rattle.term_core.specs.Limits.{depth, items_depth, IsTerm, IsSound, ArePairsSound}
 use Rattle.term_core.specs.Order.{IsBelowFirst}
 use Rattle.term_core.proofs.LimitLemmas.{item_count-items_of}
-use Rattle.primitives.specs.Names.{named}
+use Rattle.prims_table.specs.Names.{named}
 use Rattle.mspec_syntax.specs.Expression.{Expression, Expressions, Assignments, expressions_of, assignments_of, assignment_keys, new_cells, IsNoListExpression}
 use Rattle.mspec_syntax.specs.Keys.{IsBelowNext, AreKeysRising}
 use Rattle.mspec_syntax.specs.Expression.Expression.{constant, call, and_also, or_else, new_tuple, new_cell, new_map}
@@ -344,7 +344,7 @@ tail-no_list vs (Some x) tail f e no_list h =
 pub quotes-one : (cs : List ℕ) (n : ℕ) → callee_of cs n ≡ callee.Quote → n ≡ 1
 quotes-one cs n e = by (n == 1) refl (pointwise nat_eq cs (codes "const")) refl (nat_lt 0 n && pointwise nat_eq cs (codes "andalso")) (nat_lt 0 n && pointwise nat_eq cs (codes "orelse")) e
   where
-    no_function : (o : Option Rattle.primitives.specs.declared.prim.Primitive.Primitive) → function_callee o ≡ callee.Quote → ⊥
+    no_function : (o : Option Rattle.prims_table.specs.declared.prim.Primitive.Primitive) → function_callee o ≡ callee.Quote → ⊥
     no_function None e = absurd (cc)
     no_function (Some f) e = absurd (cc)
 

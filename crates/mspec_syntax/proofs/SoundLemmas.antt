@@ -12,9 +12,9 @@ use Rattle.term_core.specs.Datum.Items.{no_items, item}
 use Rattle.term_core.specs.Datum.Entries.{no_entries, entry}
 use Rattle.term_core.specs.Limits.{depth, items_depth, entries_depth, tail_depth, IsTerm, IsSound, AreSound, ArePairsSound}
 use Rattle.term_core.specs.declared.TheConstants.{MAX_DEPTH, MAX_LIST}
-use Rattle.primitives.specs.Names.{takes, named}
-use Rattle.primitives.specs.declared.prim.Primitive.{Primitive}
-use Rattle.primitives.proofs.NameLemmas.{named_is}
+use Rattle.prims_table.specs.Names.{takes, named}
+use Rattle.prims_table.specs.declared.prim.Primitive.{Primitive}
+use Rattle.prims_table.proofs.NameLemmas.{named_is}
 use Rattle.mspec_syntax.specs.Pattern.{Pattern, Patterns, Fields, field_keys, own_cell, own_item, own_term, own_terms}
 use Rattle.mspec_syntax.specs.Pattern.Pattern.{literal, tuple_of, cell_of, map_of}
 use Rattle.mspec_syntax.specs.Pattern.Patterns.{no_patterns, pattern}

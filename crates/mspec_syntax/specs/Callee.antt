@@ -2,8 +2,8 @@
 -- in Erlang", "Grammar": BoolFunction, GuardFunction, and const.)
 use Rattle.std.specs.Prelude.{ℕ, ◌==◌, nat_eq, nat_lt, ◌&&◌, if◌then◌else◌, List, Option, Some, None, codes}
 use Rattle.std.specs.Cmp.Lexicographic.{pointwise}
-use Rattle.primitives.specs.Names.{named}
-use Rattle.primitives.specs.declared.prim.Primitive.{Primitive}
+use Rattle.prims_table.specs.Names.{named}
+use Rattle.prims_table.specs.declared.prim.Primitive.{Primitive}
 use Rattle.mspec_syntax.specs.declared.word.Callee.{Callee}
 use Rattle.mspec_syntax.specs.declared.word.Callee.TheVariants.{Quote, AndAlso, OrElse, Function, Unknown}
 

@@ -3,7 +3,7 @@
 use Rattle.std.specs.Prelude.{ℕ, suc, ◌+◌, List, [], ◌∷◌}
 use Rattle.term_core.specs.Datum.{Datum}
 use Rattle.term_core.specs.Datum.Datum.{nil}
-use Rattle.primitives.specs.declared.prim.Primitive.{Primitive}
+use Rattle.prims_table.specs.declared.prim.Primitive.{Primitive}
 use Rattle.mspec_syntax.specs.Pattern.{literal_tail_nodes}
 
 mutual

@@ -6,11 +6,11 @@ use Rattle.std.proofs.Common.{◌∙◌, ap}
 use Rattle.term_core.specs.Datum.{Datum}
 use Rattle.term_core.specs.Datum.Datum.{nil}
 use Rattle.term_core.specs.DatumCode.{datum_code}
-use Rattle.primitives.specs.PrimitiveCode.{primitive_code}
-use Rattle.primitives.specs.declared.prim.Primitive.{Primitive}
-use Rattle.primitives.specs.declared.prim.Primitive.TheVariants as prim
-use Rattle.primitives.specs.declared.prim.Function.TheVariants as function
-use Rattle.primitives.specs.declared.prim.BooleanFunction.TheVariants as boolean
+use Rattle.prims_table.specs.PrimitiveCode.{primitive_code}
+use Rattle.prims_table.specs.declared.prim.Primitive.{Primitive}
+use Rattle.prims_table.specs.declared.prim.Primitive.TheVariants as prim
+use Rattle.prims_table.specs.declared.prim.Function.TheVariants as function
+use Rattle.prims_table.specs.declared.prim.BooleanFunction.TheVariants as boolean
 use Rattle.mspec_syntax.specs.Expression.{Expression, Expressions, Assignments}
 use Rattle.mspec_syntax.specs.Expression.Expression.{bound, object, bindings, constant, quoted, call, and_also, or_else, new_tuple, new_cell, new_map}
 use Rattle.mspec_syntax.specs.Expression.Expressions.{no_expressions, expression}

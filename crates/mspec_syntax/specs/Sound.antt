@@ -4,7 +4,7 @@ use Rattle.std.specs.List.{All}
 use Rattle.term_core.specs.Datum.{Datum, cells}
 use Rattle.term_core.specs.Datum.Datum.{nil}
 use Rattle.term_core.specs.Limits.{IsTerm}
-use Rattle.primitives.specs.Names.{takes}
+use Rattle.prims_table.specs.Names.{takes}
 use Rattle.mspec_syntax.specs.Grammar.{is_among}
 use Rattle.mspec_syntax.specs.Keys.{AreKeysRising}
 use Rattle.mspec_syntax.specs.Pattern.{Pattern, Patterns, Fields, field_keys, own_term}

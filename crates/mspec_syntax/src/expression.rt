@@ -1,5 +1,5 @@
 //! What stands in conditions and bodies.
-use primitives::Primitive;
+use prims_table::Primitive;
 use std::alloc::{Allocator, Global};
 use std::marker::Model;
 use term_core::Term;

@@ -6,7 +6,7 @@ ghost use Rattle.std.specs.Str.Parse.{digits_value};
 ghost use Rattle.mspec_syntax.specs.Word.{is_number};
 
 use crate::{DOLLAR, MAX_DIGITS, UNDERSCORE, ZERO};
-use primitives::Primitive;
+use prims_table::Primitive;
 
 /// The characters of `const`, which quotes a term.
 const CONST: [char; 5] = ['c', 'o', 'n', 's', 't'];

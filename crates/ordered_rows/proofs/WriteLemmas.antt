@@ -4,7 +4,7 @@ use Rattle.std.specs.Prelude.{false, true, Some, IsTrue, All}
 use Rattle.std.specs.List.{IsDistinct}
 use Rattle.std.specs.Map.{keys_of}
 use Rattle.term_core.specs.Datum.{Datum}
-use Rattle.operand.specs.Order.{is_same}
+use Rattle.term_operand.specs.Order.{is_same}
 use Rattle.mcode.specs.Machine.{field_of}
 use Rattle.part_core.specs.declared.kind.Kind.TheVariants.{OrderedSet}
 use Rattle.part_core.specs.declared.settings.Settings.{Settings}

@@ -3,7 +3,7 @@ ghost use Rattle.std.specs.Prelude.{◌≡◌, false, [], IsTrue, All, filter, n
 ghost use Rattle.std.specs.List.{IsDistinct};
 ghost use Rattle.std.specs.Map.{keys_of};
 ghost use Rattle.std.specs.Option.{option_to_list};
-ghost use Rattle.operand.specs.Order.{is_same};
+ghost use Rattle.term_operand.specs.Order.{is_same};
 ghost use Rattle.part_core.specs.Plain.{kept_rows};
 ghost use Rattle.part_core.specs.Rows.{is_empty, is_live, is_fixed, objects_at, objects_without, rows_at_key};
 

@@ -10,7 +10,7 @@ use Rattle.std.proofs.lemmas.List.Folds.{list_any-append}
 use Rattle.std.proofs.lemmas.Map.Keys.{IsDistinct-tail}
 use Rattle.std.proofs.lemmas.Map.Made.{IsDistinct-keys_filter}
 use Rattle.term_core.specs.Datum.{Datum}
-use Rattle.operand.specs.Order.{is_same}
+use Rattle.term_operand.specs.Order.{is_same}
 use Rattle.mcode.specs.Program.{Program}
 use Rattle.part_core.specs.declared.op.Cursor as cursor_type
 use Rattle.part_core.specs.declared.op.Scope as scope_type

@@ -7,7 +7,7 @@ use Rattle.std.proofs.lemmas.Bool.{true≢false}
 use Rattle.std.proofs.lemmas.List.{append-nil}
 use Rattle.std.proofs.lemmas.Map.Keys.{IsDistinct-tail}
 use Rattle.term_core.specs.Datum.{Datum}
-use Rattle.operand.specs.Order.{is_same}
+use Rattle.term_operand.specs.Order.{is_same}
 use Rattle.mcode.specs.Program.{Program}
 use Rattle.part_core.specs.declared.kind.Kind.TheVariants.{OrderedSet}
 use Rattle.part_core.specs.declared.settings.Settings.{Settings}

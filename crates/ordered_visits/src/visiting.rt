@@ -3,7 +3,7 @@ ghost use Rattle.std.specs.Prelude.{ℕ, ◌≡◌, ◌≤◌, ◌++◌, ◌||�
 ghost use Rattle.std.specs.List.{IsDistinct, list_any};
 ghost use Rattle.std.specs.Map.{keys_of};
 ghost use Rattle.std.specs.Option.{option_copied, option_map, option_to_list};
-ghost use Rattle.operand.specs.Order.{is_same};
+ghost use Rattle.term_operand.specs.Order.{is_same};
 ghost use Rattle.mcode.specs.Answer.{answer_of};
 ghost use Rattle.part_core.specs.declared.kind.Kind.TheVariants.{OrderedSet};
 ghost use Rattle.part_core.specs.declared.settings.Settings.{Settings};

@@ -9,7 +9,7 @@ use Rattle.std.proofs.lemmas.List.Folds.{list_any_at}
 use Rattle.std.proofs.lemmas.List.Elements.{All-nil, All-cons, All-head, All-tail}
 use Rattle.term_core.specs.Datum.{Datum}
 use Rattle.term_core.specs.Datum.Datum.{nil}
-use Rattle.operand.specs.Order.{is_same}
+use Rattle.term_operand.specs.Order.{is_same}
 use Rattle.mcode.specs.Machine.{field_of}
 use Rattle.part_core.specs.declared.kind.Kind.{Kind}
 use Rattle.part_core.specs.declared.settings.Settings.{Settings}

@@ -5,8 +5,8 @@ use Rattle.std.specs.List.{list_any}
 use Rattle.std.specs.Option.{option_map_or}
 use Rattle.std.proofs.lemmas.Bool.{true≢false}
 use Rattle.term_core.specs.Datum.{Datum}
-use Rattle.operand.specs.Operand.{boolean}
-use Rattle.operand.specs.Order.{is_same}
+use Rattle.term_operand.specs.Operand.{boolean}
+use Rattle.term_operand.specs.Order.{is_same}
 use Rattle.mcode.specs.Answer.{answer_of}
 use Rattle.mcode.specs.Program.{Program}
 use Rattle.part_core.specs.Visits.{is_true}

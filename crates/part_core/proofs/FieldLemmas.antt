@@ -3,7 +3,7 @@ use Rattle.std.proofs.Common.{◌≡◌, ℕ, ◌<◌, ◌≤◌, zero, suc, Lis
 use Rattle.std.specs.Prelude.{None}
 use Rattle.term_core.specs.Datum.{Datum, items_of}
 use Rattle.term_core.specs.Datum.Datum.{tuple}
-use Rattle.operand.specs.Operand.{IsNoTuple}
+use Rattle.term_operand.specs.Operand.{IsNoTuple}
 use Rattle.prims.specs.Tuples.{item_at}
 use Rattle.mcode.specs.Machine.{field_of}
 

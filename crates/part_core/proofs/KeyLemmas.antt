@@ -8,7 +8,7 @@ use Rattle.std.proofs.lemmas.Cmp.{eq_by_cmp_equiv, tied_itself}
 use Rattle.term_core.specs.Datum.{Datum}
 use Rattle.term_core.specs.Order.{datum_cmp}
 use Rattle.term_core.specs.OrderLaws.{datum_cmp_total, datum_cmp-same, datum_eq-same}
-use Rattle.operand.specs.Order.{is_same}
+use Rattle.term_operand.specs.Order.{is_same}
 use Rattle.part_core.specs.Visits.{is_behind}
 
 pub by_test : (b : Bool) (P : Type 0) → (b ≡ true → P) → (b ≡ false → P) → P

@@ -18,7 +18,7 @@ use Rattle.std.proofs.lemmas.Map.Views.{All-keys-insert_entry}
 use Rattle.term_core.specs.Datum.{Datum}
 use Rattle.term_core.specs.Order.{datum_cmp}
 use Rattle.term_core.specs.OrderLaws.{datum_cmp_total}
-use Rattle.operand.specs.Order.{is_same}
+use Rattle.term_operand.specs.Order.{is_same}
 use Rattle.part_core.specs.declared.kind.Kind.{Kind}
 use Rattle.part_core.specs.declared.settings.Settings.{Settings}
 use Rattle.part_core.specs.Settings.{is_ordered, key_of}

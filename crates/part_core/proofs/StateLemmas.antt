@@ -11,7 +11,7 @@ use Rattle.std.proofs.lemmas.Map.Keys.{IsDistinct-from_sorted}
 use Rattle.term_core.specs.Datum.{Datum}
 use Rattle.term_core.specs.Order.{datum_cmp}
 use Rattle.mcode.specs.Program.{Program}
-use Rattle.operand.specs.Order.{is_same}
+use Rattle.term_operand.specs.Order.{is_same}
 use Rattle.part_core.specs.declared.settings.Settings.{Settings}
 use Rattle.part_core.specs.Settings.{is_ordered, is_object, key_of}
 use Rattle.part_core.specs.Acts.{Purpose, Scope, Act, Said, Refusal, Answer}

@@ -7,7 +7,7 @@ use Rattle.term_core.specs.Datum.Datum.{integer, tuple}
 use Rattle.term_core.specs.Datum.Items.{no_items, item}
 use Rattle.term_core.specs.KeyHash.{key_hash}
 use Rattle.term_core.specs.Order.{datum_cmp}
-use Rattle.operand.specs.Operand.{boolean}
+use Rattle.term_operand.specs.Operand.{boolean}
 use Rattle.mcode.specs.Answer.{answer_of}
 use Rattle.mcode.specs.Program.{Program}
 use Rattle.mcode.specs.declared.instr.Instr.TheVariants as instr

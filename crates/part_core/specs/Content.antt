@@ -1,7 +1,7 @@
 -- The content of a part after its history: the objects of each key, from the entries that write.
 use Rattle.std.specs.Prelude.{true, not, if◌then◌else◌, fold, filter, List, []}
 use Rattle.term_core.specs.Datum.{Datum}
-use Rattle.operand.specs.Order.{is_same}
+use Rattle.term_operand.specs.Order.{is_same}
 use Rattle.part_core.specs.declared.settings.Settings.{Settings}
 use Rattle.part_core.specs.Settings.{key_of}
 use Rattle.part_core.specs.Acts.{Act, Answer, History, next_in}

@@ -1,7 +1,7 @@
 -- The cover of a visit: the keys that it answers for, told from its entry alone.
 use Rattle.std.specs.Prelude.{Bool, true, not, ◌&&◌, ◌==◌, Option, Some, None}
 use Rattle.term_core.specs.Datum.{Datum}
-use Rattle.operand.specs.Order.{is_same}
+use Rattle.term_operand.specs.Order.{is_same}
 use Rattle.part_core.specs.declared.settings.Settings.{Settings}
 use Rattle.part_core.specs.Settings.{class_at}
 use Rattle.part_core.specs.Acts.{Cursor, Scope}

@@ -5,7 +5,7 @@ use Rattle.std.specs.BTreeMap.{insert_entry}
 use Rattle.std.specs.Map.{lookup}
 use Rattle.term_core.specs.Datum.{Datum}
 use Rattle.term_core.specs.Order.{datum_cmp}
-use Rattle.operand.specs.Order.{is_same}
+use Rattle.term_operand.specs.Order.{is_same}
 use Rattle.part_core.specs.declared.kind.Kind.{Kind}
 use Rattle.part_core.specs.declared.kind.Kind.TheVariants.{Set, OrderedSet, Bag, DuplicateBag}
 use Rattle.part_core.specs.declared.settings.Settings.{Settings}

@@ -5,8 +5,8 @@ use Rattle.std.specs.Option.{option_map_or}
 use Rattle.std.specs.Ordering.{is_lt}
 use Rattle.term_core.specs.Datum.{Datum}
 use Rattle.term_core.specs.Order.{datum_cmp}
-use Rattle.operand.specs.Operand.{boolean}
-use Rattle.operand.specs.Order.{is_same}
+use Rattle.term_operand.specs.Operand.{boolean}
+use Rattle.term_operand.specs.Order.{is_same}
 use Rattle.mcode.specs.Answer.{answer_of}
 use Rattle.mcode.specs.Program.{Program}
 use Rattle.part_core.specs.declared.settings.Settings.{Settings}

@@ -4,9 +4,9 @@ ghost use Rattle.term_core.specs.Datum.{items_of};
 ghost use Rattle.term_core.specs.Datum.Datum.{tuple};
 ghost use Rattle.mcode.specs.Machine.{field_of};
 
-use operand::Operand;
 use std::alloc::Allocator;
 use term_core::Term;
+use term_operand::Operand;
 
 /// The element at a place that is counted from 1.
 fn element_at<A: Allocator>(elements: &[Term<A>], place: u16) -> Option<&Term<A>>

@@ -7,7 +7,7 @@ use Rattle.std.proofs.lemmas.Bool.{true≢false}
 use Rattle.std.proofs.lemmas.List.{get_or_at, set_at, take-append-drop, drop_more, length-take-le}
 use Rattle.std.proofs.lemmas.Map.Keys.{IsDistinct-head, IsDistinct-tail}
 use Rattle.term_core.specs.Datum.{Datum}
-use Rattle.operand.specs.Order.{is_same}
+use Rattle.term_operand.specs.Order.{is_same}
 use Rattle.part_core.specs.Rows.{Row, has_row, objects_at, rows_at_key}
 use Rattle.plain_rows.specs.Places.{IsPlace}
 use Rattle.part_core.proofs.KeyLemmas.{by_test, same_is}

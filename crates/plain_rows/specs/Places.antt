@@ -1,7 +1,7 @@
 -- At which place of a list of rows a key stands.
 use Rattle.std.specs.Prelude.{ℕ, ◌≡◌, IsTrue, IsFalse, length, List, ◌∷◌, ◌++◌}
 use Rattle.term_core.specs.Datum.{Datum}
-use Rattle.operand.specs.Order.{is_same}
+use Rattle.term_operand.specs.Order.{is_same}
 use Rattle.part_core.specs.Rows.{Row, has_row}
 
 -- the row at a place is the first of a key

@@ -52,7 +52,7 @@ impl<A: Allocator> Row<A> {
     ghost use Rattle.std.specs.Prelude.{◌≡◌, ◌<◌, ◌&&◌, ◌==◌, [], ◌∷◌, if◌then◌else◌, IfOk};
     ghost use Rattle.std.specs.Option.{option_to_list, option_copied};
     ghost use Rattle.term_core.specs.KeyHash.{key_hash};
-    ghost use Rattle.operand.specs.Order.{is_same};
+    ghost use Rattle.term_operand.specs.Order.{is_same};
     ghost use Rattle.part_core.specs.Settings.{class_at};
     ghost use Rattle.part_core.specs.Rows.{first_slots, is_live, objects_without};
 

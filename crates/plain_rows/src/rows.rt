@@ -3,7 +3,7 @@ ghost use Rattle.std.specs.Prelude.{◌≡◌, ◌<◌, [], MatchOption, length,
 ghost use Rattle.std.specs.List.{IsDistinct};
 ghost use Rattle.std.specs.Map.{keys_of};
 ghost use Rattle.std.specs.Option.{option_to_list};
-ghost use Rattle.operand.specs.Order.{is_same};
+ghost use Rattle.term_operand.specs.Order.{is_same};
 ghost use Rattle.term_core.specs.KeyHash.{key_hash};
 ghost use Rattle.part_core.specs.Rows.{has_row, is_live, objects_at, objects_without, rows_at_key};
 ghost use Rattle.plain_rows.specs.Places.{IsPlace};

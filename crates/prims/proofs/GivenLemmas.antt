@@ -5,7 +5,7 @@ use Rattle.std.specs.Option.{option_map, option_and_then}
 use Rattle.std.proofs.lemmas.Option.{none-some, same_Some}
 use Rattle.term_core.specs.Datum.{Datum}
 use Rattle.term_core.specs.Datum.Datum.{integer}
-use Rattle.operand.specs.Operand.{boolean, operand_datum, integer_of}
+use Rattle.term_operand.specs.Operand.{boolean, operand_datum, integer_of}
 use Rattle.prims.specs.Kinds.{test_of}
 use Rattle.prims.specs.Booleans.{boolean_function_of}
 use Rattle.prims.specs.Order.{comparison_of}
@@ -15,18 +15,18 @@ use Rattle.prims.specs.Lists.{length_of}
 use Rattle.prims.specs.Maps.{is_map_key_of, map_size_of}
 use Rattle.prims.specs.Sizes.{size_of}
 use Rattle.prims.specs.Calls.{at_integers, unary_of, binary_of, ternary_of, value_of_function, value_of_arithmetic, function_of}
-use Rattle.primitives.specs.Gives.{gives_of}
+use Rattle.prims_table.specs.Gives.{gives_of}
 use Rattle.prims.specs.Given.{IsGiven}
-use Rattle.primitives.specs.declared.gives.Gives.TheVariants as gives
-use Rattle.operand.specs.declared.operand.Operand.{Operand}
-use Rattle.primitives.specs.declared.prim.Primitive.{Primitive}
-use Rattle.primitives.specs.declared.prim.Primitive.TheVariants as prim
-use Rattle.primitives.specs.declared.prim.Function.{Function}
-use Rattle.primitives.specs.declared.prim.Function.TheVariants as function
-use Rattle.primitives.specs.declared.prim.Arithmetic.{Arithmetic}
-use Rattle.primitives.specs.declared.prim.TupleFunction.TheVariants as tuple
-use Rattle.primitives.specs.declared.prim.ListFunction.TheVariants as list
-use Rattle.primitives.specs.declared.prim.MapFunction.TheVariants as map
+use Rattle.prims_table.specs.declared.gives.Gives.TheVariants as gives
+use Rattle.term_operand.specs.declared.operand.Operand.{Operand}
+use Rattle.prims_table.specs.declared.prim.Primitive.{Primitive}
+use Rattle.prims_table.specs.declared.prim.Primitive.TheVariants as prim
+use Rattle.prims_table.specs.declared.prim.Function.{Function}
+use Rattle.prims_table.specs.declared.prim.Function.TheVariants as function
+use Rattle.prims_table.specs.declared.prim.Arithmetic.{Arithmetic}
+use Rattle.prims_table.specs.declared.prim.TupleFunction.TheVariants as tuple
+use Rattle.prims_table.specs.declared.prim.ListFunction.TheVariants as list
+use Rattle.prims_table.specs.declared.prim.MapFunction.TheVariants as map
 
 given_boolean : (o : Option Bool) (d : Datum) → option_map boolean o ≡ Some d → IsGiven gives.Boolean d
 given_boolean None d e = absurd (none-some d e)

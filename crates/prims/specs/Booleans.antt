@@ -2,9 +2,9 @@
 use Rattle.std.specs.Prelude.{Bool, true, false, not, ◌&&◌, ◌||◌, Option, Some, None, List, [], ◌∷◌}
 use Rattle.std.specs.Option.{option_map}
 use Rattle.term_core.specs.Datum.{Datum}
-use Rattle.operand.specs.Operand.{boolean_of}
-use Rattle.primitives.specs.declared.prim.BooleanFunction.{BooleanFunction}
-use Rattle.primitives.specs.declared.prim.BooleanFunction.TheVariants.{Not, And, Or, Xor}
+use Rattle.term_operand.specs.Operand.{boolean_of}
+use Rattle.prims_table.specs.declared.prim.BooleanFunction.{BooleanFunction}
+use Rattle.prims_table.specs.declared.prim.BooleanFunction.TheVariants.{Not, And, Or, Xor}
 
 -- two truth values taken together, where both are there
 abbrev pub both : (Bool → Bool → Bool) → Option Bool → Option Bool → Option Bool

@@ -4,7 +4,7 @@ use Rattle.std.specs.Prelude.{ℕ, ℤ, List, [], ◌∷◌, Option, Some, None}
 use Rattle.std.specs.Option.{option_map, option_and_then}
 use Rattle.term_core.specs.Datum.{Datum}
 use Rattle.term_core.specs.Datum.Datum.{integer}
-use Rattle.operand.specs.Operand.{boolean, integer_of}
+use Rattle.term_operand.specs.Operand.{boolean, integer_of}
 use Rattle.prims.specs.Kinds.{test_of}
 use Rattle.prims.specs.Booleans.{boolean_function_of}
 use Rattle.prims.specs.Order.{comparison_of, extreme_of}
@@ -13,14 +13,14 @@ use Rattle.prims.specs.Tuples.{element_of, is_record_of}
 use Rattle.prims.specs.Lists.{head_of, tail_behind, length_of}
 use Rattle.prims.specs.Maps.{is_map_key_of, map_get_of, map_size_of}
 use Rattle.prims.specs.Sizes.{size_of}
-use Rattle.primitives.specs.declared.prim.Primitive.{Primitive}
-use Rattle.primitives.specs.declared.prim.Primitive.TheVariants as prim
-use Rattle.primitives.specs.declared.prim.Function.{Function}
-use Rattle.primitives.specs.declared.prim.Function.TheVariants as function
-use Rattle.primitives.specs.declared.prim.Arithmetic.{Arithmetic}
-use Rattle.primitives.specs.declared.prim.TupleFunction.TheVariants.{IsRecord, Element}
-use Rattle.primitives.specs.declared.prim.ListFunction.TheVariants.{Hd, Tl, Length}
-use Rattle.primitives.specs.declared.prim.MapFunction.TheVariants.{IsMapKey, MapGet, MapSize}
+use Rattle.prims_table.specs.declared.prim.Primitive.{Primitive}
+use Rattle.prims_table.specs.declared.prim.Primitive.TheVariants as prim
+use Rattle.prims_table.specs.declared.prim.Function.{Function}
+use Rattle.prims_table.specs.declared.prim.Function.TheVariants as function
+use Rattle.prims_table.specs.declared.prim.Arithmetic.{Arithmetic}
+use Rattle.prims_table.specs.declared.prim.TupleFunction.TheVariants.{IsRecord, Element}
+use Rattle.prims_table.specs.declared.prim.ListFunction.TheVariants.{Hd, Tl, Length}
+use Rattle.prims_table.specs.declared.prim.MapFunction.TheVariants.{IsMapKey, MapGet, MapSize}
 
 -- what a function gives of one term
 abbrev pub unary_of : Function → Datum → Option Datum

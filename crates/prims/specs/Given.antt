@@ -2,9 +2,9 @@
 use Rattle.std.specs.Prelude.{◌≡◌, Bool, ℤ}
 use Rattle.term_core.specs.Datum.{Datum}
 use Rattle.term_core.specs.Datum.Datum.{integer}
-use Rattle.operand.specs.Operand.{boolean}
-use Rattle.primitives.specs.declared.gives.Gives.{Gives}
-use Rattle.primitives.specs.declared.gives.Gives.TheVariants.{Boolean, Integer, Any}
+use Rattle.term_operand.specs.Operand.{boolean}
+use Rattle.prims_table.specs.declared.gives.Gives.{Gives}
+use Rattle.prims_table.specs.declared.gives.Gives.TheVariants.{Boolean, Integer, Any}
 
 -- the term is of the kind
 abbrev pub IsGiven : Gives → Datum → Type 0

@@ -1,10 +1,10 @@
 -- Functions of integers (Erlang Reference Manual, "Expressions", "Arithmetic Expressions"; module erlang).
 use Rattle.std.specs.Prelude.{zero, ℤ, pos, neg_ℤ, ◌+ℤ◌, ◌-ℤ◌, ◌*ℤ◌, int_div, int_rem, unsigned_abs, Option, Some, None}
 use Rattle.std.specs.Int.{w64, int_bit_and, int_bit_or, int_bit_xor}
-use Rattle.primitives.specs.declared.prim.IntegerFunction.{IntegerFunction}
-use Rattle.primitives.specs.declared.prim.IntegerFunction.TheVariants.{Abs, Round, Trunc, Plus, Negate, Bnot}
-use Rattle.primitives.specs.declared.prim.Arithmetic.{Arithmetic}
-use Rattle.primitives.specs.declared.prim.Arithmetic.TheVariants.{Add, Subtract, Multiply, Div, Rem, Band, Bor, Bxor, Bsl, Bsr}
+use Rattle.prims_table.specs.declared.prim.IntegerFunction.{IntegerFunction}
+use Rattle.prims_table.specs.declared.prim.IntegerFunction.TheVariants.{Abs, Round, Trunc, Plus, Negate, Bnot}
+use Rattle.prims_table.specs.declared.prim.Arithmetic.{Arithmetic}
+use Rattle.prims_table.specs.declared.prim.Arithmetic.TheVariants.{Add, Subtract, Multiply, Div, Rem, Band, Bor, Bxor, Bsl, Bsr}
 use Rattle.prims.specs.Shifts.{shift_left, shift_right}
 use Rattle.prims.specs.Fitting.{fitting}
 

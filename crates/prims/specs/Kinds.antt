@@ -2,9 +2,9 @@
 use Rattle.std.specs.Prelude.{Bool, true, false, is_some}
 use Rattle.term_core.specs.Datum.{Datum}
 use Rattle.term_core.specs.Datum.Datum.{integer, atom, tuple, map, nil, cons, binary}
-use Rattle.operand.specs.Operand.{boolean_of}
-use Rattle.primitives.specs.declared.prim.Test.{Test}
-use Rattle.primitives.specs.declared.prim.Test.TheVariants.{IsAtom, IsInteger, IsList, IsNumber, IsTuple, IsMap, IsBinary, IsBitstring, IsBoolean}
+use Rattle.term_operand.specs.Operand.{boolean_of}
+use Rattle.prims_table.specs.declared.prim.Test.{Test}
+use Rattle.prims_table.specs.declared.prim.Test.TheVariants.{IsAtom, IsInteger, IsList, IsNumber, IsTuple, IsMap, IsBinary, IsBitstring, IsBoolean}
 
 -- Whether the term is of the kind. Integers are the only numbers, binaries the only bit strings, and there
 -- are no floats, pids, ports, references and functions.

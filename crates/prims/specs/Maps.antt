@@ -3,7 +3,7 @@ use Rattle.std.specs.Prelude.{ℤ, pos, Bool, if◌then◌else◌, Option, Some,
 use Rattle.term_core.specs.Datum.{Datum, Entries, entry_count}
 use Rattle.term_core.specs.Datum.Datum.{map}
 use Rattle.term_core.specs.Datum.Entries.{no_entries, entry}
-use Rattle.operand.specs.Order.{is_same}
+use Rattle.term_operand.specs.Order.{is_same}
 
 -- the value of a key, none where the map has no such key
 abbrev pub value_at : Datum → Entries → Option Datum

@@ -4,10 +4,10 @@ use Rattle.std.specs.declared.cmp.Ordering.{Ordering}
 use Rattle.std.specs.Ordering.{is_eq, is_ne, is_lt, is_gt, is_le, is_ge}
 use Rattle.term_core.specs.Datum.{Datum}
 use Rattle.term_core.specs.Order.{datum_cmp}
-use Rattle.primitives.specs.declared.prim.Comparison.{Comparison}
-use Rattle.primitives.specs.declared.prim.Comparison.TheVariants.{Greater, GreaterOrEqual, Less, LessOrEqual, ExactlyEqual, ExactlyUnequal, Equal, Unequal}
-use Rattle.primitives.specs.declared.prim.Extreme.{Extreme}
-use Rattle.primitives.specs.declared.prim.Extreme.TheVariants.{Max, Min}
+use Rattle.prims_table.specs.declared.prim.Comparison.{Comparison}
+use Rattle.prims_table.specs.declared.prim.Comparison.TheVariants.{Greater, GreaterOrEqual, Less, LessOrEqual, ExactlyEqual, ExactlyUnequal, Equal, Unequal}
+use Rattle.prims_table.specs.declared.prim.Extreme.{Extreme}
+use Rattle.prims_table.specs.declared.prim.Extreme.TheVariants.{Max, Min}
 
 -- how the first term has to stand to the second
 abbrev pub allows : Comparison → Ordering → Bool

@@ -2,8 +2,8 @@
 use Rattle.std.specs.Prelude.{◌*◌, length, ℤ, pos, Option, Some, None}
 use Rattle.term_core.specs.Datum.{Datum, item_count}
 use Rattle.term_core.specs.Datum.Datum.{tuple, binary}
-use Rattle.primitives.specs.declared.prim.SizeFunction.{SizeFunction}
-use Rattle.primitives.specs.declared.prim.SizeFunction.TheVariants.{Size, TupleSize, ByteSize, BitSize}
+use Rattle.prims_table.specs.declared.prim.SizeFunction.{SizeFunction}
+use Rattle.prims_table.specs.declared.prim.SizeFunction.TheVariants.{Size, TupleSize, ByteSize, BitSize}
 
 -- a tuple's elements, a binary's bytes or its bits, none of a term that the function does not measure
 abbrev pub size_of : SizeFunction → Datum → Option ℤ

@@ -1,11 +1,11 @@
 //! Functions of the atoms `true` and `false`.
 ghost use Rattle.std.specs.Prelude.{◌≡◌, map};
-ghost use Rattle.operand.specs.Operand.{operand_datum};
+ghost use Rattle.term_operand.specs.Operand.{operand_datum};
 ghost use Rattle.prims.specs.Booleans.{all_of, any_of, boolean_function_of};
 
-use operand::Operand;
-use primitives::BooleanFunction;
+use prims_table::BooleanFunction;
 use std::alloc::Allocator;
+use term_operand::Operand;
 
 /// Whether all operands are `true`, where all are booleans.
 fn all<A: Allocator>(operands: &[Operand<'_, A>]) -> Option<bool>

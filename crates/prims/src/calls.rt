@@ -1,16 +1,16 @@
 //! Calls of functions.
 ghost use Rattle.std.specs.Prelude.{◌≡◌, ◌∷◌, [], map, IfSome};
 ghost use Rattle.std.specs.Option.{option_map};
-ghost use Rattle.operand.specs.Operand.{operand_datum, integer_of};
-ghost use Rattle.primitives.specs.Gives.{gives_of};
+ghost use Rattle.term_operand.specs.Operand.{operand_datum, integer_of};
+ghost use Rattle.prims_table.specs.Gives.{gives_of};
 ghost use Rattle.prims.specs.Given.{IsGiven};
 ghost use Rattle.prims.specs.Integers.{arithmetic_of};
 ghost use Rattle.prims.specs.Calls.{at_integers, unary_of, binary_of, ternary_of, value_of_function, value_of_arithmetic, function_of};
 
 use crate::{booleans, integers, kinds, lists, maps, order, sizes, tuples};
-use operand::Operand;
-use primitives::{Arithmetic, Function, ListFunction, MapFunction, Primitive, TupleFunction};
+use prims_table::{Arithmetic, Function, ListFunction, MapFunction, Primitive, TupleFunction};
 use std::alloc::Allocator;
+use term_operand::Operand;
 
 /// What a function of one argument gives.
 fn of_one<'a, A: Allocator>(function: Function, operand: Operand<'a, A>) -> Option<Operand<'a, A>>

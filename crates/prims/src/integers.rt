@@ -4,7 +4,7 @@ ghost use Rattle.prims.specs.Integers.{integer_function_of, arithmetic_of, quoti
 
 use crate::bits::{band, bor, bxor};
 use crate::shifts::{shift_left, shift_right};
-use primitives::{Arithmetic, IntegerFunction};
+use prims_table::{Arithmetic, IntegerFunction};
 
 /// What the function gives, none where that is outside 64 bits.
 pub(crate) fn of_one(function: IntegerFunction, value: i64) -> Option<i64>

@@ -1,11 +1,11 @@
 //! Tests of a term for its kind.
 ghost use Rattle.std.specs.Prelude.{◌≡◌};
-ghost use Rattle.operand.specs.Operand.{operand_datum};
+ghost use Rattle.term_operand.specs.Operand.{operand_datum};
 ghost use Rattle.prims.specs.Kinds.{test_of};
 
-use operand::{Operand, View};
-use primitives::Test;
+use prims_table::Test;
 use std::alloc::Allocator;
+use term_operand::{Operand, View};
 
 /// Whether the operand is of the kind.
 pub(crate) fn is_of_kind<A: Allocator>(test: Test, operand: Operand<'_, A>) -> bool

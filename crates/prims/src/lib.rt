@@ -5,7 +5,7 @@
 //! The one contract: `call` gives what `function_of` of `specs/Calls.antt` gives, a partial function
 //! on lists of terms, and none exactly where that has no value.
 //!
-//! Which functions there are stands in `primitives`.
+//! Which functions there are stands in `prims_table`.
 //!
 //! - `kinds`, `booleans`, `order`, `integers`, `shifts`, `tuples`, `lists`, `maps`, `sizes`: a family
 //!   each. `calls`: which family a function is of.

@@ -1,12 +1,12 @@
 //! Functions of lists.
 ghost use Rattle.std.specs.Prelude.{◌≡◌};
 ghost use Rattle.std.specs.Option.{option_copied, option_map};
-ghost use Rattle.operand.specs.Operand.{operand_datum};
+ghost use Rattle.term_operand.specs.Operand.{operand_datum};
 ghost use Rattle.prims.specs.Lists.{head_of, tail_behind, length_of};
 
-use operand::{Operand, View};
 use std::alloc::Allocator;
 use term_core::Term;
+use term_operand::{Operand, View};
 
 /// `hd`
 pub(crate) fn head<'a, A: Allocator>(list: Operand<'a, A>) -> Option<&'a Term<A>>

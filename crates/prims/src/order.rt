@@ -1,12 +1,12 @@
 //! Comparisons by the order of terms.
 ghost use Rattle.std.specs.Prelude.{◌≡◌};
-ghost use Rattle.operand.specs.Operand.{operand_datum};
+ghost use Rattle.term_operand.specs.Operand.{operand_datum};
 ghost use Rattle.prims.specs.Order as spec;
 
-use operand::{Operand, compare};
-use primitives::{Comparison, Extreme};
+use prims_table::{Comparison, Extreme};
 use std::alloc::Allocator;
 use std::cmp::Ordering;
+use term_operand::{Operand, compare};
 
 /// Whether two terms that stand so meet the comparison.
 #[inline(always)]

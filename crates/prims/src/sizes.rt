@@ -2,14 +2,14 @@
 ghost use Rattle.std.specs.Prelude.{◌≡◌, ◌≤◌, length, pos};
 ghost use Rattle.term_core.specs.Datum.{item_count, items_of};
 ghost use Rattle.term_core.specs.Datum.Datum.{tuple, binary};
-ghost use Rattle.operand.specs.Operand.{operand_datum};
+ghost use Rattle.term_operand.specs.Operand.{operand_datum};
 ghost use Rattle.prims.specs.Sizes.{size_of};
 
 use crate::tuples::element_count;
-use operand::{Operand, View};
-use primitives::SizeFunction;
+use prims_table::SizeFunction;
 use std::alloc::Allocator;
 use term_core::{MAX_BINARY, MAX_TUPLE, Term};
+use term_operand::{Operand, View};
 
 /// How many bytes a binary has.
 fn byte_count(bytes: &[u8]) -> i64

@@ -3,12 +3,12 @@ ghost use Rattle.std.specs.Prelude.{◌≡◌, ◌≤◌, pos};
 ghost use Rattle.std.specs.Option.{option_copied};
 ghost use Rattle.term_core.specs.Datum.{item_count, items_of};
 ghost use Rattle.term_core.specs.Datum.Items.{no_items, item};
-ghost use Rattle.operand.specs.Operand.{operand_datum};
+ghost use Rattle.term_operand.specs.Operand.{operand_datum};
 ghost use Rattle.prims.specs.Tuples.{element_of, index_of, begins_with, is_named, is_record_of};
 
-use operand::{Operand, View};
 use std::alloc::Allocator;
 use term_core::{MAX_TUPLE, Term};
+use term_operand::{Operand, View};
 
 /// How many elements a tuple has.
 pub(crate) fn element_count<A: Allocator>(elements: &[Term<A>]) -> i64

@@ -1,16 +1,16 @@
 //! Calls of functions over values, of which some may have been made.
 ghost use Rattle.std.specs.Prelude.{◌≡◌, ◌∷◌, [], ◌≤◌, length, map, IfOk, IfSome, IsOkAnd, IsSome, IsTrue};
 ghost use Rattle.std.specs.Option.{option_map};
-ghost use Rattle.operand.specs.Operand.{operand_datum};
-ghost use Rattle.operand.specs.Value.{value_datum, is_borrowed, all};
+ghost use Rattle.term_operand.specs.Operand.{operand_datum};
+ghost use Rattle.term_operand.specs.Value.{value_datum, is_borrowed, all};
 ghost use Rattle.prims.specs.Calls.{function_of, inline_operands};
 
 use crate::calls::{call, call_binary, call_unary};
 use crate::order;
-use operand::{Operand, Value};
-use primitives::{Function, Primitive};
+use prims_table::{Function, Primitive};
 use smallvec::SmallVec;
 use std::alloc::{AllocError, Allocator};
+use term_operand::{Operand, Value};
 
 /// How many borrowed values a call takes without memory.
 pub const INLINE_OPERANDS: usize = 16;

@@ -6,8 +6,8 @@ use Rattle.term_core.specs.Limits.{tail_depth, items_depth, IsTerm, IsSound, Are
 use Rattle.term_core.specs.Term.{tail_of, IsTail, IsList}
 use Rattle.term_core.specs.TermFalls.{depth-cells, tail_depth-cells}
 use Rattle.term_core.specs.Fault.{IsFault, IsTooLong}
-use Rattle.term_fault.specs.declared.fault.Fault.{Fault}
-use Rattle.term_fault.specs.declared.fault.Fault.TheVariants.{Memory, TooDeep, TooLong, DuplicateKey}
+use Rattle.term_core.specs.declared.fault.Fault.{Fault}
+use Rattle.term_core.specs.declared.fault.Fault.TheVariants.{Memory, TooDeep, TooLong, DuplicateKey}
 use Rattle.term_core.specs.declared.TheConstants.{MAX_DEPTH, MAX_CHARACTERS, MAX_TUPLE, MAX_LIST, MAX_BINARY}
 
 -- numbers that are bytes one by one

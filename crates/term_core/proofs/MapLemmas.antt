@@ -20,8 +20,8 @@ use Rattle.term_core.specs.Order.{IsBelow, datum_cmp}
 use Rattle.term_core.specs.OrderLaws.{datum_cmp_total, datum_cmp-says, datum_cmp-same, IsBelow-less}
 use Rattle.term_core.specs.Fault.{IsTooLong}
 use Rattle.term_core.specs.MapPairs.{AreRising, HasTwice, IsMapDepth, IsMapFault, IsMapOf, IsPairSound, keys_of}
-use Rattle.term_fault.specs.declared.fault.Fault.{Fault}
-use Rattle.term_fault.specs.declared.fault.Fault.TheVariants.{Memory}
+use Rattle.term_core.specs.declared.fault.Fault.{Fault}
+use Rattle.term_core.specs.declared.fault.Fault.TheVariants.{Memory}
 use Rattle.term_core.specs.declared.TheConstants.{MAX_DEPTH}
 use Rattle.term_core.proofs.LimitLemmas.{entry_count-entries_of}
 

@@ -4,8 +4,8 @@ use Rattle.term_core.specs.Datum.{Datum, item_count, entry_count, cell_count}
 use Rattle.term_core.specs.Datum.Datum.{integer, atom, tuple, map, nil, cons, binary}
 use Rattle.term_core.specs.Limits.{depth, IsTerm}
 use Rattle.term_core.specs.Sizes.{depth_limit, atom_limit, tuple_limit, map_limit, list_limit, binary_limit}
-use Rattle.term_fault.specs.declared.fault.Fault.{Fault}
-use Rattle.term_fault.specs.declared.fault.Fault.TheVariants.{Memory, TooDeep, TooLong, DuplicateKey}
+use Rattle.term_core.specs.declared.fault.Fault.{Fault}
+use Rattle.term_core.specs.declared.fault.Fault.TheVariants.{Memory, TooDeep, TooLong, DuplicateKey}
 
 -- past the limit of its kind
 abbrev pub IsTooLong : Datum → Type 0

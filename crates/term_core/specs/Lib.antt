@@ -1,3 +1,4 @@
+pub mod FaultNumbers
 pub mod Datum
 pub mod DatumCode
 pub mod Order

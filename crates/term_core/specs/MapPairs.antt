@@ -8,8 +8,8 @@ use Rattle.std.specs.Ordering.{is_lt, eq_by_cmp}
 use Rattle.term_core.specs.Order.{IsBelowFirst, datum_cmp}
 use Rattle.term_core.specs.Limits.{depth, IsSound}
 use Rattle.term_core.specs.Sizes.{depth_limit, map_limit}
-use Rattle.term_fault.specs.declared.fault.Fault.{Fault}
-use Rattle.term_fault.specs.declared.fault.Fault.TheVariants.{Memory, TooDeep, TooLong, DuplicateKey}
+use Rattle.term_core.specs.declared.fault.Fault.{Fault}
+use Rattle.term_core.specs.declared.fault.Fault.TheVariants.{Memory, TooDeep, TooLong, DuplicateKey}
 use Rattle.term_core.specs.Fault.{IsFault, IsTooLong}
 
 -- each key stands before the next

@@ -1,13 +1,14 @@
 //! Terms.
 #![tactic(auto)]
 
+mod fault;
 mod hash;
 mod order;
 mod term;
 mod view;
 
+pub use fault::{Fault, Refused};
 pub use term::{ListParts, Term, deepest};
-pub use term_fault::{Fault, Refused};
 pub use view::View;
 
 /// The greatest depth of a term.

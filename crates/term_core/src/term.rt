@@ -7,13 +7,13 @@ ghost use Rattle.term_core.specs.ListParts.{HandsBack};
 ghost use Rattle.term_core.specs.Fault.{IsFault, IsDepthOf};
 ghost use Rattle.term_core.specs.Limits.{IsTerm, IsSound, tail_depth, depth as depth_of, items_depth, AreSound, AreBytes, AreScalars};
 
+use crate::fault::{Fault, Refused};
 use crate::view::View;
 use crate::{MAX_BINARY, MAX_CHARACTERS, MAX_DEPTH, MAX_LIST, MAX_TUPLE};
 use std::alloc::{AllocError, Allocator, Global};
 use std::marker::Model;
 use std::slice;
 use std::sync::Arc;
-use term_fault::{Fault, Refused};
 
 mod copy;
 mod map;

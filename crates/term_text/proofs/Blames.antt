@@ -6,12 +6,12 @@ use Rattle.std.specs.Char.{is_ascii_lowercase}
 use Rattle.std.proofs.lemmas.Bool.{eqb-true, eqb-false, eq-eqb, ne_eqb, leb-true, leb-false, ltb-true, ltb-false, cases_Bool, or_cases}
 use Rattle.std.proofs.lemmas.List.{length-append}
 use Rattle.term_core.specs.declared.TheConstants.{MAX_CHARACTERS, MAX_LIST, MAX_BINARY}
-use Rattle.text_tokens.specs.Character.{line_feed, percent, plus, minus, comma, backslash, is_white_space, is_word, escaped}
-use Rattle.text_tokens.specs.declared.fault.Cause.TheVariants as causes
-use Rattle.text_tokens.specs.declared.token.Marks.{Marks}
-use Rattle.text_tokens.specs.declared.token.Opening.{Opening}
-use Rattle.text_tokens.specs.declared.token.Opening.TheVariants as opens
-use Rattle.text_tokens.specs.Tokens.{Gap, Integer}
+use Rattle.term_text.specs.Character.{line_feed, percent, plus, minus, comma, backslash, is_white_space, is_word, escaped}
+use Rattle.term_text.specs.declared.stop.Cause.TheVariants as causes
+use Rattle.term_text.specs.declared.token.Marks.{Marks}
+use Rattle.term_text.specs.declared.token.Opening.{Opening}
+use Rattle.term_text.specs.declared.token.Opening.TheVariants as opens
+use Rattle.term_text.specs.Tokens.{Gap, Integer}
 use Rattle.term_text.specs.Causes.{Due as due, Due, Quotes, mark_of, most_characters, MayStand, EndsGap, WholeGap, BeginsInteger, BeginsTerm, IsTooDeep, IsTooLong, IsKeyTwice, IsWide, IsOutOfRange, IsNoEscape, BeginsWith, BeginsWithBoth, IsUnexpected}
 use Rattle.term_text.specs.Causes.WholeGap.{up_to, to_the_end}
 use Rattle.term_text.specs.Causes.IsUnexpected.{no_character, no_escaped}
@@ -24,14 +24,14 @@ use Rattle.term_text.specs.Causes.IsTooLong.{one_character, one_letter}
 use Rattle.term_text.specs.Causes.IsWide.{wide, wide_positive, wide_negative}
 use Rattle.term_text.specs.Causes.IsOutOfRange.{wide_segment, no_byte, no_byte_character}
 use Rattle.term_text.specs.Causes.IsNoEscape.{no_escape}
-use Rattle.text_tokens.specs.Reading.{Fault, Read, ◌>>=◌, Step, steps, all_steps, after_gap, expect, expect_both, opening, is_sign, fits, number_run, number_at, integer_at, word_at, is_allowed, escape_as, escape_at, character_at, next_quoted, pushed, quoted_step, quoted_at}
-use Rattle.text_reader.specs.Reading.{separated, comma_in, behind_comma, enter, enter_as, byte_of, byte_at, string_marks, byte_marks, atom_marks}
-use Rattle.text_tokens.proofs.Steps.{bind_holds, if_holds, holds_from, weaker, Hands, steps_hold, Shrinks}
-use Rattle.text_tokens.proofs.Tokens.{Behind, IsCharacter, gap_holds, character_holds, escaped_allowed, quoted_shrinks, if_is}
-use Rattle.text_tokens.proofs.Tokens.Behind.{something, nothing}
-use Rattle.text_tokens.proofs.Tokens.IsCharacter.{as_it_is, as_escape}
-use Rattle.text_tokens.proofs.Words.{Opens, BeginsWord, opening_holds, opening_integer, opening_word, integer_holds, number_holds}
-use Rattle.text_tokens.proofs.Words.{BeginsInteger as IsIntegerStart}
+use Rattle.term_text.specs.TokenReading.{Fault, Read, ◌>>=◌, Step, steps, all_steps, after_gap, expect, expect_both, opening, is_sign, fits, number_run, number_at, integer_at, word_at, is_allowed, escape_as, escape_at, character_at, next_quoted, pushed, quoted_step, quoted_at}
+use Rattle.term_text.specs.Reading.{separated, comma_in, behind_comma, enter, enter_as, byte_of, byte_at, string_marks, byte_marks, atom_marks}
+use Rattle.term_text.proofs.Steps.{bind_holds, if_holds, holds_from, weaker, Hands, steps_hold, Shrinks}
+use Rattle.term_text.proofs.Tokens.{Behind, IsCharacter, gap_holds, character_holds, escaped_allowed, quoted_shrinks, if_is}
+use Rattle.term_text.proofs.Tokens.Behind.{something, nothing}
+use Rattle.term_text.proofs.Tokens.IsCharacter.{as_it_is, as_escape}
+use Rattle.term_text.proofs.Words.{Opens, BeginsWord, opening_holds, opening_integer, opening_word, integer_holds, number_holds}
+use Rattle.term_text.proofs.Words.{BeginsInteger as IsIntegerStart}
 
 -- so many characters from the end of a text begins what is such
 pub record Left (left : ℕ) (IsSuch : List ℕ → Type 0) : Type 0 where

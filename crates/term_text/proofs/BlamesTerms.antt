@@ -14,15 +14,15 @@ use Rattle.term_core.specs.Order.{datum_cmp}
 use Rattle.term_core.specs.OrderLaws.{datum_cmp-equal, datum_cmp-same}
 use Rattle.std.specs.declared.cmp.Ordering.TheVariants.{Equal}
 use Rattle.term_core.specs.declared.TheConstants.{MAX_TUPLE, MAX_MAP, MAX_LIST, MAX_BINARY, MAX_DEPTH}
-use Rattle.text_tokens.specs.Character.{backslash, comma, dot, equals, greater, single_quote, double_quote, open_brace, close_brace, open_bracket, close_bracket, bar, number_sign, less}
-use Rattle.text_tokens.specs.declared.fault.Cause.{Cause}
-use Rattle.text_tokens.specs.declared.fault.Cause.TheVariants as causes
-use Rattle.text_tokens.specs.declared.fault.Stop.{Stop}
-use Rattle.text_tokens.specs.declared.fault.Stop.TheVariants as stops
-use Rattle.text_tokens.specs.declared.token.Opening.{Opening}
-use Rattle.text_tokens.specs.declared.token.Opening.TheVariants as opens
-use Rattle.text_tokens.specs.Tokens.{Gap}
-use Rattle.text_reader.specs.Text.{Spelled}
+use Rattle.term_text.specs.Character.{backslash, comma, dot, equals, greater, single_quote, double_quote, open_brace, close_brace, open_bracket, close_bracket, bar, number_sign, less}
+use Rattle.term_text.specs.declared.stop.Cause.{Cause}
+use Rattle.term_text.specs.declared.stop.Cause.TheVariants as causes
+use Rattle.term_text.specs.declared.stop.Stop.{Stop}
+use Rattle.term_text.specs.declared.stop.Stop.TheVariants as stops
+use Rattle.term_text.specs.declared.token.Opening.{Opening}
+use Rattle.term_text.specs.declared.token.Opening.TheVariants as opens
+use Rattle.term_text.specs.Tokens.{Gap}
+use Rattle.term_text.specs.Text.{Spelled}
 use Rattle.term_text.specs.Fault.{fault_of}
 use Rattle.term_text.specs.Causes.{Due, Due as due, WholeGap, Row, most_elements, BeginsTerm, IsTooDeep, IsTooLong, IsKeyTwice, IsOutOfRange, IsNoEscape, StandsAt, HasCause, BeginsInteger, BeginsWith, BeginsWithBoth, BeginsDot, FollowsElement, IsUnexpected, IsNew}
 use Rattle.term_text.specs.Causes.{BeginsTerm as begins_term}
@@ -35,17 +35,17 @@ use Rattle.term_text.specs.Causes.IsTooLong.{one_element, one_pair, one_byte, on
 use Rattle.term_text.specs.Causes.IsKeyTwice.{key_twice}
 use Rattle.term_text.specs.Causes.IsOutOfRange.{wide_term, wide_segment, no_byte, no_byte_character}
 use Rattle.term_text.specs.Causes.IsNoEscape.{no_escape}
-use Rattle.text_tokens.specs.Reading.{Fails, after_gap, behind, behind_both, all_steps, expect, expect_both, opening, quoted_at, integer_at, word_at, dot_at, begins_gap}
-use Rattle.text_reader.specs.Reading.{TermReader, TailReader, separated, enter, atom_marks, byte_marks, string_marks, string_at, segment_as, segment_at, segments_at, byte_at, bytes_at, binary_at, integer_term_at, word_term_at, quoted_atom_at, element_at, elements_at, items_at, tuple_at, list_at, list_end, list_from, end_at, has_key, pair_at, pairs_at, map_at, form_at, tail_form, term_at, tail_at, sentence_at, sentence_step, text_at}
-use Rattle.text_tokens.proofs.Words.{Opens, BeginsWord, opening_holds, opening_integer, behind_holds}
-use Rattle.text_reader.proofs.Sound.{IsReader, IsTailReader, ElementRead, SegmentRead, PairRead, TailRead, cell_count-cells, enter_holds, element_holds, element_shrinks, segment_holds, segment_shrinks, pair_holds, pair_shrinks, expect_both_holds, term_holds, tail_holds}
-use Rattle.text_tokens.proofs.Steps.{bind_holds}
-use Rattle.text_reader.proofs.Texts.{SentenceRead, sentence_holds, sentence_shrinks, begins_from}
-use Rattle.text_reader.proofs.Keys.{put_permutes, is_eq-equal}
+use Rattle.term_text.specs.TokenReading.{Fails, after_gap, behind, behind_both, all_steps, expect, expect_both, opening, quoted_at, integer_at, word_at, dot_at, begins_gap}
+use Rattle.term_text.specs.Reading.{TermReader, TailReader, separated, enter, atom_marks, byte_marks, string_marks, string_at, segment_as, segment_at, segments_at, byte_at, bytes_at, binary_at, integer_term_at, word_term_at, quoted_atom_at, element_at, elements_at, items_at, tuple_at, list_at, list_end, list_from, end_at, has_key, pair_at, pairs_at, map_at, form_at, tail_form, term_at, tail_at, sentence_at, sentence_step, text_at}
+use Rattle.term_text.proofs.Words.{Opens, BeginsWord, opening_holds, opening_integer, behind_holds}
+use Rattle.term_text.proofs.Sound.{IsReader, IsTailReader, ElementRead, SegmentRead, PairRead, TailRead, cell_count-cells, enter_holds, element_holds, element_shrinks, segment_holds, segment_shrinks, pair_holds, pair_shrinks, expect_both_holds, term_holds, tail_holds}
+use Rattle.term_text.proofs.Steps.{bind_holds}
+use Rattle.term_text.proofs.Texts.{SentenceRead, sentence_holds, sentence_shrinks, begins_from}
+use Rattle.term_text.proofs.Keys.{put_permutes, is_eq-equal}
 use Rattle.term_text.proofs.Ends.{EndsIn, due_ends, whole_gap_ends, spelled_ends, segment_ends, pair_ends, then}
 use Rattle.term_text.proofs.Ends.{behind as ends_behind}
 use Rattle.term_text.proofs.Blames.{Left, Blames, at_once, whole_gap, gap_before, opens_none, integer_begun, LastItem, StaysGood, bind_blames, bind_any, if_blames, steps_blame, separated_blames, separated_last, expect_blames, expect_both_blames, enter_blames, integer_blames, byte_blames, word_blames, quoted_blames, atom_are, byte_are, string_are}
-use Rattle.text_tokens.proofs.Words.{BeginsInteger as IsIntegerStart}
+use Rattle.term_text.proofs.Words.{BeginsInteger as IsIntegerStart}
 use Rattle.term_text.proofs.Blames.{integer_starts}
 
 -- A place where a term with so many levels left is due if there is room for one more, and what else is wrong there.

@@ -15,7 +15,7 @@ use Rattle.term_core.specs.Limits.{depth, tail_depth, items_depth, entries_depth
 use Rattle.term_core.specs.TermFalls.{depth-cells}
 use Rattle.term_core.proofs.RowLemmas.{depth-element, depth-entry}
 use Rattle.term_core.specs.Term.{IsTail, tail_of}
-use Rattle.text_tokens.specs.Character.{single_quote, equals, comma, bar, greater, less, number_sign, open_brace, close_brace, open_bracket, close_bracket}
+use Rattle.term_text.specs.Character.{single_quote, equals, comma, bar, greater, less, number_sign, open_brace, close_brace, open_bracket, close_bracket}
 use Rattle.term_text.specs.Canonical.{canonical, atom_text, items_text, more_items_text, entries_text, more_entries_text, tail_text, quoted_characters, bytes_text, more_bytes}
 
 pub decimal_bytes : (n : ℕ) → n < 2 ^ 64 → encode_utf8_all (decimal n) ≡ decimal n

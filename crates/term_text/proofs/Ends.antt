@@ -2,18 +2,18 @@
 use Rattle.std.proofs.Common.{◌≡◌, ℕ, ℤ, Bool, List, [], ◌∷◌, ◌++◌, refl, sym, ap, ◌∙◌, append_assoc}
 use Rattle.std.proofs.lemmas.List.{append-nil}
 use Rattle.term_core.specs.Datum.{Datum}
-use Rattle.text_tokens.specs.Tokens.{Gap, Comment, Quoted, Run, Number, Integer}
-use Rattle.text_reader.specs.Text.{Segment, Segments, Spelled, Elements, Pair, Pairs}
-use Rattle.text_tokens.specs.Tokens.Gap.{no_gap, white, comment}
-use Rattle.text_tokens.specs.Tokens.Comment.{ended, passed}
-use Rattle.text_tokens.specs.Tokens.Quoted.{closed, plain, escape}
-use Rattle.text_tokens.specs.Tokens.Integer.{unsigned, positive, negative}
-use Rattle.text_reader.specs.Text.Segment.{a_byte, some_bytes}
-use Rattle.text_reader.specs.Text.Segments.{last_segment, more_segments}
-use Rattle.text_reader.specs.Text.Spelled.{an_integer, a_word, a_quoted_atom, an_empty_string, a_string, an_empty_tuple, a_tuple, an_empty_list, a_list, a_list_with_tail, an_empty_map, a_map, an_empty_binary, a_binary}
-use Rattle.text_reader.specs.Text.Elements.{last, more}
-use Rattle.text_reader.specs.Text.Pair.{arrow}
-use Rattle.text_reader.specs.Text.Pairs.{last_pair, more_pairs}
+use Rattle.term_text.specs.Tokens.{Gap, Comment, Quoted, Run, Number, Integer}
+use Rattle.term_text.specs.Text.{Segment, Segments, Spelled, Elements, Pair, Pairs}
+use Rattle.term_text.specs.Tokens.Gap.{no_gap, white, comment}
+use Rattle.term_text.specs.Tokens.Comment.{ended, passed}
+use Rattle.term_text.specs.Tokens.Quoted.{closed, plain, escape}
+use Rattle.term_text.specs.Tokens.Integer.{unsigned, positive, negative}
+use Rattle.term_text.specs.Text.Segment.{a_byte, some_bytes}
+use Rattle.term_text.specs.Text.Segments.{last_segment, more_segments}
+use Rattle.term_text.specs.Text.Spelled.{an_integer, a_word, a_quoted_atom, an_empty_string, a_string, an_empty_tuple, a_tuple, an_empty_list, a_list, a_list_with_tail, an_empty_map, a_map, an_empty_binary, a_binary}
+use Rattle.term_text.specs.Text.Elements.{last, more}
+use Rattle.term_text.specs.Text.Pair.{arrow}
+use Rattle.term_text.specs.Text.Pairs.{last_pair, more_pairs}
 use Rattle.term_text.specs.Causes.{Place, Due, WholeGap}
 use Rattle.term_text.specs.Causes.WholeGap.{up_to, to_the_end}
 use Rattle.term_text.specs.Causes.{Due as due}

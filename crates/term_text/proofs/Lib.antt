@@ -1,3 +1,15 @@
+pub mod Steps
+pub mod Tokens
+pub mod Words
+pub mod Items
+pub mod Shorter
+pub mod Keys
+pub mod Sound
+pub mod Whole
+pub mod Texts
+pub mod Readers
+pub mod Within
+pub mod Constructed
 pub mod Publics
 pub mod Written
 pub mod ReadBack

@@ -4,16 +4,16 @@ use Rattle.std.specs.Str.{encode_utf8_all, IsUtf8, IsValidUpTo, chars}
 use Rattle.std.proofs.lemmas.Str.{encodes-append, utf8_valid_len-IsValidUpTo, utf8_valid_len-IsUtf8}
 use Rattle.std.proofs.lemmas.List.{take-append-drop, length-append}
 use Rattle.term_core.specs.Datum.{Datum}
-use Rattle.text_reader.specs.Text.{Spells}
+use Rattle.term_text.specs.Text.{Spells}
 use Rattle.term_text.specs.Fault.{fault_of}
-use Rattle.text_tokens.specs.declared.fault.Cause.TheVariants as causes
+use Rattle.term_text.specs.declared.stop.Cause.TheVariants as causes
 use Rattle.term_text.specs.declared.fault.TextFault.TheVariants as faults
-use Rattle.text_tokens.specs.declared.fault.Stop.{Stop}
-use Rattle.text_tokens.specs.declared.fault.Stop.TheVariants as stops
-use Rattle.text_tokens.specs.Reading.{Fault, Fails}
-use Rattle.text_reader.specs.Reading.{text_at}
-use Rattle.text_tokens.proofs.Steps.{holds_at}
-use Rattle.text_reader.proofs.Texts.{text_holds, text_again}
+use Rattle.term_text.specs.declared.stop.Stop.{Stop}
+use Rattle.term_text.specs.declared.stop.Stop.TheVariants as stops
+use Rattle.term_text.specs.TokenReading.{Fault, Fails}
+use Rattle.term_text.specs.Reading.{text_at}
+use Rattle.term_text.proofs.Steps.{holds_at}
+use Rattle.term_text.proofs.Texts.{text_holds, text_again}
 
 pub fewer_bytes : (k : ℕ) (cs : List ℕ) → length (encode_utf8_all (take k cs)) ≤ length (encode_utf8_all cs)
 fewer_bytes k cs =

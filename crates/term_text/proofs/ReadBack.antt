@@ -16,17 +16,17 @@ use Rattle.term_core.specs.Datum.Items.{no_items, item}
 use Rattle.term_core.specs.Datum.Entries.{no_entries, entry}
 use Rattle.term_core.specs.Limits.{IsTerm, AreScalars, AreBytes, IsSound, AreSound, ArePairsSound}
 use Rattle.term_core.specs.declared.TheConstants.{MAX_DEPTH}
-use Rattle.text_tokens.specs.Character.{dot, line_feed, backslash, single_quote, equals, greater, close_brace, close_bracket}
-use Rattle.text_reader.specs.Text.{Sentences, Spells}
-use Rattle.text_tokens.specs.Tokens.Gap.{no_gap, white}
-use Rattle.text_reader.specs.Text.Sentences.{none, sentence}
+use Rattle.term_text.specs.Character.{dot, line_feed, backslash, single_quote, equals, greater, close_brace, close_bracket}
+use Rattle.term_text.specs.Text.{Sentences, Spells}
+use Rattle.term_text.specs.Tokens.Gap.{no_gap, white}
+use Rattle.term_text.specs.Text.Sentences.{none, sentence}
 use Rattle.term_text.specs.Canonical.{canonical, items_text, more_items_text, entries_text, more_entries_text, tail_text, atom_text, is_bare, quoted_character, quoted_characters, bytes_text, more_bytes, IsReadBack}
-use Rattle.text_tokens.specs.Reading.{after_gap, all_steps}
-use Rattle.text_reader.specs.Reading.{sentence_step}
-use Rattle.text_tokens.proofs.Steps.{goes_on}
-use Rattle.text_tokens.proofs.Tokens.{gap_holds}
-use Rattle.text_reader.proofs.Whole.{spelled_first, gap_first}
-use Rattle.text_reader.proofs.Texts.{sentence_shrinks, sentence_again, step_again, sentences_again, terms_read}
+use Rattle.term_text.specs.TokenReading.{after_gap, all_steps}
+use Rattle.term_text.specs.Reading.{sentence_step}
+use Rattle.term_text.proofs.Steps.{goes_on}
+use Rattle.term_text.proofs.Tokens.{gap_holds}
+use Rattle.term_text.proofs.Whole.{spelled_first, gap_first}
+use Rattle.term_text.proofs.Texts.{sentence_shrinks, sentence_again, step_again, sentences_again, terms_read}
 use Rattle.term_text.proofs.Written.{written, decimal_is}
 
 -- ---- over characters
@@ -36,7 +36,7 @@ widened text ds (none g l) = none (white refl g) l
 widened text ds (sentence g s h b more) = sentence (white refl g) s h b more
 
 module _ (d : Datum) (term : IsTerm d) (more : List ℕ) where
-  spelled_here : Rattle.text_reader.specs.Text.Spelled MAX_DEPTH (canonical d ++ dot ∷ line_feed ∷ more) d (dot ∷ line_feed ∷ more)
+  spelled_here : Rattle.term_text.specs.Text.Spelled MAX_DEPTH (canonical d ++ dot ∷ line_feed ∷ more) d (dot ∷ line_feed ∷ more)
   spelled_here = written d term.sound MAX_DEPTH term.shallow (dot ∷ line_feed ∷ more) refl
 
   put_first : (es : List Datum) → Sentences more es → Sentences (canonical d ++ dot ∷ line_feed ∷ more) (d ∷ es)

@@ -18,20 +18,20 @@ use Rattle.term_core.specs.Datum.Entries.{no_entries, entry}
 use Rattle.term_core.specs.Limits.{depth, tail_depth, items_depth, entries_depth, AreBytes, IsSound, AreSound, ArePairsSound}
 use Rattle.term_core.specs.declared.TheConstants.{MAX_CHARACTERS, MAX_TUPLE, MAX_MAP, MAX_LIST, MAX_BINARY}
 use Rattle.std.proofs.lemmas.List.Sorted.{IsPermutation-refl}
-use Rattle.text_reader.proofs.Sound.{cell_count-cells}
-use Rattle.text_tokens.specs.Character.{is_word, backslash, single_quote, comma, bar, equals, greater, less, number_sign, open_brace, close_brace, open_bracket, close_bracket}
-use Rattle.text_reader.specs.Text.{Segment, Segments, Spelled, Elements, Pair, Pairs}
-use Rattle.text_reader.proofs.Keys.{AreRising}
-use Rattle.text_tokens.specs.Tokens.Gap.{no_gap}
-use Rattle.text_reader.specs.Text.Segment.{a_byte}
-use Rattle.text_reader.specs.Text.Segments.{last_segment, more_segments}
-use Rattle.text_reader.specs.Text.Spelled.{an_integer, a_word, a_quoted_atom, an_empty_tuple, a_tuple, an_empty_list, a_list, a_list_with_tail, an_empty_map, a_map, an_empty_binary, a_binary}
-use Rattle.text_reader.specs.Text.Elements.{last, more as more_elements}
-use Rattle.text_reader.specs.Text.Pair.{arrow}
-use Rattle.text_reader.specs.Text.Pairs.{last_pair, more_pairs}
-use Rattle.text_tokens.specs.Tokens.{EndsRun, Run, Number, Integer, Quoted}
-use Rattle.text_tokens.specs.Tokens.Integer.{unsigned, negative}
-use Rattle.text_tokens.specs.Tokens.Quoted.{closed, plain, escape}
+use Rattle.term_text.proofs.Sound.{cell_count-cells}
+use Rattle.term_text.specs.Character.{is_word, backslash, single_quote, comma, bar, equals, greater, less, number_sign, open_brace, close_brace, open_bracket, close_bracket}
+use Rattle.term_text.specs.Text.{Segment, Segments, Spelled, Elements, Pair, Pairs}
+use Rattle.term_text.proofs.Keys.{AreRising}
+use Rattle.term_text.specs.Tokens.Gap.{no_gap}
+use Rattle.term_text.specs.Text.Segment.{a_byte}
+use Rattle.term_text.specs.Text.Segments.{last_segment, more_segments}
+use Rattle.term_text.specs.Text.Spelled.{an_integer, a_word, a_quoted_atom, an_empty_tuple, a_tuple, an_empty_list, a_list, a_list_with_tail, an_empty_map, a_map, an_empty_binary, a_binary}
+use Rattle.term_text.specs.Text.Elements.{last, more as more_elements}
+use Rattle.term_text.specs.Text.Pair.{arrow}
+use Rattle.term_text.specs.Text.Pairs.{last_pair, more_pairs}
+use Rattle.term_text.specs.Tokens.{EndsRun, Run, Number, Integer, Quoted}
+use Rattle.term_text.specs.Tokens.Integer.{unsigned, negative}
+use Rattle.term_text.specs.Tokens.Quoted.{closed, plain, escape}
 use Rattle.term_text.specs.Canonical.{canonical, more_items_text, more_entries_text, tail_text, atom_text, is_bare, is_reserved, bytes_text, more_bytes, quoted_character, quoted_characters, are_word, has_bare_form}
 
 -- what follows goes on no word

@@ -8,8 +8,8 @@ use Rattle.term_core.specs.Datum.{Datum, Items, Entries}
 use Rattle.term_core.specs.Datum.Datum.{integer, atom, tuple, map, nil, cons, binary}
 use Rattle.term_core.specs.Datum.Items.{no_items, item}
 use Rattle.term_core.specs.Datum.Entries.{no_entries, entry}
-use Rattle.text_reader.specs.Text.{Spells}
-use Rattle.text_tokens.specs.Character.{line_feed, dot, comma, backslash, single_quote, open_brace, close_brace, open_bracket, close_bracket, bar, number_sign, equals, less, greater, is_word}
+use Rattle.term_text.specs.Text.{Spells}
+use Rattle.term_text.specs.Character.{line_feed, dot, comma, backslash, single_quote, open_brace, close_brace, open_bracket, close_bracket, bar, number_sign, equals, less, greater, is_word}
 
 -- words that are written in quotes
 abbrev pub reserved : List (List ℕ)

@@ -5,9 +5,9 @@ use Rattle.std.specs.Char.{is_ascii_digit, is_ascii_lowercase}
 use Rattle.std.specs.Str.{encode_utf8_all, chars}
 use Rattle.term_core.specs.Datum.{Datum, cell_count}
 use Rattle.term_core.specs.Sizes.{atom_limit, tuple_limit, map_limit, list_limit, binary_limit, depth_limit}
-use Rattle.text_tokens.specs.Character.{percent, is_white_space, plus, minus, comma, dot, backslash, single_quote, double_quote, open_brace, close_brace, open_bracket, close_bracket, bar, number_sign, equals, less, greater, is_word, escaped}
-use Rattle.text_tokens.specs.Tokens.{Gap, Number, Integer, IsLastComment}
-use Rattle.text_reader.specs.Text.{Segment, Spelled, Pair, BeginsGap}
+use Rattle.term_text.specs.Character.{percent, is_white_space, plus, minus, comma, dot, backslash, single_quote, double_quote, open_brace, close_brace, open_bracket, close_bracket, bar, number_sign, equals, less, greater, is_word, escaped}
+use Rattle.term_text.specs.Tokens.{Gap, Number, Integer, IsLastComment}
+use Rattle.term_text.specs.Text.{Segment, Spelled, Pair, BeginsGap}
 use Rattle.term_text.specs.declared.fault.TextFault.{TextFault}
 use Rattle.term_text.specs.declared.fault.TextFault.TheVariants as faults
 

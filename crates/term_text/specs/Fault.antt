@@ -1,10 +1,10 @@
 -- Faults by the byte where they stand.
 use Rattle.std.specs.Prelude.{ℕ, ◌-◌, List, length, take}
 use Rattle.std.specs.Str.{encode_utf8_all}
-use Rattle.text_tokens.specs.declared.fault.Cause.{Cause}
-use Rattle.text_tokens.specs.declared.fault.Cause.TheVariants as causes
-use Rattle.text_tokens.specs.declared.fault.Stop.{Stop}
-use Rattle.text_tokens.specs.declared.fault.Stop.TheVariants as stops
+use Rattle.term_text.specs.declared.stop.Cause.{Cause}
+use Rattle.term_text.specs.declared.stop.Cause.TheVariants as causes
+use Rattle.term_text.specs.declared.stop.Stop.{Stop}
+use Rattle.term_text.specs.declared.stop.Stop.TheVariants as stops
 use Rattle.term_text.specs.declared.fault.TextFault.{TextFault}
 use Rattle.term_text.specs.declared.fault.TextFault.TheVariants as faults
 

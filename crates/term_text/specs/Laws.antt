@@ -1,7 +1,7 @@
 -- Laws of texts.
 use Rattle.std.specs.Prelude.{ℕ, ◌≡◌, List}
 use Rattle.term_core.specs.Datum.{Datum}
-use Rattle.text_reader.specs.Text.{Spells}
+use Rattle.term_text.specs.Text.{Spells}
 
 -- a text spells one list of terms at most
 abbrev pub SpellsOne : Type 0

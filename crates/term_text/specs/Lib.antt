@@ -1,3 +1,8 @@
+pub mod Character
+pub mod Tokens
+pub mod TokenReading
+pub mod Text
+pub mod Reading
 pub mod Causes
 pub mod Canonical
 pub mod Fault

@@ -1,20 +1,27 @@
 //! Term text: terms read from text and written as text.
 //!
-//! The contract: `read_terms` answers the terms that a text spells (`Spells`, in `specs/Text.antt` of `text_reader`) and refuses
-//! any other text, naming what stands at the place of the refusal (`HasCause`, in `specs/Causes.antt`); `write_term` writes the
-//! one canonical text of a term, and `write_binary` that of a binary of any size (`canonical`, in `specs/Canonical.antt`); the law
+//! The contract: `read_terms` answers the terms that a text spells (`Spells`, in `specs/Text.antt`) and refuses any other text,
+//! naming what stands at the place of the refusal (`HasCause`, in `specs/Causes.antt`); `write_term` writes the one canonical
+//! text of a term, and `write_binary` that of a binary of any size (`canonical`, in `specs/Canonical.antt`); the law
 //! `canonical_text_is_read_back` says that a canonical text spells its term and no other.
 //!
-//! - Reading: `text.rt`, for bytes, over the characters that `text_reader` reads.
-//! - Writing: `write.rt`.
-//! - Refusals, by the byte where they are met: `fault.rt`, `specs/Fault.antt`, `specs/FaultNumbers.antt`; that what one names
-//!   stands there: `proofs/Blames.antt`, `proofs/BlamesTerms.antt`.
-//! - The laws: `law.rt`, proved in `proofs/Written.antt` and `proofs/ReadBack.antt`.
+//! - Tokens: `token.rt`, over the characters of `specs/Character.antt`. What a token spells is a relation (`specs/Tokens.antt`),
+//!   and what reading it from the left gives a function (`specs/TokenReading.antt`); that they agree: `proofs/Tokens.antt`,
+//!   `proofs/Words.antt`. Why and where reading stops: `stop.rt`.
+//! - Terms, by their tokens: `read.rt` gives what `text_at` of `specs/Reading.antt` gives. What is read is spelled so:
+//!   `proofs/Sound.antt`; what is spelled is read so: `proofs/Whole.antt`; each term that is made is within its limits:
+//!   `proofs/Within.antt`, `proofs/Constructed.antt`.
+//! - Texts of bytes: `text.rt`. Refusals, by the byte where they are met: `fault.rt`; that what one names stands there:
+//!   `proofs/Blames.antt`, `proofs/BlamesTerms.antt`.
+//! - Writing: `write.rt`. The laws: `law.rt`, proved in `proofs/Written.antt` and `proofs/ReadBack.antt`.
 #![tactic(auto)]
 
 mod fault;
 mod law;
+mod read;
+mod stop;
 mod text;
+mod token;
 mod write;
 
 pub use fault::TextFault;

@@ -2,18 +2,18 @@
 ghost use Rattle.std.specs.Prelude.{◌≡◌, ◌↔◌, ◌<◌, ◌≤◌, ◌^◌, List, IfOk, IfErr, ℕ, IsErrOf, MatchResult, Ok, Err, length};
 ghost use Rattle.std.specs.Str.{encode_utf8_all, IsValidUpTo, chars};
 ghost use Rattle.term_core.specs.Datum.{Datum};
-ghost use Rattle.text_reader.specs.Text.{Spells};
+ghost use Rattle.term_text.specs.Text.{Spells};
 ghost use Rattle.term_text.specs.Causes.{HasCause};
 ghost use Rattle.term_text.specs.Fault.{fault_of};
-ghost use Rattle.text_tokens.specs.Reading.{Gives};
-ghost use Rattle.text_reader.specs.Reading.{text_at};
+ghost use Rattle.term_text.specs.TokenReading.{Gives};
+ghost use Rattle.term_text.specs.Reading.{text_at};
 
 use crate::fault::TextFault;
+use crate::read::terms;
+use crate::stop::{Cause, Stop};
 use std::alloc::{AllocError, Allocator};
 use std::str;
 use term_core::Term;
-use text_reader::terms;
-use text_tokens::{Cause, Stop};
 
 /// How many bytes these characters take in UTF-8.
 fn byte_count(characters: &[char]) -> usize

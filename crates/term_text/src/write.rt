@@ -8,13 +8,13 @@ ghost use Rattle.std.specs.Option.{option_copied};
 ghost use Rattle.term_core.specs.Datum.{items_of, entries_of, cells};
 ghost use Rattle.term_core.specs.Datum.Datum.{tuple, map, binary};
 ghost use Rattle.term_core.specs.Term.{tail_of, IsTail};
-ghost use Rattle.text_tokens.specs.Character.{equals, greater};
+ghost use Rattle.term_text.specs.Character.{equals, greater};
 ghost use Rattle.term_text.specs.Canonical.{are_word, canonical, atom_text, is_bare, has_bare_form, is_reserved, quoted_character, quoted_characters, bytes_text, items_text, entries_text, tail_text};
 
+use crate::token::is_word;
 use itoa::Buffer;
 use std::alloc::{AllocError, Allocator};
 use term_core::{Term, View};
-use text_tokens::is_word;
 
 /// Words that are written in quotes.
 const RESERVED: [&str; 29] = [

@@ -5,15 +5,15 @@ use Rattle.std.proofs.Common.{arith, refl, sym, ap, subst, ◌∙◌, inl, inr}
 use Rattle.std.proofs.lemmas.Option.{slice_get_within, get_or_from_slice_get}
 use Rattle.mcode.specs.Program.{Program, frame_at}
 use Rattle.mcode.specs.declared.instr.Instr.{Instr}
-use Rattle.machine_shapes.specs.Shape.{Shape}
-use Rattle.machine_shapes.specs.Effect.{falling_shape}
-use Rattle.instruction_checks.specs.Fit.{IsFrameFit}
+use Rattle.verifier_types.specs.Shape.{Shape}
+use Rattle.verifier_types.specs.Effect.{falling_shape}
+use Rattle.verifier_types.specs.Fit.{IsFrameFit}
 use Rattle.verifier.specs.Typing.{AreTypedBelow, IsTyped, falling_into}
-use Rattle.instruction_checks.specs.Faults.{IsFaultIn}
+use Rattle.verifier_types.specs.Faults.{IsFaultIn}
 use Rattle.verifier.specs.Faults.{IsFirstFault, IsFirstUntyped, IsFirstUnfit}
 use Rattle.verifier.specs.Pass.{begun, shape_at}
-use Rattle.instruction_checks.specs.declared.fault.Fault.{Fault}
-use Rattle.instruction_checks.proofs.FaultLemmas.{contradicts}
+use Rattle.verifier_types.specs.declared.fault.Fault.{Fault}
+use Rattle.verifier_types.proofs.FaultLemmas.{contradicts}
 use Rattle.verifier.proofs.PassLemmas.{shape_begun, begins_once}
 
 -- what falls into the next instruction, where this one is there or not

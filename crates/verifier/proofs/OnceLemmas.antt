@@ -6,17 +6,17 @@ use Rattle.std.proofs.lemmas.Option.{slice_get_within, get_or_from_slice_get, sa
 use Rattle.std.proofs.lemmas.List.{length-take, get_or-take}
 use Rattle.mcode.specs.Program.{Program, Frame, frame_at}
 use Rattle.mcode.specs.declared.instr.Instr.{Instr}
-use Rattle.machine_shapes.specs.Shape.{Shape}
-use Rattle.machine_shapes.specs.Effect.{left_shape}
-use Rattle.instruction_checks.specs.Fit.{IsFrameFit}
+use Rattle.verifier_types.specs.Shape.{Shape}
+use Rattle.verifier_types.specs.Effect.{left_shape}
+use Rattle.verifier_types.specs.Fit.{IsFrameFit}
 use Rattle.verifier.specs.Typing.{AreTypedBelow, IsDepth, falling_into}
-use Rattle.instruction_checks.specs.Faults.{IsFaultIn}
+use Rattle.verifier_types.specs.Faults.{IsFaultIn}
 use Rattle.verifier.specs.Faults.{IsFirstFault, IsFirstUntyped, IsFirstUnfit}
 use Rattle.verifier.specs.Pass.{begun}
-use Rattle.instruction_checks.specs.declared.fault.Fault.{Fault}
-use Rattle.instruction_checks.specs.declared.fault.Fault.TheVariants as fault
+use Rattle.verifier_types.specs.declared.fault.Fault.{Fault}
+use Rattle.verifier_types.specs.declared.fault.Fault.TheVariants as fault
 use Rattle.verifier.proofs.PassLemmas.{begins_once}
-use Rattle.instruction_checks.proofs.FaultLemmas.{contradicts, fault_once}
+use Rattle.verifier_types.proofs.FaultLemmas.{contradicts, fault_once}
 use Rattle.verifier.proofs.FaultLemmas.{same_falling}
 
 -- ---- states

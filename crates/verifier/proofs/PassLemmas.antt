@@ -5,20 +5,20 @@ use Rattle.std.proofs.Common.{arith, refl, sym, ap, ◌∙◌, inl, inr, get_or}
 use Rattle.std.proofs.lemmas.Bool.{cases_lt}
 use Rattle.std.proofs.lemmas.List.{length-set, length-replicate, length-append}
 use Rattle.std.proofs.lemmas.Option.{slice_get-get_or}
-use Rattle.instruction_checks.specs.Faults.{IsFaultIn}
+use Rattle.verifier_types.specs.Faults.{IsFaultIn}
 use Rattle.verifier.specs.Faults.{HasNoBeginning, IsFirstUntyped}
-use Rattle.instruction_checks.specs.declared.fault.Fault.{Fault}
-use Rattle.instruction_checks.specs.declared.fault.Fault.TheVariants as fault
+use Rattle.verifier_types.specs.declared.fault.Fault.{Fault}
+use Rattle.verifier_types.specs.declared.fault.Fault.TheVariants as fault
 use Rattle.mcode.specs.Program.{Program, Frame, frame_at}
 use Rattle.mcode.specs.Instr.{goes_on}
 use Rattle.mcode.specs.declared.instr.Instr.{Instr}
 use Rattle.mcode.specs.declared.instr.Instr.TheVariants as instr
-use Rattle.machine_shapes.specs.Shape.{Shape, shape_of, marked}
-use Rattle.machine_shapes.specs.Effect.{left_shape, falling_shape}
-use Rattle.instruction_checks.specs.Fit.{IsFrameFit, IsTypedAt}
+use Rattle.verifier_types.specs.Shape.{Shape, shape_of, marked}
+use Rattle.verifier_types.specs.Effect.{left_shape, falling_shape}
+use Rattle.verifier_types.specs.Fit.{IsFrameFit, IsTypedAt}
 use Rattle.verifier.specs.Typing.{AreTypedBelow, Begins, falling_into}
 use Rattle.verifier.specs.Pass.{begun, shape_at, fallen, IsDeepestBelow, AreDepthsBelow, IsWalked}
-use Rattle.machine_shapes.proofs.ShapeLemmas.{length-frame_kinds}
+use Rattle.verifier_types.proofs.ShapeLemmas.{length-frame_kinds}
 use native.Mathlib.Numerals.{unary_clauses}
 
 -- the state is begun by what falls into it and its frame

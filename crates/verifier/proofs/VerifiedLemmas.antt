@@ -8,14 +8,14 @@ use Rattle.budget.specs.Paths.{AllForward, IsBudget}
 use Rattle.mcode.specs.Program.{Program, Frame, IsProgram}
 use Rattle.mcode.specs.declared.instr.Instr.{Instr}
 use Rattle.mcode.specs.declared.instr.Instr.TheVariants as instr
-use Rattle.machine_shapes.specs.Shape.{Shape}
-use Rattle.instruction_checks.specs.Fit.{IsFrameFit}
+use Rattle.verifier_types.specs.Shape.{Shape}
+use Rattle.verifier_types.specs.Fit.{IsFrameFit}
 use Rattle.verifier.specs.Typing.{HasShapes, IsDepth, IsDepthAt}
 use Rattle.verifier.specs.Pass.{shape_at, IsDeepestBelow, IsWalked}
 use Rattle.verifier.specs.Verified.{IsVerified}
 use Rattle.verifier.specs.Faults.{IsFirstUnfit}
-use Rattle.instruction_checks.specs.declared.fault.Fault.TheVariants as fault
-use Rattle.instruction_checks.proofs.FrameLemmas.{frame_found}
+use Rattle.verifier_types.specs.declared.fault.Fault.TheVariants as fault
+use Rattle.verifier_types.proofs.FrameLemmas.{frame_found}
 
 -- all so far, and one more
 pub all_take_more : {X : Type 0} (P : X → Type 0) (xs : List X) (i : ℕ) (x : X) → i < length xs → x ≡ get_or xs i x → All P (take i xs) → P x → All P (take (i + 1) xs)

@@ -2,11 +2,11 @@
 use Rattle.std.specs.Prelude.{ℕ, ◌≡◌, ◌⊎◌, Option, Some, length, slice_get, All, take}
 use Rattle.mcode.specs.Program.{Program, Frame, frame_at}
 use Rattle.mcode.specs.declared.instr.Instr.{Instr}
-use Rattle.machine_shapes.specs.Shape.{Shape}
-use Rattle.instruction_checks.specs.Fit.{IsFrameFit}
-use Rattle.instruction_checks.specs.Faults.{IsFaultIn}
-use Rattle.instruction_checks.specs.declared.fault.Fault.{Fault}
-use Rattle.instruction_checks.specs.declared.fault.Fault.TheVariants as fault
+use Rattle.verifier_types.specs.Shape.{Shape}
+use Rattle.verifier_types.specs.Fit.{IsFrameFit}
+use Rattle.verifier_types.specs.Faults.{IsFaultIn}
+use Rattle.verifier_types.specs.declared.fault.Fault.{Fault}
+use Rattle.verifier_types.specs.declared.fault.Fault.TheVariants as fault
 use Rattle.verifier.specs.Typing.{Begins, falling_into, AreTypedBelow}
 
 -- no state is one in which the instruction can begin: neither does one fall into it nor has it a frame, or

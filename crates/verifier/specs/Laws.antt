@@ -3,7 +3,7 @@ use Rattle.std.specs.Prelude.{ℕ, ◌≡◌}
 use Rattle.mcode.specs.Program.{Program}
 use Rattle.verifier.specs.Faults.{IsFirstFault}
 use Rattle.verifier.specs.Typing.{IsTyped, IsDepth}
-use Rattle.instruction_checks.specs.declared.fault.Fault.{Fault}
+use Rattle.verifier_types.specs.declared.fault.Fault.{Fault}
 
 -- code of which a fault tells is not typed
 abbrev pub FaultyCodeIsUntyped : Type 0

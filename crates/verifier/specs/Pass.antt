@@ -3,8 +3,8 @@ use Rattle.std.specs.Prelude.{ℕ, zero, suc, ◌≡◌, ◌<◌, ◌≤◌, Boo
 use Rattle.std.specs.Option.{option_and_then}
 use Rattle.mcode.specs.Program.{Program, Frame, frame_at}
 use Rattle.mcode.specs.declared.instr.Instr.{Instr}
-use Rattle.machine_shapes.specs.Shape.{Shape, start_shape, shape_of}
-use Rattle.machine_shapes.specs.Effect.{falling_shape}
+use Rattle.verifier_types.specs.Shape.{Shape, start_shape, shape_of}
+use Rattle.verifier_types.specs.Effect.{falling_shape}
 use Rattle.verifier.specs.Typing.{falling_into, AreTypedBelow, IsDepthAt}
 
 -- the state in which an instruction begins, by its frame and the state that falls into it

@@ -3,9 +3,9 @@ use Rattle.std.specs.Prelude.{ℕ, zero, suc, ◌≡◌, ◌<◌, ◌≤◌, ◌
 use Rattle.std.specs.Option.{option_and_then}
 use Rattle.mcode.specs.Program.{Program, Frame, frame_at}
 use Rattle.mcode.specs.declared.instr.Instr.{Instr}
-use Rattle.machine_shapes.specs.Shape.{Shape, start_shape, shape_of, IsAtOrBelow}
-use Rattle.machine_shapes.specs.Effect.{left_shape, falling_shape}
-use Rattle.instruction_checks.specs.Fit.{IsFrameFit, IsTypedAt}
+use Rattle.verifier_types.specs.Shape.{Shape, start_shape, shape_of, IsAtOrBelow}
+use Rattle.verifier_types.specs.Effect.{left_shape, falling_shape}
+use Rattle.verifier_types.specs.Fit.{IsFrameFit, IsTypedAt}
 
 -- an instruction begins in the state that its frame says, which the one that falls into it is at or below;
 -- without a frame in the one that falls into it

@@ -6,8 +6,8 @@
 //! greatest depth, and only `verify` makes one.
 //!
 //! - `verification`: the frames, then each instruction in turn; `pass`: what is known before an instruction, and after one
-//!   more. The checks of one instruction and what it leaves stand in `instruction_checks`, what is known of a state in
-//!   `machine_shapes`.
+//!   more. The checks of one instruction and what it leaves stand in `verifier_types`, what is known of a state in
+//!   `verifier_types`.
 //! - `verified`: what `verify` answers; `laws`: that no code is both typed and at fault.
 #![tactic(auto)]
 
@@ -16,7 +16,7 @@ mod pass;
 mod verification;
 mod verified;
 
-pub use instruction_checks::Fault;
 pub use laws::{depth_is_one, faulty_code_is_untyped, first_fault_is_one};
 pub use verification::verify;
 pub use verified::Verified;
+pub use verifier_types::Fault;

@@ -3,18 +3,17 @@ ghost use Rattle.std.specs.Prelude.{◌≡◌, ◌<◌, ◌+◌, ◌⊎◌, ◌�
 ghost use Rattle.mcode.specs.Frame.{frame_of};
 ghost use Rattle.mcode.specs.Program.{frame_at};
 ghost use Rattle.verifier.specs.Faults.{HasNoBeginning, IsFirstUntyped};
-ghost use Rattle.machine_shapes.specs.Kept.{AreKept};
-ghost use Rattle.machine_shapes.specs.Needed.{AreCounts};
+ghost use Rattle.verifier_types.specs.Kept.{AreKept};
+ghost use Rattle.verifier_types.specs.Needed.{AreCounts};
 ghost use Rattle.verifier.specs.Pass.{fallen, IsWalked};
-ghost use Rattle.machine_shapes.specs.Shape.{IsAtOrBelow};
-ghost use Rattle.instruction_checks.specs.Fit.{IsFrameFit};
+ghost use Rattle.verifier_types.specs.Shape.{IsAtOrBelow};
+ghost use Rattle.verifier_types.specs.Fit.{IsFrameFit};
 ghost use Rattle.verifier.specs.Typing.{Begins};
-ghost use Rattle.instruction_checks.specs.declared.fault.Fault.TheVariants.{Memory, Frame as FrameFault};
+ghost use Rattle.verifier_types.specs.declared.fault.Fault.TheVariants.{Memory, Frame as FrameFault};
 
-use instruction_checks::{Fault, check, leave};
-use machine_shapes::Shape;
 use mcode::{Code, Frame, Instr};
 use std::alloc::{AllocError, Allocator};
+use verifier_types::{Fault, Shape, check, leave};
 
 /// What the pass knows before an instruction.
 #[derive(Drop)]

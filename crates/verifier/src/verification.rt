@@ -5,19 +5,18 @@ ghost use Rattle.mcode.specs.Frame.{frame_of};
 ghost use Rattle.mcode.specs.Program.{place_number};
 ghost use Rattle.verifier.specs.Faults.{IsFirstUnfit, IsFirstUntyped, IsFirstFault};
 ghost use Rattle.verifier.specs.Pass.{IsWalked};
-ghost use Rattle.instruction_checks.specs.Fit.{IsFrameFit};
+ghost use Rattle.verifier_types.specs.Fit.{IsFrameFit};
 ghost use Rattle.verifier.specs.Typing.{IsTyped};
 ghost use Rattle.verifier.specs.Verified.{IsVerified};
-ghost use Rattle.instruction_checks.specs.declared.fault.Fault.TheVariants.{Memory};
+ghost use Rattle.verifier_types.specs.declared.fault.Fault.TheVariants.{Memory};
 
 use crate::pass::{Walk, step};
 use crate::verified::Verified;
 use budget::longest;
-use instruction_checks::{Fault, MAX_DEPTH};
-use machine_shapes::key_counts;
 use mcode::{Code, Frame};
 use std::alloc::{AllocError, Allocator};
 use term_core::Refused;
+use verifier_types::{Fault, MAX_DEPTH, key_counts};
 
 /// Whether all of these places are within a depth.
 fn are_within(places: &[(u16, mcode::Kind)], depth: u16) -> bool

@@ -7,8 +7,8 @@ ghost use Rattle.term_core.specs.MapPairs.{AreRising, IsMapDepth};
 
 use super::{Shape, Term, shared};
 use crate::MAX_DEPTH;
+use crate::fault::{Fault, Refused};
 use std::alloc::Allocator;
-use term_fault::{Fault, Refused};
 
 impl<A: Allocator> Term<A> {
     /// The map of one pair, in the least memory. A map deeper than `MAX_DEPTH` is refused.

@@ -1,7 +1,7 @@
 use Rattle.std.proofs.lemmas.Result.{err_from_is_err_and}
 use Rattle.term_core.specs.Sizes.{depth_limit}
-use Rattle.file_format.specs.Formats.{constant_format}
-use Rattle.file_format.proofs.ConstantLemmas.{constant_free}
+use Rattle.code_format.specs.Formats.{constant_format}
+use Rattle.code_format.proofs.ConstantLemmas.{constant_free}
 use Rattle.code_file.proofs.BodyLemmas.{row_refused}
 use Rattle.code_file.proofs.body.read_constant_rows.Goals as goal
 

@@ -1,8 +1,8 @@
 use Rattle.std.proofs.Common.{◌≡◌}
 use Rattle.term_core.specs.Sizes.{depth_limit}
-use Rattle.file_format.specs.Formats.{constant_format}
+use Rattle.code_format.specs.Formats.{constant_format}
 use Rattle.code_file.specs.Parts.{with_constants}
-use Rattle.file_terms.proofs.RowLemmas.{IsRowSoFar}
+use Rattle.code_file.proofs.RowLemmas.{IsRowSoFar}
 use Rattle.code_file.proofs.body.read_constant_rows.Given as goal
 
 abbrev pub invariant-loop-read : goal.invariant-loop-read

@@ -1,7 +1,7 @@
 use Rattle.std.proofs.lemmas.Result.{IfErr-weaker}
 use Rattle.term_core.specs.Sizes.{depth_limit}
-use Rattle.file_format.specs.Formats.{constant_format}
-use Rattle.file_format.proofs.NumberLemmas.{u16_free}
+use Rattle.code_format.specs.Formats.{constant_format}
+use Rattle.code_format.proofs.NumberLemmas.{u16_free}
 use Rattle.code_file.proofs.BodyLemmas.{counted_stop}
 use Rattle.code_file.proofs.body.read_constants.Goals as goal
 

@@ -2,9 +2,9 @@ use Rattle.std.proofs.lemmas.Result.{err_from_is_err_and}
 use Rattle.std.proofs.Common.{◌<◌, refl, sym, subst}
 use Rattle.std.specs.Prelude.{IfSome}
 use Rattle.mcode.specs.Frame.{frame_of}
-use Rattle.file_format.specs.Format.{Begins}
-use Rattle.file_format.specs.Formats.{u16_format}
-use Rattle.file_terms.proofs.RowLemmas.{not_so}
+use Rattle.code_format.specs.Format.{Begins}
+use Rattle.code_format.specs.Formats.{u16_format}
+use Rattle.code_file.proofs.RowLemmas.{not_so}
 use Rattle.code_file.proofs.BodyLemmas.{frame_short, frame_rest_stop, frame_unordered, next_begins, frame_memory}
 use Rattle.code_file.proofs.body.read_frame.Goals as goal
 

@@ -1,8 +1,8 @@
 use Rattle.std.proofs.lemmas.Result.{IfErr-weaker, IfOk-weaker}
 use Rattle.mcode.specs.Program.{Rise, frame_number}
-use Rattle.file_format.specs.Formats.{u16_format, frame_format}
-use Rattle.file_format.proofs.NumberLemmas.{u16_free}
-use Rattle.file_terms.proofs.RowLemmas.{such_counted_stop, such_counted_begins}
+use Rattle.code_format.specs.Formats.{u16_format, frame_format}
+use Rattle.code_format.proofs.NumberLemmas.{u16_free}
+use Rattle.code_file.proofs.RowLemmas.{such_counted_stop, such_counted_begins}
 use Rattle.code_file.proofs.body.read_frames.Goals as goal
 
 pub returns-clause-ok : goal.returns-clause-ok

@@ -1,6 +1,6 @@
 use Rattle.std.proofs.lemmas.Result.{err_from_is_err_and}
-use Rattle.file_format.specs.Formats.{instruction_format}
-use Rattle.file_format.proofs.InstructionLemmas.{instruction_free}
+use Rattle.code_format.specs.Formats.{instruction_format}
+use Rattle.code_format.proofs.InstructionLemmas.{instruction_free}
 use Rattle.code_file.proofs.BodyLemmas.{row_refused}
 use Rattle.code_file.proofs.body.read_instr_rows.Goals as goal
 

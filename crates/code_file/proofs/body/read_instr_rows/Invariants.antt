@@ -1,7 +1,7 @@
 use Rattle.std.proofs.Common.{◌≡◌}
-use Rattle.file_format.specs.Formats.{instruction_format}
+use Rattle.code_format.specs.Formats.{instruction_format}
 use Rattle.code_file.specs.Parts.{with_instructions}
-use Rattle.file_terms.proofs.RowLemmas.{IsRowSoFar}
+use Rattle.code_file.proofs.RowLemmas.{IsRowSoFar}
 use Rattle.code_file.proofs.body.read_instr_rows.Given as goal
 
 abbrev pub invariant-loop-read : goal.invariant-loop-read

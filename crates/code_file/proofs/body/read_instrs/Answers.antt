@@ -1,6 +1,6 @@
 use Rattle.std.proofs.lemmas.Result.{IfErr-weaker}
-use Rattle.file_format.specs.Formats.{instruction_format}
-use Rattle.file_format.proofs.NumberLemmas.{u16_free}
+use Rattle.code_format.specs.Formats.{instruction_format}
+use Rattle.code_format.proofs.NumberLemmas.{u16_free}
 use Rattle.code_file.proofs.BodyLemmas.{counted_stop}
 use Rattle.code_file.proofs.body.read_instrs.Goals as goal
 

@@ -1,5 +1,5 @@
 use Rattle.std.proofs.Common.{refl}
-use Rattle.file_terms.proofs.RowLemmas.{not_so}
+use Rattle.code_file.proofs.RowLemmas.{not_so}
 use Rattle.std.proofs.lemmas.Result.{err_from_is_err_and}
 use Rattle.code_file.proofs.FrameLemmas.{place_short, place_kind, place_unordered, place_begins}
 use Rattle.code_file.proofs.frame.read_place.Goals as goal

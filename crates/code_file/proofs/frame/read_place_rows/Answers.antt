@@ -1,8 +1,8 @@
 use Rattle.std.proofs.lemmas.Result.{err_from_is_err_and}
 use Rattle.mcode.specs.Program.{Rise, place_number}
-use Rattle.file_format.specs.Formats.{place_format}
-use Rattle.file_format.proofs.FrameLemmas.{place_free}
-use Rattle.file_terms.proofs.RowLemmas.{row_stop, row_step}
+use Rattle.code_format.specs.Formats.{place_format}
+use Rattle.code_format.proofs.FrameLemmas.{place_free}
+use Rattle.code_file.proofs.RowLemmas.{row_stop, row_step}
 use Rattle.code_file.proofs.RiseLemmas.{rise_front}
 use Rattle.code_file.proofs.frame.read_place_rows.Goals as goal
 

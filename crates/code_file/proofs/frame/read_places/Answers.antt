@@ -1,8 +1,8 @@
 use Rattle.std.proofs.lemmas.Result.{err_from_is_err_and}
 use Rattle.mcode.specs.Program.{Rise, place_number}
-use Rattle.file_format.specs.Formats.{u16_format, place_format}
-use Rattle.file_format.proofs.NumberLemmas.{u16_free}
-use Rattle.file_terms.proofs.RowLemmas.{such_counted_stop, such_counted_begins}
+use Rattle.code_format.specs.Formats.{u16_format, place_format}
+use Rattle.code_format.proofs.NumberLemmas.{u16_free}
+use Rattle.code_file.proofs.RowLemmas.{such_counted_stop, such_counted_begins}
 use Rattle.code_file.proofs.frame.read_places.Goals as goal
 
 pub returns-in_err-places : goal.returns-in_err-places

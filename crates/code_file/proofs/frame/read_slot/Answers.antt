@@ -1,4 +1,4 @@
-use Rattle.file_terms.proofs.RowLemmas.{not_so}
+use Rattle.code_file.proofs.RowLemmas.{not_so}
 use Rattle.std.proofs.lemmas.Result.{err_from_is_err_and}
 use Rattle.code_file.proofs.FrameLemmas.{slot_short, slot_unordered}
 use Rattle.code_file.proofs.frame.read_slot.Goals as goal

@@ -1,6 +1,6 @@
 use Rattle.mcode.specs.Program.{Rise}
-use Rattle.file_format.specs.Formats.{u8_format}
-use Rattle.file_terms.proofs.RowLemmas.{IsRowSoFar}
+use Rattle.code_format.specs.Formats.{u8_format}
+use Rattle.code_file.proofs.RowLemmas.{IsRowSoFar}
 use Rattle.code_file.proofs.frame.read_slot_rows.Given as goal
 
 abbrev pub invariant-loop-read : goal.invariant-loop-read

@@ -1,7 +1,7 @@
 use Rattle.std.proofs.lemmas.Result.{err_from_is_err_and}
-use Rattle.file_format.specs.Formats.{u16_format}
-use Rattle.file_terms.proofs.StopLemmas.{both_stop_second}
-use Rattle.file_format.proofs.NumberLemmas.{u16_free}
+use Rattle.code_format.specs.Formats.{u16_format}
+use Rattle.code_file.proofs.StopLemmas.{both_stop_second}
+use Rattle.code_format.proofs.NumberLemmas.{u16_free}
 use Rattle.code_file.proofs.instr.read_two.Goals as goal
 
 pub returns-in_err-second : goal.returns-in_err-second

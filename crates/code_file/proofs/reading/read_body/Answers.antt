@@ -1,9 +1,9 @@
 use Rattle.std.proofs.lemmas.Result.{err_from_is_err_and}
-use Rattle.file_format.specs.Format.{both}
-use Rattle.file_terms.specs.Reads.{Blames}
-use Rattle.file_format.specs.Formats.{constants_format, instructions_format, frames_format}
-use Rattle.file_terms.proofs.StopLemmas.{both_stop_first, both_stop_second}
-use Rattle.file_format.proofs.FileLemmas.{constants_free, instructions_free}
+use Rattle.code_format.specs.Format.{both}
+use Rattle.code_file.specs.Reads.{Blames}
+use Rattle.code_format.specs.Formats.{constants_format, instructions_format, frames_format}
+use Rattle.code_file.proofs.StopLemmas.{both_stop_first, both_stop_second}
+use Rattle.code_format.proofs.FileLemmas.{constants_free, instructions_free}
 use Rattle.code_file.proofs.BodyLemmas.{body_begins}
 use Rattle.code_file.proofs.reading.read_body.Goals as goal
 

@@ -1,5 +1,5 @@
 use Rattle.std.proofs.Common.{◌∙◌, ap, sym, subst, length, arith, inl, inr}
-use Rattle.assembly.specs.Assembled.{IsCode}
+use Rattle.compiler_assembly.specs.Assembled.{IsCode}
 use Rattle.compiler.proofs.CompilerLemmas.{code_is}
 use Rattle.compiler.proofs.compilation.assembled.Goals as goal
 

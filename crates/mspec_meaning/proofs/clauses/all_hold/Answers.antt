@@ -1,6 +1,6 @@
 use Rattle.std.proofs.Common.{◌≡◌, Some, option_map, refl, sym, ◌∙◌, ap}
 use Rattle.std.proofs.lemmas.Bool.{false≢true}
-use Rattle.operand.specs.Value.{value_datum}
+use Rattle.term_operand.specs.Value.{value_datum}
 use Rattle.mspec_meaning.specs.Meaning.{true_term, value_of}
 use Rattle.mspec_meaning.proofs.HoldLemmas.{HoldFront-more, HoldFront-never, HoldFront-all}
 use Rattle.mspec_meaning.proofs.clauses.all_hold.Goals as goal

@@ -1,7 +1,7 @@
 use Rattle.std.proofs.Common.{length, sym, ◌∙◌, ap}
 use Rattle.mspec_syntax.specs.Specification.{clause_variables}
 use Rattle.mspec_meaning.specs.Meaning.{body_value}
-use Rattle.pattern_match.specs.Slots.{seen, substitution_of}
+use Rattle.mspec_match.specs.Slots.{seen, substitution_of}
 use Rattle.mspec_meaning.proofs.HoldLemmas.{clause-applies, clause-fails, clause-unmatched}
 use Rattle.mspec_meaning.proofs.clauses.clause_answer.Goals as goal
 

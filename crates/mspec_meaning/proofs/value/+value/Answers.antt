@@ -5,11 +5,11 @@ use Rattle.term_core.specs.Datum.{Datum, items_of, entries_of}
 use Rattle.term_core.specs.Datum.Datum.{tuple, map as table}
 use Rattle.mspec_syntax.specs.Expression.{expression_size, expressions_size, assignments_size, expressions_of, assignments_of}
 use Rattle.mspec_syntax.specs.ExpressionView.{tail_expression}
-use Rattle.mspec_scope.specs.Made.{joined_to, made_of}
-use Rattle.mspec_scope.specs.Called.{called}
+use Rattle.mspec_meaning.specs.Made.{joined_to, made_of}
+use Rattle.mspec_meaning.specs.Called.{called}
 use Rattle.mspec_meaning.specs.Meaning.{value_of, argument_values, entry_values, all_true, any_true}
 use Rattle.mspec_meaning.specs.Value.{decided}
-use Rattle.operand.specs.Value.{value_datum}
+use Rattle.term_operand.specs.Value.{value_datum}
 use Rattle.mspec_syntax.proofs.ExpressionSizes.{size-at, assignments-at, new_cells-size, size-some, some-size}
 use Rattle.mspec_meaning.proofs.ValueLemmas.{ValuesFront, ValuesFront-start, ValuesFront-more, ValuesFront-none, ValuesFront-all, EntriesFront, EntriesFront-start, EntriesFront-more, EntriesFront-none, EntriesFront-all, DecidedFront-step, DecidedFront-all, list-value, joined_to-none, pairs-rise}
 use Rattle.mspec_meaning.proofs.value.+value.Goals as goal

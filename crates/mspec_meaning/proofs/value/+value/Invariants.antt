@@ -2,7 +2,7 @@
 use Rattle.std.proofs.Common.{◌+◌, ◌-◌, ◌*◌, map}
 use Rattle.mspec_syntax.specs.Expression.{expression_size, expressions_size, assignments_size, expressions_of, assignments_of}
 use Rattle.mspec_syntax.specs.ExpressionView.{tail_expression}
-use Rattle.operand.specs.Value.{value_datum}
+use Rattle.term_operand.specs.Value.{value_datum}
 use Rattle.mspec_meaning.proofs.ValueLemmas.{ValuesFront, EntriesFront, DecidedFront}
 use Rattle.mspec_meaning.proofs.value.+value.Given as goal
 

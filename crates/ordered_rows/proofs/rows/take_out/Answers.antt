@@ -1,7 +1,7 @@
 use Rattle.std.proofs.Common.{◌≡◌, List, [], ap, sym, ◌∙◌}
 use Rattle.std.specs.Map.{set_value}
 use Rattle.term_core.specs.Datum.{Datum}
-use Rattle.operand.specs.Order.{is_same}
+use Rattle.term_operand.specs.Order.{is_same}
 use Rattle.part_core.specs.Rows.{rows_at_key}
 use Rattle.part_core.proofs.RowLemmas.{unwritten}
 use Rattle.ordered_rows.proofs.TreeLemmas.{written, no_row}

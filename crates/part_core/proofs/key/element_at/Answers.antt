@@ -1,5 +1,5 @@
 use Rattle.std.proofs.Common.{Some, ap, ◌∙◌, sym, arith}
-use Rattle.machine_values.proofs.TupleLemmas.{field_read}
+use Rattle.machine_stack.proofs.TupleLemmas.{field_read}
 use Rattle.part_core.proofs.FieldLemmas.{field_past, field_zero}
 use Rattle.part_core.proofs.key.element_at.Goals as goal
 

@@ -1,6 +1,6 @@
 use Rattle.std.proofs.Common.{◌≡◌, ◌&&◌, map, drop}
 use Rattle.std.specs.Prelude.{Some}
-use Rattle.operand.specs.Operand.{operand_datum}
+use Rattle.term_operand.specs.Operand.{operand_datum}
 use Rattle.prims.specs.Booleans.{both, all_of}
 use Rattle.prims.proofs.booleans.all.Given as goal
 

@@ -1,6 +1,6 @@
 use Rattle.std.proofs.Common.{map, arith}
 use Rattle.std.proofs.lemmas.Grind.{common_steps}
-use Rattle.operand.specs.Operand.{operand_datum}
+use Rattle.term_operand.specs.Operand.{operand_datum}
 use Rattle.prims.proofs.GivenLemmas.{given_result}
 use Rattle.prims.proofs.calls.call.Goals as goal
 

@@ -2,7 +2,7 @@ use Rattle.std.proofs.Common.{ap, arith, rules}
 use Rattle.std.specs.Option.{option_copied}
 use Rattle.term_core.specs.Term.{tail_of}
 use Rattle.term_core.proofs.LimitLemmas.{cell_count-cells}
-use Rattle.operand.specs.Operand.{operand_datum}
+use Rattle.term_operand.specs.Operand.{operand_datum}
 use Rattle.prims.proofs.ListLemmas.{length_of-proper, length_of-improper}
 use Rattle.prims.proofs.lists.length.Goals as goal
 

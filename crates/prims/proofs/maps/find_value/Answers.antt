@@ -1,7 +1,7 @@
 use Rattle.std.proofs.Common.{rules}
 use Rattle.std.proofs.lemmas.Fn.{always_returns_same}
 use Rattle.term_core.specs.Order.{datum_cmp}
-use Rattle.operand.specs.Operand.{operand_datum}
+use Rattle.term_operand.specs.Operand.{operand_datum}
 use Rattle.prims.proofs.MapLemmas.{value_found, value_between, keys_partition}
 use Rattle.prims.proofs.maps.find_value.Goals as goal
 

@@ -1,7 +1,7 @@
 -- The operands so far and the values that are left make the whole, and there is room while there are few.
 use Rattle.std.proofs.Common.{◌≡◌, ◌++◌, ◌≤◌, length, map, drop}
-use Rattle.operand.specs.Operand.{operand_datum}
-use Rattle.operand.specs.Value.{value_datum}
+use Rattle.term_operand.specs.Operand.{operand_datum}
+use Rattle.term_operand.specs.Value.{value_datum}
 use Rattle.prims.specs.declared.values.TheConstants.{INLINE_OPERANDS}
 use Rattle.prims.proofs.values.lasting.Given as goal
 

@@ -1,7 +1,7 @@
 -- the operands so far and the values that are left make the whole
 use Rattle.std.proofs.Common.{◌≡◌, ◌++◌, map, drop}
-use Rattle.operand.specs.Operand.{operand_datum}
-use Rattle.operand.specs.Value.{value_datum}
+use Rattle.term_operand.specs.Operand.{operand_datum}
+use Rattle.term_operand.specs.Value.{value_datum}
 use Rattle.prims.proofs.values.operands_of.Given as goal
 
 abbrev pub invariant-loop-value : goal.invariant-loop-value

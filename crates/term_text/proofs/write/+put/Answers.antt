@@ -3,7 +3,7 @@ use Rattle.std.proofs.lemmas.List.{append-nil}
 use Rattle.std.specs.Option.{option_copied}
 use Rattle.term_core.specs.Datum.{Datum, entries_of}
 use Rattle.term_core.specs.Limits.{entries_depth}
-use Rattle.text_tokens.specs.Character.{comma, equals, greater, number_sign, open_brace, close_brace, open_bracket, close_bracket, bar}
+use Rattle.term_text.specs.Character.{comma, equals, greater, number_sign, open_brace, close_brace, open_bracket, close_bracket, bar}
 use Rattle.term_text.proofs.Bytes.{tuple_bytes, map_bytes, list_bytes, pair_bytes, three, four, tail_bytes, onto, two_onto, no_elements, no_pairs, one_element, one_pair, next_element, next_pair, past_elements, past_pairs, entry_depth}
 use Rattle.term_text.proofs.write.+put.Goals as goal
 use Rattle.term_text.proofs.write.+put.Goals.{put_list-in-Some+in_ok-push-2+in_ok-put, put_list-in_default}

@@ -1,5 +1,5 @@
 use Rattle.std.proofs.Common.{◌≡◌, [], ◌∷◌, false, sym, ◌∙◌}
-use Rattle.text_tokens.specs.Character.{single_quote}
+use Rattle.term_text.specs.Character.{single_quote}
 use Rattle.term_text.specs.Canonical.{is_bare}
 use Rattle.term_text.proofs.Bytes.{quoted_bytes, three}
 use Rattle.term_text.proofs.write.put_atom.Goals as goal

@@ -1,6 +1,6 @@
 use Rattle.std.proofs.Common.{arith}
 use Rattle.mcode.specs.Frame.{frame_of}
-use Rattle.instruction_checks.proofs.FrameLemmas.{frame_found}
+use Rattle.verifier_types.proofs.FrameLemmas.{frame_found}
 use Rattle.verifier.proofs.pass.begin.Goals as goal
 
 pub falls_below-requires : goal.falls_below-requires

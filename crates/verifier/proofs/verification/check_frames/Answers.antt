@@ -2,7 +2,7 @@ use Rattle.std.proofs.Common.{arith, ap, sym, subst, ◌∙◌, length, map, All
 use Rattle.std.proofs.Math.ListN.{get_or-map}
 use Rattle.mcode.specs.Frame.{frame_of}
 use Rattle.mcode.proofs.RiseLemmas.{frame_count}
-use Rattle.instruction_checks.specs.Fit.{IsFrameFit}
+use Rattle.verifier_types.specs.Fit.{IsFrameFit}
 use Rattle.verifier.proofs.VerifiedLemmas.{all_take_more, all_take_whole, first_unfit}
 use Rattle.verifier.proofs.verification.check_frames.Goals as goal
 

@@ -1,7 +1,7 @@
 -- The frames so far are fit.
 use Rattle.std.specs.Prelude.{All, map, take}
 use Rattle.mcode.specs.Frame.{frame_of}
-use Rattle.instruction_checks.specs.Fit.{IsFrameFit}
+use Rattle.verifier_types.specs.Fit.{IsFrameFit}
 use Rattle.verifier.proofs.verification.check_frames.Given as goal
 
 abbrev pub invariant-loop-frame : goal.invariant-loop-frame

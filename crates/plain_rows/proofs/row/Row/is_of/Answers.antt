@@ -1,7 +1,7 @@
 use Rattle.std.proofs.Common.{sym, ap, ◌∙◌}
 use Rattle.std.specs.Prelude.{nat_eq}
 use Rattle.std.proofs.lemmas.Bool.{eqb-true}
-use Rattle.operand.specs.Order.{is_same}
+use Rattle.term_operand.specs.Order.{is_same}
 use Rattle.term_core.specs.KeyHash.{key_hash}
 use Rattle.part_core.proofs.KeyLemmas.{by_test, same_is}
 use Rattle.plain_rows.proofs.row.Row.is_of.Goals as goal

@@ -1,0 +1,468 @@
+//! Constants at the front of a file's rest.
+ghost use Rattle.std.specs.Prelude.{◌≡◌, ◌≢◌, ◌<◌, ◌≤◌, ◌↔◌, ◌++◌, ◌∷◌, [], IsTrue, ◌*◌, max, vec_len, vec_capacity};
+ghost use Rattle.std.specs.List.{flat_map, AllByRecursion};
+ghost use Rattle.term_core.specs.declared.fault.Fault.TheVariants as Refusal;
+ghost use Rattle.code_format.specs.Spelling.{pair_bytes};
+ghost use Rattle.code_format.specs.Format.{Begins, rows, such};
+ghost use Rattle.code_format.specs.Formats.{u8_format, u16_format, length_format, constant_format, utf8_format, binary_format, pair_format, RisingPairs};
+ghost use Rattle.code_file.specs.Causes.{BeginsWith};
+ghost use Rattle.code_file.specs.Reads.{Reads, Blames, BlamesWithin, BlamesBehind, AtTerm, BehindPairs, InPairs, limit_stop};
+ghost use Rattle.code_file.specs.declared.stop.Stop.TheVariants.{Memory as OutOfMemory};
+
+use crate::number::{read_i64, read_u8, read_u16, read_u32, take};
+use crate::stop::{Cause, Stop};
+use std::alloc::{AllocError, Allocator};
+use std::str::from_utf8;
+use term_build::{atom_of_text, map_of_pairs};
+use term_core::{Fault, MAX_BINARY, MAX_LIST, Term};
+use term_order::is_key_above;
+
+/// The tag of a list.
+const LIST: u8 = 6;
+
+/// Why a term wasn't made whose parts are within the limits.
+fn memory_alone(fault: Fault) -> Stop
+    requires { fault ≡ Refusal.Memory }
+    ensures { result ≡ OutOfMemory }
+{
+    match fault {
+        Fault::Memory => Stop::Memory,
+        Fault::TooDeep | Fault::TooLong | Fault::DuplicateKey => unreachable!(),
+    }
+}
+
+/// Why an atom wasn't made whose characters stand where so many bytes are left.
+fn atom_stop(fault: Fault, left: usize) -> Stop
+    requires deep { fault ≢ Refusal.TooDeep }
+    requires twice { fault ≢ Refusal.DuplicateKey }
+    ensures { result ≡ limit_stop fault left }
+{
+    match fault {
+        Fault::Memory => Stop::Memory,
+        Fault::TooLong => Stop::At(Cause::Limit, left),
+        Fault::TooDeep | Fault::DuplicateKey => unreachable!(),
+    }
+}
+
+/// The text of an atom, behind the tag with which these bytes begin.
+fn read_text<'a>(bytes: &[u8], rest: &'a [u8]) -> Result<(&'a str, &'a [u8]), Stop>
+    requires { Begins u8_format bytes.now 2 rest.now }
+    ensures { Reads utf8_format (Blames bytes.now) (λ r. (r.0.now, r.1.now)) rest.now result }
+{
+    let (count, behind) = read_u16(rest)?;
+    let (text, next) = take(behind, usize::from(count))?;
+    match from_utf8(text) {
+        Ok(text) => Ok((text, next)),
+        Err(_) => Err(Stop::At(Cause::NotCanonical, behind.len())),
+    }
+}
+
+/// The bytes of a binary, behind the tag with which these bytes begin.
+fn read_binary_bytes<'a>(bytes: &[u8], rest: &'a [u8]) -> Result<(&'a [u8], &'a [u8]), Stop>
+    requires { Begins u8_format bytes.now 7 rest.now }
+    ensures { Reads binary_format (Blames bytes.now) (λ r. (r.0.now, r.1.now)) rest.now result }
+{
+    let (count, behind) = read_u32(rest)?;
+    let count = count as usize;
+    if count > MAX_BINARY {
+        return Err(Stop::At(Cause::Limit, rest.len()));
+    }
+    let (content, next) = take(behind, count)?;
+    Ok((content, next))
+}
+
+/// How many elements a list has, behind the tag with which these bytes begin.
+fn read_length<'a>(bytes: &[u8], rest: &'a [u8]) -> Result<(u32, &'a [u8]), Stop>
+    requires { Begins u8_format bytes.now 6 rest.now }
+    ensures { Reads length_format (Blames bytes.now) (λ r. (r.0, r.1.now)) rest.now result }
+{
+    let (count, behind) = read_u32(rest)?;
+    if count == 0 {
+        return Err(Stop::At(Cause::NotCanonical, rest.len()));
+    }
+    if count as usize > MAX_LIST {
+        return Err(Stop::At(Cause::Limit, rest.len()));
+    }
+    Ok((count, behind))
+}
+
+/// An integer, behind its tag.
+fn read_integer<'a, A: Allocator>(
+    bytes: &[u8],
+    rest: &'a [u8],
+    room: u8,
+) -> Result<(Term<A>, &'a [u8]), Stop>
+    requires tag { Begins u8_format bytes.now 1 rest.now }
+    requires room { 0 < room }
+    ensures { Reads (constant_format room) (BlamesWithin room bytes.now) (λ r. (r.0, r.1.now))
+        bytes.now result }
+{
+    let (value, behind) = read_i64(rest)?;
+    Ok((Term::int(value), behind))
+}
+
+/// An atom, behind its tag.
+fn read_atom<'a, A: Allocator + Copy>(
+    alloc: A,
+    bytes: &[u8],
+    rest: &'a [u8],
+    room: u8,
+) -> Result<(Term<A>, &'a [u8]), Stop>
+    requires tag { Begins u8_format bytes.now 2 rest.now }
+    requires room { 0 < room }
+    ensures { Reads (constant_format room) (BlamesWithin room bytes.now) (λ r. (r.0, r.1.now))
+        bytes.now result }
+{
+    let (text, behind) = read_text(bytes, rest)?;
+    match atom_of_text(alloc, text) {
+        Ok(atom) => {
+            // Asked for the proof: a term is within its limits.
+            let _depth = atom.depth();
+            Ok((atom, behind))
+        }
+        Err(fault) => Err(atom_stop(fault, rest.len() - 2)),
+    }
+}
+
+/// A binary, behind its tag.
+fn read_binary<'a, A: Allocator + Copy>(
+    alloc: A,
+    bytes: &[u8],
+    rest: &'a [u8],
+    room: u8,
+) -> Result<(Term<A>, &'a [u8]), Stop>
+    requires tag { Begins u8_format bytes.now 7 rest.now }
+    requires room { 0 < room }
+    ensures { Reads (constant_format room) (BlamesWithin room bytes.now) (λ r. (r.0, r.1.now))
+        bytes.now result }
+{
+    let (content, behind) = read_binary_bytes(bytes, rest)?;
+    match Term::binary(alloc, Vec::from_slice(alloc, content)?) {
+        Ok(binary) => {
+            // Asked for the proof: a term is within its limits.
+            let _depth = binary.depth();
+            Ok((binary, behind))
+        }
+        Err(refused) => Err(memory_alone(refused.fault)),
+    }
+}
+
+/// Whether these bytes begin with the tag of a list.
+fn begins_list(bytes: &[u8]) -> bool
+    ensures { IsTrue result ↔ BeginsWith (6 ∷ []) bytes.now }
+{
+    match bytes.first() {
+        Some(tag) => *tag == LIST,
+        None => false,
+    }
+}
+
+/// A term at most so many levels deep. The recursion goes no deeper than that, whatever the file.
+#[cycle(constant)]
+pub fn read_constant<A: Allocator + Copy>(
+    alloc: A,
+    bytes: &[u8],
+    room: u8,
+) -> Result<(Term<A>, &[u8]), Stop>
+    ensures { Reads (constant_format room) (BlamesWithin room bytes.now) (λ r. (r.0, r.1.now))
+        bytes.now result }
+{
+    let (tag, rest) = read_u8(bytes)?;
+    if room == 0 {
+        return Err(Stop::At(Cause::Limit, bytes.len()));
+    }
+    match tag {
+        1 => read_integer(bytes, rest, room),
+        2 => read_atom(alloc, bytes, rest, room),
+        3 => read_tuple(alloc, bytes, rest, room),
+        4 => read_map(alloc, bytes, rest, room),
+        5 => Ok((Term::nil(), rest)),
+        LIST => read_list(alloc, bytes, rest, room),
+        7 => read_binary(alloc, bytes, rest, room),
+        _ => Err(Stop::At(Cause::BadOpcode, bytes.len())),
+    }
+}
+
+/// The most terms that a row has places for at first.
+const FIRST_TERMS: usize = 16;
+/// The most pairs that a row has places for at first.
+const FIRST_PAIRS: usize = 8;
+
+/// How many places a row of so many items begins with: those that it needs, and at most so many, since a count is not believed before
+/// its items are there.
+fn first_places(count: u32, most: usize) -> usize
+    ensures { result ≤ most }
+{
+    (count as usize).min(most)
+}
+
+/// Makes room in a row that is full and of which so many items are left: for these, but for no more than are there.
+fn make_room<T, A: Allocator>(row: &mut Vec<T, A>, left: u32) -> Result<(), AllocError>
+    ensures same { row.new.items ≡ row.old.items }
+    ensures room { vec_capacity row.new ≤ max (vec_capacity row.old) (2 * vec_len row.old) }
+{
+    if row.len() == row.capacity() {
+        row.reserve_exact(first_places(left, row.len()))?;
+    }
+    Ok(())
+}
+
+/// So many terms, one after the other.
+#[cycle(constant)]
+fn read_elements<A: Allocator + Copy>(
+    alloc: A,
+    count: u32,
+    bytes: &[u8],
+    room: u8,
+) -> Result<(Vec<Term<A>, A>, &[u8]), Stop>
+    ensures { Reads (rows (constant_format room) count) (BlamesBehind (AtTerm count) room bytes.now)
+        (λ r. (r.0.items, r.1.now)) bytes.now result }
+{
+    let mut elements = Vec::with_capacity(alloc, first_places(count, FIRST_TERMS))?;
+    let mut rest = bytes;
+    for read in 0..count {
+        let (element, behind) = read_constant(alloc, rest, room)?;
+        make_room(&mut elements, count - read)?;
+        elements.push(element)?;
+        rest = behind;
+    }
+    Ok((elements, rest))
+}
+
+/// The tuple of one element, behind its tag and its count: without a row.
+#[cycle(constant)]
+fn read_tuple_of_one<'a, A: Allocator + Copy>(
+    alloc: A,
+    bytes: &[u8],
+    rest: &[u8],
+    behind: &'a [u8],
+    room: u8,
+) -> Result<(Term<A>, &'a [u8]), Stop>
+    requires tag { Begins u8_format bytes.now 3 rest.now }
+    requires count { Begins u16_format rest.now 1 behind.now }
+    requires room { 0 < room }
+    ensures { Reads (constant_format room) (BlamesWithin room bytes.now) (λ r. (r.0, r.1.now))
+        bytes.now result }
+{
+    let (element, behind) = read_constant(alloc, behind, room - 1)?;
+    match Term::tuple_of_one(alloc, element) {
+        Ok(tuple) => Ok((tuple, behind)),
+        Err(refused) => Err(memory_alone(refused.fault)),
+    }
+}
+
+/// The tuple of two elements, behind its tag and its count: without a row.
+#[cycle(constant)]
+fn read_tuple_of_two<'a, A: Allocator + Copy>(
+    alloc: A,
+    bytes: &[u8],
+    rest: &[u8],
+    behind: &'a [u8],
+    room: u8,
+) -> Result<(Term<A>, &'a [u8]), Stop>
+    requires tag { Begins u8_format bytes.now 3 rest.now }
+    requires count { Begins u16_format rest.now 2 behind.now }
+    requires room { 0 < room }
+    ensures { Reads (constant_format room) (BlamesWithin room bytes.now) (λ r. (r.0, r.1.now))
+        bytes.now result }
+{
+    let (first, after_first) = read_constant(alloc, behind, room - 1)?;
+    let (second, behind) = read_constant(alloc, after_first, room - 1)?;
+    match Term::tuple_of_two(alloc, [first, second]) {
+        Ok(tuple) => Ok((tuple, behind)),
+        Err(refused) => Err(memory_alone(refused.fault)),
+    }
+}
+
+/// The tuple of three elements, behind its tag and its count: without a row.
+#[cycle(constant)]
+fn read_tuple_of_three<'a, A: Allocator + Copy>(
+    alloc: A,
+    bytes: &[u8],
+    rest: &[u8],
+    behind: &'a [u8],
+    room: u8,
+) -> Result<(Term<A>, &'a [u8]), Stop>
+    requires tag { Begins u8_format bytes.now 3 rest.now }
+    requires count { Begins u16_format rest.now 3 behind.now }
+    requires room { 0 < room }
+    ensures { Reads (constant_format room) (BlamesWithin room bytes.now) (λ r. (r.0, r.1.now))
+        bytes.now result }
+{
+    let (first, after_first) = read_constant(alloc, behind, room - 1)?;
+    let (second, after_second) = read_constant(alloc, after_first, room - 1)?;
+    let (third, behind) = read_constant(alloc, after_second, room - 1)?;
+    match Term::tuple_of_three(alloc, [first, second, third]) {
+        Ok(tuple) => Ok((tuple, behind)),
+        Err(refused) => Err(memory_alone(refused.fault)),
+    }
+}
+
+/// The tuple of four elements, behind its tag and its count: without a row.
+#[cycle(constant)]
+fn read_tuple_of_four<'a, A: Allocator + Copy>(
+    alloc: A,
+    bytes: &[u8],
+    rest: &[u8],
+    behind: &'a [u8],
+    room: u8,
+) -> Result<(Term<A>, &'a [u8]), Stop>
+    requires tag { Begins u8_format bytes.now 3 rest.now }
+    requires count { Begins u16_format rest.now 4 behind.now }
+    requires room { 0 < room }
+    ensures { Reads (constant_format room) (BlamesWithin room bytes.now) (λ r. (r.0, r.1.now))
+        bytes.now result }
+{
+    let (first, after_first) = read_constant(alloc, behind, room - 1)?;
+    let (second, after_second) = read_constant(alloc, after_first, room - 1)?;
+    let (third, after_third) = read_constant(alloc, after_second, room - 1)?;
+    let (fourth, behind) = read_constant(alloc, after_third, room - 1)?;
+    match Term::tuple_of_four(alloc, [first, second, third, fourth]) {
+        Ok(tuple) => Ok((tuple, behind)),
+        Err(refused) => Err(memory_alone(refused.fault)),
+    }
+}
+
+/// A tuple, behind its tag.
+#[cycle(constant)]
+fn read_tuple<'a, A: Allocator + Copy>(
+    alloc: A,
+    bytes: &[u8],
+    rest: &'a [u8],
+    room: u8,
+) -> Result<(Term<A>, &'a [u8]), Stop>
+    requires tag { Begins u8_format bytes.now 3 rest.now }
+    requires room { 0 < room }
+    ensures { Reads (constant_format room) (BlamesWithin room bytes.now) (λ r. (r.0, r.1.now))
+        bytes.now result }
+{
+    let (count, behind) = read_u16(rest)?;
+    match count {
+        1 => return read_tuple_of_one(alloc, bytes, rest, behind, room),
+        2 => return read_tuple_of_two(alloc, bytes, rest, behind, room),
+        3 => return read_tuple_of_three(alloc, bytes, rest, behind, room),
+        4 => return read_tuple_of_four(alloc, bytes, rest, behind, room),
+        _ => {}
+    }
+    let (elements, behind) = read_elements(alloc, u32::from(count), behind, room - 1)?;
+    match Term::tuple(alloc, elements) {
+        Ok(tuple) => Ok((tuple, behind)),
+        Err(refused) => Err(memory_alone(refused.fault)),
+    }
+}
+
+/// A pair whose key stands above those before it.
+#[cycle(constant)]
+fn read_pair<'a, A: Allocator + Copy>(
+    alloc: A,
+    before: &[(Term<A>, Term<A>)],
+    bytes: &'a [u8],
+    room: u8,
+) -> Result<((Term<A>, Term<A>), &'a [u8]), Stop>
+    requires fits { AllByRecursion (pair_format room).Fits before.now }
+    requires rising { RisingPairs before.now }
+    ensures { Reads (such (pair_format room) (λ p. RisingPairs (before.now ++ p ∷ [])))
+        (BlamesBehind (BehindPairs before.now) room (flat_map pair_bytes before.now ++ bytes.now))
+        (λ r. (r.0, r.1.now)) bytes.now result }
+{
+    let (key, rest) = read_constant(alloc, bytes, room)?;
+    if !is_key_above(before, &key) {
+        return Err(Stop::At(Cause::NotCanonical, bytes.len()));
+    }
+    let (value, rest) = read_constant(alloc, rest, room)?;
+    Ok(((key, value), rest))
+}
+
+/// So many pairs, whose keys rise.
+#[cycle(constant)]
+fn read_pairs<A: Allocator + Copy>(
+    alloc: A,
+    count: u16,
+    bytes: &[u8],
+    room: u8,
+) -> Result<(Vec<(Term<A>, Term<A>), A>, &[u8]), Stop>
+    ensures { Reads (such (rows (pair_format room) count) RisingPairs)
+        (BlamesBehind (InPairs count) room bytes.now) (λ r. (r.0.items, r.1.now)) bytes.now result }
+{
+    let mut pairs = Vec::with_capacity(alloc, first_places(u32::from(count), FIRST_PAIRS))?;
+    let mut rest = bytes;
+    for read in 0..count {
+        let (pair, behind) = read_pair(alloc, pairs.as_slice(), rest, room)?;
+        make_room(&mut pairs, u32::from(count - read))?;
+        pairs.push(pair)?;
+        rest = behind;
+    }
+    Ok((pairs, rest))
+}
+
+/// The map of one pair, behind its tag and its count: without a row.
+#[cycle(constant)]
+fn read_map_of_one<'a, A: Allocator + Copy>(
+    alloc: A,
+    bytes: &[u8],
+    rest: &[u8],
+    behind: &'a [u8],
+    room: u8,
+) -> Result<(Term<A>, &'a [u8]), Stop>
+    requires tag { Begins u8_format bytes.now 4 rest.now }
+    requires count { Begins u16_format rest.now 1 behind.now }
+    requires room { 0 < room }
+    ensures { Reads (constant_format room) (BlamesWithin room bytes.now) (λ r. (r.0, r.1.now))
+        bytes.now result }
+{
+    let before = Vec::new(alloc);
+    let ((key, value), behind) = read_pair(alloc, before.as_slice(), behind, room - 1)?;
+    match Term::map_of_one(alloc, key, value) {
+        Ok(map) => Ok((map, behind)),
+        Err(refused) => Err(memory_alone(refused.fault)),
+    }
+}
+
+/// A map, behind its tag.
+#[cycle(constant)]
+fn read_map<'a, A: Allocator + Copy>(
+    alloc: A,
+    bytes: &[u8],
+    rest: &'a [u8],
+    room: u8,
+) -> Result<(Term<A>, &'a [u8]), Stop>
+    requires tag { Begins u8_format bytes.now 4 rest.now }
+    requires room { 0 < room }
+    ensures { Reads (constant_format room) (BlamesWithin room bytes.now) (λ r. (r.0, r.1.now))
+        bytes.now result }
+{
+    let (count, behind) = read_u16(rest)?;
+    if count == 1 {
+        return read_map_of_one(alloc, bytes, rest, behind, room);
+    }
+    let (pairs, behind) = read_pairs(alloc, count, behind, room - 1)?;
+    match map_of_pairs(alloc, pairs) {
+        Ok(map) => Ok((map, behind)),
+        Err(refused) => Err(memory_alone(refused.fault)),
+    }
+}
+
+/// A list, behind its tag.
+#[cycle(constant)]
+fn read_list<'a, A: Allocator + Copy>(
+    alloc: A,
+    bytes: &[u8],
+    rest: &'a [u8],
+    room: u8,
+) -> Result<(Term<A>, &'a [u8]), Stop>
+    requires tag { Begins u8_format bytes.now 6 rest.now }
+    requires room { 0 < room }
+    ensures { Reads (constant_format room) (BlamesWithin room bytes.now) (λ r. (r.0, r.1.now))
+        bytes.now result }
+{
+    let (count, behind) = read_length(bytes, rest)?;
+    let (elements, behind) = read_elements(alloc, count, behind, room - 1)?;
+    if begins_list(behind) {
+        return Err(Stop::At(Cause::NotCanonical, behind.len()));
+    }
+    let (tail, behind) = read_constant(alloc, behind, room - 1)?;
+    match Term::list(alloc, elements, Some(tail)) {
+        Ok(list) => Ok((list, behind)),
+        Err(refused) => Err(memory_alone(refused.fault)),
+    }
+}

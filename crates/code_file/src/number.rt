@@ -1,0 +1,63 @@
+//! Numbers and rows of bytes at the front of a file's rest.
+ghost use Rattle.code_format.specs.Formats.{u8_format, u16_format, u32_format, i64_format, bytes_format};
+ghost use Rattle.code_file.specs.Reads.{Reads, Blames};
+
+use crate::stop::{Cause, Stop};
+
+/// So many bytes, and what follows them.
+pub(crate) fn take(bytes: &[u8], count: usize) -> Result<(&[u8], &[u8]), Stop>
+    ensures { Reads (bytes_format count) (Blames bytes.now) (λ r. (r.0.now, r.1.now)) bytes.now
+        result }
+{
+    if bytes.len() < count {
+        return Err(Stop::At(Cause::Truncated, 0));
+    }
+    Ok(bytes.split_at(count))
+}
+
+/// A number of one byte.
+pub fn read_u8(bytes: &[u8]) -> Result<(u8, &[u8]), Stop>
+    ensures { Reads u8_format (Blames bytes.now) (λ r. (r.0, r.1.now)) bytes.now result }
+{
+    match bytes.split_first() {
+        Some((number, rest)) => Ok((*number, rest)),
+        None => Err(Stop::At(Cause::Truncated, 0)),
+    }
+}
+
+/// A number of two bytes.
+pub fn read_u16(bytes: &[u8]) -> Result<(u16, &[u8]), Stop>
+    ensures { Reads u16_format (Blames bytes.now) (λ r. (r.0, r.1.now)) bytes.now result }
+{
+    if bytes.len() < 2 {
+        return Err(Stop::At(Cause::Truncated, 0));
+    }
+    let (front, rest) = bytes.split_at(2);
+    Ok((u16::from_be_bytes([front[0], front[1]]), rest))
+}
+
+/// A number of four bytes.
+pub(crate) fn read_u32(bytes: &[u8]) -> Result<(u32, &[u8]), Stop>
+    ensures { Reads u32_format (Blames bytes.now) (λ r. (r.0, r.1.now)) bytes.now result }
+{
+    if bytes.len() < 4 {
+        return Err(Stop::At(Cause::Truncated, 0));
+    }
+    let (front, rest) = bytes.split_at(4);
+    let number = u32::from_be_bytes([front[0], front[1], front[2], front[3]]);
+    Ok((number, rest))
+}
+
+/// A whole number of eight bytes.
+pub(crate) fn read_i64(bytes: &[u8]) -> Result<(i64, &[u8]), Stop>
+    ensures { Reads i64_format (Blames bytes.now) (λ r. (r.0, r.1.now)) bytes.now result }
+{
+    if bytes.len() < 8 {
+        return Err(Stop::At(Cause::Truncated, 0));
+    }
+    let (front, rest) = bytes.split_at(8);
+    let number = i64::from_be_bytes([
+        front[0], front[1], front[2], front[3], front[4], front[5], front[6], front[7],
+    ]);
+    Ok((number, rest))
+}

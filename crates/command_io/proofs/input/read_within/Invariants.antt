@@ -1,9 +1,0 @@
--- The input so far is what the reader has lost, in as many parts as there were reads.
-use Rattle.std.proofs.Common.{◌≡◌, ◌≤◌, ◌*◌, length}
-use Rattle.std.specs.Io.KnownBytes.{Consumes}
-use Rattle.command_io.proofs.input.read_within.Given as goal
-
-abbrev pub invariant-loop-read : goal.invariant-loop-read
-invariant-loop-read g l =
-    Consumes (g.R.Read.remaining l.fn.reader) (g.R.Read.remaining l.reader) l.input.items
-    × (length l.buffer.items ≡ 65536) × (length l.input.items ≤ 65536 * l._read)

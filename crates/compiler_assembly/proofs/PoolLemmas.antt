@@ -1,0 +1,167 @@
+-- Constants, each once: where a term stands among them, and what others behind them leave as it was.
+use Rattle.std.specs.Prelude.{ℕ, suc, ◌≡◌, ◌+◌, ◌≤◌, cond, Bool, true, false, Option, Some, None, option_map, List, [], ◌∷◌, ◌++◌, length, slice_get, ◌-◌, take}
+use Rattle.std.proofs.Common.{arith, get_or, refl, sym, ap, subst, ◌∙◌}
+use Rattle.std.proofs.lemmas.List.{length-append}
+use Rattle.std.specs.Ordering.{is_eq}
+use Rattle.std.specs.declared.cmp.Ordering.{Ordering}
+use Rattle.std.specs.declared.cmp.Ordering.TheVariants.{Less, Equal, Greater}
+use Rattle.term_operand.specs.Order.{is_same}
+use Rattle.term_core.specs.Datum.{Datum}
+use Rattle.term_core.specs.Order.{datum_cmp}
+use Rattle.term_core.specs.OrderLaws.{datum_cmp-equal, datum_cmp-same}
+use Rattle.compiler_assembly.specs.Assembled.{number_of, with_term}
+use Rattle.compiler_assembly.specs.Pool.{place_of, IsFront, IsPool}
+
+-- what is the same is equal
+pub same_is : (c d : Datum) → is_same c d ≡ true → c ≡ d
+same_is c d h = by (datum_cmp c d) refl h
+  where
+    by : (o : Ordering) → datum_cmp c d ≡ o → is_eq o ≡ true → c ≡ d
+    by Less e h = absurd (cc)
+    by Equal e h = datum_cmp-equal c d e
+    by Greater e h = absurd (cc)
+
+-- a term is the same as itself
+pub same_itself : (d : Datum) → is_same d d ≡ true
+same_itself d = ap is_eq (datum_cmp-same {a = d} {b = d} refl)
+
+-- what is one more than nothing, or than a number
+suc_some : (o : Option ℕ) (n : ℕ) → option_map suc o ≡ Some n → (m : ℕ) × (o ≡ Some m) × (n ≡ suc m)
+suc_some None n h = absurd (cc)
+suc_some (Some m) n h = let e : suc m ≡ n = cc in (m, refl, sym e)
+
+suc_none : (o : Option ℕ) → option_map suc o ≡ None → o ≡ None
+suc_none None h = refl
+suc_none (Some m) h = absurd (cc)
+
+-- a term that has a place stands there, and that is its number
+pub place_there : (cs : List Datum) (d : Datum) (n : ℕ) → place_of cs d ≡ Some n → slice_get cs n ≡ Some d
+place_there [] d n h = absurd (cc)
+place_there (c ∷ cs) d n h = by (is_same c d) refl h (place_there cs d)
+  where
+    by : (b : Bool) → is_same c d ≡ b → cond b (Some 0) (option_map suc (place_of cs d)) ≡ Some n → ((m : ℕ) → place_of cs d ≡ Some m → slice_get cs m ≡ Some d) → slice_get (c ∷ cs) n ≡ Some d
+    by true e h again =
+        let zero_is : 0 ≡ n = cc in
+        subst (λ m. slice_get (c ∷ cs) m ≡ Some d) zero_is (ap Some (same_is c d e))
+    by false e h again =
+        let more = suc_some (place_of cs d) n h in
+        subst (λ m. slice_get (c ∷ cs) m ≡ Some d) (sym more.2) (again more.0 more.1)
+
+pub place_number : (cs : List Datum) (d : Datum) (n : ℕ) → place_of cs d ≡ Some n → number_of cs d ≡ n
+place_number [] d n h = absurd (cc)
+place_number (c ∷ cs) d n h = by (is_same c d) h (place_number cs d)
+  where
+    by : (b : Bool) → cond b (Some 0) (option_map suc (place_of cs d)) ≡ Some n → ((m : ℕ) → place_of cs d ≡ Some m → number_of cs d ≡ m) → cond b 0 (suc (number_of cs d)) ≡ n
+    by true h again = cc
+    by false h again =
+        let more = suc_some (place_of cs d) n h in
+        ap suc (again more.0 more.1) ∙ sym more.2
+
+-- what has a place is there already
+pub with_place : (cs : List Datum) (d : Datum) (n : ℕ) → place_of cs d ≡ Some n → with_term cs d ≡ cs
+with_place [] d n h = absurd (cc)
+with_place (c ∷ cs) d n h = by (is_same c d) h (with_place cs d)
+  where
+    by : (b : Bool) → cond b (Some 0) (option_map suc (place_of cs d)) ≡ Some n → ((m : ℕ) → place_of cs d ≡ Some m → with_term cs d ≡ cs) → cond b (c ∷ cs) (c ∷ with_term cs d) ≡ c ∷ cs
+    by true h again = refl
+    by false h again = let more = suc_some (place_of cs d) n h in ap (λ xs. c ∷ xs) (again more.0 more.1)
+
+-- what has none comes behind
+pub with_none : (cs : List Datum) (d : Datum) → place_of cs d ≡ None → with_term cs d ≡ cs ++ d ∷ []
+with_none [] d h = refl
+with_none (c ∷ cs) d h = by (is_same c d) h (with_none cs d)
+  where
+    by : (b : Bool) → cond b (Some 0) (option_map suc (place_of cs d)) ≡ None → (place_of cs d ≡ None → with_term cs d ≡ cs ++ d ∷ []) → cond b (c ∷ cs) (c ∷ with_term cs d) ≡ c ∷ (cs ++ d ∷ [])
+    by true h again = absurd (cc)
+    by false h again = ap (λ xs. c ∷ xs) (again (suc_none (place_of cs d) h))
+
+-- a place stays, whatever comes behind
+pub place_front : (cs rest : List Datum) (d : Datum) (n : ℕ) → place_of cs d ≡ Some n → place_of (cs ++ rest) d ≡ Some n
+place_front [] rest d n h = absurd (cc)
+place_front (c ∷ cs) rest d n h = by (is_same c d) h (place_front cs rest d)
+  where
+    by : (b : Bool) → cond b (Some 0) (option_map suc (place_of cs d)) ≡ Some n → ((m : ℕ) → place_of cs d ≡ Some m → place_of (cs ++ rest) d ≡ Some m) → cond b (Some 0) (option_map suc (place_of (cs ++ rest) d)) ≡ Some n
+    by true h again = h
+    by false h again =
+        let more = suc_some (place_of cs d) n h in
+        ap (option_map suc) (again more.0 more.1) ∙ ap Some (sym more.2)
+
+pub place_later : (cs ds : List Datum) (d : Datum) (n : ℕ) → IsFront cs ds → place_of cs d ≡ Some n → place_of ds d ≡ Some n
+place_later cs ds d n front h = subst (λ es. place_of es d ≡ Some n) (sym front.all) (place_front cs front.rest d n h)
+
+-- where a term stands when another one was put behind
+pub place_push : (cs : List Datum) (key d : Datum) → place_of cs key ≡ None → place_of (cs ++ key ∷ []) d ≡ cond (is_same key d) (Some (length cs)) (place_of cs d)
+place_push [] key d h = refl
+place_push (c ∷ cs) key d h = by (is_same c key) refl h (place_push cs key d)
+  where
+    after : (b : Bool) (k : Bool) → is_same c d ≡ b → is_same key d ≡ k → (is_same c key ≡ false) → place_of (cs ++ key ∷ []) d ≡ cond k (Some (length cs)) (place_of cs d) → cond b (Some 0) (option_map suc (place_of (cs ++ key ∷ []) d)) ≡ cond k (Some (suc (length cs))) (cond b (Some 0) (option_map suc (place_of cs d)))
+    after true true e k apart rest =
+        let one : c ≡ d = same_is c d e in
+        let two : key ≡ d = same_is key d k in
+        let same : is_same c key ≡ true = subst (λ x. is_same c x ≡ true) (one ∙ sym two) (same_itself c) in
+        absurd (cc)
+    after true false e k apart rest = refl
+    after false true e k apart rest = ap (option_map suc) rest
+    after false false e k apart rest = ap (option_map suc) rest
+
+    by : (b : Bool) → is_same c key ≡ b → cond b (Some 0) (option_map suc (place_of cs key)) ≡ None → (place_of cs key ≡ None → place_of (cs ++ key ∷ []) d ≡ cond (is_same key d) (Some (length cs)) (place_of cs d)) → place_of (c ∷ cs ++ key ∷ []) d ≡ cond (is_same key d) (Some (suc (length cs))) (place_of (c ∷ cs) d)
+    by true e h again = absurd (cc)
+    by false e h again =
+        after (is_same c d) (is_same key d) refl refl e (again (suc_none (place_of cs key) h))
+
+-- the place of what was put behind
+pub place_last : (cs : List Datum) (d : Datum) → place_of cs d ≡ None → place_of (cs ++ d ∷ []) d ≡ Some (length cs)
+place_last cs d h = place_push cs d d h ∙ ap (λ b. cond b (Some (length cs)) (place_of cs d)) (same_itself d)
+
+-- a place is the number of the term, whatever comes behind
+pub number_later : (cs ds : List Datum) (d : Datum) (n : ℕ) → place_of cs d ≡ Some n → IsFront cs ds → n ≡ number_of ds d
+number_later cs ds d n h front = sym (place_number ds d n (place_later cs ds d n front h))
+
+-- one more constant is found
+pub pool_more : (found found' : Datum → Option ℕ) (cs : List Datum) (key : Datum) (n : ℕ) → IsPool found cs → place_of cs key ≡ None → n ≡ length cs → suc (length cs) ≤ 65535 → ((d : Datum) → found' d ≡ cond (is_same key d) (Some n) (found d)) → IsPool found' (cs ++ key ∷ [])
+pool_more found found' cs key n pool new is few entered = record {
+  numbers = λ d. entered d ∙ ap (λ m. cond (is_same key d) (Some m) (found d)) is ∙ ap (cond (is_same key d) (Some (length cs))) (pool.numbers d) ∙ sym (place_push cs key d new);
+  count = omega (arith, length-append cs (key ∷ []));
+}
+
+-- the constants as before
+pub pool_same : (found found' : Datum → Option ℕ) (cs : List Datum) → IsPool found cs → ((d : Datum) → found' d ≡ found d) → IsPool found' cs
+pool_same found found' cs pool same = record { numbers = λ d. same d ∙ pool.numbers d; count = pool.count }
+
+-- a constant that was there
+pub found_terms : (cs : List Datum) (d : Datum) (n : ℕ) → Some n ≡ place_of cs d → cs ≡ with_term cs d
+found_terms cs d n h = sym (with_place cs d n (sym h))
+
+-- what is known once a constant was put behind
+pub record IsLast (cs cs' : List Datum) (d : Datum) (n : ℕ) : Type 0 where
+  pub terms : cs' ≡ with_term cs d
+  pub place : place_of cs' d ≡ Some n
+
+pub last_of : (cs cs' : List Datum) (d : Datum) (n : ℕ) → place_of cs d ≡ None → cs' ≡ cs ++ d ∷ [] → n ≡ length cs → IsLast cs cs' d n
+last_of cs cs' d n new all is = record {
+  terms = all ∙ sym (with_none cs d new);
+  place = ap (λ es. place_of es d) all ∙ place_last cs d new ∙ ap Some (sym is);
+}
+
+-- the constants before the last one
+pub before_last : (cs : List Datum) (d : Datum) → take (length (cs ++ d ∷ []) - 1) (cs ++ d ∷ []) ≡ cs
+before_last cs d = rw (length-append cs (d ∷ [])) (rw (one_less (length cs)) (taken cs))
+  where
+    one_less : (n : ℕ) → n + 1 - 1 ≡ n
+    one_less n = omega arith
+
+    taken : (xs : List Datum) → take (length xs) (xs ++ d ∷ []) ≡ xs
+    taken [] = refl
+    taken (x ∷ xs) = ap (λ ys. x ∷ ys) (taken xs)
+
+-- a new constant is one more
+pub with_longer : (cs : List Datum) (d : Datum) → place_of cs d ≡ None → length (with_term cs d) ≡ suc (length cs)
+with_longer cs d new = ap length (with_none cs d new) ∙ omega (arith, length-append cs (d ∷ []))
+
+-- the last constant
+pub last_is : (cs : List Datum) (d : Datum) (n : ℕ) (e : Datum) → n ≡ length cs → e ≡ get_or (cs ++ d ∷ []) n e → e ≡ d
+last_is cs d n e is at = at ∙ ap (λ m. get_or (cs ++ d ∷ []) m e) is ∙ last cs
+  where
+    last : (xs : List Datum) → get_or (xs ++ d ∷ []) (length xs) e ≡ d
+    last [] = refl
+    last (x ∷ xs) = last xs

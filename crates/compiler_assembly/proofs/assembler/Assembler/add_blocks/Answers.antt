@@ -1,0 +1,32 @@
+use Rattle.std.proofs.Common.{sym, ap, inl, inr, ◌∙◌, reverse}
+use Rattle.compiler_assembly.specs.Assembling.{with_blocks}
+use Rattle.compiler_assembly.proofs.AssemblerLemmas.{last_first, none_left, last_number, no_code}
+use Rattle.compiler_assembly.proofs.assembler.Assembler.add_blocks.Goals as goal
+
+pub loop-block-preserved : goal.loop-block-preserved
+loop-block-preserved g c =
+    let pool = c.loop-block.self.pool in
+    let builder = c.loop-block.self.builder in
+    let front = last_first c.loop-block.left.items c.pop.new.self.items c.in-Some.block c.in-Some.ensures.items in
+    record {
+      count = c.in-Ok.ensures.count;
+      whole = c.in-Ok.ensures.ok (reverse c.pop.new.self.items) ∙ ap (λ bs. with_blocks pool builder c.loop-block.pc bs) (sym front) ∙ c.loop-block.invariant.whole;
+    }
+
+pub returns-in-Err-clause-refused : goal.returns-in-Err-clause-refused
+returns-in-Err-clause-refused g c =
+    let pool = c.loop-block.self.pool in
+    let builder = c.loop-block.self.builder in
+    let front = last_first c.loop-block.left.items c.pop.new.self.items c.in-Some.block c.in-Some.ensures.items in
+    let whole = ap (λ bs. with_blocks pool builder c.loop-block.pc bs) (sym front) ∙ c.loop-block.invariant.whole in
+    elim c.in-Err.ensures.refused [
+      | inl memory ↦ inl memory
+      | inr out ↦ inr (no_code whole (out (reverse c.pop.new.self.items)))
+    ]
+
+pub returns-clause-ok : goal.returns-clause-ok
+returns-clause-ok g c =
+    let pool = c.loop-block.self.pool in
+    let builder = c.loop-block.self.builder in
+    let over = none_left c.loop-block.left.items c.loop-block.left.len c.loop-block.left.ok.0 c.in_default.ensures.cases.0 in
+    last_number pool builder c.loop-block.pc ∙ ap (λ bs. with_blocks pool builder c.loop-block.pc bs) (sym over) ∙ c.loop-block.invariant.whole

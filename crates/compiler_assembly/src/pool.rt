@@ -1,0 +1,152 @@
+//! Constants, each once.
+ghost use Rattle.std.specs.Prelude.{◌≡◌, ◌-◌, ◌++◌, ◌∷◌, [], length, take, if◌then◌else◌, OnOk, OnErr, IfOk};
+ghost use Rattle.std.specs.BTreeMap.{get};
+ghost use Rattle.term_operand.specs.Order.{is_same};
+ghost use Rattle.term_core.specs.Datum.{Datum};
+ghost use Rattle.term_core.specs.Order.{datum_cmp};
+
+use mcode::{Fault, MAX_COUNT};
+use std::alloc::{AllocError, Allocator, Global};
+use std::collections::BTreeMap;
+use std::marker::Model;
+use term_core::Term;
+
+/// Puts a term at the end.
+fn push<A: Allocator>(terms: &mut Vec<Term<A>, A>, term: Term<A>) -> Result<(), AllocError>
+    ensures ok { OnOk result (terms.new.items ≡ terms.old.items ++ term ∷ []) }
+    ensures kept { OnErr result (terms.new.items ≡ terms.old.items) }
+{
+    match terms.push(term) {
+        Ok(()) => Ok(()),
+        Err(_) => Err(AllocError),
+    }
+}
+
+/// Takes the last term away.
+fn take_back<A: Allocator>(terms: &mut Vec<Term<A>, A>)
+    ensures { terms.new.items ≡ take (length terms.old.items - 1) terms.old.items }
+{
+    terms.pop();
+}
+
+/// Says that a term has this number.
+fn enter<A: Allocator + Copy>(
+    numbers: &mut BTreeMap<Term<A>, u16, A>,
+    term: &Term<A>,
+    number: u16,
+) -> Result<(), AllocError>
+    ensures ok { OnOk result ((d : Datum) → get datum_cmp numbers.new d
+        ≡ (if is_same term.now d then Some number else get datum_cmp numbers.old d)) }
+    ensures kept { OnErr result ((d : Datum) → get datum_cmp numbers.new d
+        ≡ get datum_cmp numbers.old d) }
+{
+    let key = term.copy()?;
+    match numbers.insert(key, number) {
+        Ok(_) => Ok(()),
+        Err(_) => Err(AllocError),
+    }
+}
+
+/// Constants, each once, by their numbers in order of first use, at most `MAX_COUNT`. What is refused leaves them as they
+/// were.
+#[derive(Drop)]
+pub(crate) struct Pool<A: Allocator = Global> {
+    terms: Vec<Term<A>, A>,
+    numbers: BTreeMap<Term<A>, u16, A>,
+}
+
+impl<A: Allocator> Model for Pool<A> {
+    ghost use Rattle.std.specs.Prelude.{List};
+    ghost use Rattle.std.specs.BTreeMap.{get};
+    ghost use Rattle.std.specs.Coded.{codes};
+    ghost use Rattle.term_core.specs.Datum.{Datum};
+    ghost use Rattle.term_core.specs.DatumCode.{datum_code};
+    ghost use Rattle.term_core.specs.Order.{datum_cmp};
+    ghost use Rattle.compiler_assembly.specs.Pool.{IsPool};
+
+    ghost Value = { List Datum };
+
+    ghost coded = { Prim.hlevel (codes, datum_code) };
+
+    ghost view = { λ p. p.terms.items };
+
+    ghost invariant = { λ p. IsPool (get datum_cmp p.numbers) p.terms.items };
+}
+
+impl<A: Allocator + Copy> Pool<A> {
+    ghost use Rattle.std.specs.Prelude.{◌≡◌, ◌≤◌, ◌<◌, ◌++◌, ◌∷◌, ◌⊎◌, List, [], length, slice_get, Some, None, IfOk, IfErr, OnOk, OnErr};
+    ghost use Rattle.compiler_assembly.specs.Assembled.{number_of, with_term};
+    ghost use Rattle.compiler_assembly.specs.Pool.{place_of, IsFront};
+    ghost use Rattle.mcode.specs.Program.{most_parts};
+    ghost use Rattle.mcode.specs.declared.fault.Fault.TheVariants.{Memory, Limit};
+    ghost use Rattle.term_core.specs.Datum.{Datum};
+
+    /// No constant.
+    pub(crate) fn new(alloc: A) -> Self
+        ensures { result ≡ [] }
+    {
+        Pool {
+            terms: Vec::new(alloc),
+            numbers: BTreeMap::new(alloc),
+        }
+    }
+
+    /// The number of a constant, where it is one of these.
+    fn number(&self, term: &Term<A>) -> Option<u16>
+        ensures { result ≡ place_of self.now term.now }
+    {
+        self.numbers.get(term).copied()
+    }
+
+    /// Puts a constant that is none of these at the end, and answers its number.
+    fn add(&mut self, term: Term<A>) -> Result<u16, Fault>
+        requires { place_of self.old term ≡ None }
+        ensures terms { OnOk result (self.new ≡ self.old ++ term ∷ []) }
+        ensures number { IfOk result (λ number. number ≡ length self.old) }
+        ensures kept { OnErr result (self.new ≡ self.old) }
+        ensures refused { IfErr result (λ fault. (fault ≡ Memory)
+            ⊎ ((fault ≡ Limit) × (most_parts ≤ length self.old))) }
+    {
+        let place = self.terms.len();
+        if place >= MAX_COUNT {
+            return Err(Fault::Limit);
+        }
+        let number = place as u16;
+        let alloc = *self.terms.allocator();
+        let Ok(()) = push(&mut self.terms, term) else {
+            return Err(Fault::Memory);
+        };
+        let Ok(()) = enter(&mut self.numbers, &self.terms[place], number) else {
+            take_back(&mut self.terms);
+            return Err(Fault::Memory);
+        };
+        Ok(number)
+    }
+
+    /// The number of a constant, which is put at the end where it is none of these.
+    pub(crate) fn intern(&mut self, term: Term<A>) -> Result<u16, Fault>
+        ensures terms { OnOk result (self.new ≡ with_term self.old term) }
+        ensures number { IfOk result (λ number. number ≡ number_of self.new term) }
+        ensures there { IfOk result (λ number. slice_get self.new number ≡ Some term) }
+        ensures later { IfOk result (λ number. (all : List Datum) → IsFront self.new all
+            → number ≡ number_of all term) }
+        ensures kept { OnErr result (self.new ≡ self.old) }
+        ensures refused { IfErr result (λ fault. (fault ≡ Memory)
+            ⊎ ((fault ≡ Limit) × (most_parts < length (with_term self.old term)))) }
+    {
+        if let Some(number) = self.number(&term) {
+            return Ok(number);
+        }
+        match self.add(term) {
+            Ok(number) => Ok(number),
+            Err(fault) => Err(fault),
+        }
+    }
+
+    /// The constants.
+    pub(crate) fn into_terms(self) -> Vec<Term<A>, A>
+        ensures { result.items ≡ self }
+    {
+        self.terms
+    }
+}

@@ -1,0 +1,79 @@
+//! Clauses.
+ghost use Rattle.std.specs.Prelude.{◌≡◌, ◌≤◌, length, map, IfOk};
+ghost use Rattle.mcode.specs.Program.{most_slots};
+ghost use Rattle.mspec_syntax.specs.Rising.{rank_of};
+ghost use Rattle.compiler_expressions.specs.Writable.{IsSoundSite};
+ghost use Rattle.compiler_clauses.specs.Clauses.{site_of, clause_block};
+ghost use Rattle.compiler_clauses.specs.Writable.{AreAmong, IsWritableClause};
+
+use crate::parts::{write_body, write_conditions};
+use compiler_assembly::{Block, Lines};
+use compiler_expressions::Site;
+use compiler_patterns::write_head;
+use mcode::Slots;
+use mspec_syntax::{Clause, Mode, Variables};
+use std::alloc::{AllocError, Allocator};
+
+/// The slots of the variables of a clause: their ranks among those of the specification.
+fn write_slots<A: Allocator + Copy>(
+    alloc: A,
+    slots: &Variables<A>,
+    bound: &Variables<A>,
+) -> Result<Slots<A>, AllocError>
+    requires count { length slots.now ≤ most_slots }
+    requires bound { AreAmong bound.now slots.now }
+    ensures { IfOk result (λ ranks. ranks ≡ map (rank_of slots.now) bound.now) }
+{
+    let mut ranks = Vec::with_capacity(alloc, bound.len())?;
+    for number in bound.numbers() {
+        let rank = slots.count_before(*number);
+        ranks.push(rank as u8)?;
+    }
+    Ok(Slots::new(ranks))
+}
+
+/// Where the conditions of a clause stand, or its body.
+fn site_of<'s, A: Allocator + Copy>(
+    alloc: A,
+    slots: &'s Variables<A>,
+    clause: &'s Clause<A>,
+    mode: Mode,
+) -> Site<'s, A>
+    requires { IsWritableClause slots.now clause.now }
+    ensures value { result ≡ site_of slots.now clause.now mode }
+    ensures sound { IsSoundSite result }
+{
+    Site::new(alloc, slots, clause.variables(), mode)
+}
+
+/// The lines of a clause, which are put from the last to the first.
+fn write_lines<A: Allocator + Copy>(
+    alloc: A,
+    slots: &Variables<A>,
+    clause: &Clause<A>,
+) -> Result<Lines<A>, AllocError>
+    requires { IsWritableClause slots.now clause.now }
+    ensures { IfOk result (λ lines. lines ≡ (clause_block slots.now clause.now).lines) }
+{
+    let mut lines = Lines::new(alloc);
+    let body = site_of(alloc, slots, clause, Mode::Body);
+    write_body(&body, clause.body(), &mut lines)?;
+    let conditions = site_of(alloc, slots, clause, Mode::Condition);
+    write_conditions(&conditions, clause.conditions(), &mut lines)?;
+    write_head(alloc, slots, clause.head(), &mut lines)?;
+    Ok(lines)
+}
+
+/// The block of a clause of a specification with these variables.
+pub(crate) fn write_clause<A: Allocator + Copy>(
+    alloc: A,
+    slots: &Variables<A>,
+    clause: &Clause<A>,
+) -> Result<Block<A>, AllocError>
+    requires { IsWritableClause slots.now clause.now }
+    ensures { IfOk result (λ block. block ≡ clause_block slots.now clause.now) }
+{
+    let lines = write_lines(alloc, slots, clause)?;
+    let ranks = write_slots(alloc, slots, clause.variables())?;
+    Ok(Block::new(ranks, lines))
+}

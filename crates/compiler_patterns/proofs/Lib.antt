@@ -1,0 +1,4 @@
+pub mod WrittenLemmas
+pub mod SpelledLemmas
+pub mod WritableLemmas
+pub mod WriteLemmas

@@ -1,0 +1,162 @@
+//! Patterns that spell a term: neither a variable, `'_'` nor a map stands in them.
+ghost use Rattle.std.specs.Prelude.{◌≡◌, ℕ, ◌<◌, ◌≤◌, false, true, Some, length, map, drop, IfOk};
+ghost use Rattle.mspec_syntax.specs.Pattern.{own_term, patterns_of, cells_of};
+ghost use Rattle.mspec_syntax.specs.Pattern.Pattern.{tuple_of};
+ghost use Rattle.mspec_syntax.specs.PatternView.{tail_pattern};
+ghost use Rattle.mspec_syntax.specs.Sound.{IsSoundPattern, AreSoundPatterns};
+ghost use Rattle.compiler_patterns.specs.Spelled.{spells, all_spell};
+
+use mspec_syntax::{Pattern, PatternKind};
+use std::alloc::{AllocError, Allocator};
+use term_build::{make_list, make_tuple};
+use term_core::Term;
+
+/// Whether the pattern spells a term.
+#[cycle(spells)]
+fn spells<A: Allocator>(pattern: &Pattern<A>) -> bool
+    ensures { result ≡ spells pattern.now }
+{
+    match pattern.kind() {
+        PatternKind::Anything => false,
+        PatternKind::Variable(_) => false,
+        PatternKind::Literal(_) => true,
+        PatternKind::Tuple(elements) => all_spell(elements.as_slice()),
+        PatternKind::List(elements, tail) => all_spell(elements.as_slice()) && tail_spells(tail),
+        PatternKind::Map(_) => false,
+    }
+}
+
+/// Whether each of these patterns spells a term.
+#[cycle(spells)]
+pub(crate) fn all_spell<A: Allocator>(patterns: &[Pattern<A>]) -> bool
+    ensures { result ≡ all_spell patterns.now }
+{
+    for pattern in patterns {
+        if !spells(pattern) {
+            return false;
+        }
+    }
+    true
+}
+
+/// Whether the tail of a list spells a term, as it does where there is none.
+#[cycle(spells)]
+fn tail_spells<A: Allocator>(tail: &Option<Box<Pattern<A>, A>>) -> bool
+    ensures { result ≡ spells (tail_pattern tail.now) }
+{
+    match tail {
+        None => true,
+        Some(tail) => spells(tail),
+    }
+}
+
+/// How many elements stand before the longest rest of a list that spells a term, all where its tail doesn't.
+pub(crate) fn open_elements<A: Allocator>(
+    elements: &[Pattern<A>],
+    tail: &Option<Box<Pattern<A>, A>>,
+) -> usize
+    ensures count { result ≤ length elements.now }
+    ensures before { (i : ℕ) → i < result
+        → spells (cells_of (drop i elements.now) (tail_pattern tail.now)) ≡ false }
+    ensures behind { result < length elements.now
+        → spells (cells_of (drop result elements.now) (tail_pattern tail.now)) ≡ true }
+{
+    if !tail_spells(tail) {
+        return elements.len();
+    }
+    for place in (0..elements.len()).rev() {
+        if !spells(&elements[place]) {
+            return place + 1;
+        }
+    }
+    0
+}
+
+/// The term that a pattern spells.
+#[cycle(own)]
+fn own_term<A: Allocator + Copy>(alloc: A, pattern: &Pattern<A>) -> Result<Term<A>, AllocError>
+    requires sound { IsSoundPattern pattern.now }
+    requires spells { spells pattern.now ≡ true }
+    ensures { IfOk result (λ term. own_term pattern.now ≡ Some term) }
+{
+    match pattern.kind() {
+        PatternKind::Anything => unreachable!(),
+        PatternKind::Variable(_) => unreachable!(),
+        PatternKind::Literal(term) => term.copy(),
+        PatternKind::Tuple(elements) => own_tuple(alloc, elements.as_slice()),
+        PatternKind::List(elements, tail) => own_list(alloc, elements.as_slice(), tail),
+        PatternKind::Map(_) => unreachable!(),
+    }
+}
+
+/// The terms that patterns spell.
+#[cycle(own)]
+fn own_terms<A: Allocator + Copy>(
+    alloc: A,
+    patterns: &[Pattern<A>],
+) -> Result<Vec<Term<A>, A>, AllocError>
+    requires sound { AreSoundPatterns (patterns_of patterns.now) }
+    requires spells { all_spell patterns.now ≡ true }
+    ensures { IfOk result (λ terms. map own_term patterns.now ≡ map Some terms.items) }
+{
+    let mut terms = Vec::with_capacity(alloc, patterns.len())?;
+    for pattern in patterns {
+        let term = own_term(alloc, pattern)?;
+        terms.push(term)?;
+    }
+    Ok(terms)
+}
+
+/// The tuple that a pattern of these elements spells.
+#[cycle(own)]
+pub(crate) fn own_tuple<A: Allocator + Copy>(
+    alloc: A,
+    elements: &[Pattern<A>],
+) -> Result<Term<A>, AllocError>
+    requires sound { IsSoundPattern (tuple_of (patterns_of elements.now)) }
+    requires spells { all_spell elements.now ≡ true }
+    ensures { IfOk result (λ term. own_term (tuple_of (patterns_of elements.now)) ≡ Some term) }
+{
+    let terms = own_terms(alloc, elements)?;
+    match make_tuple(alloc, terms)? {
+        Some(tuple) => Ok(tuple),
+        None => unreachable!(),
+    }
+}
+
+/// The list that a pattern of these elements and this tail spells.
+#[cycle(own)]
+pub(crate) fn own_list<A: Allocator + Copy>(
+    alloc: A,
+    elements: &[Pattern<A>],
+    tail: &Option<Box<Pattern<A>, A>>,
+) -> Result<Term<A>, AllocError>
+    requires elements { 0 < length elements.now }
+    requires sound { IsSoundPattern (cells_of elements.now (tail_pattern tail.now)) }
+    requires spells { spells (cells_of elements.now (tail_pattern tail.now)) ≡ true }
+    ensures { IfOk result (λ term. own_term (cells_of elements.now (tail_pattern tail.now))
+        ≡ Some term) }
+{
+    let terms = own_terms(alloc, elements)?;
+    let tail = own_tail(alloc, tail)?;
+    match make_list(alloc, terms, tail)? {
+        Some(list) => Ok(list),
+        None => unreachable!(),
+    }
+}
+
+/// The term that the tail of a list spells, `[]` where there is none.
+#[cycle(own)]
+fn own_tail<A: Allocator + Copy>(
+    alloc: A,
+    tail: &Option<Box<Pattern<A>, A>>,
+) -> Result<Term<A>, AllocError>
+    requires sound { IsSoundPattern (tail_pattern tail.now) }
+    requires spells { spells (tail_pattern tail.now) ≡ true }
+    ensures { IfOk result (λ term. own_term (tail_pattern tail.now) ≡ Some term) }
+{
+    match tail {
+        None => Ok(Term::nil()),
+        Some(tail) => own_term(alloc, tail),
+    }
+}

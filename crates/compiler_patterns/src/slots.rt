@@ -1,0 +1,69 @@
+//! The slots of variables.
+use crate::draft::Draft;
+use compiler_assembly::{Op, Target};
+use mspec_syntax::Variables;
+use std::alloc::{AllocError, Allocator};
+use std::marker::Model;
+
+/// The variables of a specification, of which each has the slot of its rank, and the allocator of their code.
+#[derive(Drop)]
+pub struct Slots<'s, A: Allocator> {
+    alloc: A,
+    numbers: &'s Variables<A>,
+}
+
+impl<'s, A: Allocator> Model for Slots<'s, A> {
+    ghost use Rattle.std.specs.Prelude.{◌≤◌, ℕ, List, length};
+    ghost use Rattle.mcode.specs.Program.{most_slots};
+
+    ghost Value = { List ℕ };
+
+    ghost view = { λ s. s.numbers.now };
+
+    ghost invariant = { λ s. length s.numbers.now ≤ most_slots };
+}
+
+impl<'s, A: Allocator + Copy> Slots<'s, A> {
+    ghost use Rattle.std.specs.Prelude.{◌≡◌, ◌≤◌, ◌∷◌, [], length, true, OnOk};
+    ghost use Rattle.mcode.specs.Program.{most_slots};
+    ghost use Rattle.mspec_syntax.specs.Grammar.{is_among};
+    ghost use Rattle.mspec_syntax.specs.Rising.{rank_of};
+    ghost use Rattle.compiler_patterns.specs.Leaves.{variable_lines};
+    ghost use Rattle.compiler_patterns.specs.Written.{Writes};
+
+    /// The slots of these variables.
+    pub fn new(alloc: A, numbers: &'s Variables<A>) -> Self
+        requires { length numbers.now ≤ most_slots }
+        ensures { result ≡ numbers.now }
+    {
+        Slots { alloc, numbers }
+    }
+
+    /// The allocator of code.
+    pub fn alloc(&self) -> A {
+        self.alloc
+    }
+
+    /// The slot of a variable.
+    fn slot(&self, number: u32) -> u8
+        requires { is_among self.now number ≡ true }
+        ensures { result ≡ rank_of self.now number }
+    {
+        let rank = self.numbers.count_before(number);
+        rank as u8
+    }
+
+    /// Puts what binds a variable, or tests that the top is what it is bound to. An `Err` is want of memory.
+    pub fn write_variable(&self, number: u32, draft: &mut Draft<A>) -> Result<(), AllocError>
+        requires { is_among self.now number ≡ true }
+        ensures { OnOk result (Writes self.now (λ known. variable_lines self.now known number)
+            (number ∷ []) draft.old draft.new) }
+    {
+        let slot = self.slot(number);
+        if draft.bind(slot) {
+            draft.put(Op::Get(slot))?;
+            return draft.put(Op::Equal(Target::Failing));
+        }
+        draft.put(Op::Bind(slot))
+    }
+}

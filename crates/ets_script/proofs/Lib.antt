@@ -1,9 +1,0 @@
-mod ReplyLemmas
-mod TextLemmas
-mod LinkLemmas
-mod AskLemmas
-mod WalkLemmas
-mod TableLemmas
-mod OptionLemmas
-mod GatherLemmas
-mod WorkedRows

@@ -1,5 +1,0 @@
-use Rattle.ets_script.proofs.ReplyLemmas.{replies_one}
-use Rattle.ets_script.proofs.laws.replies_are_one.Goals as goal
-
-pub returns : goal.returns
-returns c = λ st terms a b left right. replies_one st terms a b left right

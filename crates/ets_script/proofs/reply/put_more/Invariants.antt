@@ -1,8 +1,0 @@
--- What is put and what is left is the whole.
-use Rattle.std.proofs.Common.{◌≡◌, ◌++◌, drop}
-use Rattle.ets_script.specs.Replies.{behind_commas}
-use Rattle.ets_script.proofs.reply.put_more.Given as goal
-
-abbrev pub invariant-loop-object : goal.invariant-loop-object
-invariant-loop-object g l =
-    l.lines.items ++ behind_commas (drop l.object-index l.objects) ≡ l.initial.lines.items ++ behind_commas l.objects

@@ -1,9 +1,0 @@
-pub mod Script
-pub mod Replies
-pub mod State
-pub mod Tables
-pub mod Opened
-pub mod Scripts
-pub mod Run
-pub mod Input
-pub mod Laws

@@ -1,7 +1,0 @@
--- the variables from the place on
-use Rattle.std.proofs.Common.{◌≡◌, ◌++◌, map, drop}
-use Rattle.expression_code.proofs.LineLemmas.{get_line}
-use Rattle.expression_code.proofs.site.Site.put_variables.Given as goal
-
-abbrev pub invariant-loop-place : goal.invariant-loop-place
-invariant-loop-place g l = l.lines ≡ map (get_line l.self.slots) (drop l.place l.numbers) ++ l.initial.lines

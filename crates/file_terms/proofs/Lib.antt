@@ -1,5 +1,0 @@
-pub mod NumberLemmas
-pub mod StopLemmas
-pub mod RowLemmas
-pub mod LeafLemmas
-pub mod LevelLemmas

@@ -1,3 +1,0 @@
-pub mod FrameLemmas
-pub mod LeavingLemmas
-pub mod FaultLemmas

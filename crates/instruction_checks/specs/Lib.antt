@@ -1,4 +1,0 @@
-pub mod Fit
-pub mod Faults
-pub mod FaultNumbers
-pub mod Leaving

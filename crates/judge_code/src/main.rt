@@ -1,0 +1,47 @@
+//! Rows of code, read from standard input and tried on the public calls of the crates: what comes of each is compared with what it wants,
+//! and each row that fails is printed, with how many rows there were of each kind.
+//!
+//! `stdin` has the rows, and at its head the form of each kind. The judge is proved once, and rows cost nothing but their run.
+//!
+//! - `codes`: code that is built and verified.
+//! - `sweeps`: the same, and runs, with each request for memory refused in turn, and what takes no memory.
+//!
+//! What code answers is in `test_answers`; the code of specifications has its rows in `judge_specifications`.
+#![tactic(auto)]
+
+mod codes;
+mod sweeps;
+
+use codes::BuiltCode;
+use std::alloc::Global;
+use std::io;
+use std::process::ExitCode;
+use term_core::Term;
+use test_rows::{Kinds, judge_streams};
+
+/// The kinds of rows of code.
+struct CodeKinds;
+
+impl Kinds for CodeKinds {
+    fn came(alloc: Global, kind: &str, parts: &[Term], _forms: usize) -> Option<Vec<u8>> {
+        if let Some(out) = codes::came(alloc, kind, parts) {
+            return Some(out);
+        }
+        if let Some(out) = test_answers::came::<BuiltCode>(alloc, kind, parts) {
+            return Some(out);
+        }
+        sweeps::came(alloc, kind, parts)
+    }
+
+    fn forms(_kind: &str) -> usize {
+        1
+    }
+
+    fn wants_text(_kind: &str) -> bool {
+        false
+    }
+}
+
+fn main(rt: HostRuntime) -> io::Result<ExitCode> {
+    judge_streams::<CodeKinds, _, _>(rt.alloc(), &mut rt.stdin(), &mut rt.stdout())
+}

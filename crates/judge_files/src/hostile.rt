@@ -1,0 +1,76 @@
+//! The beginnings of a file, and each of its bytes changed to each other value.
+use crate::files::{Refusal, load};
+use code_file::{FileFault, decode};
+use machine::Machine;
+use std::alloc::Global;
+use term_core::Term;
+use test_rows::{Outcome, elements, numbered, text, word};
+use verifier::{Fault, Verified};
+
+/// Whether each beginning of a file ends too early at its end; else how long the first other one is.
+fn fronts(alloc: Global, file: &[u8]) -> Option<Vec<u8>> {
+    for length in 0..file.len() {
+        if decode(alloc, file.get(..length)?).err() != Some(FileFault::Truncated(length)) {
+            return numbered(alloc, "other", length);
+        }
+    }
+    word(alloc, "truncated")
+}
+
+/// Whether each run of code on one of these objects ends within its budget; none for want of memory.
+fn runs_within(alloc: Global, code: &Verified, objects: &[Term]) -> Option<bool> {
+    let heap = &alloc;
+    let mut machine = Machine::new(heap, code).ok()?;
+    let mut within = true;
+    for object in objects {
+        let (_, executed) = machine.run(object).ok()?;
+        if executed > code.budget() {
+            within = false;
+        }
+    }
+    machine.finish();
+    Some(within)
+}
+
+/// Whether a file is refused by name, or runs within its budget on these objects; none for want of memory.
+fn holds(alloc: Global, file: &[u8], objects: &[Term]) -> Option<bool> {
+    match load(alloc, file) {
+        Ok(code) => runs_within(alloc, &code, objects),
+        Err(Refusal::Unread(FileFault::Memory)) | Err(Refusal::Untyped(Fault::Memory)) => None,
+        Err(Refusal::Unread(_)) | Err(Refusal::Untyped(_)) => Some(true),
+    }
+}
+
+/// Whether that holds of a file with each value at one of its places.
+fn values_hold(alloc: Global, file: &mut [u8], place: usize, objects: &[Term]) -> Option<bool> {
+    for value in 0..=u8::MAX {
+        *file.get_mut(place)? = value;
+        if !holds(alloc, file, objects)? {
+            return Some(false);
+        }
+    }
+    Some(true)
+}
+
+/// Whether it holds of a file with each value at each of its places; else the first place where it doesn't.
+fn changed(alloc: Global, file: &[u8], objects: &[Term]) -> Option<Vec<u8>> {
+    let mut other = Vec::from_slice(alloc, file).ok()?;
+    for (place, byte) in file.iter().enumerate() {
+        if !values_hold(alloc, other.as_mut_slice(), place, objects)? {
+            return Outcome::tuple(alloc).word("other").number(place).end();
+        }
+        *other.get_mut(place)? = *byte;
+    }
+    word(alloc, "held")
+}
+
+/// What comes of a row of a file that others are made of.
+pub(crate) fn came(alloc: Global, kind: &str, parts: &[Term]) -> Option<Vec<u8>> {
+    match (kind, parts) {
+        ("fronts", [file, _]) => fronts(alloc, text(alloc, file)?.as_slice()),
+        ("changed", [file, objects, _]) => {
+            changed(alloc, text(alloc, file)?.as_slice(), elements(objects)?)
+        }
+        _ => None,
+    }
+}

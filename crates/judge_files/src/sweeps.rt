@@ -1,0 +1,38 @@
+//! Calls with each request for memory refused in turn.
+use crate::files::{encoded, verdict};
+use std::alloc::{Allocator, Global};
+use term_core::View;
+use term_text::read_terms;
+use test_rows::Calls;
+
+/// Whether the code of a text is written as the binary behind it; none for want of memory.
+fn written<A: Allocator + Copy>(alloc: Global, heap: A, given: &[u8]) -> Option<Vec<u8>> {
+    let terms = read_terms(heap, given).ok()?;
+    let [code, file] = terms.as_slice() else {
+        return None;
+    };
+    match file.view() {
+        View::Binary(bytes) => encoded(alloc, heap, code, bytes),
+        _ => None,
+    }
+}
+
+/// The calls of rows of refused memory.
+pub(crate) struct FileCalls;
+
+impl Calls for FileCalls {
+    const MOST_REQUESTS: u64 = 2_000;
+
+    fn outcome<A: Allocator + Copy>(
+        alloc: Global,
+        heap: A,
+        call: &str,
+        given: &[u8],
+    ) -> Option<Vec<u8>> {
+        match call {
+            "swept_file" => verdict(alloc, heap, given),
+            "swept_encoded" => written(alloc, heap, given),
+            _ => None,
+        }
+    }
+}

@@ -1,0 +1,221 @@
+//! What calls of functions give, with operands in each form.
+//!
+//! An operand is tried as the term that it is; as a plain integer or truth value, where it is one; and as the rest of a list that is
+//! all of it, where it is a list. A number says the forms of up to three operands.
+use prims::call;
+use prims_table::{Function, Gives, Primitive};
+use std::alloc::Global;
+use std::cmp::Ordering;
+use term_core::{Term, View};
+use term_operand::Operand;
+use test_rows::{Outcome, canonical, elements, fields, is_atom, number, primitive, tagged, word};
+
+/// In how many forms three operands are tried.
+pub(crate) const FORMS: usize = 27;
+
+/// In how many forms two operands are tried.
+pub(crate) const FORMS_OF_TWO: usize = 9;
+
+/// In how many forms one operand is tried.
+pub(crate) const FORMS_OF_ONE: usize = 3;
+
+/// An integer or a truth value as one, another term as it stands.
+fn plain_operand(term: &Term) -> Operand<'_> {
+    let whole = Operand::Term(term);
+    match (whole.integer(), whole.boolean()) {
+        (Some(value), _) => Operand::Int(value),
+        (None, Some(value)) => Operand::Bool(value),
+        (None, None) => whole,
+    }
+}
+
+/// The operand that a term is in the form of this number.
+pub(crate) fn operand(term: &Term, form: usize) -> Operand<'_> {
+    match (form % 3, term.view()) {
+        (1, _) => plain_operand(term),
+        (2, View::List(_, _)) => Operand::Rest(term, 0),
+        _ => Operand::Term(term),
+    }
+}
+
+/// The operands that these terms are in the forms of this number.
+pub(crate) fn operands(alloc: Global, terms: &[Term], forms: usize) -> Option<Vec<Operand<'_>>> {
+    let mut operands = Vec::new(alloc);
+    let mut left = forms;
+    for term in terms {
+        operands.push(operand(term, left)).ok()?;
+        left /= 3;
+    }
+    Some(operands)
+}
+
+/// Whether an operand is no part of a term.
+fn is_plain(operand: Operand<'_>) -> bool {
+    matches!(operand, Operand::Int(_) | Operand::Bool(_))
+}
+
+/// Whether a function gives one of its operands.
+fn is_extreme(function: Primitive) -> bool {
+    matches!(function, Primitive::Function(Function::Extreme(_)))
+}
+
+/// Whether an operand is as the function gives it: plain where it was computed, and not where it was taken from a term.
+pub(crate) fn is_in_form(function: Primitive, operand: Operand<'_>) -> bool {
+    match function.gives() {
+        Gives::Boolean => matches!(operand, Operand::Bool(_)),
+        Gives::Integer => matches!(operand, Operand::Int(_)),
+        Gives::Any => is_extreme(function) || !is_plain(operand),
+    }
+}
+
+/// The function of `Name`, with so many arguments, or of `{Name,Arguments}`.
+fn function(named: &Term, arguments: usize) -> Option<Primitive> {
+    match fields(named) {
+        Some([name, count]) => primitive(name, number(count)? as usize),
+        _ => primitive(named, arguments),
+    }
+}
+
+/// What a call gives.
+fn given(alloc: Global, function: Primitive, operands: &[Operand<'_>]) -> Option<Vec<u8>> {
+    let Some(operand) = call(function, operands) else {
+        return word(alloc, "fails");
+    };
+    let tag = if is_in_form(function, operand) {
+        "gives"
+    } else {
+        "gives_in_another_form"
+    };
+    tagged(alloc, tag, &operand.to_term(alloc).ok()?)
+}
+
+/// What the call of a name with a list of terms gives.
+fn called(alloc: Global, named: &Term, list: &Term, forms: usize) -> Option<Vec<u8>> {
+    let terms = elements(list)?;
+    match function(named, terms.len()) {
+        Some(function) => {
+            let operands = operands(alloc, terms, forms)?;
+            given(alloc, function, operands.as_slice())
+        }
+        None => word(alloc, "unknown"),
+    }
+}
+
+/// The truth value that a call gives.
+fn truth(function: Primitive, operands: &[Operand<'_>]) -> Option<bool> {
+    match call(function, operands) {
+        Some(Operand::Bool(value)) => Some(value),
+        _ => None,
+    }
+}
+
+/// The list of those terms of a list of which the test of a name holds.
+fn holding(alloc: Global, name: &Term, list: &Term, form: usize) -> Option<Vec<u8>> {
+    let test = primitive(name, 1)?;
+    let terms = elements(list)?;
+    let mut out = Outcome::list(alloc);
+    for term in terms {
+        if truth(test, &[operand(term, form)])? {
+            out = out.term(term);
+        }
+    }
+    out.end()
+}
+
+const fn order_name(order: Ordering) -> &'static str {
+    match order {
+        Ordering::Less => "less",
+        Ordering::Equal => "equal",
+        Ordering::Greater => "greater",
+    }
+}
+
+/// Whether an order is among these.
+fn is_among(order: Ordering, orders: &[Term]) -> bool {
+    orders
+        .iter()
+        .any(|wanted| is_atom(wanted, order_name(order)))
+}
+
+/// Whether a comparison of the rising term at a place with each holds just for these orders of the first to the second.
+fn compares_at(
+    comparison: Primitive,
+    rising: &[Term],
+    place: usize,
+    orders: &[Term],
+    forms: usize,
+) -> Option<bool> {
+    let left = operand(rising.get(place)?, forms);
+    for other in 0..rising.len() {
+        let right = operand(&rising[other], forms / 3);
+        if truth(comparison, &[left, right])? != is_among(place.cmp(&other), orders) {
+            return Some(false);
+        }
+    }
+    Some(true)
+}
+
+/// The first place of rising terms of which a comparison with one of them doesn't hold just for these orders, if any.
+fn first_compared_otherwise(
+    comparison: Primitive,
+    rising: &[Term],
+    orders: &[Term],
+    forms: usize,
+) -> Option<Option<usize>> {
+    for place in 0..rising.len() {
+        if !compares_at(comparison, rising, place, orders, forms)? {
+            return Some(Some(place));
+        }
+    }
+    Some(None)
+}
+
+/// For which orders the comparison of a name holds of rising terms: these, if it is so.
+fn compared(
+    alloc: Global,
+    name: &Term,
+    rising: &Term,
+    wanted: &Term,
+    forms: usize,
+) -> Option<Vec<u8>> {
+    let comparison = primitive(name, 2)?;
+    let rising = elements(rising)?;
+    match first_compared_otherwise(comparison, rising, elements(wanted)?, forms)? {
+        Some(place) => tagged(alloc, "other_orders_of", rising.get(place)?),
+        None => canonical(alloc, wanted),
+    }
+}
+
+const fn gives_name(gives: Gives) -> &'static str {
+    match gives {
+        Gives::Boolean => "boolean",
+        Gives::Integer => "integer",
+        Gives::Any => "any",
+    }
+}
+
+/// The kind of term that the function of that name and of so many arguments gives.
+fn kind_given(alloc: Global, name: &Term, arguments: usize) -> Option<Vec<u8>> {
+    let Some(function) = primitive(name, arguments) else {
+        return word(alloc, "unknown");
+    };
+    if is_atom(name, function.name()) && function.takes(arguments) {
+        word(alloc, gives_name(function.gives()))
+    } else {
+        word(alloc, "another_function")
+    }
+}
+
+/// What comes of a row of calls.
+pub(crate) fn came(alloc: Global, kind: &str, parts: &[Term], forms: usize) -> Option<Vec<u8>> {
+    let [name, given, wanted] = parts else {
+        return None;
+    };
+    match kind {
+        "call" => called(alloc, name, given, forms),
+        "holding" => holding(alloc, name, given, forms),
+        "comparison" => compared(alloc, name, given, wanted, forms),
+        "gives" => kind_given(alloc, name, number(given)? as usize),
+        _ => None,
+    }
+}

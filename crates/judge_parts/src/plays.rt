@@ -1,0 +1,139 @@
+//! Rows that are played, once with memory and again with each request for memory refused in turn.
+use part_core::{Kind, OpenFault, Part};
+use part_order::OrderPart;
+use part_plain::PlainPart;
+use std::alloc::{Allocator, Global};
+use term_core::Term;
+use term_text::read_terms;
+use test_parts::{Options, Setting, byte, kind_of, made, open_fault_text, steps_text};
+use test_rows::{Calls, elements, short, swept, word, written};
+
+/// With memory, and with each request refused in turn.
+pub(crate) const FORMS: usize = 2;
+
+/// Lets a part go.
+fn let_go<P: Drop>(_part: P) {}
+
+/// The steps of a row with the replies that came, or the fault where the part isn't made.
+fn played<A: Allocator + Copy, P: Part<A> + Drop>(
+    alloc: Global,
+    heap: A,
+    options: Options,
+    is_scarce: bool,
+    steps: &[Term<A>],
+) -> Option<Vec<u8>> {
+    let setting = Setting {
+        sessions: options.sessions,
+        is_scarce,
+    };
+    match made::<A, P>(heap, options, is_scarce) {
+        Ok(mut part) => {
+            let steps = steps_text(alloc, heap, &mut part, setting, steps);
+            let_go(part);
+            steps
+        }
+        Err(fault) => open_fault_text(alloc, fault),
+    }
+}
+
+/// What comes of making a part.
+fn made_text<A: Allocator + Copy, P: Part<A> + Drop>(
+    alloc: Global,
+    heap: A,
+    options: Options,
+    is_scarce: bool,
+) -> Option<Vec<u8>> {
+    match made::<A, P>(heap, options, is_scarce) {
+        Ok(part) => {
+            let_go(part);
+            word(alloc, "done")
+        }
+        Err(fault) => open_fault_text(alloc, fault),
+    }
+}
+
+/// What comes of a row of steps at a part that serves a kind.
+fn steps_row<A: Allocator + Copy, P: Part<A> + Drop>(
+    alloc: Global,
+    heap: A,
+    kind: Kind,
+    row: &[Term<A>],
+    is_scarce: bool,
+) -> Option<Vec<u8>> {
+    let [keypos, parts, sessions, steps] = row else {
+        return None;
+    };
+    let options = Options {
+        kind,
+        keypos: short(keypos)?,
+        parts: byte(parts)?,
+        sessions: byte(sessions)?,
+    };
+    played::<A, P>(alloc, heap, options, is_scarce, elements(steps)?)
+}
+
+/// What comes of a row of options for a part.
+fn options_row<A: Allocator + Copy, P: Part<A> + Drop>(
+    alloc: Global,
+    heap: A,
+    row: &[Term<A>],
+    is_scarce: bool,
+) -> Option<Vec<u8>> {
+    let [kind, keypos, parts, sessions, _wanted] = row else {
+        return None;
+    };
+    let options = Options {
+        kind: kind_of(kind)?,
+        keypos: short(keypos)?,
+        parts: byte(parts)?,
+        sessions: byte(sessions)?,
+    };
+    made_text::<A, P>(alloc, heap, options, is_scarce)
+}
+
+/// What comes of a row of a kind, which names the part that plays it.
+fn outcome_of<A: Allocator + Copy>(
+    alloc: Global,
+    heap: A,
+    call: &str,
+    given: &[u8],
+    is_scarce: bool,
+) -> Option<Vec<u8>> {
+    let row = read_terms(heap, given).ok()?;
+    let row = row.as_slice();
+    match call {
+        "set" => steps_row::<A, PlainPart<A>>(alloc, heap, Kind::Set, row, is_scarce),
+        "make_set" => options_row::<A, PlainPart<A>>(alloc, heap, row, is_scarce),
+        "ordered_set" => {
+            steps_row::<A, OrderPart<A>>(alloc, heap, Kind::OrderedSet, row, is_scarce)
+        }
+        "make_ordered_set" => options_row::<A, OrderPart<A>>(alloc, heap, row, is_scarce),
+        _ => None,
+    }
+}
+
+/// The rows with one request for memory refused.
+struct PartCalls;
+
+impl Calls for PartCalls {
+    const MOST_REQUESTS: u64 = 20_000;
+
+    fn outcome<A: Allocator + Copy>(
+        alloc: Global,
+        heap: A,
+        call: &str,
+        given: &[u8],
+    ) -> Option<Vec<u8>> {
+        outcome_of(alloc, heap, call, given, true)
+    }
+}
+
+/// What comes of a row in one of the forms.
+pub(crate) fn came(alloc: Global, kind: &str, parts: &[Term], forms: usize) -> Option<Vec<u8>> {
+    let given = written(alloc, parts)?;
+    if forms == 0 {
+        outcome_of(alloc, alloc, kind, given.as_slice(), false)
+    } else {
+        swept::<PartCalls>(alloc, kind, given.as_slice())
+    }
+}

@@ -1,0 +1,48 @@
+//! Terms that are read as specifications, and what these answer.
+use mspec_reader::read_spec;
+use mspec_syntax::SpecFault;
+use std::alloc::Global;
+use term_core::Term;
+use term_text::read_terms;
+use test_answers::{answers_of, answers_of_text};
+use test_rows::{Outcome, elements, numbered, text};
+
+/// The number of a fault, and the clause and the variable that it names.
+fn fault_text(alloc: Global, fault: SpecFault) -> Option<Vec<u8>> {
+    let number = usize::from(fault.number());
+    let out = Outcome::tuple(alloc).word("refused").number(number);
+    match (fault.clause(), fault.variable()) {
+        (Some(clause), Some(variable)) => out.number(clause).number(variable as usize).end(),
+        (Some(clause), None) => out.number(clause).end(),
+        (None, _) => out.end(),
+    }
+}
+
+/// How many clauses the specification has that a term is read as, or its fault.
+fn read(alloc: Global, term: &Term) -> Option<Vec<u8>> {
+    match read_spec(alloc, term) {
+        Ok(spec) => numbered(alloc, "ok", spec.clauses().len()),
+        Err(fault) => fault_text(alloc, fault),
+    }
+}
+
+/// The same of the first term of a text.
+fn read_text(alloc: Global, given: &Term) -> Option<Vec<u8>> {
+    let terms = read_terms(alloc, text(alloc, given)?.as_slice()).ok()?;
+    read(alloc, terms.first()?)
+}
+
+/// What comes of a row of specifications.
+pub(crate) fn came(alloc: Global, kind: &str, parts: &[Term]) -> Option<Vec<u8>> {
+    match (kind, parts) {
+        ("spec", [term, _]) => read(alloc, term),
+        ("spec_text", [given, _]) => read_text(alloc, given),
+        ("answers", [term, objects, _]) => answers_of(alloc, alloc, term, elements(objects)?),
+        ("answers_text", [given, _]) => answers_of_text(
+            alloc,
+            alloc,
+            text(alloc, given)?.as_slice(),
+        ),
+        _ => None,
+    }
+}

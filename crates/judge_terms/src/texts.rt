@@ -1,0 +1,48 @@
+//! Texts read and written, the order of terms, their hashes.
+use std::alloc::Global;
+use std::cmp::Ordering;
+use term_core::Term;
+use term_order::{compare, key_hash};
+use term_text::{TextFault, read_terms};
+use test_rows::{Outcome, digits, text, word, written};
+
+/// The number and the byte of a fault.
+fn fault_text(alloc: Global, fault: TextFault) -> Option<Vec<u8>> {
+    let (number, at) = (usize::from(fault.number()), fault.at()?);
+    Outcome::tuple(alloc).number(number).number(at).end()
+}
+
+/// The canonical texts of the terms that a text spells, or its fault.
+fn read(alloc: Global, given: &Term) -> Option<Vec<u8>> {
+    let bytes = text(alloc, given)?;
+    match read_terms(alloc, bytes.as_slice()) {
+        Ok(terms) => written(alloc, terms.as_slice()),
+        Err(fault) => fault_text(alloc, fault),
+    }
+}
+
+/// How two terms stand to each other, both ways.
+fn order(alloc: Global, left: &Term, right: &Term) -> Option<Vec<u8>> {
+    let is_equal = left == right;
+    match (compare(left, right), compare(right, left), is_equal) {
+        (Ordering::Less, Ordering::Greater, false) => word(alloc, "less"),
+        (Ordering::Equal, Ordering::Equal, true) => word(alloc, "equal"),
+        (Ordering::Greater, Ordering::Less, false) => word(alloc, "greater"),
+        _ => word(alloc, "another_each_way"),
+    }
+}
+
+/// The decimal digits of a term's hash.
+fn hash(alloc: Global, term: &Term) -> Option<Vec<u8>> {
+    digits(alloc, key_hash(term))
+}
+
+/// What comes of a row of texts, orders or hashes.
+pub(crate) fn came(alloc: Global, kind: &str, parts: &[Term]) -> Option<Vec<u8>> {
+    match (kind, parts) {
+        ("text" | "refused", [given, _]) | ("canonical", [given]) => read(alloc, given),
+        ("order", [left, right, _]) => order(alloc, left, right),
+        ("hash", [term, _]) => hash(alloc, term),
+        _ => None,
+    }
+}

@@ -1,2 +1,0 @@
-pub mod ShapeLemmas
-pub mod KeyLemmas

@@ -1,8 +1,0 @@
--- The slots so far are marked, and those that are left lead to all.
-use Rattle.std.specs.Prelude.{◌≡◌, length, drop}
-use Rattle.machine_shapes.specs.Shape.{marked}
-use Rattle.machine_shapes.proofs.shape.mark.Given as goal
-
-abbrev pub invariant-loop-slot : goal.invariant-loop-slot
-invariant-loop-slot l =
-    (marked l.bound (drop l.slot-index l.slots) ≡ marked l.fn.bound l.slots) × (length l.bound ≡ length l.fn.bound)

@@ -1,4 +1,0 @@
-pub mod Shape
-pub mod Kept
-pub mod Effect
-pub mod Needed

@@ -1,0 +1,6 @@
+pub mod TupleLemmas
+pub mod ConstantLemmas
+pub mod MapLemmas
+pub mod StackLemmas
+pub mod MakeLemmas
+pub mod CellLemmas

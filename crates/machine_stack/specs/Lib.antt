@@ -1,0 +1,5 @@
+pub mod Keys
+pub mod Stack
+pub mod Slots
+pub mod Flow
+pub mod Cells

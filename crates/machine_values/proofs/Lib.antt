@@ -1,3 +1,0 @@
-pub mod TupleLemmas
-pub mod ConstantLemmas
-pub mod MapLemmas

@@ -1,7 +1,0 @@
--- The terms so far and those that are left make up the whole.
-use Rattle.std.proofs.Common.{◌≡◌, ◌++◌, drop}
-use Rattle.term_core.proofs.MapLemmas.{seen}
-use Rattle.made_terms.proofs.apart.references.Given as goal
-
-abbrev pub invariant-loop-term : goal.invariant-loop-term
-invariant-loop-term g l = seen l.references.items ++ drop l.term-index l.terms ≡ l.terms

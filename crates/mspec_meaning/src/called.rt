@@ -1,0 +1,32 @@
+//! Calls of functions over values.
+use crate::scope::Scope;
+use prims::call_values;
+use prims_table::Primitive;
+use std::alloc::{AllocError, Allocator};
+use term_operand::Value;
+
+impl<'s, 'a, A: Allocator + Copy> Scope<'s, 'a, A> {
+    ghost use Rattle.std.specs.Prelude.{◌≡◌, map, IfOk};
+    ghost use Rattle.std.specs.Option.{option_map};
+    ghost use Rattle.term_operand.specs.Value.{value_datum};
+    ghost use Rattle.mspec_meaning.specs.Called.{called};
+
+    /// What a call comes to, of its arguments' values where all have one. What it borrows from those that are borrowed isn't
+    /// copied.
+    pub fn called(
+        &self,
+        function: Primitive,
+        values: Option<Vec<Value<'a, 's, A>, A>>,
+    ) -> Result<Option<Value<'a, 's, A>>, AllocError>
+        ensures { IfOk result (λ value. option_map value_datum value ≡ called self.now.mode function
+            (option_map (λ values. map value_datum values.items) values.entry)) }
+    {
+        let Some(values) = values else {
+            return Ok(None);
+        };
+        match call_values(self.heap(), function, values.as_slice())? {
+            Some(value) => Ok(Some(value)),
+            None => self.failure(),
+        }
+    }
+}

@@ -1,0 +1,44 @@
+//! Arguments of `andalso` and `orelse`.
+use crate::scope::Scope;
+use std::alloc::{AllocError, Allocator};
+use term_operand::Value;
+
+/// What an argument says of the whole.
+#[derive(Drop)]
+pub enum Verdict<'a, 's, A: Allocator> {
+    /// It leaves the whole to the arguments behind it.
+    Open,
+    /// The whole has this value, or none.
+    Ends(Option<Value<'a, 's, A>>),
+}
+
+impl<'s, 'a, A: Allocator + Copy> Scope<'s, 'a, A> {
+    ghost use Rattle.std.specs.Prelude.{◌≡◌, Option, IfOk};
+    ghost use Rattle.std.specs.Option.{option_map};
+    ghost use Rattle.term_core.specs.Datum.{Datum};
+    ghost use Rattle.term_operand.specs.Value.{value_datum};
+    ghost use Rattle.mspec_meaning.specs.Decided.{comes_to, decided_at};
+
+    /// What an argument of this value says, where this truth value decides.
+    pub fn verdict(
+        &self,
+        value: Option<Value<'a, 's, A>>,
+        decides: bool,
+    ) -> Result<Verdict<'a, 's, A>, AllocError>
+        ensures { IfOk result (λ verdict. (rest : Option Datum) → comes_to verdict rest
+            ≡ decided_at decides self.now.mode (option_map value_datum value.entry) rest) }
+    {
+        let Some(value) = value else {
+            return Ok(Verdict::Ends(None));
+        };
+        match value.into_boolean() {
+            Some(truth) => {
+                if truth != decides {
+                    return Ok(Verdict::Open);
+                }
+                Ok(Verdict::Ends(Some(Value::Bool(decides))))
+            }
+            None => Ok(Verdict::Ends(self.failure()?)),
+        }
+    }
+}

@@ -1,0 +1,150 @@
+//! What the value of an expression depends on.
+ghost use Rattle.std.specs.Prelude.{◌≡◌, length, IfOk};
+ghost use Rattle.std.specs.Option.{option_map};
+ghost use Rattle.mspec_match.specs.Match.{lookup};
+ghost use Rattle.mspec_match.specs.Slots.{seen, known, substitution_of};
+ghost use Rattle.term_operand.specs.Value.{value_datum};
+
+use crate::made::push_element;
+use mspec_match::Slot;
+use mspec_syntax::{Mode, Variables};
+use std::alloc::{AllocError, Allocator};
+use std::marker::Model;
+use term_core::Term;
+use term_operand::Value;
+
+/// The value of a variable, each of which has its slot.
+fn bound_to<'a, 's, A: Allocator>(
+    variables: &Variables<A>,
+    slots: &[Slot<'a, A>],
+    number: u32,
+) -> Option<Value<'a, 's, A>>
+    requires { length slots.now ≡ length variables.now }
+    ensures { option_map value_datum result ≡ lookup
+        (substitution_of variables.now (seen slots.now)) number }
+{
+    match variables.rank(number) {
+        Some(rank) => match slots[rank] {
+            Some(part) => Some(Value::new(part)),
+            None => None,
+        },
+        None => None,
+    }
+}
+
+/// Copies of what the variables are bound to.
+fn copies<A: Allocator + Copy>(
+    alloc: A,
+    slots: &[Slot<'_, A>],
+) -> Result<Vec<Term<A>, A>, AllocError>
+    ensures { IfOk result (λ values. values.items ≡ known (seen slots.now)) }
+{
+    let mut values = Vec::with_capacity(alloc, slots.len())?;
+    for slot in slots {
+        let Some(part) = slot else {
+            continue;
+        };
+        push_element(alloc, &mut values, Value::new(*part))?;
+    }
+    Ok(values)
+}
+
+/// Where an expression stands, what the variables of the head are bound to, and the object.
+#[derive(Drop)]
+pub struct Scope<'s, 'a, A: Allocator> {
+    heap: &'s A,
+    mode: Mode,
+    variables: &'s Variables<A>,
+    slots: &'s [Slot<'a, A>],
+    object: &'a Term<A>,
+}
+
+impl<'s, 'a, A: Allocator> Model for Scope<'s, 'a, A> {
+    ghost use Rattle.std.specs.Prelude.{◌≡◌, length};
+    ghost use Rattle.std.specs.Coded.{codes};
+    ghost use Rattle.term_core.specs.DatumCode.{datum_code};
+    ghost use Rattle.mspec_meaning.specs.Scope.{Scope};
+
+    ghost Value = { Scope };
+
+    ghost coded = { Prim.hlevel (codes, datum_code) };
+
+    ghost use Rattle.mspec_match.specs.Slots.{seen, substitution_of};
+
+    ghost view = { λ s. record {
+      mode = s.mode;
+      substitution = substitution_of s.variables.now (seen s.slots.now);
+      object = s.object.now;
+    } };
+
+    ghost invariant = { λ s. length s.slots.now ≡ length s.variables.now };
+}
+
+impl<'s, 'a, A: Allocator + Copy> Scope<'s, 'a, A> {
+    ghost use Rattle.std.specs.Prelude.{◌≡◌, length, IfOk};
+    ghost use Rattle.std.specs.Option.{option_map};
+    ghost use Rattle.mspec_match.specs.Match.{lookup, values_of};
+    ghost use Rattle.mspec_match.specs.Slots.{seen, substitution_of};
+    ghost use Rattle.term_operand.specs.Value.{value_datum};
+
+    /// The scope of an expression that stands there, each variable of the head having its slot.
+    pub fn new(
+        heap: &'s A,
+        mode: Mode,
+        variables: &'s Variables<A>,
+        slots: &'s [Slot<'a, A>],
+        object: &'a Term<A>,
+    ) -> Self
+        requires { length slots.now ≡ length variables.now }
+        ensures mode { result.mode ≡ mode }
+        ensures substitution { result.substitution ≡ substitution_of variables.now
+            (seen slots.now) }
+        ensures object { result.object ≡ object.now }
+    {
+        Scope {
+            heap,
+            mode,
+            variables,
+            slots,
+            object,
+        }
+    }
+
+    /// What asks for memory for values that are made.
+    pub fn heap(&self) -> &'s A {
+        self.heap
+    }
+
+    /// The allocator of what is made.
+    pub fn alloc(&self) -> A {
+        *self.heap
+    }
+
+    /// Where the expression stands.
+    pub fn mode(&self) -> Mode
+        ensures { result ≡ self.now.mode }
+    {
+        self.mode
+    }
+
+    /// The whole object.
+    pub fn object(&self) -> Value<'a, 's, A>
+        ensures { value_datum result ≡ self.now.object }
+    {
+        Value::Term(self.object)
+    }
+
+    /// The value of a variable.
+    pub fn bound(&self, number: u32) -> Option<Value<'a, 's, A>>
+        ensures { option_map value_datum result ≡ lookup self.now.substitution number }
+    {
+        bound_to(self.variables, self.slots, number)
+    }
+
+    /// Copies of the values of all variables.
+    pub fn bound_values(&self) -> Result<Vec<Term<A>, A>, AllocError>
+        ensures { IfOk result (λ values. values.items ≡ values_of self.now.substitution) }
+    {
+        copies(*self.heap, self.slots)
+    }
+}

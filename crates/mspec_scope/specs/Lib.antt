@@ -1,4 +1,0 @@
-pub mod Scope
-pub mod Made
-pub mod Called
-pub mod Decided

@@ -1,3 +1,0 @@
-pub mod StackLemmas
-pub mod MakeLemmas
-pub mod CellLemmas

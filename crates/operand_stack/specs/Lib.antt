@@ -1,4 +1,0 @@
-pub mod Stack
-pub mod Slots
-pub mod Flow
-pub mod Cells

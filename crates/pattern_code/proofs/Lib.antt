@@ -1,3 +1,0 @@
-pub mod SpelledLemmas
-pub mod WritableLemmas
-pub mod WriteLemmas

@@ -1,7 +1,0 @@
-use Rattle.std.proofs.Common.{◌∙◌, ap}
-use Rattle.std.specs.Ordering.{is_eq}
-use Rattle.pattern_match.proofs.FitLemmas.{eq-says}
-use Rattle.pattern_match.proofs.bind.are_same.Goals as goal
-
-pub returns : goal.returns
-returns g c = eq-says c.is_eq.result _ _ (c.is_eq.ensures ∙ ap is_eq c.compare.ensures)

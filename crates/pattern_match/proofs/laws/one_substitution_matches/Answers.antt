@@ -1,5 +1,0 @@
-use Rattle.pattern_match.proofs.MatchLemmas.{one-match}
-use Rattle.pattern_match.proofs.laws.one_substitution_matches.Goals as goal
-
-pub returns : goal.returns
-returns c = λ p t s r h k. one-match p t s r h k

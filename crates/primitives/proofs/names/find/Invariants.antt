@@ -1,7 +1,0 @@
-use Rattle.std.proofs.Common.{◌≡◌, drop}
-use Rattle.primitives.specs.Names.{found}
-use Rattle.primitives.proofs.names.find.Given as goal
-
-abbrev pub invariant-loop-prim : goal.invariant-loop-prim
-invariant-loop-prim l =
-    found l.name l.arguments (drop l.prim-index l.prims) ≡ found l.name l.arguments l.prims

@@ -1,6 +1,0 @@
-use Rattle.query_commands.proofs.QueryLemmas.{no_code}
-use Rattle.query_commands.proofs.query.load.Goals as goal
-
-pub returns-in-Err-verify-clause-refused : goal.returns-in-Err-verify-clause-refused
-returns-in-Err-verify-clause-refused g c =
-    rw c.code_fault.ensures (no_code c.args.bytes.now c.in-Ok.code c.in-Err-verify.refused.fault c.in-Ok.ensures.ok c.in-Err-verify.ensures.refused.1)

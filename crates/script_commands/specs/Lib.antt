@@ -1,4 +1,0 @@
-pub mod Command
-pub mod Commands
-pub mod Reading
-pub mod Laws

@@ -1,5 +1,0 @@
-pub mod Reach
-pub mod Spread
-pub mod Shown
-pub mod Known
-pub mod Laws

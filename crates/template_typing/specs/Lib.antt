@@ -1,4 +1,0 @@
-pub mod Flow
-pub mod Ready
-pub mod Marked
-pub mod Laws

@@ -1,7 +1,0 @@
--- what was put are the lines of the conditions from the place on
-use Rattle.std.proofs.Common.{◌≡◌, ◌++◌, drop}
-use Rattle.templates.specs.Clauses.{condition_lines}
-use Rattle.templates.proofs.parts.write_conditions.Given as goal
-
-abbrev pub invariant-loop-place : goal.invariant-loop-place
-invariant-loop-place g l = l.lines ≡ condition_lines l.site (drop l.place l.conditions) ++ l.initial.lines

@@ -1,0 +1,236 @@
+//! Terms that stand where they stood before, and parts of them.
+ghost use Rattle.std.specs.Prelude.{◌≡◌, ⊤, false, MatchOption, IfOk, IfSome};
+ghost use Rattle.std.specs.Str.{chars};
+ghost use Rattle.term_core.specs.Datum.{items_of, entries_of};
+ghost use Rattle.term_core.specs.Datum.Datum.{atom, tuple, map, cons};
+ghost use Rattle.term_core.specs.Limits.{IsSound, ArePairsSound};
+ghost use Rattle.term_build.specs.Rest.{rest_of};
+ghost use Rattle.term_core.specs.View.{shown as shown_term, IsSplit};
+ghost use Rattle.term_operand.specs.View.{shown, IsEnded};
+ghost use Rattle.term_operand.specs.Operand.{operand_datum, boolean as boolean_atom, boolean_of, integer_of, IsNoCell, IsNoTuple, IsNoMap};
+ghost use Rattle.term_operand.specs.Order.{IsSimple};
+
+use crate::view::View;
+use std::alloc::{AllocError, Allocator, Global};
+use term_build::{atom_of_text, copy_behind, view_behind};
+use term_core::{Term, View as TermView};
+
+/// The characters of the atom `true`.
+const TRUE: [char; 4] = ['t', 'r', 'u', 'e'];
+/// The characters of the atom `false`.
+const FALSE: [char; 5] = ['f', 'a', 'l', 's', 'e'];
+
+/// A term that a function is given or gives, which takes no memory of its own.
+pub enum Operand<'a, A: Allocator = Global> {
+    /// The term that this is.
+    Term(&'a Term<A>),
+    /// What is left of this list behind so many of its elements. Another term is left as it is.
+    Rest(&'a Term<A>, usize),
+    /// An integer.
+    Int(i64),
+    /// The atom `true` or `false`.
+    Bool(bool),
+}
+
+impl<'a, A: Allocator> Copy for Operand<'a, A> {}
+
+impl<'a, A: Allocator> Clone for Operand<'a, A> {
+    ghost is_clone = { λ x y. operand_datum y ≡ operand_datum x };
+
+    ghost is_infallible = { λ _. ⊤ };
+
+    fn clone(&self) -> Result<Self, AllocError> {
+        Ok(*self)
+    }
+}
+
+/// The atom `false`, which stands in the free places of a small vector.
+impl<'a, A: Allocator> Default for Operand<'a, A> {
+    ghost is_default = { λ operand. operand_datum operand ≡ boolean_atom false };
+
+    fn default() -> Self {
+        Operand::Bool(false)
+    }
+}
+
+/// The text of the atom `true` or `false`.
+fn boolean_text(value: bool) -> &'static str
+    ensures { atom (chars result.now) ≡ boolean_atom value }
+{
+    if value { "true" } else { "false" }
+}
+
+/// The atom `true` or `false`.
+fn boolean_term<A: Allocator + Copy>(alloc: A, value: bool) -> Result<Term<A>, AllocError>
+    ensures { IfOk result (λ t. t ≡ boolean_atom value) }
+{
+    match atom_of_text(alloc, boolean_text(value)) {
+        Ok(atom) => Ok(atom),
+        Err(fault) => Err(fault.alloc_error()),
+    }
+}
+
+/// The first element of what is left of a list and what follows it, none where that is no list with elements.
+fn split_behind<'a, A: Allocator>(
+    list: &'a Term<A>,
+    count: usize,
+) -> Option<(&'a Term<A>, Operand<'a, A>)>
+    ensures { MatchOption result (IsNoCell (rest_of count list.now))
+        (λ p. cons p.0.now (operand_datum p.1) ≡ rest_of count list.now) }
+{
+    match View::behind(list, count) {
+        View::List(head, _, _) => Some((head, Operand::Rest(list, count + 1))),
+        _ => None,
+    }
+}
+
+/// What is left of a list, where that stands whole.
+fn whole_behind<A: Allocator>(list: &Term<A>, count: usize) -> Option<&Term<A>>
+    ensures { MatchOption result (IsSimple (rest_of count list.now))
+        (λ t. t.now ≡ rest_of count list.now) }
+{
+    match list.view() {
+        TermView::List(elements, tail) => {
+            if count < elements.len() {
+                return None;
+            }
+            tail
+        }
+        _ => Some(list),
+    }
+}
+
+/// The number of an integer.
+#[inline(always)]
+fn integer_of<A: Allocator>(view: TermView<'_, A>) -> Option<i64>
+    requires { IsSplit view }
+    ensures { result ≡ integer_of (shown_term view.entry) }
+{
+    match view {
+        TermView::Integer(value) => Some(value),
+        TermView::Atom(_) | TermView::Nil | TermView::Tuple(_) => None,
+        TermView::List(_elements, _tail) => None,
+        TermView::Map(_) | TermView::Binary(_) => None,
+    }
+}
+
+/// The elements of a tuple.
+#[inline(always)]
+fn elements_of<'a, A: Allocator>(view: TermView<'a, A>) -> Option<&'a [Term<A>]>
+    requires { IsSplit view }
+    ensures { MatchOption result (IsNoTuple (shown_term view.entry))
+        (λ elements. tuple (items_of elements.now) ≡ shown_term view.entry) }
+{
+    match view {
+        TermView::Tuple(elements) => Some(elements),
+        TermView::Integer(_) | TermView::Atom(_) | TermView::Nil => None,
+        TermView::List(_elements, _tail) => None,
+        TermView::Map(_) | TermView::Binary(_) => None,
+    }
+}
+
+impl<'a, A: Allocator> Operand<'a, A> {
+    /// The operand taken apart one level down.
+    #[inline]
+    pub fn view(self) -> View<'a, A>
+        ensures value { shown result ≡ operand_datum self.entry }
+        ensures ended { IsEnded result }
+        ensures within { IsSound (shown result) }
+    {
+        match self {
+            Operand::Term(term) => View::behind(term, 0),
+            Operand::Rest(list, count) => View::behind(list, count),
+            Operand::Int(value) => View::Integer(value),
+            Operand::Bool(true) => View::Atom(&TRUE),
+            Operand::Bool(false) => View::Atom(&FALSE),
+        }
+    }
+
+    /// The truth value that the operand is, where it is the atom `true` or `false`.
+    pub fn boolean(self) -> Option<bool>
+        ensures { result ≡ boolean_of (operand_datum self.entry) }
+    {
+        match self.view() {
+            View::Atom(characters) if characters == TRUE.as_slice() => Some(true),
+            View::Atom(characters) if characters == FALSE.as_slice() => Some(false),
+            _ => None,
+        }
+    }
+
+    /// The number that the operand is, where it is an integer.
+    #[inline(always)]
+    pub fn integer(self) -> Option<i64>
+        ensures { result ≡ integer_of (operand_datum self.entry) }
+    {
+        match self {
+            Operand::Term(term) => integer_of(term.view()),
+            Operand::Rest(list, count) => integer_of(view_behind(list, count)),
+            Operand::Int(value) => Some(value),
+            Operand::Bool(_) => None,
+        }
+    }
+
+    /// The first element of a list and what follows it, none where the operand is no list with elements.
+    pub fn split(self) -> Option<(&'a Term<A>, Operand<'a, A>)>
+        ensures { MatchOption result (IsNoCell (operand_datum self.entry))
+            (λ p. cons p.0.now (operand_datum p.1) ≡ operand_datum self.entry) }
+    {
+        match self {
+            Operand::Term(list) => split_behind(list, 0),
+            Operand::Rest(list, count) => split_behind(list, count),
+            Operand::Int(_) | Operand::Bool(_) => None,
+        }
+    }
+
+    /// The elements, where the operand is a tuple.
+    #[inline(always)]
+    pub fn elements(self) -> Option<&'a [Term<A>]>
+        ensures { MatchOption result (IsNoTuple (operand_datum self.entry))
+            (λ elements. tuple (items_of elements.now) ≡ operand_datum self.entry) }
+    {
+        match self {
+            Operand::Term(term) => elements_of(term.view()),
+            Operand::Rest(list, count) => elements_of(view_behind(list, count)),
+            Operand::Int(_) | Operand::Bool(_) => None,
+        }
+    }
+
+    /// The pairs, where the operand is a map.
+    pub fn pairs(self) -> Option<&'a [(Term<A>, Term<A>)]>
+        ensures value { MatchOption result (IsNoMap (operand_datum self.entry))
+            (λ pairs. map (entries_of pairs.now) ≡ operand_datum self.entry) }
+        ensures sound { IfSome result (λ pairs. ArePairsSound (entries_of pairs.now)) }
+    {
+        match self.view() {
+            View::Map(pairs) => Some(pairs),
+            View::Integer(_) | View::Atom(_) | View::Nil => None,
+            View::List(..) | View::Tuple(_) | View::Binary(_) => None,
+        }
+    }
+
+    /// The term that the operand is, where it stands whole.
+    pub fn term(self) -> Option<&'a Term<A>>
+        ensures { MatchOption result (IsSimple (operand_datum self.entry))
+            (λ t. t.now ≡ operand_datum self.entry) }
+    {
+        match self {
+            Operand::Term(term) => Some(term),
+            Operand::Rest(list, count) => whole_behind(list, count),
+            Operand::Int(_) | Operand::Bool(_) => None,
+        }
+    }
+
+    /// The term that the operand stands for. A term that is borrowed is copied.
+    pub fn to_term(self, alloc: A) -> Result<Term<A>, AllocError>
+    where
+        A: Copy,
+        ensures { IfOk result (λ t. t ≡ operand_datum self.entry) }
+    {
+        match self {
+            Operand::Term(term) => term.copy(),
+            Operand::Rest(list, count) => copy_behind(alloc, list, count),
+            Operand::Int(value) => Ok(Term::int(value)),
+            Operand::Bool(value) => boolean_term(alloc, value),
+        }
+    }
+}

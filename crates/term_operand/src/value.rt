@@ -1,0 +1,179 @@
+//! Terms that are borrowed or were made.
+use crate::operand::Operand;
+use crate::view::View;
+use std::alloc::{AllocError, Allocator, Global};
+use term_core::Term;
+
+/// A term that is borrowed, or was made. It lasts as long as what is borrowed.
+#[derive(Drop)]
+pub enum Value<'a, 'h, A: Allocator = Global> {
+    /// A term that stands in what was given.
+    Term(&'a Term<A>),
+    /// What is left of this list behind so many of its elements. Another term is left as it is.
+    Rest(&'a Term<A>, usize),
+    /// An integer.
+    Int(i64),
+    /// The atom `true` or `false`.
+    Bool(bool),
+    /// A term that was made.
+    Made(Box<Term<A>, &'h A>),
+}
+
+impl<'a, 'h, A: Allocator> Default for Value<'a, 'h, A> {
+    /// What a place holds before a value is put there.
+    fn default() -> Self {
+        Value::Bool(false)
+    }
+}
+
+impl<'a, 'h, A: Allocator> Value<'a, 'h, A> {
+    ghost use Rattle.std.specs.Prelude.{◌≡◌, ◌↔◌, IsTrue, IfSome, IsSome, true};
+    ghost use Rattle.term_core.specs.Limits.{IsSound};
+    ghost use Rattle.term_operand.specs.Operand.{operand_datum, boolean as boolean_atom, boolean_of, integer_of};
+    ghost use Rattle.term_operand.specs.Value.{value_datum, is_borrowed};
+    ghost use Rattle.term_operand.specs.View.{shown, IsEnded};
+
+    /// The value of an operand.
+    #[inline(always)]
+    pub fn new(operand: Operand<'a, A>) -> Self
+        ensures value { value_datum result ≡ operand_datum operand.entry }
+        ensures borrowed { IsTrue (is_borrowed result) }
+    {
+        match operand {
+            Operand::Term(term) => Value::Term(term),
+            Operand::Rest(list, count) => Value::Rest(list, count),
+            Operand::Int(value) => Value::Int(value),
+            Operand::Bool(value) => Value::Bool(value),
+        }
+    }
+
+    /// Lets the value go.
+    #[inline(always)]
+    pub fn go(self) {}
+
+    /// The value as an operand.
+    #[inline(always)]
+    pub fn operand(&self) -> Operand<'_, A>
+        ensures { operand_datum result ≡ value_datum self.now }
+    {
+        match self {
+            Value::Term(term) => Operand::Term(term),
+            Value::Rest(list, count) => Operand::Rest(list, *count),
+            Value::Int(value) => Operand::Int(*value),
+            Value::Bool(value) => Operand::Bool(*value),
+            Value::Made(term) => Operand::Term(term),
+        }
+    }
+
+    /// The value as an operand that lasts, where it wasn't made.
+    #[inline(always)]
+    pub fn borrowed(&self) -> Option<Operand<'a, A>>
+        ensures value { IfSome result (λ operand. operand_datum operand ≡ value_datum self.now) }
+        ensures borrowed { IsTrue (is_borrowed self.now) → IsSome result }
+    {
+        match self {
+            Value::Term(term) => Some(Operand::Term(term)),
+            Value::Rest(list, count) => Some(Operand::Rest(list, *count)),
+            Value::Int(value) => Some(Operand::Int(*value)),
+            Value::Bool(value) => Some(Operand::Bool(*value)),
+            Value::Made(_) => None,
+        }
+    }
+
+    /// The value taken apart one level down.
+    #[inline(always)]
+    pub fn view(&self) -> View<'_, A>
+        ensures value { shown result ≡ value_datum self.now }
+        ensures ended { IsEnded result }
+        ensures within { IsSound (shown result) }
+    {
+        self.operand().view()
+    }
+
+    /// The truth value that the value is, where it is the atom `true` or `false`.
+    #[inline(always)]
+    pub fn boolean(&self) -> Option<bool>
+        ensures { result ≡ boolean_of (value_datum self.now) }
+    {
+        match self {
+            Value::Bool(value) => Some(*value),
+            Value::Int(_) => None,
+            Value::Term(_) | Value::Rest(_, _) | Value::Made(_) => self.operand().boolean(),
+        }
+    }
+
+    /// Whether the value is the atom `true`.
+    #[inline(always)]
+    pub fn is_true(&self) -> bool
+        ensures { IsTrue result ↔ (value_datum self.now ≡ boolean_atom true) }
+    {
+        matches!(self.boolean(), Some(true))
+    }
+
+    /// The number that the value is, where it is an integer.
+    #[inline(always)]
+    pub fn integer(&self) -> Option<i64>
+        ensures { result ≡ integer_of (value_datum self.now) }
+    {
+        self.operand().integer()
+    }
+
+    /// The truth value that a value was, where it was the atom `true` or `false`.
+    pub fn into_boolean(self) -> Option<bool>
+        ensures { result ≡ boolean_of (value_datum self.entry) }
+    {
+        self.boolean()
+    }
+}
+
+impl<'a, 'h, A: Allocator + Copy> Value<'a, 'h, A> {
+    ghost use Rattle.std.specs.Prelude.{◌≡◌, IsTrue, IfOk, IsOkAnd};
+    ghost use Rattle.term_operand.specs.Operand.{operand_datum};
+    ghost use Rattle.term_operand.specs.Value.{value_datum, is_borrowed};
+
+    /// A term that was made.
+    pub fn made(heap: &'h A, term: Term<A>) -> Result<Self, AllocError>
+        ensures { IfOk result (λ value. value_datum value ≡ term) }
+    {
+        Ok(Value::Made(Box::new(heap, term)?))
+    }
+
+    /// The value of an operand that doesn't last, which is copied where it stands in a term.
+    pub fn kept(heap: &'h A, operand: Operand<'_, A>) -> Result<Self, AllocError>
+        ensures { IfOk result (λ value. value_datum value ≡ operand_datum operand.entry) }
+    {
+        match operand {
+            Operand::Int(value) => Ok(Value::Int(value)),
+            Operand::Bool(value) => Ok(Value::Bool(value)),
+            Operand::Term(_) | Operand::Rest(_, _) => Value::made(heap, operand.to_term(*heap)?),
+        }
+    }
+
+    /// The value once more. A borrowed one takes no memory.
+    #[inline(always)]
+    pub fn copy(&self, heap: &'h A) -> Result<Self, AllocError>
+        ensures value { IfOk result (λ value. value_datum value ≡ value_datum self.now) }
+        ensures memory { IsTrue (is_borrowed self.now)
+            → IsOkAnd result (λ value. IsTrue (is_borrowed value)) }
+    {
+        match self {
+            Value::Term(term) => Ok(Value::Term(term)),
+            Value::Rest(list, count) => Ok(Value::Rest(list, *count)),
+            Value::Int(value) => Ok(Value::Int(*value)),
+            Value::Bool(value) => Ok(Value::Bool(*value)),
+            Value::Made(term) => Ok(Value::Made(Box::new(heap, term.copy()?)?)),
+        }
+    }
+
+    /// The value as a term, copied where it is borrowed.
+    pub fn into_term(self, alloc: A) -> Result<Term<A>, AllocError>
+        ensures { IfOk result (λ term. term ≡ value_datum self.entry) }
+    {
+        match self {
+            Value::Made(term) => Ok(Box::into_inner(term)),
+            Value::Term(_) | Value::Rest(_, _) | Value::Int(_) | Value::Bool(_) => {
+                self.operand().to_term(alloc)
+            }
+        }
+    }
+}

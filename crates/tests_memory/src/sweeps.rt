@@ -1,0 +1,42 @@
+//! Calls with each request for memory refused in turn.
+use crate::{functions, text};
+use std::alloc::{Allocator, Global};
+use test_alloc::sweep;
+
+/// Calls that take memory.
+#[derive(Clone, Copy, Debug)]
+enum Case {
+    /// Terms are read.
+    Read,
+    /// A term is written.
+    Write,
+    /// Operands become terms.
+    Operands,
+    /// A function is called over values, and its value is copied.
+    Values,
+}
+
+const CASES: [Case; 4] = [Case::Read, Case::Write, Case::Operands, Case::Values];
+
+/// Whether what comes of calls is right, none where they want memory and leave all as it was.
+fn is_right<A: Allocator + Copy>(alloc: Global, heap: A, case: Case) -> Option<bool> {
+    match case {
+        Case::Read => text::is_read(alloc, heap),
+        Case::Write => text::is_written(alloc, heap),
+        Case::Operands => functions::are_copied(heap),
+        Case::Values => functions::is_element_copied(heap),
+    }
+}
+
+#[test]
+fn each_request_is_refused_in_turn(rt: HostRuntime) {
+    let alloc = rt.alloc();
+    for case in CASES {
+        assert_eq!(rt; is_right(alloc, alloc, case), Some(true), "{case:?}");
+        let outcome = sweep(alloc, 2_000, |heap| match is_right(alloc, heap, case) {
+            Some(is_right) => is_right,
+            None => heap.was_refused(),
+        });
+        assert!(rt; outcome.is_complete(), "{case:?} {outcome:?}");
+    }
+}

@@ -1,0 +1,108 @@
+//! Terms: what takes no memory, and that a limit is told without it.
+use std::alloc::Global;
+use term_core::Fault::{self, TooLong};
+use term_core::Term;
+use term_text::{read_terms, write_term};
+use test_alloc::Failing;
+
+/// Whether the term is this text's and one level deep.
+fn is_leaf(alloc: Global, term: &Term, text: &str) -> bool {
+    let mut out = Vec::new(alloc);
+    write_term(term, &mut out).is_ok() && out.as_slice() == text.as_bytes() && term.depth() == 1
+}
+
+/// Whether the integer of a text is made.
+fn is_integer_made(alloc: Global, value: i64, text: &str) -> bool {
+    is_leaf(alloc, &Term::int(value), text)
+}
+
+/// Whether `[]` is made.
+fn is_nil_made(alloc: Global) -> bool {
+    is_leaf(alloc, &Term::nil(), "[]")
+}
+
+#[test]
+fn integers_and_nil_alone_take_no_memory(rt: HostRuntime) {
+    assert!(rt; is_integer_made(rt.alloc(), -7, "-7"));
+    assert!(rt; is_nil_made(rt.alloc()));
+}
+
+/// So many times the text of an integer and a dot.
+fn ones(alloc: Global, count: u32) -> Option<Vec<u8>> {
+    let mut out = Vec::new(alloc);
+    for _ in 0..count {
+        out.extend_from_slice(b"1. ").ok()?;
+    }
+    Some(out)
+}
+
+/// The fault of the tuple of a text's terms, when each request is refused once they are read.
+fn fault_without_memory(alloc: Global, text: &[u8]) -> Option<Fault> {
+    let counting = Failing::counting(alloc);
+    let _terms = read_terms(&counting, text).ok()?;
+    let failing = Failing::refusing_from(alloc, counting.requests().saturating_add(1));
+    match Term::tuple(&failing, read_terms(&failing, text).ok()?) {
+        Ok(_) => None,
+        Err(refused) => Some(refused.fault),
+    }
+}
+
+/// The same of so many integers.
+fn fault_of_many(alloc: Global, count: u32) -> Option<Fault> {
+    fault_without_memory(alloc, ones(alloc, count)?.as_slice())
+}
+
+#[test]
+fn a_limit_is_told_without_memory(rt: HostRuntime) {
+    assert_eq!(rt; fault_of_many(rt.alloc(), 65_535), Some(Fault::Memory));
+    assert_eq!(rt; fault_of_many(rt.alloc(), 65_536), Some(TooLong));
+}
+
+/// Whether the only term of a text is copied, when each request is refused once it is read.
+fn is_copied_without_memory(alloc: Global, text: &[u8]) -> Option<bool> {
+    let counting = Failing::counting(alloc);
+    let _terms = read_terms(&counting, text).ok()?;
+    let failing = Failing::refusing_from(alloc, counting.requests().saturating_add(1));
+    let terms = read_terms(&failing, text).ok()?;
+    Some(terms.first()?.copy().is_ok())
+}
+
+#[test]
+fn a_copy_takes_no_memory(rt: HostRuntime) {
+    assert_eq!(rt;
+        is_copied_without_memory(rt.alloc(), b"[{1,a},#{k=><<1>>}|b]."),
+        Some(true)
+    );
+    assert_eq!(rt; is_copied_without_memory(rt.alloc(), b"7."), Some(true));
+}
+
+/// How many requests for memory were made in all once there was a tuple of one element, one of two as well, of three, of four, and a map of
+/// one pair.
+fn requests_of_the_shortest(alloc: Global) -> Option<[u64; 5]> {
+    let counting = Failing::counting(alloc);
+    let _one = Term::tuple_of_one(&counting, Term::int(1)).ok()?;
+    let with_one = counting.requests();
+    let _two = Term::tuple_of_two(&counting, [Term::int(1), Term::int(2)]).ok()?;
+    let with_two = counting.requests();
+    let _three = Term::tuple_of_three(&counting, [Term::int(1), Term::int(2), Term::int(3)]).ok()?;
+    let with_three = counting.requests();
+    let _four = Term::tuple_of_four(
+        &counting,
+        [Term::int(1), Term::int(2), Term::int(3), Term::int(4)],
+    )
+    .ok()?;
+    let with_four = counting.requests();
+    let _map = Term::map_of_one(&counting, Term::int(1), Term::int(2)).ok()?;
+    Some([
+        with_one,
+        with_two,
+        with_three,
+        with_four,
+        counting.requests(),
+    ])
+}
+
+#[test]
+fn the_shortest_tuples_and_maps_take_one_block(rt: HostRuntime) {
+    assert_eq!(rt; requests_of_the_shortest(rt.alloc()), Some([1, 2, 3, 4, 5]));
+}

@@ -1,0 +1,63 @@
+//! Writers that fail, or hold all back until they are flushed.
+use std::alloc::Global;
+use test_streams::{FILE, FailingWriter, HoldingWriter, INPUT};
+use tool_cli::{Request, run_request, run_words};
+use tool_io::ToolFault;
+use tool_query::tool_run;
+
+/// What a command over this input has passed on by its end, of a writer that holds it back.
+fn passed_on(alloc: Global, request: Request, input: &str) -> Vec<u8> {
+    let mut reader = input.as_bytes();
+    let mut writer = HoldingWriter {
+        held: Vec::new(alloc),
+        passed: Vec::new(alloc),
+    };
+    let mut err = Vec::new(alloc);
+    let _status = run_request(alloc, request, &mut reader, &mut writer, &mut err);
+    writer.passed
+}
+
+#[test]
+fn all_lines_are_passed_on(rt: HostRuntime) {
+    let input = "[{{'$1'},[],['$1']}]. {1}. a.";
+    let run = passed_on(rt.alloc(), Request::Run, input);
+    assert!(rt; run.as_slice() == b"1.\n".as_slice());
+    let test = passed_on(rt.alloc(), Request::Test, input);
+    assert!(rt; test.as_slice() == b"{ok,1}.\nfalse.\n".as_slice());
+    let file = passed_on(rt.alloc(), Request::Compile, "[].");
+    assert!(rt; file.as_slice() == b"<<69,77,83,67,0,1,0,0,0,0,0,1,25,0,0>>.\n".as_slice());
+    let verdict = passed_on(rt.alloc(), Request::Verify, FILE);
+    assert!(rt; verdict.as_slice() == b"{ok,2,1}.\n".as_slice());
+    let replies = passed_on(rt.alloc(), Request::Script, "{close}.");
+    assert!(rt; replies.as_slice() == b"{error,65}.\n".as_slice());
+}
+
+fn run_writing(alloc: Global, call: u32) -> Result<(), ToolFault> {
+    let mut reader = INPUT.as_bytes();
+    let mut writer = FailingWriter { calls_left: call };
+    tool_run(alloc, &mut reader, &mut writer)
+}
+
+#[test]
+fn a_writer_that_fails_is_refused(rt: HostRuntime) {
+    for call in 1..7 {
+        assert!(rt; run_writing(rt.alloc(), call) == Err(ToolFault::WriteFailed));
+    }
+    assert!(rt; run_writing(rt.alloc(), 60) == Ok(()));
+}
+
+/// The status of `help` where standard output fails behind its beginning, and what it writes on standard error.
+fn left_by_unwritten_help(alloc: Global) -> (u8, Vec<u8>) {
+    let mut reader = "".as_bytes();
+    let mut out = FailingWriter { calls_left: 3 };
+    let mut err = Vec::new(alloc);
+    let words = ["ets_tool", "help"];
+    let status = run_words(alloc, words.as_slice(), &mut reader, &mut out, &mut err);
+    (status, err)
+}
+
+#[test]
+fn help_that_cannot_be_written_is_refused(rt: HostRuntime) {
+    let (status, err) = left_by_unwritten_help(rt.alloc());
+    assert!(rt; status == 4 && err.as_slice() == b"error E71\n".as_slice());
+}

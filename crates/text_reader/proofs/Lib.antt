@@ -1,9 +1,0 @@
-pub mod Items
-pub mod Shorter
-pub mod Keys
-pub mod Sound
-pub mod Whole
-pub mod Texts
-pub mod Readers
-pub mod Within
-pub mod Constructed

@@ -1,5 +1,0 @@
-use Rattle.text_reader.proofs.Constructed.{binary_within}
-use Rattle.text_reader.proofs.read.binary.Goals as goal
-
-pub binary_of-requires-2 : goal.binary_of-requires-2
-binary_of-requires-2 g c = binary_within c.args.text.now c.in_ok-bytes.bytes.items c.in_ok-bytes.rest.now c.in_ok-rest.rest.now (rw c.after_gap-text.ensures at c.in_ok-bytes.ensures) c.in_ok-rest.ensures

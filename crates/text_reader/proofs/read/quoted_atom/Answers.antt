@@ -1,5 +1,0 @@
-use Rattle.text_reader.proofs.Constructed.{quoted_atom_within}
-use Rattle.text_reader.proofs.read.quoted_atom.Goals as goal
-
-pub atom_of-requires : goal.atom_of-requires
-atom_of-requires g c = quoted_atom_within c.args.text.now c.in_ok-characters.characters.items c.in_ok-characters.rest.now c.in_ok-characters.ensures.value

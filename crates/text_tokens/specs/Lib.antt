@@ -1,3 +1,0 @@
-pub mod Character
-pub mod Tokens
-pub mod Reading

@@ -1,0 +1,72 @@
+-- How the program ends.
+use Rattle.std.proofs.Common.{◌≡◌, ◌≢◌, ◌⊎◌, ℕ, List, Option, Result, Ok, Err, refl, subst, inl, inr}
+use Rattle.std.specs.Prelude.{OnOk, IfErr}
+use Rattle.std.specs.Io.KnownBytes.{Keeps}
+use Rattle.clap.specs.Words.{kind_of}
+use Rattle.clap.specs.declared.error.Error.{Error}
+use Rattle.clap.specs.declared.error.kind.ErrorKind.{ErrorKind}
+use Rattle.clap.specs.declared.error.kind.ErrorKind.TheVariants as kind
+use Rattle.tool_io.specs.Terms.{OfTerms}
+use Rattle.tool_io.specs.declared.fault.ToolFault.{ToolFault}
+use Rattle.tool_query.specs.Run.{Stops}
+use Rattle.tool_script.specs.Input.{OfScript, StopsScript}
+use Rattle.tool_cli.specs.Program.{Writes, StopsOn, HasOutcome, EndsRequest, EndsAsked, EndsEarly, EndsHelp, EndsMistaken}
+use Rattle.tool_cli.specs.Words.{Asked, command, help, topic, mistake, Reads}
+use Rattle.tool_cli.specs.declared.words.Request.{Request}
+use Rattle.tool_cli.specs.declared.words.Request.TheVariants as request
+
+-- what a command's two clauses say of its outcome
+pub has_outcome : (r : Request) (known old new : Option (List ℕ)) (outcome : Result (Unit {0}) ToolFault) → r ≢ request.Script → OnOk outcome (OfTerms known (λ terms. Writes r terms old new))
+    → IfErr outcome (λ f. Stops known old new f (λ terms. StopsOn r terms old new f)) → HasOutcome r known old new outcome
+has_outcome request.Run known old new (Ok x) other ok stopped = ok
+has_outcome request.Run known old new (Err f) other ok stopped = stopped
+has_outcome request.Test known old new (Ok x) other ok stopped = ok
+has_outcome request.Test known old new (Err f) other ok stopped = stopped
+has_outcome request.Compile known old new (Ok x) other ok stopped = ok
+has_outcome request.Compile known old new (Err f) other ok stopped = stopped
+has_outcome request.Verify known old new (Ok x) other ok stopped = ok
+has_outcome request.Verify known old new (Err f) other ok stopped = stopped
+has_outcome request.Script known old new outcome other ok stopped = absurd (other refl)
+
+-- and those of a script
+pub has_replies : (known old new : Option (List ℕ)) (outcome : Result (Unit {0}) ToolFault) → OnOk outcome (OfScript known (λ terms. Writes request.Script terms old new))
+    → IfErr outcome (λ f. StopsScript known old new f) → HasOutcome request.Script known old new outcome
+has_replies known old new (Ok x) ok stopped = ok
+has_replies known old new (Err f) ok stopped = stopped
+
+-- a command that was asked for ran
+pub ends_command : (a : Asked) (r : Request) (known out out' err err' : Option (List ℕ)) (status : ℕ) → Reads a (Ok r) → EndsRequest r known out out' err err' status
+    → EndsAsked a known out out' err err' status
+ends_command (command q) r known out out' err err' status is h = inl (subst (λ s. EndsRequest s known out out' err err' status) is h)
+ends_command help r known out out' err err' status is h = absurd is
+ends_command topic r known out out' err err' status is h = absurd is
+ends_command mistake r known out out' err err' status is h = absurd is
+
+-- ---- how the program ends where no command runs
+
+-- by the kind of error
+pub record IsEndBy (k : ErrorKind) (out out' err err' : Option (List ℕ)) (status : ℕ) : Type 0 where
+  pub help : k ≡ kind.DisplayHelp → EndsHelp err err' status
+  pub memory : k ≡ kind.OutOfMemory → status ≡ 3
+  pub ended : k ≢ kind.DisplayHelp → k ≢ kind.DisplayVersion → (status ≡ 3) ⊎ (status ≡ 64)
+  pub silent : k ≢ kind.DisplayHelp → k ≢ kind.DisplayVersion → Keeps out out'
+
+ends_early : (k : ErrorKind) (out out' err err' : Option (List ℕ)) (status : ℕ) → IsEndBy k out out' err err' status
+    → k ≡ kind.OutOfMemory → EndsEarly out out' status
+ends_early k out out' err err' status h is = (h.memory is, h.silent (λ other. absurd (cc)) (λ other. absurd (cc)))
+
+ends_mistaken : (k : ErrorKind) (out out' err err' : Option (List ℕ)) (status : ℕ) → IsEndBy k out out' err err' status
+    → k ≢ kind.DisplayHelp → k ≢ kind.DisplayVersion → EndsMistaken out out' status
+ends_mistaken k out out' err err' status h no_help no_version = (h.ended no_help no_version, h.silent no_help no_version)
+
+pub ends_asked : (a : Asked) (e : Error) (known out out' err err' : Option (List ℕ)) (status : ℕ) → Reads a (Err e)
+    → IsEndBy (kind_of e) out out' err err' status → EndsAsked a known out out' err err' status
+ends_asked (command r) e known out out' err err' status is h = inr (ends_early (kind_of e) out out' err err' status h is)
+ends_asked help e known out out' err err' status (inl is) h = inr (ends_early (kind_of e) out out' err err' status h is)
+ends_asked help e known out out' err err' status (inr is) h = inl (h.help is)
+ends_asked topic e known out out' err err' status (inl is) h =
+    inr (ends_mistaken (kind_of e) out out' err err' status h (λ other. absurd (cc)) (λ other. absurd (cc)))
+ends_asked topic e known out out' err err' status (inr (inl is)) h = inl (h.help is)
+ends_asked topic e known out out' err err' status (inr (inr is)) h =
+    inr (ends_mistaken (kind_of e) out out' err err' status h (λ other. absurd (cc)) (λ other. absurd (cc)))
+ends_asked mistake e known out out' err err' status is h = ends_mistaken (kind_of e) out out' err err' status h is.0 is.1

@@ -1,0 +1,44 @@
+use Rattle.std.proofs.Common.{rules, ◌∙◌, refl, sym, map}
+use Rattle.tool_cli.specs.Words.{asked}
+use Rattle.tool_cli.specs.declared.words.Request.TheVariants as request
+use Rattle.tool_cli.proofs.WordsLemmas.{handed_on, memory_handed, named_read, run_read, words_refused}
+use Rattle.tool_cli.proofs.words.read_words.Goals as goal
+
+pub returns-in_err-program : goal.returns-in_err-program
+returns-in_err-program g c =
+    memory_handed (asked (map g.S.AsStr.text c.args.words.now)) c.from_residual.result c.from_residual.ensures.1
+
+pub returns-in_err-matches : goal.returns-in_err-matches
+returns-in_err-matches g c =
+    let words = map g.S.AsStr.text c.args.words.now in
+    handed_on (asked words) c.in_err-matches.field-0.0 c.from_residual-in_err-matches.result c.from_residual-in_err-matches.ensures.1
+    (words_refused _ words c.in_err-matches.field-0.0 c.in_ok-program.ensures c.in_err-matches.ensures.kinds)
+
+pub returns-in-Some-test : goal.returns-in-Some-test
+returns-in-Some-test g c =
+    let words = map g.S.AsStr.text c.args.words.now in
+    named_read request.Test _ words c.in_ok-matches.matches c.in_ok-program.ensures c.in_ok-matches.ensures.kinds c.in_ok-matches.ensures.matches
+    (sym c.subcommand_name.ensures ∙ rw (c.in-Some-test.is, c.in-Some-test.is-test) refl)
+
+pub returns-in-Some-compile : goal.returns-in-Some-compile
+returns-in-Some-compile g c =
+    let words = map g.S.AsStr.text c.args.words.now in
+    named_read request.Compile _ words c.in_ok-matches.matches c.in_ok-program.ensures c.in_ok-matches.ensures.kinds c.in_ok-matches.ensures.matches
+    (sym c.subcommand_name.ensures ∙ rw (c.in-Some-compile.is, c.in-Some-compile.is-compile) refl)
+
+pub returns-in-Some-verify : goal.returns-in-Some-verify
+returns-in-Some-verify g c =
+    let words = map g.S.AsStr.text c.args.words.now in
+    named_read request.Verify _ words c.in_ok-matches.matches c.in_ok-program.ensures c.in_ok-matches.ensures.kinds c.in_ok-matches.ensures.matches
+    (sym c.subcommand_name.ensures ∙ rw (c.in-Some-verify.is, c.in-Some-verify.is-verify) refl)
+
+pub returns-in-Some-script : goal.returns-in-Some-script
+returns-in-Some-script g c =
+    let words = map g.S.AsStr.text c.args.words.now in
+    named_read request.Script _ words c.in_ok-matches.matches c.in_ok-program.ensures c.in_ok-matches.ensures.kinds c.in_ok-matches.ensures.matches
+    (sym c.subcommand_name.ensures ∙ rw (c.in-Some-script.is, c.in-Some-script.is-script) refl)
+
+pub returns : goal.returns
+returns g c =
+    let words = map g.S.AsStr.text c.args.words.now in
+    run_read _ words c.in_ok-matches.matches c.in_ok-program.ensures c.in_ok-matches.ensures.kinds c.in_ok-matches.ensures.matches (search rules) (search rules) (search rules) (search rules)

@@ -1,0 +1,87 @@
+-- How the program ends: what its two streams gain, and its status.
+use Rattle.std.specs.Prelude.{ℕ, ◌≡◌, ◌⊎◌, Option, Result, Ok, Err, List}
+use Rattle.term_core.specs.Datum.{Datum}
+use Rattle.std.specs.Io.KnownBytes.{Keeps}
+use Rattle.tool_io.specs.Fault.{status_of}
+use Rattle.tool_io.specs.Terms.{OfTerms}
+use Rattle.tool_io.specs.declared.fault.ToolFault.{ToolFault}
+use Rattle.tool_io.specs.declared.fault.ToolFault.TheVariants as fault
+use Rattle.tool_query.specs.Answers.Report.{answers, outcomes}
+use Rattle.tool_query.specs.Code.{WritesFile, StopsFile, WritesVerdict, StopsVerdict}
+use Rattle.tool_query.specs.Run.{WritesAnswers, StopsAnswers, Stops}
+use Rattle.tool_script.specs.Run.{WritesReplies, StopsReplies}
+use Rattle.tool_script.specs.Input.{OfScript, StopsScript}
+use Rattle.tool_cli.specs.Words.{Asked, command, help, topic, mistake}
+use Rattle.tool_cli.specs.declared.words.Request.{Request}
+use Rattle.tool_cli.specs.declared.words.Request.TheVariants as request
+
+-- The program ends for this refusal: with its status; or with 3 where there was no memory for its line, and then with
+-- nothing on standard error.
+abbrev pub EndsBy : ToolFault → (err err' : Option (List ℕ)) → ℕ → Type 0
+EndsBy f err err' status = (status ≡ status_of f) ⊎ ((status ≡ 3) × Keeps err err')
+
+-- a command's outcome ends the program: with 0 and nothing on standard error, or for its refusal
+abbrev pub EndsWith : Result (Unit {0}) ToolFault → (err err' : Option (List ℕ)) → ℕ → Type 0
+EndsWith (Ok x) err err' status = (status ≡ 0) × Keeps err err'
+EndsWith (Err f) err err' status = EndsBy f err err' status
+
+-- what a command writes for terms
+abbrev pub Writes : Request → List Datum → (old new : Option (List ℕ)) → Type 0
+Writes request.Run terms old new = WritesAnswers answers terms old new
+Writes request.Test terms old new = WritesAnswers outcomes terms old new
+Writes request.Compile terms old new = WritesFile terms old new
+Writes request.Verify terms old new = WritesVerdict terms old new
+Writes request.Script terms old new = WritesReplies terms old new
+
+-- how it ends early
+abbrev pub StopsOn : Request → List Datum → (old new : Option (List ℕ)) → ToolFault → Type 0
+StopsOn request.Run terms old new f = StopsAnswers answers terms old new f
+StopsOn request.Test terms old new f = StopsAnswers outcomes terms old new f
+StopsOn request.Compile terms old new f = StopsFile terms old new f
+StopsOn request.Verify terms old new f = StopsVerdict terms old new f
+StopsOn request.Script terms old new f = StopsReplies terms old new f
+
+-- what a command's outcome says of standard output; of a script there may be no term
+abbrev pub HasOutcome : Request → (known old new : Option (List ℕ)) → Result (Unit {0}) ToolFault
+    → Type 0
+HasOutcome request.Script known old new (Ok x) = OfScript known (λ terms. Writes request.Script terms old new)
+HasOutcome request.Script known old new (Err f) = StopsScript known old new f
+HasOutcome r known old new (Ok x) = OfTerms known (λ terms. Writes r terms old new)
+HasOutcome r known old new (Err f) =
+    Stops known old new f (λ terms. StopsOn r terms old new f)
+
+-- a command ran, and its outcome ends the program
+pub record EndsRequest (r : Request) (known out out' err err' : Option (List ℕ))
+    (status : ℕ) : Type 0 where
+  pub outcome : Result (Unit {0}) ToolFault
+  pub written : HasOutcome r known out out' outcome
+  pub ended : EndsWith outcome err err' status
+
+-- help went to standard output and nothing to standard error, or the help could not be written
+abbrev pub EndsHelp : (err err' : Option (List ℕ)) → ℕ → Type 0
+EndsHelp err err' status =
+    ((status ≡ 0) × Keeps err err') ⊎ EndsBy fault.WriteFailed err err' status
+
+-- no command ran and standard output gained nothing, as there was no memory
+abbrev pub EndsEarly : (out out' : Option (List ℕ)) → ℕ → Type 0
+EndsEarly out out' status = (status ≡ 3) × Keeps out out'
+
+-- as the words were not understood, or there was no memory to find that out or to say so
+abbrev pub EndsMistaken : (out out' : Option (List ℕ)) → ℕ → Type 0
+EndsMistaken out out' status = ((status ≡ 3) ⊎ (status ≡ 64)) × Keeps out out'
+
+-- how the program ends by what its words ask for
+abbrev pub EndsAsked : Asked → (known out out' err err' : Option (List ℕ)) → ℕ → Type 0
+EndsAsked (command r) known out out' err err' status =
+    EndsRequest r known out out' err err' status ⊎ EndsEarly out out' status
+EndsAsked help known out out' err err' status =
+    EndsHelp err err' status ⊎ EndsEarly out out' status
+EndsAsked topic known out out' err err' status =
+    EndsHelp err err' status ⊎ EndsMistaken out out' status
+EndsAsked mistake known out out' err err' status = EndsMistaken out out' status
+
+-- The program ended so by what some words ask for: which words it was started with can't be said. Where they could not
+-- be had it ends as by a mistake.
+abbrev pub EndsProgram : (known out out' err err' : Option (List ℕ)) → ℕ → Type 0
+EndsProgram known out out' err err' status =
+    (a : Asked) × EndsAsked a known out out' err err' status

@@ -1,0 +1,173 @@
+//! The words of the command line.
+ghost use Rattle.std.specs.Prelude.{◌≡◌, IfOk, false, map};
+ghost use Rattle.clap.specs.Words.{app_of, new_app, shape_of};
+ghost use Rattle.clap.specs.declared.builder.command.Command.TheViews.{out-Command as fields_of};
+ghost use Rattle.tool_cli.specs.Words.{asked, Reads, bare_app, tool_app};
+
+use clap::{Command, Error};
+use std::alloc::{AllocError, Global};
+use std::convert::AsStr;
+
+/// What the program is asked to do.
+#[derive(Clone, Copy, Debug, PartialEq, Eq)]
+pub enum Request {
+    /// Answer a specification or a code file on objects.
+    Run,
+    /// Show how each object comes out.
+    Test,
+    /// Write the code file of a specification.
+    Compile,
+    /// Say what is in a code file.
+    Verify,
+    /// Reply to commands on tables.
+    Script,
+}
+
+const ABOUT: &str = "Runs match specifications of ets over terms.";
+
+const EXAMPLE: &str = "\
+A text is terms, each followed by a dot. A refusal is one line on standard
+error, as `error E16 0 3`: the number of the refusal and its arguments.
+A code file is a term too: a binary, as `compile` writes it.
+
+Status:
+  0   done
+  2   the input was refused
+  3   no memory
+  4   the input could not be read, or the output not written
+  64  these words were not understood
+
+Example:
+  printf \"[{{'\\$1','\\$2'},[{'>','\\$1',1}],['\\$2']}]. {1,a}. {2,b}.\" | ets_tool run
+writes
+  b.";
+
+const RUN_ABOUT: &str =
+    "Reads a specification or a code file and then objects, and writes each answer";
+
+const RUN_EXAMPLE: &str = "\
+Reads from standard input, as term text: a match specification, or a code file
+as a binary, then the objects, each term followed by a dot.
+Writes to standard output: for each object that the specification answers on
+the answer, a dot and a line feed, in the order of the objects. Where the
+input is refused nothing is written.
+
+Example:
+  printf \"[{{'\\$1','\\$1'},[],['\\$_']}]. {1,1}. {1,2}.\" | ets_tool run
+writes
+  {1,1}.";
+
+const TEST_ABOUT: &str =
+    "Reads a specification and then objects, and writes how each object comes out";
+
+const TEST_EXAMPLE: &str = "\
+Reads from standard input, as term text: a match specification, then the
+objects, each term followed by a dot.
+Writes to standard output, for each object in their order: {ok,A}. where the
+specification answers A, and false. where it answers nothing. Where the input
+is refused nothing is written.
+
+Example:
+  printf \"[{{'\\$1','\\$2'},[{'>','\\$1',1}],['\\$2']}]. {1,a}. {2,b}.\" | ets_tool test
+writes
+  false.
+  {ok,b}.";
+
+const COMPILE_ABOUT: &str = "Reads a specification and writes its code file";
+
+const COMPILE_EXAMPLE: &str = "\
+Reads from standard input, as term text: one match specification and a dot.
+Writes to standard output: its code file as a binary, a dot and a line feed,
+which `verify` and `run` read. Where the input is refused nothing is written.
+
+Example:
+  printf \"[{'_',[],[true]}].\" | ets_tool compile
+writes
+  <<69,77,83,67,0,1,0,0,0,1,2,0,4,116,114,117,101,0,3,2,0,0,24,25,0,1,0,2,0,0,0,0,0,0>>.";
+
+const VERIFY_ABOUT: &str = "Reads a code file and writes what it takes";
+
+const VERIFY_EXAMPLE: &str = "\
+Reads from standard input, as term text: one code file as a binary and a dot.
+Writes to standard output, where the file is code that can be run, {ok,B,D}.
+with B the most instructions that a run executes and D the greatest depth of
+its stack. Where the input is refused nothing is written.
+
+Example:
+  printf \"[{'_',[],[true]}].\" | ets_tool compile | ets_tool verify
+writes
+  {ok,2,1}.";
+
+const SCRIPT_ABOUT: &str = "Reads commands on tables, and writes the reply to each";
+
+const SCRIPT_EXAMPLE: &str = "\
+Reads from standard input, as term text: commands, each followed by a dot.
+Writes to standard output: for each command its reply, a dot and a line feed.
+A command that is refused is replied {error,N}., and the script goes on. Where
+the text can't be read nothing is written.
+
+Commands, with S the number of a session from 0:
+  {open,Kind,KeyPos,Parts,Sessions}  opens a table of Kind set or ordered_set,
+      whose key is element KeyPos (1 to 65535), with 1 to 64 parts and 1 to 16
+      sessions; an ordered set has one part
+  {insert,S,T} {insert_new,S,T} {delete_object,S,T}       of an object T
+  {lookup,S,K} {member,S,K} {delete,S,K} {take,S,K} {next,S,K}   of a key K
+  {first,S} {fix,S} {unfix,S} {leave,S}
+  {close}  replies the objects
+
+Example:
+  printf \"{open,set,1,1,1}. {insert,0,{1,a}}. {lookup,0,1}.\" | ets_tool script
+writes
+  true.
+  true.
+  [{1,a}].";
+
+/// The program without its commands, one of which it wants.
+fn tool<'a>(alloc: Global) -> Command<'a>
+    ensures { app_of result ≡ bare_app }
+{
+    Command::new(alloc, "ets_tool")
+        .about(ABOUT)
+        .after_help(EXAMPLE)
+        .subcommand_required(true)
+}
+
+/// A command, with what its help says.
+fn command<'a>(alloc: Global, name: &'a str, about: &'a str, example: &'a str) -> Command<'a>
+    ensures shape { shape_of result ≡ (new_app name.entry.now).top }
+    ensures local { (fields_of result).has_globals ≡ false }
+{
+    Command::new(alloc, name).about(about).after_help(example)
+}
+
+/// The program's commands, as `clap` reads them.
+fn program<'a>(alloc: Global) -> Result<Command<'a>, AllocError>
+    ensures { IfOk result (λ command. app_of command ≡ tool_app) }
+{
+    let run = command(alloc, "run", RUN_ABOUT, RUN_EXAMPLE);
+    let test = command(alloc, "test", TEST_ABOUT, TEST_EXAMPLE);
+    let compile = command(alloc, "compile", COMPILE_ABOUT, COMPILE_EXAMPLE);
+    let verify = command(alloc, "verify", VERIFY_ABOUT, VERIFY_EXAMPLE);
+    let script = command(alloc, "script", SCRIPT_ABOUT, SCRIPT_EXAMPLE);
+    tool(alloc)
+        .subcommand(run)?
+        .subcommand(test)?
+        .subcommand(compile)?
+        .subcommand(verify)?
+        .subcommand(script)
+}
+
+/// What the words ask for; the first word is the program's name. Words that `clap` does not take, and words that ask
+/// for help, are its error.
+pub fn read_words<'a, S: AsStr>(alloc: Global, words: &'a [S]) -> Result<Request, Error>
+    ensures { Reads (asked (map S.text words.entry.now)) result }
+{
+    let matches = program(alloc)?.try_get_matches_from(words)?;
+    match matches.subcommand_name() {
+        Some("test") => Ok(Request::Test),
+        Some("compile") => Ok(Request::Compile),
+        Some("verify") => Ok(Request::Verify),
+        Some("script") => Ok(Request::Script),
+        _ => Ok(Request::Run),
+    }
+}

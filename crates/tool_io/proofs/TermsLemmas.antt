@@ -1,0 +1,63 @@
+-- Why an input has no terms.
+use Rattle.std.proofs.Common.{◌≡◌, ◌≢◌, ◌↔◌, ℕ, inl, inr, Option, Some, None, List, [], ◌∷◌, length, refl, arith}
+use Rattle.std.specs.Str.{IsValidUpTo}
+use Rattle.term_core.specs.Datum.{Datum}
+use Rattle.term_text.specs.Text.{Spells}
+use Rattle.term_text.specs.Causes.{HasCause}
+use Rattle.term_text.specs.declared.fault.TextFault.{TextFault}
+use Rattle.term_text.specs.declared.fault.TextFault.TheVariants as text
+use Rattle.tool_io.specs.declared.fault.ToolFault.{ToolFault}
+use Rattle.tool_io.specs.declared.fault.ToolFault.TheVariants as fault
+use Rattle.tool_io.specs.Input.{IsReadFault}
+use Rattle.tool_io.specs.Terms.{OfInput, IsNoText, IsUnspelled, IsUnread, of_text}
+
+no_text : (input : List ℕ) (f : TextFault) → f ≢ text.Memory → ((ds : List Datum) → Spells input ds → f ≡ text.Memory) → HasCause input f → ((at : ℕ) → (f ≡ text.BadUtf8 at) ↔ IsValidUpTo input at) → IsNoText input f
+no_text input f other only cause bad = record { unspelled = λ ds spelled. other (only ds spelled); other = other; cause = cause; bad_utf8 = bad }
+
+-- a text that is refused, though not for want of memory, spells nothing
+pub text_refused : (input : List ℕ) (f : TextFault) → ((ds : List Datum) → Spells input ds → f ≡ text.Memory) → HasCause input f → ((at : ℕ) → (f ≡ text.BadUtf8 at) ↔ IsValidUpTo input at) → IsUnspelled input (of_text f)
+text_refused input text.Memory only cause bad = tt
+text_refused input (text.TooDeep at) only cause bad = no_text input (text.TooDeep at) (λ e. absurd (cc)) only cause bad
+text_refused input (text.TooLong at) only cause bad = no_text input (text.TooLong at) (λ e. absurd (cc)) only cause bad
+text_refused input (text.DuplicateKey at) only cause bad = no_text input (text.DuplicateKey at) (λ e. absurd (cc)) only cause bad
+text_refused input (text.Syntax at) only cause bad = no_text input (text.Syntax at) (λ e. absurd (cc)) only cause bad
+text_refused input (text.BadUtf8 at) only cause bad = no_text input (text.BadUtf8 at) (λ e. absurd (cc)) only cause bad
+text_refused input (text.IntegerRange at) only cause bad = no_text input (text.IntegerRange at) (λ e. absurd (cc)) only cause bad
+text_refused input (text.UnsupportedEscape at) only cause bad = no_text input (text.UnsupportedEscape at) (λ e. absurd (cc)) only cause bad
+
+-- an input without a term
+pub input_empty : (input : List ℕ) (terms : List Datum) → length terms ≡ 0 → Spells input terms → IsUnread input (fault.Text (text.Syntax (length input)))
+input_empty input [] none spelled = inr (record { spelled = spelled; place = refl })
+input_empty input (d ∷ ds) none spelled = absurd (omega (arith, none))
+
+read_fault : (input : List ℕ) (f : ToolFault) → IsReadFault f → IsUnspelled input f
+read_fault input fault.Memory h = tt
+read_fault input fault.ReadFailed h = tt
+read_fault input (fault.Text f) h = absurd h
+read_fault input fault.BadInput h = absurd h
+read_fault input (fault.Specification f) h = absurd h
+read_fault input (fault.File f) h = absurd h
+read_fault input (fault.Code f) h = absurd h
+read_fault input fault.WriteFailed h = absurd h
+
+-- where it spells none, it hasn't one
+pub unspelled_is_unread : (input : List ℕ) (f : ToolFault) → IsUnspelled input f → IsUnread input f
+unspelled_is_unread input fault.Memory h = tt
+unspelled_is_unread input fault.ReadFailed h = tt
+unspelled_is_unread input (fault.Text f) h = inl h
+unspelled_is_unread input fault.BadInput h = absurd h
+unspelled_is_unread input (fault.Specification f) h = absurd h
+unspelled_is_unread input (fault.File f) h = absurd h
+unspelled_is_unread input (fault.Code f) h = absurd h
+unspelled_is_unread input fault.WriteFailed h = absurd h
+
+-- where reading fails, there are no terms
+pub unspelled : (known : Option (List ℕ)) (f : ToolFault) → IsReadFault f → OfInput known (λ input. IsUnspelled input f)
+unspelled None f h = ([], tt, read_fault [] f h)
+unspelled (Some bytes) f h = (bytes, refl, read_fault bytes f h)
+
+-- not one
+pub unread : (known : Option (List ℕ)) (f : ToolFault) → IsReadFault f → OfInput known (λ input. IsUnread input f)
+unread known f h =
+    let none = unspelled known f h in
+    (none.0, none.1, unspelled_is_unread none.0 f none.2)

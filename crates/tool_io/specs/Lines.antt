@@ -1,0 +1,28 @@
+-- Lines that are gathered, and then written.
+use Rattle.std.specs.Prelude.{ℕ, ◌≡◌, Option, List, [], ◌∷◌, ◌++◌}
+use Rattle.std.specs.Io.KnownBytes.{Appends}
+use Rattle.std.specs.Str.{encode_utf8_all}
+use Rattle.term_core.specs.Datum.{Datum}
+use Rattle.term_text.specs.Canonical.{canonical}
+use Rattle.tool_io.specs.declared.fault.ToolFault.{ToolFault}
+use Rattle.tool_io.specs.declared.fault.ToolFault.TheVariants as fault
+
+-- the canonical text of a term in UTF-8
+abbrev pub text_of : Datum → List ℕ
+text_of d = encode_utf8_all (canonical d)
+
+-- the same, a dot and a line feed
+abbrev pub line : Datum → List ℕ
+line d = text_of d ++ 46 ∷ 10 ∷ []
+
+-- what is gathered is passed to the writer, or stays
+pub record Passes (before after : Option (List ℕ)) (old new : List ℕ) : Type 0 where
+  pub part : List ℕ
+  pub gained : Appends before after part
+  pub kept : part ++ new ≡ old
+
+-- what was gathered is written where memory ran out; where the writer failed nothing is said of what it got
+abbrev pub EndsBy : Option (List ℕ) → Option (List ℕ) → List ℕ → ToolFault → Type 0
+EndsBy old new lines fault.Memory = Appends old new lines
+EndsBy old new lines fault.WriteFailed = Unit {0}
+EndsBy old new lines f = ⊥

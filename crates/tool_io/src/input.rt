@@ -1,0 +1,108 @@
+//! Input, read whole.
+ghost use Rattle.std.specs.Prelude.{◌≡◌, ◌≢◌, ◌<◌, ◌≤◌, ◌+◌, ◌-◌, ◌*◌, length};
+ghost use Rattle.std.specs.Prelude.{IfOk, IfErr, IfSome, OnOk, Ok, Err};
+ghost use Rattle.std.specs.IoError.{error_kind};
+ghost use Rattle.tool_io.specs.Input.{Continues, IsReadFault};
+
+use crate::fault::ToolFault;
+use std::alloc::{AllocError, Allocator};
+use std::io::{self, ErrorKind, Read};
+
+/// How many bytes one read asks for.
+const READ_SIZE: usize = 65_536;
+
+/// Whether an input goes on.
+#[derive(Clone, Copy, Debug, PartialEq, Eq)]
+enum Progress {
+    More,
+    End,
+}
+
+/// The most reads of one input.
+pub const fn most_reads() -> u32
+    ensures { result ≡ 4294967295 }
+{
+    u32::MAX
+}
+
+/// All that the reader gives, to its end. A reader that fails, or that has not ended after `most_reads` reads, is
+/// `ReadFailed`.
+pub fn read_whole<A: Allocator + Copy, R: Read>(
+    alloc: A,
+    reader: &mut R,
+) -> Result<Vec<u8, A>, ToolFault>
+    ensures ok { IfOk result (λ v. IfSome (R.remaining reader.old) (λ bytes. v.items ≡ bytes)) }
+    ensures failed { IfErr result IsReadFault }
+{
+    read_within(alloc, most_reads(), reader)
+}
+
+/// As `read_whole`, for a reader that ends within so many reads; the read that finds the end is one of them, and so is
+/// one that was interrupted. Any other reader is `ReadFailed`.
+pub fn read_within<A: Allocator + Copy, R: Read>(
+    alloc: A,
+    limit: u32,
+    reader: &mut R,
+) -> Result<Vec<u8, A>, ToolFault>
+    ensures ok { IfOk result (λ v. IfSome (R.remaining reader.old) (λ bytes. v.items ≡ bytes)) }
+    ensures bounded { IfOk result (λ v. length v.items ≤ 65536 * (limit - 1)) }
+    ensures failed { IfErr result IsReadFault }
+{
+    let mut buffer = read_buffer(alloc)?;
+    let mut input = Vec::new(alloc);
+    for _read in 0..limit {
+        match read_part(reader, buffer.as_mut_slice(), &mut input)? {
+            Progress::More => {}
+            Progress::End => return Ok(input),
+        }
+    }
+    Err(ToolFault::ReadFailed)
+}
+/// Room for one read.
+fn read_buffer<A: Allocator + Copy>(alloc: A) -> Result<Vec<u8, A>, ToolFault>
+    ensures room { IfOk result (λ v. length v.items ≡ 65536) }
+    ensures failed { IfErr result (λ fault. fault ≡ ToolFault.Memory) }
+{
+    let size = READ_SIZE;
+    match vec![in alloc; 0u8; size] {
+        Ok(buffer) => Ok(buffer),
+        Err(AllocError) => Err(ToolFault::Memory),
+    }
+}
+
+/// Reads once, and puts what was given at the end of the input.
+fn read_part<A: Allocator, R: Read>(
+    reader: &mut R,
+    buffer: &mut [u8],
+    input: &mut Vec<u8, A>,
+) -> Result<Progress, ToolFault>
+    requires { 0 < length buffer.old }
+    ensures ok { IfOk result (Continues (R.remaining reader.old) (R.remaining reader.new)
+        input.old.items input.new.items) }
+    ensures bounded { OnOk result (length input.new.items
+        ≤ length input.old.items + length buffer.old) }
+    ensures ended { IfOk result (λ progress.
+        progress ≡ Progress.End → input.new.items ≡ input.old.items) }
+    ensures failed { IfErr result IsReadFault }
+{
+    match reader.read(buffer) {
+        Ok(0) => Ok(Progress::End),
+        Ok(count) => match input.extend_from_slice(&buffer[..count]) {
+            Ok(()) => Ok(Progress::More),
+            Err(AllocError) => Err(ToolFault::Memory),
+        },
+        Err(error) => progress_after(&error),
+    }
+}
+
+/// Whether an input goes on after a read that gave nothing but this: one that was interrupted is tried again.
+fn progress_after(error: &io::Error) -> Result<Progress, ToolFault>
+    ensures retried { error_kind error.now ≡ ErrorKind.Interrupted → result ≡ Ok Progress.More }
+    ensures failed { error_kind error.now ≢ ErrorKind.Interrupted
+        → result ≡ Err ToolFault.ReadFailed }
+{
+    if error.kind() == ErrorKind::Interrupted {
+        return Ok(Progress::More);
+    }
+    Err(ToolFault::ReadFailed)
+}

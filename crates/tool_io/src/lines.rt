@@ -1,0 +1,81 @@
+//! Lines that are gathered, and then written.
+ghost use Rattle.std.specs.Prelude.{◌≡◌, ◌++◌, [], IfErr, OnOk, OnErr};
+ghost use Rattle.std.specs.Io.KnownBytes.{Appends};
+ghost use Rattle.tool_io.specs.Lines.{text_of, Passes, EndsBy};
+
+use crate::fault::ToolFault;
+use std::alloc::{AllocError, Allocator};
+use std::io::Write;
+use term_core::Term;
+use term_text::write_term;
+
+/// How many bytes of output are gathered before they are written.
+const WRITE_SIZE: usize = 65_536;
+
+/// Puts the canonical text of a term at the end, between these bytes. After an `Err` the lines are as before.
+pub fn put_line<A: Allocator + Copy>(
+    before: &[u8],
+    term: &Term<A>,
+    after: &[u8],
+    lines: &mut Vec<u8, A>,
+) -> Result<(), AllocError>
+    ensures ok { OnOk result (lines.new.items ≡ lines.old.items
+        ++ (before.now ++ (text_of term.now ++ after.now))) }
+    ensures err { OnErr result (lines.new.items ≡ lines.old.items) }
+{
+    let start = lines.len();
+    lines.extend_from_slice(before)?;
+    if let Err(AllocError) = write_term(term, lines) {
+        lines.truncate(start);
+        return Err(AllocError);
+    }
+    match lines.extend_from_slice(after) {
+        Ok(()) => Ok(()),
+        Err(AllocError) => {
+            lines.truncate(start);
+            Err(AllocError)
+        }
+    }
+}
+
+/// Writes the lines that were gathered before memory ran out, and answers how the command ends.
+pub fn out_of_memory<A: Allocator, W: Write>(writer: &mut W, lines: &mut Vec<u8, A>) -> ToolFault
+    ensures { EndsBy (W.contents writer.old) (W.contents writer.new) lines.old.items result }
+{
+    match write_lines(writer, lines) {
+        Ok(()) => ToolFault::Memory,
+        Err(fault) => fault,
+    }
+}
+
+/// Writes the lines that were gathered where they are many.
+pub fn write_if_many<A: Allocator, W: Write>(
+    writer: &mut W,
+    lines: &mut Vec<u8, A>,
+) -> Result<(), ToolFault>
+    ensures ok { OnOk result (Passes (W.contents writer.old) (W.contents writer.new)
+        lines.old.items lines.new.items) }
+    ensures failed { IfErr result (λ fault. fault ≡ ToolFault.WriteFailed) }
+{
+    if lines.len() < WRITE_SIZE {
+        return Ok(());
+    }
+    write_lines(writer, lines)
+}
+
+/// Writes the lines that were gathered, and has the writer pass on what it holds back.
+pub fn write_lines<A: Allocator, W: Write>(
+    writer: &mut W,
+    lines: &mut Vec<u8, A>,
+) -> Result<(), ToolFault>
+    ensures ok { OnOk result
+        (Appends (W.contents writer.old) (W.contents writer.new) lines.old.items) }
+    ensures empty { OnOk result (lines.new.items ≡ []) }
+    ensures failed { IfErr result (λ fault. fault ≡ ToolFault.WriteFailed) }
+{
+    if writer.write_all(lines.as_slice()).is_err() || writer.flush().is_err() {
+        return Err(ToolFault::WriteFailed);
+    }
+    lines.clear();
+    Ok(())
+}

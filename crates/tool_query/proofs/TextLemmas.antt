@@ -1,0 +1,66 @@
+-- The texts of what `test` and `verify` write.
+use Rattle.std.proofs.Common.{◌≡◌, ℕ, pos, List, [], ◌∷◌, ◌++◌, Some, None, refl, sym, ◌∙◌, ap, append_assoc}
+use Rattle.std.specs.Prelude.{codes}
+use Rattle.std.proofs.Math.Utf8.{encode}
+use Rattle.std.proofs.lemmas.List.{append-nil}
+use Rattle.term_core.specs.Datum.{Datum}
+use Rattle.term_core.specs.Datum.Datum.{integer}
+use Rattle.term_core.specs.Datum.Items.{no_items, item}
+use Rattle.std.specs.Str.{encode_utf8_all}
+use Rattle.term_text.specs.Character.{open_brace, close_brace, comma}
+use Rattle.term_text.specs.Canonical.{canonical, items_text, more_items_text, is_reserved}
+use Rattle.term_text.proofs.Bytes.{tuple_bytes, items_bytes, more_items_bytes, no_more_items}
+use Rattle.tool_io.specs.Lines.{text_of, line}
+use Rattle.tool_query.specs.Answers.{outcome_of, ok_term}
+use Rattle.tool_query.specs.Code.{verdict}
+
+ok_bytes : text_of ok_term ≡ codes "ok"
+unfolding canonical is_reserved encode
+ok_bytes = refl
+
+-- one more element, which is the last
+last_item : (d : Datum) → encode_utf8_all (more_items_text (item d no_items)) ≡ comma ∷ text_of d
+last_item d =
+    more_items_bytes d [] ∙ ap (λ (l : List ℕ). comma ∷ (text_of d ++ l)) no_more_items ∙ ap (λ (l : List ℕ). comma ∷ l) (append-nil (text_of d))
+
+-- the line of an answer, between its braces
+pub outcome_line : (d : Datum) → line (outcome_of (Some d)) ≡ codes "{ok," ++ (text_of d ++ codes "}.\n")
+outcome_line d =
+    let text = text_of d in
+    let items : encode_utf8_all (items_text (item ok_term (item d no_items))) ≡ codes "ok" ++ (comma ∷ text) =
+    items_bytes ok_term (d ∷ []) ∙ ap (λ (l : List ℕ). l ++ encode_utf8_all (more_items_text (item d no_items))) ok_bytes ∙ ap (λ (l : List ℕ). codes "ok" ++ l) (last_item d) in
+    ap (λ (l : List ℕ). l ++ 46 ∷ 10 ∷ []) (tuple_bytes (item ok_term (item d no_items)) ∙ ap (λ (l : List ℕ). open_brace ∷ (l ++ close_brace ∷ [])) items)
+    ∙ ap (λ (l : List ℕ). codes "{ok," ++ l) (append_assoc text (close_brace ∷ []) (46 ∷ 10 ∷ []))
+
+-- the line where there is no answer
+pub false_line : line (outcome_of None) ≡ codes "false.\n"
+unfolding canonical is_reserved encode
+false_line = refl
+
+-- the line of a verdict, by its two numbers
+pub verdict_line : (budget depth : ℕ)
+    → line (verdict budget depth) ≡ codes "{ok," ++ (text_of (integer (pos budget)) ++ (codes "," ++ (text_of (integer (pos depth)) ++ codes "}.\n")))
+verdict_line budget depth =
+    let first = text_of (integer (pos budget)) in
+    let second = text_of (integer (pos depth)) in
+    let more : encode_utf8_all (more_items_text (item (integer (pos budget)) (item (integer (pos depth)) no_items))) ≡ comma ∷ (first ++ (comma ∷ second)) =
+    more_items_bytes (integer (pos budget)) (integer (pos depth) ∷ []) ∙ ap (λ (l : List ℕ). comma ∷ (first ++ l)) (last_item (integer (pos depth))) in
+    let all = item ok_term (item (integer (pos budget)) (item (integer (pos depth)) no_items)) in
+    let items : encode_utf8_all (items_text all) ≡ codes "ok" ++ (comma ∷ (first ++ (comma ∷ second))) =
+    items_bytes ok_term (integer (pos budget) ∷ integer (pos depth) ∷ []) ∙ ap (λ (l : List ℕ). l ++ encode_utf8_all (more_items_text (item (integer (pos budget)) (item (integer (pos depth)) no_items)))) ok_bytes
+    ∙ ap (λ (l : List ℕ). codes "ok" ++ l) more in
+    ap (λ (l : List ℕ). l ++ 46 ∷ 10 ∷ []) (tuple_bytes all ∙ ap (λ (l : List ℕ). open_brace ∷ (l ++ close_brace ∷ [])) items)
+    ∙ ap (λ (l : List ℕ). codes "{ok," ++ l)
+    (append_assoc (first ++ (comma ∷ second)) (close_brace ∷ []) (46 ∷ 10 ∷ []) ∙ append_assoc first (comma ∷ second) (close_brace ∷ 46 ∷ 10 ∷ []))
+
+-- its two parts are put at the end
+pub verdict_put : (old between new : List ℕ) (x y : Datum) (budget depth : ℕ) → x ≡ integer (pos budget) → y ≡ integer (pos depth)
+    → between ≡ old ++ (codes "{ok," ++ (text_of x ++ codes ",")) → new ≡ between ++ (text_of y ++ codes "}.\n") → new ≡ old ++ line (verdict budget depth)
+verdict_put old between new x y budget depth x_is y_is first second =
+    let rest = text_of y ++ codes "}.\n" in
+    let joined : new ≡ old ++ (codes "{ok," ++ (text_of x ++ (codes "," ++ rest))) =
+    second ∙ ap (λ l. l ++ rest) first ∙ append_assoc old (codes "{ok," ++ (text_of x ++ codes ",")) rest
+    ∙ ap (λ l. old ++ (codes "{ok," ++ l)) (append_assoc (text_of x) (codes ",") rest) in
+    joined ∙ ap (λ d. old ++ (codes "{ok," ++ (text_of d ++ (codes "," ++ rest)))) x_is
+    ∙ ap (λ d. old ++ (codes "{ok," ++ (text_of (integer (pos budget)) ++ (codes "," ++ (text_of d ++ codes "}.\n"))))) y_is
+    ∙ ap (λ l. old ++ l) (sym (verdict_line budget depth))

@@ -1,0 +1,73 @@
+-- The lines of answers.
+use Rattle.std.specs.Prelude.{ℕ, ◌≡◌, Option, Some, None, List, [], ◌∷◌, ◌++◌, codes}
+use Rattle.std.specs.Io.KnownBytes.{Appends}
+use Rattle.term_core.specs.Datum.{Datum}
+use Rattle.term_core.specs.Datum.Datum.{atom, tuple}
+use Rattle.term_core.specs.Datum.Items.{no_items, item}
+use Rattle.tool_io.specs.Lines.{line}
+use Rattle.tool_io.specs.declared.fault.ToolFault.{ToolFault}
+use Rattle.tool_io.specs.declared.fault.ToolFault.TheVariants as fault
+
+-- what is written of objects: the answers, or how each comes out
+pub data Report : Type 0 where
+  answers : Report
+  outcomes : Report
+
+-- the line of an answer, nothing where there is none
+abbrev pub answer_line : Option Datum → List ℕ
+answer_line None = []
+answer_line (Some d) = line d
+
+-- the atoms ok and false
+abbrev pub ok_term : Datum
+ok_term = atom (codes "ok")
+
+abbrev pub false_term : Datum
+false_term = atom (codes "false")
+
+-- {ok,A} for an answer A, false where there is none
+abbrev pub outcome_of : Option Datum → Datum
+outcome_of None = false_term
+outcome_of (Some d) = tuple (item ok_term (item d no_items))
+
+-- what is written of an object by its answer
+abbrev pub report_line : Report → Option Datum → List ℕ
+report_line Report.answers answer = answer_line answer
+report_line Report.outcomes answer = line (outcome_of answer)
+
+-- the lines on these objects, in their order, by what is answered on each
+abbrev pub AreLines : Report → (Datum → Option Datum → Type 0) → List Datum → List ℕ → Type 0
+AreLines r Answered [] out = out ≡ []
+AreLines r Answered (d ∷ ds) out =
+    (answer : Option Datum) × (rest : List ℕ) × Answered d answer × AreLines r Answered ds rest
+    × (out ≡ report_line r answer ++ rest)
+
+-- the line on an object is put at the end
+pub record Puts (r : Report) (Answered : Datum → Option Datum → Type 0) (object : Datum)
+    (old new : List ℕ) : Type 0 where
+  pub answer : Option Datum
+  pub answered : Answered object answer
+  pub grown : new ≡ old ++ report_line r answer
+
+-- the writer gains the lines on all objects
+pub record WritesLines (r : Report) (Answered : Datum → Option Datum → Type 0)
+    (objects : List Datum) (old new : Option (List ℕ)) : Type 0 where
+  pub out : List ℕ
+  pub lines : AreLines r Answered objects out
+  pub gained : Appends old new out
+
+-- the writer gains the lines on a beginning of the objects
+pub record WritesBeginning (r : Report) (Answered : Datum → Option Datum → Type 0)
+    (objects : List Datum) (old new : Option (List ℕ)) : Type 0 where
+  pub front : List Datum
+  pub rest : List Datum
+  pub whole : objects ≡ front ++ rest
+  pub written : WritesLines r Answered front old new
+
+-- how answering ends early: for want of memory, or where the writer failed, and then nothing is said of what it
+-- got
+abbrev pub StopsLines : Report → (Datum → Option Datum → Type 0) → List Datum
+    → (old new : Option (List ℕ)) → ToolFault → Type 0
+StopsLines r Answered objects old new fault.Memory = WritesBeginning r Answered objects old new
+StopsLines r Answered objects old new fault.WriteFailed = Unit {0}
+StopsLines r Answered objects old new f = ⊥

@@ -1,0 +1,52 @@
+-- What is written for an input's terms, and how that ends early.
+use Rattle.std.specs.Prelude.{ℕ, ◌≡◌, ◌⊎◌, Option, List, ◌∷◌}
+use Rattle.std.specs.Io.KnownBytes.{Keeps}
+use Rattle.term_core.specs.Datum.{Datum}
+use Rattle.mspec_syntax.specs.Specification.{Specification}
+use Rattle.tool_io.specs.Terms.{OfInput, OfTerms, IsUnread}
+use Rattle.tool_io.specs.declared.fault.ToolFault.{ToolFault}
+use Rattle.tool_io.specs.declared.fault.ToolFault.TheVariants as fault
+use Rattle.tool_query.specs.Answers.{Report, WritesLines, WritesBeginning}
+use Rattle.tool_query.specs.Answers.Report.{answers, outcomes}
+use Rattle.tool_query.specs.Query.{Query, Answers, IsRead, IsQuery, IsNoSpecification, IsNoQuery}
+
+-- what a first term asks: where answers are written a specification or a code file, where outcomes are a specification
+abbrev pub Asks : Report → Datum → Query → Type 0
+Asks answers d q = IsQuery d q
+Asks outcomes d q = (s : Specification) × (q ≡ Query.meant s) × IsRead d s
+
+-- why it asks nothing, if not for want of memory
+abbrev pub AsksNothing : Report → Datum → ToolFault → Type 0
+AsksNothing answers d f = IsNoQuery d f
+AsksNothing outcomes d f = IsNoSpecification d f
+
+-- terms are a query and objects
+pub record IsAsked (r : Report) (terms : List Datum) (q : Query) (objects : List Datum) : Type 0
+  where
+    pub first : Datum
+    pub whole : terms ≡ first ∷ objects
+    pub asks : Asks r first q
+
+-- the writer gains the lines of the query that the terms begin with, on the objects that follow it
+pub record WritesAnswers (r : Report) (terms : List Datum) (old new : Option (List ℕ)) : Type 0
+  where
+    pub query : Query
+    pub objects : List Datum
+    pub asked : IsAsked r terms query objects
+    pub answered : WritesLines r (Answers query) objects old new
+
+-- How answering ends early. Nothing is written but where memory runs out over the objects, and then the lines on a
+-- beginning of them; where the writer failed nothing is said of what it got.
+abbrev pub StopsAnswers : Report → List Datum → (old new : Option (List ℕ)) → ToolFault → Type 0
+StopsAnswers r terms old new fault.WriteFailed = Unit {0}
+StopsAnswers r terms old new fault.Memory =
+    Keeps old new ⊎ ((q : Query) × (objects : List Datum) × IsAsked r terms q objects
+    × WritesBeginning r (Answers q) objects old new)
+StopsAnswers r terms old new f =
+    (first : Datum) × (objects : List Datum) × (terms ≡ first ∷ objects) × AsksNothing r first f
+    × Keeps old new
+
+-- A command ends early: the input has no terms and nothing is written, or so by its terms.
+abbrev pub Stops : (known old new : Option (List ℕ)) → ToolFault → (List Datum → Type 0) → Type 0
+Stops known old new f Stopped =
+    (OfInput known (λ input. IsUnread input f) × Keeps old new) ⊎ OfTerms known Stopped

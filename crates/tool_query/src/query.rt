@@ -1,0 +1,132 @@
+//! What the first term of an input asks.
+ghost use Rattle.std.specs.Prelude.{◌≡◌, IfOk, IfErr};
+ghost use Rattle.term_core.specs.Datum.{Datum};
+ghost use Rattle.mcode.specs.Answer.{answer_of};
+ghost use Rattle.mspec_meaning.specs.Meaning.{Means};
+ghost use Rattle.tool_query.specs.Code.{IsFileOf};
+ghost use Rattle.tool_query.specs.Query.{Query as AnyQuery, Answers, IsRead, IsQuery, IsLoaded};
+ghost use Rattle.tool_query.specs.Query.{IsNoSpecification, IsUnloaded, IsNoQuery};
+ghost use Rattle.tool_query.specs.Query.{of_specification, of_file, of_code};
+
+use code_file::{FileFault, decode, encode, one_code};
+use compiler::compile;
+use machine::runs_end_with_the_answer;
+use mspec_reader::read_spec;
+use mspec_syntax::{Spec, SpecFault};
+use std::alloc::{AllocError, Allocator};
+use term_core::{Term, View};
+use tool_io::ToolFault;
+use verifier::{Fault, Verified, faulty_code_is_untyped, verify};
+
+/// The specification that a term is read as.
+pub(crate) fn specification_of<A: Allocator + Copy>(
+    alloc: A,
+    term: &Term<A>,
+) -> Result<Spec<A>, ToolFault>
+    ensures ok { IfOk result (λ s. IsRead term.now s) }
+    ensures refused { IfErr result (IsNoSpecification term.now) }
+{
+    match read_spec(alloc, term) {
+        Ok(specification) => Ok(specification),
+        Err(fault) => Err(specification_fault(fault)),
+    }
+}
+
+/// The code that bytes are the file of, verified.
+pub(crate) fn load<A: Allocator + Copy>(alloc: A, bytes: &[u8]) -> Result<Verified<A>, ToolFault>
+    ensures ok { IfOk result (λ code. IsLoaded bytes.now code) }
+    ensures refused { IfErr result (IsUnloaded bytes.now) }
+{
+    let code = match decode(alloc, bytes) {
+        Ok(code) => code,
+        Err(fault) => return Err(file_fault(fault)),
+    };
+    match verify(alloc, code) {
+        Ok(code) => Ok(code),
+        Err(refused) => Err(code_fault(refused.fault)),
+    }
+}
+
+/// The file of a specification's code.
+pub(crate) fn file_of<A: Allocator + Copy>(
+    alloc: A,
+    specification: &Spec<A>,
+) -> Result<Vec<u8, A>, AllocError>
+    ensures { IfOk result (λ bytes. IsFileOf specification.now bytes.items) }
+{
+    let code = compile(alloc, specification)?;
+    encode(alloc, code.code())
+}
+
+/// The code of a specification, by way of its file.
+pub(crate) fn code_from_file<A: Allocator + Copy>(
+    alloc: A,
+    specification: &Spec<A>,
+) -> Result<Verified<A>, ToolFault>
+    ensures ok { IfOk result (λ code. (object : Datum)
+        → Means specification.now object (answer_of code object)) }
+    ensures refused { IfErr result (λ fault. fault ≡ ToolFault.Memory) }
+{
+    one_code();
+    faulty_code_is_untyped();
+    runs_end_with_the_answer();
+    let Ok(file) = file_of(alloc, specification) else {
+        return Err(ToolFault::Memory);
+    };
+    match load(alloc, file.as_slice()) {
+        Ok(code) => Ok(code),
+        Err(fault) => match fault {
+            ToolFault::Memory => Err(ToolFault::Memory),
+            _ => unreachable!(),
+        },
+    }
+}
+
+/// The code that answers what a term asks: a binary the code that it is the file of, any other term the code of the
+/// specification that it is read as.
+pub(crate) fn code_of_query<A: Allocator + Copy>(
+    alloc: A,
+    term: &Term<A>,
+) -> Result<Verified<A>, ToolFault>
+    ensures ok { IfOk result (λ code. (q : AnyQuery) × IsQuery term.now q
+        × ((object : Datum) → Answers q object (answer_of code object))) }
+    ensures refused { IfErr result (IsNoQuery term.now) }
+{
+    if let View::Binary(bytes) = term.view() {
+        return load(alloc, bytes);
+    }
+    match specification_of(alloc, term) {
+        Ok(specification) => code_from_file(alloc, &specification),
+        Err(fault) => Err(fault),
+    }
+}
+
+/// A fault of the specification as one of the program.
+fn specification_fault(fault: SpecFault) -> ToolFault
+    ensures { result ≡ of_specification fault }
+{
+    match fault {
+        SpecFault::Memory => ToolFault::Memory,
+        fault => ToolFault::Specification(fault),
+    }
+}
+
+/// A fault of the file as one of the program.
+fn file_fault(fault: FileFault) -> ToolFault
+    ensures { result ≡ of_file fault }
+{
+    match fault {
+        FileFault::Memory => ToolFault::Memory,
+        fault => ToolFault::File(fault),
+    }
+}
+
+/// A fault of the code as one of the program.
+fn code_fault(fault: Fault) -> ToolFault
+    ensures { result ≡ of_code fault }
+{
+    match fault {
+        Fault::Memory => ToolFault::Memory,
+        fault => ToolFault::Code(fault),
+    }
+}

@@ -1,0 +1,94 @@
+-- Lines of replies that are gathered, and then written.
+use Rattle.std.proofs.Common.{◌≡◌, ℕ, ◌+◌, ◌<◌, Option, Some, None, List, [], ◌∷◌, ◌++◌, take, drop, get_or, length, flat_map, refl, sym, ap, subst, ◌∙◌, append_assoc}
+use Rattle.std.proofs.lemmas.List.{take_more, append-nil, take-append-drop}
+use Rattle.std.proofs.lemmas.List.Concat.{flat_map-append}
+use Rattle.std.specs.Io.KnownBytes.{Appends}
+use Rattle.term_core.specs.Datum.{Datum}
+use Rattle.tool_io.specs.Lines.{line, Passes, EndsBy}
+use Rattle.tool_io.specs.declared.fault.ToolFault.{ToolFault}
+use Rattle.tool_io.specs.declared.fault.ToolFault.TheVariants as fault
+use Rattle.tool_script.specs.Script.{ScriptState, beginning, IsReply, AreReplies}
+use Rattle.tool_script.specs.Run.{WritesReplies, StopsReplies}
+
+-- terms are replied one after the other, up to a state
+abbrev Replied : ScriptState → List Datum → List Datum → ScriptState → Type 0
+Replied st [] [] after = st ≡ after
+Replied st (d ∷ ds) (r ∷ rs) after = (mid : ScriptState) × IsReply st d r mid × Replied mid ds rs after
+Replied st ds rs after = ⊥
+
+replied_more : (st : ScriptState) (ds rs : List Datum) (a b : ScriptState) (d r : Datum) → Replied st ds rs a → IsReply a d r b → Replied st (ds ++ d ∷ []) (rs ++ r ∷ []) b
+replied_more st [] [] a b d r before here = (b, subst (λ (s : ScriptState). IsReply s d r b) (sym before) here, refl)
+replied_more st [] (e ∷ rs) a b d r before here = absurd before
+replied_more st (e ∷ ds) [] a b d r before here = absurd before
+replied_more st (e ∷ ds) (q ∷ rs) a b d r (mid, first, rest) here = (mid, first, replied_more mid ds rs a b d r rest here)
+
+are_replies : (st : ScriptState) (ds rs : List Datum) (a : ScriptState) → Replied st ds rs a → AreReplies st ds rs
+are_replies st [] [] a h = tt
+are_replies st [] (r ∷ rs) a h = absurd h
+are_replies st (d ∷ ds) [] a h = absurd h
+are_replies st (d ∷ ds) (r ∷ rs) a (mid, first, rest) = (mid, first, are_replies mid ds rs a rest)
+
+appends_join : (a b c : Option (List ℕ)) (x y : List ℕ) → Appends a b x → Appends b c y → Appends a c (x ++ y)
+appends_join None b c x y p q = tt
+appends_join (Some u) None c x y p q = absurd p
+appends_join (Some u) (Some v) None x y p q = absurd q
+appends_join (Some u) (Some v) (Some w) x y p q = rw (q, p) (append_assoc u x y)
+
+appends_none : (a : Option (List ℕ)) → Appends a a []
+appends_none None = tt
+appends_none (Some xs) = sym (append-nil xs)
+
+-- lines gathered after what was written are those of the replies so far
+pub record Gathered (terms : List Datum) (after : ScriptState) (old now : Option (List ℕ)) (lines : List ℕ) : Type 0 where
+  pub done : List ℕ
+  pub gained : Appends old now done
+  pub replies : List Datum
+  pub replied : Replied beginning terms replies after
+  pub text : done ++ lines ≡ flat_map line replies
+
+pub gathered_none : (terms : List Datum) (old : Option (List ℕ)) → Gathered (take 0 terms) beginning old old []
+gathered_none terms old = record { done = []; gained = appends_none old; replies = []; replied = refl; text = refl }
+
+-- one more line
+pub gathered_more : (terms : List Datum) (i : ℕ) (d reply : Datum) (before after : ScriptState) (old now : Option (List ℕ)) (lines more : List ℕ) → i < length terms → d ≡ get_or terms i d → Gathered (take i terms) before old now lines → IsReply before d reply after → more ≡ lines ++ line reply → Gathered (take (i + 1) terms) after old now more
+gathered_more terms i d reply before after old now lines more there is g replied grown =
+    record {
+      done = g.done;
+      gained = g.gained;
+      replies = g.replies ++ reply ∷ [];
+      replied = rw (take_more terms i d there, ← is) (replied_more beginning (take i terms) g.replies before after d reply g.replied replied);
+      text = ap (λ xs. g.done ++ xs) grown ∙ sym (append_assoc g.done lines (line reply)) ∙ ap (λ xs. xs ++ line reply) g.text
+          ∙ ap (λ xs. flat_map line g.replies ++ xs) (sym (append-nil (line reply))) ∙ sym (flat_map-append line g.replies (reply ∷ []));
+    }
+
+-- lines are passed on
+pub gathered_passed : (terms : List Datum) (after : ScriptState) (old now later : Option (List ℕ)) (lines rest : List ℕ) → Gathered terms after old now lines → Passes now later lines rest → Gathered terms after old later rest
+gathered_passed terms after old now later lines rest g p =
+    record {
+      done = g.done ++ p.part;
+      gained = appends_join old now later g.done p.part g.gained p.gained;
+      replies = g.replies;
+      replied = g.replied;
+      text = append_assoc g.done p.part rest ∙ ap (λ xs. g.done ++ xs) p.kept ∙ g.text;
+    }
+
+-- all lines are written
+pub gathered_written : (terms : List Datum) (after : ScriptState) (old now later : Option (List ℕ)) (lines : List ℕ) → Gathered terms after old now lines → Appends now later lines → WritesReplies terms old later
+gathered_written terms after old now later lines g p =
+    record {
+      replies = g.replies;
+      replied = are_replies beginning terms g.replies after g.replied;
+      gained = subst (Appends old later) g.text (appends_join old now later g.done lines g.gained p);
+    }
+
+-- where memory runs out, the lines so far are written
+pub stops_early : (terms : List Datum) (i : ℕ) (after : ScriptState) (old now later : Option (List ℕ)) (lines : List ℕ) (f : ToolFault) → Gathered (take i terms) after old now lines → EndsBy now later lines f → StopsReplies terms old later f
+stops_early terms i after old now later lines fault.Memory g e =
+    record { front = take i terms; rest = drop i terms; whole = sym (take-append-drop i terms); written = gathered_written (take i terms) after old now later lines g e }
+stops_early terms i after old now later lines fault.WriteFailed g e = tt
+stops_early terms i after old now later lines (fault.Text f) g e = absurd e
+stops_early terms i after old now later lines fault.BadInput g e = absurd e
+stops_early terms i after old now later lines (fault.Specification f) g e = absurd e
+stops_early terms i after old now later lines (fault.File f) g e = absurd e
+stops_early terms i after old now later lines (fault.Code f) g e = absurd e
+stops_early terms i after old now later lines fault.ReadFailed g e = absurd e

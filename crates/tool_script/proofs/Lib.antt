@@ -1,0 +1,10 @@
+pub mod ReadingLemmas
+mod ReplyLemmas
+mod TextLemmas
+mod LinkLemmas
+mod AskLemmas
+mod WalkLemmas
+mod TableLemmas
+mod OptionLemmas
+mod GatherLemmas
+mod WorkedRows

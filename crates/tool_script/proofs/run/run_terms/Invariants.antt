@@ -1,0 +1,12 @@
+-- The script is in the state behind the terms so far, and their lines are written or gathered.
+use Rattle.std.proofs.Common.{◌≤◌, take}
+use Rattle.tool_script.specs.Script.{ScriptState}
+use Rattle.tool_script.specs.Scripts.{HasState}
+use Rattle.tool_script.proofs.GatherLemmas.{Gathered}
+use Rattle.tool_script.proofs.run.run_terms.Given as goal
+
+abbrev pub invariant-loop-term : goal.invariant-loop-term
+invariant-loop-term g l =
+    ((after : ScriptState) × HasState l.script after
+    × Gathered (take l.term-index l.terms) after (g.W.Write.contents l.fn.writer) (g.W.Write.contents l.writer) l.lines.items)
+    × (l.script.count ≤ l.term-index)

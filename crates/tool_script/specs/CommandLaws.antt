@@ -1,0 +1,7 @@
+-- Laws of commands.
+use Rattle.std.specs.Prelude.{◌≡◌}
+use Rattle.tool_script.specs.Command.{Command, command_term}
+
+-- two commands have two terms
+abbrev pub TermsTellCommands : Type 0
+TermsTellCommands = (a b : Command) → command_term a ≡ command_term b → a ≡ b

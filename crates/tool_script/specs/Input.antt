@@ -1,0 +1,18 @@
+-- The terms of a script, and how it ends early.
+use Rattle.std.specs.Prelude.{ℕ, ◌⊎◌, Option, List}
+use Rattle.std.specs.Io.KnownBytes.{Keeps}
+use Rattle.term_core.specs.Datum.{Datum}
+use Rattle.term_text.specs.Text.{Spells}
+use Rattle.tool_io.specs.Terms.{OfInput, IsUnspelled}
+use Rattle.tool_io.specs.declared.fault.ToolFault.{ToolFault}
+use Rattle.tool_script.specs.Run.{StopsReplies}
+
+-- this holds of the terms that a reader gave, of which there may be none
+abbrev pub OfScript : Option (List ℕ) → (List Datum → Type 0) → Type 0
+OfScript known P = OfInput known (λ input. (terms : List Datum) × Spells input terms × P terms)
+
+-- a script ends early: the input spells no terms and nothing is written, or so by its terms
+abbrev pub StopsScript : (known old new : Option (List ℕ)) → ToolFault → Type 0
+StopsScript known old new f =
+    (OfInput known (λ input. IsUnspelled input f) × Keeps old new)
+    ⊎ OfScript known (λ terms. StopsReplies terms old new f)

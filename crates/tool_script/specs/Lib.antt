@@ -1,0 +1,13 @@
+pub mod Command
+pub mod Commands
+pub mod Reading
+pub mod CommandLaws
+pub mod Script
+pub mod Replies
+pub mod State
+pub mod Tables
+pub mod Opened
+pub mod Scripts
+pub mod Run
+pub mod Input
+pub mod Laws

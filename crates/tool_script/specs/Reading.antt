@@ -1,0 +1,89 @@
+-- How a command is read: by its name and the number of its arguments.
+use Rattle.std.specs.Prelude.{ℕ, ℤ, nat_eq, if◌then◌else◌, Option, Some, None, List, [], ◌∷◌, codes}
+use Rattle.std.specs.Cmp.Lexicographic.{pointwise}
+use Rattle.term_core.specs.Datum.{Datum}
+use Rattle.term_core.specs.Datum.Datum.{atom}
+use Rattle.term_operand.specs.Operand.{integer_of}
+use Rattle.part_core.specs.declared.kind.Kind.{Kind}
+use Rattle.part_core.specs.declared.kind.Kind.TheVariants.{Set, OrderedSet, Bag, DuplicateBag}
+use Rattle.tool_script.specs.Command.{Ask, Command}
+use Rattle.tool_script.specs.Command.Ask.{Insert, InsertNew, Lookup, Member, Delete, DeleteObject, Take, Fix, Unfix, Leave, First, Next}
+use Rattle.tool_script.specs.Command.Command.{Open, Session, Close}
+
+-- no atom
+abbrev pub IsNoAtom : Datum → Type 0
+IsNoAtom (atom cs) = ⊥
+IsNoAtom d = Unit {0}
+
+-- the kind of a name
+abbrev pub kind_in : List ℕ → Option Kind
+kind_in cs =
+    if pointwise nat_eq (codes "set") cs then Some Set
+    else if pointwise nat_eq (codes "ordered_set") cs then Some OrderedSet
+    else if pointwise nat_eq (codes "bag") cs then Some Bag
+    else if pointwise nat_eq (codes "duplicate_bag") cs then Some DuplicateBag
+    else None
+
+-- what is asked by a name alone
+abbrev pub ask_alone : List ℕ → Option Ask
+ask_alone cs =
+    if pointwise nat_eq (codes "fix") cs then Some Fix
+    else if pointwise nat_eq (codes "unfix") cs then Some Unfix
+    else if pointwise nat_eq (codes "leave") cs then Some Leave
+    else if pointwise nat_eq (codes "first") cs then Some First
+    else None
+
+-- what is asked by a name and a term
+abbrev pub ask_with : List ℕ → Datum → Option Ask
+ask_with cs d =
+    if pointwise nat_eq (codes "insert") cs then Some (Insert d)
+    else if pointwise nat_eq (codes "insert_new") cs then Some (InsertNew d)
+    else if pointwise nat_eq (codes "lookup") cs then Some (Lookup d)
+    else if pointwise nat_eq (codes "member") cs then Some (Member d)
+    else if pointwise nat_eq (codes "delete") cs then Some (Delete d)
+    else if pointwise nat_eq (codes "delete_object") cs then Some (DeleteObject d)
+    else if pointwise nat_eq (codes "take") cs then Some (Take d)
+    else if pointwise nat_eq (codes "next") cs then Some (Next d)
+    else None
+
+-- a session that a term numbers asks something
+abbrev pub asked_with : Option ℤ → Option Ask → Option Command
+asked_with (Some s) (Some ask) = Some (Session s ask)
+asked_with s ask = None
+
+abbrev pub asked_by : Datum → Option Ask → Option Command
+asked_by s ask = asked_with (integer_of s) ask
+
+-- the kind that a term names
+abbrev pub kind_by : Datum → Option Kind
+kind_by (atom cs) = kind_in cs
+kind_by d = None
+
+-- what opens a table, by what its arguments are
+abbrev pub opened_with : Option Kind → Option ℤ → Option ℤ → Option ℤ → Option Command
+opened_with (Some kind) (Some keypos) (Some parts) (Some sessions) =
+    Some (Open kind keypos parts sessions)
+opened_with kind keypos parts sessions = None
+
+abbrev pub opened_by : List ℕ → Datum → Datum → Datum → Datum → Option Command
+opened_by cs kind keypos parts sessions =
+    if pointwise nat_eq (codes "open") cs
+    then opened_with (kind_by kind) (integer_of keypos) (integer_of parts) (integer_of sessions)
+    else None
+
+-- what closes it
+abbrev pub closed_by : List ℕ → Option Command
+closed_by cs = if pointwise nat_eq (codes "close") cs then Some Close else None
+
+-- the command of a name and arguments
+abbrev pub command_with : List ℕ → List Datum → Option Command
+command_with cs [] = closed_by cs
+command_with cs (s ∷ []) = asked_by s (ask_alone cs)
+command_with cs (s ∷ d ∷ []) = asked_by s (ask_with cs d)
+command_with cs (kind ∷ keypos ∷ parts ∷ sessions ∷ []) = opened_by cs kind keypos parts sessions
+command_with cs ds = None
+
+-- the command of a tuple's elements: an atom and arguments
+abbrev pub elements_in : List Datum → Option Command
+elements_in (atom cs ∷ ds) = command_with cs ds
+elements_in ds = None

@@ -1,0 +1,171 @@
+-- What a script of commands is replied, on one thread.
+use Rattle.std.specs.Prelude.{ℕ, ℤ, pos, ◌≡◌, ◌⊎◌, ◌+◌, ◌==◌, Bool, true, false, not, ◌&&◌, ◌||◌, if◌then◌else◌, nat_le, nat_lt, Option, Some, None, List, [], ◌∷◌, codes}
+use Rattle.term_core.specs.Datum.{Datum, cells}
+use Rattle.term_core.specs.Datum.Datum.{integer, atom, nil}
+use Rattle.term_operand.specs.Operand.{boolean}
+use Rattle.part_core.specs.declared.kind.Kind.{Kind}
+use Rattle.part_core.specs.Settings.{is_ordered, is_set, is_object, key_of, part_of}
+use Rattle.part_core.specs.Acts.{Act, Answer, Said, Refusal}
+use Rattle.part_core.specs.Acts.Said.{Nothing, Flag, Objects, AtKey, Found, Counted}
+use Rattle.part_core.specs.Acts.Answer.{Replied, Refused}
+use Rattle.part_core.specs.Acts.Refusal.{TooSmall, FixLimit, NotFixed, BadKey, CursorOutside}
+use Rattle.tables.specs.declared.options.Options.{Options}
+use Rattle.tables.specs.Options.{settings_of}
+use Rattle.tables.specs.OneThread.{TableState, opened, reply_at, after_at, after_each, can_fix, can_unfix}
+use Rattle.walks.specs.OneThread.{first_key, key_after, table_objects}
+use Rattle.tool_script.specs.Command.{Ask, Command, called, command_term, IsNoCommand}
+use Rattle.tool_script.specs.Command.Ask.{Insert, InsertNew, Lookup, Member, Delete, DeleteObject, Take, Fix, Unfix, Leave, First, Next}
+use Rattle.tool_script.specs.Command.Command.{Open, Session, Close}
+
+-- the table that is open, and which sessions have left it
+pub record OpenTable : Type 0 where
+  pub table : TableState
+  pub left : ℕ → Bool
+
+-- the table that is open, if one is, and how many were opened so far, by which tables are named
+pub record ScriptState : Type 0 where
+  pub current : Option OpenTable
+  pub count : ℕ
+
+-- a script at its beginning
+abbrev pub beginning : ScriptState
+beginning = record { current = None; count = 0 }
+
+-- a refusal, by its number
+abbrev pub error : ℕ → Datum
+error n = called (codes "error") (integer (pos n) ∷ [])
+
+-- the numbers of the refusals of a part
+abbrev pub refusal_number : Refusal → ℕ
+refusal_number TooSmall = 50
+refusal_number FixLimit = 51
+refusal_number NotFixed = 52
+refusal_number BadKey = 53
+refusal_number CursorOutside = 54
+
+-- what stands for the end of a table, where there is no key
+abbrev pub key_or_end : Option Datum → Datum
+key_or_end None = atom (codes "$end_of_table")
+key_or_end (Some k) = k
+
+-- the reply to what a table answered
+abbrev pub said_term : Said → Datum
+said_term Nothing = boolean true
+said_term (Flag b) = boolean b
+said_term (Objects os) = cells os nil
+said_term (AtKey k) = key_or_end k
+said_term (Found os next) = cells os nil
+said_term (Counted n next) = integer (pos n)
+
+abbrev pub answer_term : Answer → Datum
+answer_term (Replied said) = said_term said
+answer_term (Refused refusal) = error (refusal_number refusal)
+
+-- what is replied, and the script behind it
+abbrev pub Step : Type 0
+Step = Datum × ScriptState
+
+-- a session does something at one part
+abbrev pub at_part : TableState → ℕ → ℕ → Act → Datum × TableState
+at_part t n part act = (answer_term (reply_at t n part act), after_at t n part act)
+
+-- at the part of a key
+abbrev pub at_key : TableState → ℕ → Datum → Act → Datum × TableState
+at_key t n k act = at_part t n (part_of (settings_of t.options) k) act
+
+-- an object is looked at before its part is: one that is too small has none
+abbrev pub at_object : TableState → ℕ → Datum → Act → Datum × TableState
+at_object t n object act =
+    if is_object (settings_of t.options) object then at_key t n (key_of (settings_of t.options) object) act
+    else (error 50, t)
+
+-- What a session is replied, and the table behind it. A fix is counted at each part, or at none where one has as many as
+-- there may be; likewise a fix is released at each part or at none.
+abbrev pub asked : TableState → ℕ → Ask → Datum × TableState
+asked t n (Insert object) = at_object t n object (Act.Insert object)
+asked t n (InsertNew object) = at_object t n object (Act.InsertNew object)
+asked t n (Lookup k) = at_key t n k (Act.Lookup k)
+asked t n (Member k) = at_key t n k (Act.Member k)
+asked t n (Delete k) = at_key t n k (Act.Delete k)
+asked t n (DeleteObject object) = at_object t n object (Act.DeleteObject object)
+asked t n (Take k) = at_key t n k (Act.Take k)
+asked t n Fix = if can_fix t n then (boolean true, after_each t n Act.Fix) else (error 51, t)
+asked t n Unfix = if can_unfix t n then (boolean true, after_each t n Act.Unfix) else (error 52, t)
+asked t n Leave = (boolean true, after_each t n Act.Release)
+asked t n First = (key_or_end (first_key t), t)
+asked t n (Next k) = (answer_term (key_after t n k), t)
+
+-- a session has left
+abbrev pub is_leaving : Ask → Bool
+is_leaving Leave = true
+is_leaving ask = false
+
+-- what a session asks of the open table
+abbrev pub in_session : OpenTable → ℕ → Ask → Datum × OpenTable
+in_session o n ask = (
+  (asked o.table n ask).0,
+  record { table = (asked o.table n ask).1; left = λ k. o.left k || (k == n && is_leaving ask) },
+)
+
+-- a number of a session that is there and hasn't left
+abbrev pub session_number : OpenTable → ℤ → Option ℕ
+session_number o (pos n) = if nat_lt n o.table.options.sessions && not (o.left n) then Some n else None
+session_number o z = None
+
+-- a number between two others
+abbrev pub number_within : ℕ → ℕ → ℤ → Option ℕ
+number_within low high (pos n) = if nat_le low n && nat_le n high then Some n else None
+number_within low high z = None
+
+-- the options of a table that can be opened: a set or an ordered set, with numbers in their ranges, and an ordered set in one part
+abbrev pub options_with : ℕ → Kind → Option ℕ → Option ℕ → Option ℕ → Option Options
+options_with name kind (Some keypos) (Some parts) (Some sessions) =
+    if is_set kind && (not (is_ordered kind) || parts == 1)
+    then Some (record { name = name; kind = kind; keypos = keypos; parts = parts; sessions = sessions }) else None
+options_with name kind keypos parts sessions = None
+
+-- a table that no session has left
+abbrev pub newly_opened : Options → OpenTable
+newly_opened options = record { table = opened options; left = λ n. false }
+
+-- a table is opened, or nothing is
+abbrev pub opening_of : ℕ → Option Options → Step
+opening_of count (Some options) =
+    (boolean true, record { current = Some (newly_opened options); count = count + 1 })
+opening_of count None = (error 60, record { current = None; count = count })
+
+-- what a session is replied, by its number, and the table behind it
+abbrev pub answered_in : OpenTable → Ask → Option ℕ → Datum × OpenTable
+answered_in o ask (Some n) = in_session o n ask
+answered_in o ask None = (error 61, o)
+
+abbrev pub session_step : ℕ → OpenTable → Ask → Option ℕ → Step
+session_step count o ask n =
+    ((answered_in o ask n).0, record { current = Some (answered_in o ask n).1; count = count })
+
+-- A command's reply, and the script behind it. While a table is open none is opened, and else nothing is asked of one.
+abbrev pub step : ScriptState → Option OpenTable → Command → Step
+step st None (Open kind keypos parts sessions) =
+    opening_of st.count
+    (options_with st.count kind (number_within 1 65535 keypos) (number_within 1 64 parts) (number_within 1 16 sessions))
+step st (Some o) (Session s ask) = session_step st.count o ask (session_number o s)
+step st (Some o) Close =
+    (cells (table_objects o.table) nil, record { current = None; count = st.count })
+step st current command = (error 65, st)
+
+-- a reply, and the script behind it
+abbrev pub Gives : Step → Datum → ScriptState → Type 0
+Gives s reply after = (reply ≡ s.0) × (after ≡ s.1)
+
+-- A term is replied: what the command is replied that it is the term of, and a refusal where it is that of none.
+abbrev pub IsReply : ScriptState → Datum → Datum → ScriptState → Type 0
+IsReply st d reply after =
+    ((command : Command) × (d ≡ command_term command) × Gives (step st st.current command) reply after)
+    ⊎ (IsNoCommand d × Gives (error 65, st) reply after)
+
+-- terms are replied one after the other, from a state on
+abbrev pub AreReplies : ScriptState → List Datum → List Datum → Type 0
+AreReplies st [] [] = Unit {0}
+AreReplies st (d ∷ ds) (reply ∷ replies) =
+    (after : ScriptState) × IsReply st d reply after × AreReplies after ds replies
+AreReplies st ds replies = ⊥

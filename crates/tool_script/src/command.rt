@@ -1,0 +1,218 @@
+//! The commands of a script, read from terms.
+ghost use Rattle.std.specs.Prelude.{◌≡◌, nat_eq, option_map, MatchOption};
+ghost use Rattle.std.specs.Cmp.Lexicographic.{pointwise};
+ghost use Rattle.term_core.specs.Datum.Datum.{atom};
+ghost use Rattle.tool_script.specs.Command.{command_term, IsNoCommand};
+ghost use Rattle.tool_script.specs.Commands.{ask_of, command_of};
+ghost use Rattle.tool_script.specs.Reading.{IsNoAtom, kind_in, ask_alone, ask_with, asked_by, closed_by, opened_by, command_with, elements_in};
+
+use part_core::Kind;
+use std::alloc::{Allocator, Global};
+use term_core::Term;
+use term_operand::{Operand, View};
+
+/// What a session asks of the table.
+#[derive(Drop)]
+pub enum Ask<'a, A: Allocator = Global> {
+    /// `insert`
+    Insert(&'a Term<A>),
+    /// `insert_new`
+    InsertNew(&'a Term<A>),
+    /// `lookup`
+    Lookup(&'a Term<A>),
+    /// `member`
+    Member(&'a Term<A>),
+    /// `delete`
+    Delete(&'a Term<A>),
+    /// `delete_object`
+    DeleteObject(&'a Term<A>),
+    /// `take`
+    Take(&'a Term<A>),
+    /// `fix`
+    Fix,
+    /// `unfix`
+    Unfix,
+    /// `leave`
+    Leave,
+    /// `first`
+    First,
+    /// `next`
+    Next(&'a Term<A>),
+}
+
+/// A command. Its numbers are those that stand there, in no range.
+#[derive(Drop)]
+pub enum Command<'a, A: Allocator = Global> {
+    /// Opens a table of a kind, with a place of the key, parts and sessions.
+    Open(Kind, i64, i64, i64),
+    /// A session, by its number, asks something.
+    Session(i64, Ask<'a, A>),
+    /// Closes the table.
+    Close,
+}
+
+/// Whether these characters are the bytes of the text.
+fn is_text(characters: &[char], text: &str) -> bool
+    ensures { result ≡ pointwise nat_eq text.now characters.now }
+{
+    let bytes = text.as_bytes();
+    if bytes.len() != characters.len() {
+        return false;
+    }
+    for (index, byte) in bytes.iter().enumerate() {
+        if characters[index] != char::from(*byte) {
+            return false;
+        }
+    }
+    true
+}
+
+/// The characters of an atom.
+fn name_in<A: Allocator>(term: &Term<A>) -> Option<&[char]>
+    ensures { MatchOption result (IsNoAtom term.now) (λ name. term.now ≡ atom name.now) }
+{
+    match Operand::Term(term).view() {
+        View::Atom(characters) => Some(characters),
+        View::Integer(_) | View::Nil | View::Tuple(_) => None,
+        View::List(..) | View::Map(_) | View::Binary(_) => None,
+    }
+}
+
+/// The kind of a table that these characters name.
+fn kind_named(name: &[char]) -> Option<Kind>
+    ensures { result ≡ kind_in name.now }
+{
+    if is_text(name, "set") {
+        return Some(Kind::Set);
+    }
+    if is_text(name, "ordered_set") {
+        return Some(Kind::OrderedSet);
+    }
+    if is_text(name, "bag") {
+        return Some(Kind::Bag);
+    }
+    if is_text(name, "duplicate_bag") {
+        return Some(Kind::DuplicateBag);
+    }
+    None
+}
+
+/// What a session asks by a name alone.
+fn ask_alone<'a, A: Allocator>(name: &[char]) -> Option<Ask<'a, A>>
+    ensures { option_map ask_of result ≡ ask_alone name.now }
+{
+    if is_text(name, "fix") {
+        return Some(Ask::Fix);
+    }
+    if is_text(name, "unfix") {
+        return Some(Ask::Unfix);
+    }
+    if is_text(name, "leave") {
+        return Some(Ask::Leave);
+    }
+    if is_text(name, "first") {
+        return Some(Ask::First);
+    }
+    None
+}
+
+/// What a session asks by a name and a term.
+fn ask_with<'a, A: Allocator>(name: &[char], term: &'a Term<A>) -> Option<Ask<'a, A>>
+    ensures { option_map ask_of result ≡ ask_with name.now term.now }
+{
+    if is_text(name, "insert") {
+        return Some(Ask::Insert(term));
+    }
+    if is_text(name, "insert_new") {
+        return Some(Ask::InsertNew(term));
+    }
+    if is_text(name, "lookup") {
+        return Some(Ask::Lookup(term));
+    }
+    if is_text(name, "member") {
+        return Some(Ask::Member(term));
+    }
+    if is_text(name, "delete") {
+        return Some(Ask::Delete(term));
+    }
+    if is_text(name, "delete_object") {
+        return Some(Ask::DeleteObject(term));
+    }
+    if is_text(name, "take") {
+        return Some(Ask::Take(term));
+    }
+    if is_text(name, "next") {
+        return Some(Ask::Next(term));
+    }
+    None
+}
+
+/// The command of a session that a term numbers, where it asks something.
+fn asked_by<'a, A: Allocator>(session: &Term<A>, ask: Option<Ask<'a, A>>) -> Option<Command<'a, A>>
+    ensures { option_map command_of result ≡ asked_by session.now (option_map ask_of ask.entry) }
+{
+    let session = Operand::Term(session).integer()?;
+    Some(Command::Session(session, ask?))
+}
+
+/// The command of a name alone.
+fn closed_by<'a, A: Allocator>(name: &[char]) -> Option<Command<'a, A>>
+    ensures { option_map command_of result ≡ closed_by name.now }
+{
+    if is_text(name, "close") {
+        return Some(Command::Close);
+    }
+    None
+}
+
+/// The command that opens a table, by its name and arguments.
+fn opened_by<'a, A: Allocator>(
+    name: &[char],
+    kind: &Term<A>,
+    keypos: &Term<A>,
+    parts: &Term<A>,
+    sessions: &Term<A>,
+) -> Option<Command<'a, A>>
+    ensures { option_map command_of result
+        ≡ opened_by name.now kind.now keypos.now parts.now sessions.now }
+{
+    if !is_text(name, "open") {
+        return None;
+    }
+    let kind = kind_named(name_in(kind)?)?;
+    let keypos = Operand::Term(keypos).integer()?;
+    let parts = Operand::Term(parts).integer()?;
+    let sessions = Operand::Term(sessions).integer()?;
+    Some(Command::Open(kind, keypos, parts, sessions))
+}
+
+/// The command of a name and arguments.
+fn command_with<'a, A: Allocator>(name: &[char], arguments: &'a [Term<A>]) -> Option<Command<'a, A>>
+    ensures { option_map command_of result ≡ command_with name.now arguments.now }
+{
+    match arguments {
+        [] => return closed_by(name),
+        [session] => return asked_by(session, ask_alone(name)),
+        [session, term] => return asked_by(session, ask_with(name, term)),
+        [kind, keypos, parts, sessions] => return opened_by(name, kind, keypos, parts, sessions),
+        _ => return None,
+    }
+}
+
+/// The command of a tuple's elements.
+fn command_in<A: Allocator>(elements: &[Term<A>]) -> Option<Command<'_, A>>
+    ensures { option_map command_of result ≡ elements_in elements.now }
+{
+    let [name, arguments @ ..] = elements else {
+        return None;
+    };
+    command_with(name_in(name)?, arguments)
+}
+
+/// The command that a term says, none where it says none.
+pub fn read_command<A: Allocator>(term: &Term<A>) -> Option<Command<'_, A>>
+    ensures { MatchOption result (IsNoCommand term.now)
+        (λ command. term.now ≡ command_term (command_of command)) }
+{
+    command_in(Operand::Term(term).elements()?)
+}

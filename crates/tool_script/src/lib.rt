@@ -1,0 +1,29 @@
+//! Scripts of ets commands on one thread: tables are opened, sessions ask of them, tables are closed.
+//!
+//! The one contract: the lines that are written are those of the replies to the script's terms (`AreReplies` of
+//! `specs/Script.antt`), for want of memory those of a beginning of them (`specs/Run.antt`). Which parts the tables are made of is the
+//! caller's choice: any that keep the trait `Part`.
+//!
+//! - `command`: the commands that stand in memory (`specs/Commands.antt`), and how they are read from terms
+//!   (`specs/Reading.antt`); `command_laws`: terms tell commands (`command_term` of `specs/Command.antt`).
+//! - `session`: what a session is replied over any turns; `table`, `open`: the same at the table that is open, and opening one;
+//!   `script`: one step of a script. `specs/State.antt`, `Tables.antt`, `Opened.antt` and `Scripts.antt` say which state each is in.
+//! - `reply`: replies and their lines, `specs/Replies.antt`; `run`: from a reader to a writer, `specs/Input.antt`.
+//! - `laws`: replies are one, `specs/Laws.antt`.
+#![tactic(auto)]
+
+mod command;
+mod command_laws;
+mod laws;
+mod open;
+mod reply;
+mod run;
+mod script;
+mod session;
+mod table;
+
+pub use command::{Ask, Command, read_command};
+pub use command_laws::terms_tell_commands;
+pub use laws::replies_are_one;
+pub use reply::{Reply, put_reply};
+pub use run::run_script;

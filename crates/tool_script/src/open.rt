@@ -1,0 +1,161 @@
+//! The table that is open in a script, and which sessions have left it.
+ghost use Rattle.std.specs.Prelude.{◌≡◌, IfSome};
+ghost use Rattle.tool_script.specs.Commands.{ask_of};
+ghost use Rattle.tool_script.specs.Opened.{IsNoted};
+ghost use Rattle.tool_script.specs.Script.{number_within, options_with, is_leaving};
+
+use crate::command::Ask;
+use crate::reply::Reply;
+use crate::table::Table;
+use part_core::{Kind, MAX_KEYPOS, MAX_PARTS, MAX_SESSIONS, Part};
+use std::alloc::{AllocError, Allocator, Global};
+use tables::Options;
+use term_core::Term;
+
+/// The number of a session that isn't there, or has left.
+const STRANGER_SESSION: u8 = 61;
+
+/// A number from 1 on, up to another.
+fn keypos_in(value: i64) -> Option<u16>
+    ensures { result ≡ number_within 1 65535 value }
+{
+    if value < 1 || i64::from(MAX_KEYPOS) < value {
+        return None;
+    }
+    Some(value as u16)
+}
+
+/// A number from 1 on, up to another.
+fn small_in(value: i64, most: u8) -> Option<u8>
+    ensures { result ≡ number_within 1 most value }
+{
+    if value < 1 || i64::from(most) < value {
+        return None;
+    }
+    Some(value as u8)
+}
+
+/// The options of a table that can be opened, none where the numbers are outside their ranges, an ordered set has more than one part, or
+/// the table may hold more than one object a key.
+pub(crate) fn options_in(
+    name: u64,
+    kind: Kind,
+    keypos: i64,
+    parts: i64,
+    sessions: i64,
+) -> Option<Options>
+    ensures { result ≡ options_with name kind (number_within 1 65535 keypos)
+        (number_within 1 64 parts) (number_within 1 16 sessions) }
+{
+    let keypos = keypos_in(keypos)?;
+    let parts = small_in(parts, MAX_PARTS)?;
+    let sessions = small_in(sessions, MAX_SESSIONS)?;
+    if !kind.is_set() {
+        return None;
+    }
+    if kind.is_ordered() && parts != 1 {
+        return None;
+    }
+    Some(Options {
+        name,
+        kind,
+        keypos,
+        parts,
+        sessions,
+    })
+}
+
+/// Whether a session leaves.
+fn is_leaving<A: Allocator>(ask: &Ask<'_, A>) -> bool
+    ensures { result ≡ is_leaving (ask_of ask.now) }
+{
+    match ask {
+        Ask::Leave => true,
+        Ask::Insert(_) | Ask::InsertNew(_) | Ask::Lookup(_) | Ask::Member(_) | Ask::Delete(_) => {
+            false
+        }
+        Ask::DeleteObject(_) | Ask::Take(_) | Ask::Fix | Ask::Unfix | Ask::First | Ask::Next(_) => {
+            false
+        }
+    }
+}
+
+/// Notes that a session has left, where it leaves.
+fn note_leaving<A: Allocator>(left: &mut Vec<bool, A>, number: u8, leaves: bool)
+    ensures { IsNoted number leaves left.old.items left.new.items }
+{
+    let place = usize::from(number);
+    if !leaves {
+        return;
+    }
+    if place < left.len() {
+        left[place] = true;
+    }
+}
+
+/// The table that is open, and of each session whether it has left.
+#[derive(Drop)]
+pub(crate) struct OpenTable<S: Part<A> + Drop, O: Part<A> + Drop, A: Allocator = Global> {
+    table: Table<S, O, A>,
+    left: Vec<bool, A>,
+}
+
+impl<S: Part<A> + Drop, O: Part<A> + Drop, A: Allocator + Copy> OpenTable<S, O, A> {
+    ghost use Rattle.std.specs.Prelude.{◌≡◌, ◌≢◌, ◌<◌, IfSome, IfOk};
+    ghost use Rattle.tables.specs.Options.{IsOpenable};
+    ghost use Rattle.walks.specs.OneThread.{table_objects};
+    ghost use Rattle.tool_script.specs.Commands.{ask_of};
+    ghost use Rattle.tool_script.specs.Replies.{reply_term};
+    ghost use Rattle.tool_script.specs.Script.{OpenTable as OpenState, session_number, newly_opened};
+    ghost use Rattle.tool_script.specs.Tables.{options_of};
+    ghost use Rattle.tool_script.specs.Opened.{IsOpen, IsSessionAnswered};
+
+    /// The session of a number, where it is there and hasn't left.
+    fn session(&self, number: i64) -> Option<u8>
+        ensures inside { IfSome result (λ n. n < (options_of self.now.table).sessions) }
+        ensures found { (o : OpenState) → IsOpen self.now o → result ≡ session_number o number }
+    {
+        let sessions = self.table.options().sessions;
+        if number < 0 || i64::from(sessions) <= number {
+            return None;
+        }
+        let number = number as u8;
+        match self.left.get(usize::from(number)) {
+            Some(false) => Some(number),
+            _ => None,
+        }
+    }
+
+    /// What a session is replied, by its number.
+    pub(crate) fn answer(&mut self, number: i64, ask: Ask<'_, A>) -> Result<Reply<A>, AllocError>
+        ensures { IfOk result (λ reply.
+            IsSessionAnswered self.old self.new number (ask_of ask.entry) (reply_term reply)) }
+    {
+        let Some(number) = self.session(number) else {
+            return Ok(Reply::Error(STRANGER_SESSION));
+        };
+        let leaves = is_leaving(&ask);
+        let reply = self.table.answer(number, ask)?;
+        note_leaving(&mut self.left, number, leaves);
+        Ok(reply)
+    }
+
+    /// A table that is opened, which no session has left.
+    pub(crate) fn new(alloc: A, options: Options) -> Result<Self, AllocError>
+        requires set { options.kind ≡ Kind.Set → IsOpenable S.serves options }
+        requires ordered { options.kind ≢ Kind.Set → IsOpenable O.serves options }
+        ensures { IfOk result (λ table. IsOpen table (newly_opened options)) }
+    {
+        let table = Table::open(alloc, options)?;
+        let left = vec![in alloc; false; usize::from(options.sessions)]?;
+        Ok(OpenTable { table, left })
+    }
+
+    /// The objects, in the order of a walk; the table is given up.
+    pub(crate) fn close(self, alloc: A) -> Result<Vec<Term<A>, A>, AllocError>
+        ensures { IfOk result (λ objects. (o : OpenState) → IsOpen self o
+            → objects.items ≡ table_objects o.table) }
+    {
+        self.table.objects(alloc)
+    }
+}

@@ -1,0 +1,99 @@
+//! Scripts, from a reader to a writer.
+ghost use Rattle.std.specs.Prelude.{◌≡◌, ◌≤◌, ◌<◌, ◌+◌, IfErr, IfOk, IsTrue, OnOk, OnErr};
+ghost use Rattle.part_core.specs.declared.kind.Kind.TheVariants.{Set, OrderedSet};
+ghost use Rattle.tool_script.specs.Script.{beginning};
+ghost use Rattle.tool_script.specs.Scripts.{HasState};
+ghost use Rattle.tool_script.specs.Input.{OfScript, StopsScript};
+ghost use Rattle.tool_script.specs.Run.{IsPut, WritesReplies, StopsReplies};
+
+use crate::reply::put_reply;
+use crate::script::Script;
+use part_core::Part;
+use std::alloc::{AllocError, Allocator};
+use std::io::{Read, Write};
+use term_core::Term;
+use tool_io::{ToolFault, out_of_memory, read_script, write_if_many, write_lines};
+
+/// Puts the line of the reply to a term at the end.
+fn put_next<S: Part<A> + Drop, O: Part<A> + Drop, A: Allocator + Copy>(
+    script: &mut Script<S, O, A>,
+    term: &Term<A>,
+    lines: &mut Vec<u8, A>,
+) -> Result<(), AllocError>
+    requires set { IsTrue (S.serves Set) }
+    requires ordered { IsTrue (O.serves OrderedSet) }
+    requires count { script.old.count < 18446744073709551615 }
+    ensures count { script.new.count ≤ script.old.count + 1 }
+    ensures ok { OnOk result
+        (IsPut script.old script.new term.now lines.old.items lines.new.items) }
+    ensures err { OnErr result (lines.new.items ≡ lines.old.items) }
+{
+    let reply = script.execute(term)?;
+    put_reply(&reply, lines)
+}
+
+/// Writes the replies to these terms.
+pub(crate) fn run_terms<S: Part<A> + Drop, O: Part<A> + Drop, A: Allocator + Copy, W: Write>(
+    alloc: A,
+    script: &mut Script<S, O, A>,
+    terms: &[Term<A>],
+    writer: &mut W,
+) -> Result<(), ToolFault>
+    requires set { IsTrue (S.serves Set) }
+    requires ordered { IsTrue (O.serves OrderedSet) }
+    requires beginning { HasState script.old beginning }
+    requires count { script.old.count ≡ 0 }
+    ensures ok { OnOk result (WritesReplies terms.now
+        (W.contents writer.old) (W.contents writer.new)) }
+    ensures stopped { IfErr result (StopsReplies terms.now
+        (W.contents writer.old) (W.contents writer.new)) }
+{
+    let mut lines = Vec::new(alloc);
+    for term in terms {
+        match put_next(script, term, &mut lines) {
+            Ok(()) => write_if_many(writer, &mut lines)?,
+            Err(AllocError) => return Err(out_of_memory(writer, &mut lines)),
+        }
+    }
+    write_lines(writer, &mut lines)
+}
+
+/// Reads a script, to the reader's end, and writes the replies to its terms.
+pub(crate) fn run_with<
+    S: Part<A> + Drop,
+    O: Part<A> + Drop,
+    A: Allocator + Copy,
+    R: Read,
+    W: Write,
+>(alloc: A, script: &mut Script<S, O, A>, reader: &mut R, writer: &mut W) -> Result<(), ToolFault>
+    requires set { IsTrue (S.serves Set) }
+    requires ordered { IsTrue (O.serves OrderedSet) }
+    requires beginning { HasState script.old beginning }
+    requires count { script.old.count ≡ 0 }
+    ensures ok { OnOk result (OfScript (R.remaining reader.old) (λ terms.
+        WritesReplies terms (W.contents writer.old) (W.contents writer.new))) }
+    ensures refused { IfErr result (λ fault. StopsScript (R.remaining reader.old)
+        (W.contents writer.old) (W.contents writer.new) fault) }
+{
+    let terms = read_script(alloc, reader)?;
+    run_terms(alloc, script, terms.as_slice(), writer)
+}
+
+/// Reads a script, to the reader's end, and writes the line of the reply to each of its terms: tables of kind `set` are made of parts `S`,
+/// ordered sets of parts `O`. A text that is refused writes nothing; where memory runs out, the lines of the replies to a beginning of the
+/// terms are written.
+pub fn run_script<S: Part<A> + Drop, O: Part<A> + Drop, A: Allocator + Copy, R: Read, W: Write>(
+    alloc: A,
+    reader: &mut R,
+    writer: &mut W,
+) -> Result<(), ToolFault>
+    requires set { IsTrue (S.serves Set) }
+    requires ordered { IsTrue (O.serves OrderedSet) }
+    ensures ok { OnOk result (OfScript (R.remaining reader.old) (λ terms.
+        WritesReplies terms (W.contents writer.old) (W.contents writer.new))) }
+    ensures refused { IfErr result (λ fault. StopsScript (R.remaining reader.old)
+        (W.contents writer.old) (W.contents writer.new) fault) }
+{
+    let mut script: Script<S, O, A> = Script::new(alloc);
+    run_with(alloc, &mut script, reader, writer)
+}

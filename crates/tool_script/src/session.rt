@@ -1,0 +1,82 @@
+//! What a session is replied that asks something of its table.
+ghost use Rattle.std.specs.Prelude.{◌≡◌, IsTrue, IfOk};
+ghost use Rattle.tool_script.specs.Commands.{ask_of};
+ghost use Rattle.tool_script.specs.Replies.{reply_term};
+ghost use Rattle.tool_script.specs.State.{IsAnswered, IsReplied};
+
+use crate::command::Ask;
+use crate::reply::Reply;
+use part_core::Fault;
+use std::alloc::{AllocError, Allocator};
+use tables::{
+    Turns, delete, delete_object, fix, insert, insert_new, lookup, member, release, take, unfix,
+};
+use term_core::{Refused, Term};
+use walks::{first, next};
+
+/// Why an object was refused.
+fn fault_of<A: Allocator>(refused: Refused<Term<A>, Fault>) -> Fault
+    ensures { result ≡ refused.fault }
+{
+    refused.fault
+}
+
+/// The reply to what was done, or refused.
+fn reply_to<A: Allocator>(outcome: Result<(), Fault>) -> Result<Reply<A>, AllocError>
+    ensures { IfOk result (λ reply. IsReplied outcome (reply_term reply)) }
+{
+    match outcome {
+        Ok(()) => Ok(Reply::Flag(true)),
+        Err(Fault::Memory) => Err(AllocError),
+        Err(fault) => Ok(Reply::Error(fault.number())),
+    }
+}
+
+/// What a session is replied.
+pub(crate) fn answer<A: Allocator + Copy, T: Turns<A>>(
+    turns: &mut T,
+    ask: Ask<'_, A>,
+) -> Result<Reply<A>, AllocError>
+    requires ready { T.is_ready turns.old }
+    requires alone { IsTrue (T.home turns.old).alone }
+    ensures same { T.home turns.new ≡ T.home turns.old }
+    ensures answered { IfOk result (λ reply.
+        IsAnswered (T.home turns.old).options (T.home turns.old).number (T.sees turns.old)
+        (T.sees turns.new) (ask_of ask.entry) (reply_term reply)) }
+{
+    match ask {
+        Ask::Insert(object) => {
+            let object = object.copy()?;
+            match insert(turns, object) {
+                Ok(()) => Ok(Reply::Flag(true)),
+                Err(refused) => reply_to(Err(fault_of(refused))),
+            }
+        }
+        Ask::InsertNew(object) => {
+            let object = object.copy()?;
+            match insert_new(turns, object) {
+                Ok(fresh) => Ok(Reply::Flag(fresh)),
+                Err(refused) => reply_to(Err(fault_of(refused))),
+            }
+        }
+        Ask::Lookup(key) => Ok(Reply::Objects(lookup(turns, key)?)),
+        Ask::Member(key) => Ok(Reply::Flag(member(turns, key))),
+        Ask::Delete(key) => {
+            delete(turns, key);
+            Ok(Reply::Flag(true))
+        }
+        Ask::DeleteObject(object) => reply_to(delete_object(turns, object)),
+        Ask::Take(key) => Ok(Reply::Objects(take(turns, key)?)),
+        Ask::Fix => reply_to(fix(turns)),
+        Ask::Unfix => reply_to(unfix(turns)),
+        Ask::Leave => {
+            release(turns);
+            Ok(Reply::Flag(true))
+        }
+        Ask::First => Ok(Reply::Key(first(turns)?)),
+        Ask::Next(key) => match next(turns, key) {
+            Ok(next) => Ok(Reply::Key(next)),
+            Err(fault) => reply_to(Err(fault)),
+        },
+    }
+}

@@ -1,0 +1,5 @@
+pub mod ShapeLemmas
+pub mod KeyLemmas
+pub mod FrameLemmas
+pub mod LeavingLemmas
+pub mod FaultLemmas

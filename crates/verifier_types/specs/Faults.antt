@@ -1,0 +1,75 @@
+-- What a fault says of an instruction in its state: the first of its checks that fails.
+use Rattle.std.specs.Prelude.{ℕ, suc, ◌≡◌, ◌<◌, ◌≤◌, ◌⊎◌, IsTrue, Some, None, length, false}
+use Rattle.mcode.specs.Instr.{target_of, goes_on}
+use Rattle.mcode.specs.Program.{Program, frame_at}
+use Rattle.mcode.specs.declared.instr.Instr.{Instr}
+use Rattle.verifier_types.specs.Shape.{Shape}
+use Rattle.verifier_types.specs.Effect.{needs, IsConstantFit, kinds_fit, slot_fits, left_shape}
+use Rattle.verifier_types.specs.Fit.{most_places, IsTargetFit, IsJumpFit}
+use Rattle.verifier_types.specs.declared.fault.Fault.{Fault}
+use Rattle.verifier_types.specs.declared.fault.Fault.TheVariants as fault
+
+-- the instruction may jump to this one
+abbrev pub JumpsTo : Instr → ℕ → Type 0
+JumpsTo i target = target_of i ≡ Some target
+
+-- it may jump to one inside the code and after it that has no frame
+pub record IsUnframed (p : Program) (pc : ℕ) (i : Instr) : Type 0 where
+  pub target : ℕ
+  pub jumps : JumpsTo i target
+  pub inside : target < length p.instructions
+  pub ahead : pc < target
+  pub bare : frame_at p.frames target ≡ None
+
+-- the target and the constant are what they have to be
+pub record IsNamingFit (p : Program) (pc : ℕ) (i : Instr) : Type 0 where
+  pub target : IsTargetFit p pc i
+  pub constant : IsConstantFit p i
+
+-- and there are as many operands as are needed
+pub record AreOperandsFit (p : Program) (pc : ℕ) (i : Instr) (s : Shape) : Type 0 where
+  pub naming : IsNamingFit p pc i
+  pub operands : needs p i ≤ length s.kinds
+
+-- and they are of the kinds that are needed
+pub record AreKindsFit (p : Program) (pc : ℕ) (i : Instr) (s : Shape) : Type 0 where
+  pub operands : AreOperandsFit p pc i s
+  pub kinds : IsTrue (kinds_fit i s.kinds)
+
+-- and the slot is what it has to be
+pub record IsSlotFit (p : Program) (pc : ℕ) (i : Instr) (s : Shape) : Type 0 where
+  pub kinds : AreKindsFit p pc i s
+  pub slot : IsTrue (slot_fits p i s.bound)
+
+-- and what is left isn't too deep
+pub record IsDepthFit (p : Program) (pc : ℕ) (i : Instr) (s : Shape) : Type 0 where
+  pub slot : IsSlotFit p pc i s
+  pub depth : length (left_shape p i s).kinds ≤ most_places
+
+-- and the jump's state is at or below the frame
+pub record IsLeavingFit (p : Program) (pc : ℕ) (i : Instr) (s : Shape) : Type 0 where
+  pub depth : IsDepthFit p pc i s
+  pub jump : IsJumpFit p i s
+
+-- What a fault says of the instruction at pc in its state: the first in this order that isn't what it has to
+-- be is its target, constant, number of operands, their kinds, slot, depth, jump, or that it goes on though
+-- it is the last.
+abbrev pub IsFaultIn : Program → ℕ → Instr → Shape → Fault → Type 0
+IsFaultIn p pc i s fault.Memory = ⊥
+IsFaultIn p pc i s (fault.JumpOutside at) =
+    (at ≡ pc) × ((target : ℕ) × JumpsTo i target × (length p.instructions ≤ target))
+IsFaultIn p pc i s (fault.JumpBack at) =
+    (at ≡ pc) × ((target : ℕ) × JumpsTo i target × (target < length p.instructions) × (target ≤ pc))
+IsFaultIn p pc i s (fault.Frame at) =
+    (at ≡ pc) × (IsUnframed p pc i ⊎ (IsDepthFit p pc i s × ¬ IsJumpFit p i s))
+IsFaultIn p pc i s (fault.Constant at) = (at ≡ pc) × IsTargetFit p pc i × ¬ IsConstantFit p i
+IsFaultIn p pc i s (fault.Underflow at) =
+    (at ≡ pc) × IsNamingFit p pc i × (length s.kinds < needs p i)
+IsFaultIn p pc i s (fault.Kind at) =
+    (at ≡ pc) × AreOperandsFit p pc i s × (kinds_fit i s.kinds ≡ false)
+IsFaultIn p pc i s (fault.Unbound at) =
+    (at ≡ pc) × AreKindsFit p pc i s × (slot_fits p i s.bound ≡ false)
+IsFaultIn p pc i s (fault.Depth at) =
+    (at ≡ pc) × IsSlotFit p pc i s × (most_places < length (left_shape p i s).kinds)
+IsFaultIn p pc i s (fault.FallsOff at) =
+    (at ≡ pc) × IsLeavingFit p pc i s × IsTrue (goes_on i) × (length p.instructions ≤ suc pc)

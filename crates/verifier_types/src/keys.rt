@@ -1,0 +1,54 @@
+//! Constants that are lists of keys.
+ghost use Rattle.std.specs.Prelude.{◌≡◌, map, IfOk};
+ghost use Rattle.mcode.specs.Machine.{map_keys};
+ghost use Rattle.mcode.specs.Program.{Program};
+ghost use Rattle.verifier_types.specs.Effect.{key_count};
+ghost use Rattle.verifier_types.specs.Needed.{keys_counted, AreCounts};
+
+use mcode::Code;
+use std::alloc::{AllocError, Allocator};
+use term_build::are_apart;
+use term_core::Term;
+
+/// How many keys a term has that is a proper list of terms of which no two are the same.
+fn counted<A: Allocator + Copy>(alloc: A, term: &Term<A>) -> Result<Option<usize>, AllocError>
+    ensures { IfOk result (λ count. count ≡ keys_counted term.now) }
+{
+    let Some(elements) = term.proper_elements() else {
+        return Ok(None);
+    };
+    if are_apart(alloc, elements)? {
+        Ok(Some(elements.len()))
+    } else {
+        Ok(None)
+    }
+}
+
+/// The same for each of the constants.
+pub fn key_counts<A: Allocator + Copy>(
+    alloc: A,
+    constants: &[Term<A>],
+) -> Result<Vec<Option<usize>, A>, AllocError>
+    ensures { IfOk result (λ counts. counts.items ≡ map keys_counted constants.now) }
+{
+    let mut counts = Vec::with_capacity(alloc, constants.len())?;
+    for constant in constants {
+        counts.push(counted(alloc, constant)?)?;
+    }
+    Ok(counts)
+}
+
+/// The same for the constant of a number, where it is there.
+pub(crate) fn key_count<A: Allocator>(
+    code: &Code<A>,
+    counts: &[Option<usize>],
+    constant: u16,
+) -> Option<usize>
+    requires { AreCounts code.now counts.now }
+    ensures { result ≡ key_count code.now constant }
+{
+    match counts.get(usize::from(constant)) {
+        Some(count) => *count,
+        None => None,
+    }
+}
