@@ -1,9 +1,10 @@
 """The tables of docs/GATE.md that scripts keep: each stands between two comments, and has a row for each crate."""
+import hashlib
 import os
-import subprocess
 
 TOP = os.path.dirname(os.path.dirname(os.path.abspath(__file__)))
 PAGE = f"{TOP}/docs/GATE.md"
+TRIED = "edits tried"
 
 
 def read():
@@ -30,20 +31,55 @@ def replace(table, lines):
     write(before + "".join(f"{line}\n" for line in lines) + behind)
 
 
-def commit():
-    """The last commit, as a short number; a tree that differs from it in more than the page is named so."""
-    number = git("rev-parse", "--short", "HEAD").strip()
-    changed = [it for it in git("status", "--porcelain").splitlines() if not it.endswith("docs/GATE.md")]
-    return f"{number} and changes" if changed else number
+def crates():
+    """Each crate of crates.txt with what it names, in that order."""
+    with open(f"{TOP}/crates.txt", encoding="utf-8") as file:
+        lines = [line.split("#")[0].split(":") for line in file if ":" in line.split("#")[0]]
+    return {head.split()[0]: tail.split() for head, tail in lines}
 
 
-def git(*words):
-    return subprocess.run(["git", *words], cwd=TOP, stdout=subprocess.PIPE, text=True, check=True).stdout
+def below(name, named):
+    """The crates of the repository that a crate stands on, whether it names them or not."""
+    found, waiting = set(), [name]
+    while waiting:
+        for it in named[waiting.pop()]:
+            if it in named and it not in found:
+                found.add(it)
+                waiting.append(it)
+    return sorted(found)
+
+
+def files_of(name, folder):
+    """The files of a crate's folder, by their paths in the crate."""
+    root = f"{TOP}/crates/{name}"
+    found = [f"{at}/{file}" for at, _, files in os.walk(f"{root}/{folder}") for file in files]
+    return sorted(os.path.relpath(it, root) for it in found)
+
+
+def digest(name, named):
+    """A sum of what the crate's further edits depend on: the edits, its sources and definitions, and those of the crates below."""
+    total = hashlib.sha256()
+    for crate, folders in [(name, ["more-edits", "src", "specs"]), *((it, ["src", "specs"]) for it in below(name, named))]:
+        for file in [it for folder in folders for it in files_of(crate, folder)]:
+            with open(f"{TOP}/crates/{crate}/{file}", "rb") as content:
+                total.update(repr((crate, file, content.read())).encode())
+    return total.hexdigest()[:12]
+
+
+def rows():
+    """The head of the table of tried edits, and its rows by crate."""
+    _, lines, _ = parts(read(), TRIED)
+    return lines[:2], {line.split("`")[1]: line for line in lines[2:]}
 
 
 def record_edits(name, count, result):
-    """Writes the row that says when a crate's further edits were last tried."""
-    _, lines, _ = parts(read(), "edits tried")
-    row = f"| `{name}` | {commit()} | {count} | {result} |"
-    head, rows = lines[:2], [it for it in lines[2:] if not it.startswith(f"| `{name}` |")]
-    replace("edits tried", head + sorted(rows + [row]))
+    """Writes the row that says over what a crate's further edits were last tried."""
+    head, known = rows()
+    known[name] = f"| `{name}` | {count} | {result} | {digest(name, crates())} |"
+    replace(TRIED, head + [known[it] for it in sorted(known)])
+
+
+def stale(names):
+    """Those of the crates whose further edits, or what they depend on, differ from what they were last tried over."""
+    named, (_, known) = crates(), rows()
+    return [it for it in names if not known.get(it, "").endswith(f"| {digest(it, named)} |")]
