@@ -101,14 +101,12 @@ impl<A: Allocator + Copy> Assembler<A> {
         ensures builder { IfOk result (λ assembler. assembler.builder ≡ empty_program slots) }
         ensures refused { OnErr result (most_slots < slots) }
     {
-        match Builder::new(alloc, slots) {
-            Ok(builder) => Ok(Assembler {
-                alloc,
-                pool: Pool::new(alloc),
-                builder,
-            }),
-            Err(fault) => Err(fault),
-        }
+        let builder = Builder::new(alloc, slots)?;
+        Ok(Assembler {
+            alloc,
+            pool: Pool::new(alloc),
+            builder,
+        })
     }
 
     /// Adds a line of a block with these slots.
@@ -127,19 +125,10 @@ impl<A: Allocator + Copy> Assembler<A> {
             ⊎ IsLineTooMuch self.old.pool self.old.builder slots.now place.behind place.pc line) }
     {
         let Line { op, label } = line;
-        let instr = match instruction(&mut self.pool, op, place) {
-            Ok(instr) => instr,
-            Err(fault) => return Err(fault),
-        };
-        match self.builder.instr(instr) {
-            Ok(_) => {}
-            Err(fault) => return Err(fault),
-        }
+        let instr = instruction(&mut self.pool, op, place)?;
+        let _pc = self.builder.instr(instr)?;
         let alloc = self.alloc;
-        match add_label(alloc, &mut self.builder, slots, place.pc + 1, label) {
-            Ok(()) => Ok(()),
-            Err(fault) => Err(fault),
-        }
+        add_label(alloc, &mut self.builder, slots, place.pc + 1, label)
     }
 
     /// Adds lines that stand at the end of a block with these slots.
@@ -155,10 +144,7 @@ impl<A: Allocator + Copy> Assembler<A> {
         let mut place = place;
         let mut lines = lines;
         while let Some(line) = lines.pop_front() {
-            match self.add_line(slots, place, line) {
-                Ok(()) => {}
-                Err(fault) => return Err(fault),
-            }
+            self.add_line(slots, place, line)?;
             place.pc += 1;
         }
         Ok(())
@@ -177,10 +163,8 @@ impl<A: Allocator + Copy> Assembler<A> {
         let Some(behind) = number_behind(pc, lines.len()) else {
             return Err(Fault::Limit);
         };
-        match self.add_lines(&slots, Place { pc, behind }, lines) {
-            Ok(()) => Ok(behind),
-            Err(fault) => Err(fault),
-        }
+        self.add_lines(&slots, Place { pc, behind }, lines)?;
+        Ok(behind)
     }
 
     /// Adds the blocks, one behind the other.
@@ -195,10 +179,7 @@ impl<A: Allocator + Copy> Assembler<A> {
         left.reverse();
         let mut pc = 0;
         while let Some(block) = left.pop() {
-            match self.add_block(pc, block) {
-                Ok(behind) => pc = behind,
-                Err(fault) => return Err(fault),
-            }
+            pc = self.add_block(pc, block)?;
         }
         Ok(())
     }
@@ -228,10 +209,7 @@ fn with_constants<A: Allocator>(
     let mut left = terms;
     left.reverse();
     while let Some(term) = left.pop() {
-        match add_constant(&mut builder, term) {
-            Ok(()) => {}
-            Err(fault) => return Err(fault),
-        }
+        add_constant(&mut builder, term)?;
     }
     Ok(builder.finish())
 }
@@ -248,16 +226,7 @@ pub fn assemble<A: Allocator + Copy>(
     ensures refused { IfErr result (λ fault. (fault ≡ Memory)
         ⊎ (¬ IsCode (assembled slots blocks.items))) }
 {
-    let mut assembler = match Assembler::empty(alloc, slots) {
-        Ok(assembler) => assembler,
-        Err(fault) => return Err(fault),
-    };
-    match assembler.add_blocks(blocks) {
-        Ok(()) => {}
-        Err(fault) => return Err(fault),
-    }
-    match with_constants(assembler.builder, assembler.pool.into_terms()) {
-        Ok(code) => Ok(code),
-        Err(fault) => Err(fault),
-    }
+    let mut assembler = Assembler::empty(alloc, slots)?;
+    assembler.add_blocks(blocks)?;
+    with_constants(assembler.builder, assembler.pool.into_terms())
 }

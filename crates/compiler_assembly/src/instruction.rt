@@ -110,8 +110,5 @@ pub(crate) fn instruction<A: Allocator + Copy>(
             None => return Err(Fault::Limit),
         },
     };
-    match instruction_to(pool, op, to) {
-        Ok(instr) => Ok(instr),
-        Err(fault) => Err(fault),
-    }
+    instruction_to(pool, op, to)
 }

@@ -137,10 +137,7 @@ impl<A: Allocator + Copy> Pool<A> {
         if let Some(number) = self.number(&term) {
             return Ok(number);
         }
-        match self.add(term) {
-            Ok(number) => Ok(number),
-            Err(fault) => Err(fault),
-        }
+        self.add(term)
     }
 
     /// The constants.

@@ -7,7 +7,7 @@ ghost use Rattle.mspec_syntax.specs.Sound.{IsSoundPattern};
 ghost use Rattle.compiler_patterns.specs.Patterns.{head_lines};
 
 use crate::draft::Draft;
-use crate::slots::Slots;
+use crate::slots::VariableSlots;
 use crate::write::{is_anything, write_pattern};
 use compiler_assembly::{Lines, Op};
 use mspec_syntax::{Pattern, Variables};
@@ -33,7 +33,7 @@ pub fn write_head<A: Allocator + Copy>(
     }
     let mut draft = Draft::new(alloc, slots.len())?;
     draft.put(Op::Load)?;
-    let writer = Slots::new(alloc, slots);
+    let writer = VariableSlots::new(alloc, slots);
     write_pattern(&writer, head, &mut draft)?;
     draft.prepend_to(lines)
 }

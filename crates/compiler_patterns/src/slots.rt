@@ -7,12 +7,12 @@ use std::marker::Model;
 
 /// The variables of a specification, of which each has the slot of its rank, and the allocator of their code.
 #[derive(Drop)]
-pub struct Slots<'s, A: Allocator> {
+pub struct VariableSlots<'s, A: Allocator> {
     alloc: A,
     numbers: &'s Variables<A>,
 }
 
-impl<'s, A: Allocator> Model for Slots<'s, A> {
+impl<'s, A: Allocator> Model for VariableSlots<'s, A> {
     ghost use Rattle.std.specs.Prelude.{◌≤◌, ℕ, List, length};
     ghost use Rattle.mcode.specs.Program.{most_slots};
 
@@ -23,7 +23,7 @@ impl<'s, A: Allocator> Model for Slots<'s, A> {
     ghost invariant = { λ s. length s.numbers.now ≤ most_slots };
 }
 
-impl<'s, A: Allocator + Copy> Slots<'s, A> {
+impl<'s, A: Allocator + Copy> VariableSlots<'s, A> {
     ghost use Rattle.std.specs.Prelude.{◌≡◌, ◌≤◌, ◌∷◌, [], length, true, OnOk};
     ghost use Rattle.mcode.specs.Program.{most_slots};
     ghost use Rattle.mspec_syntax.specs.Grammar.{is_among};
@@ -36,7 +36,7 @@ impl<'s, A: Allocator + Copy> Slots<'s, A> {
         requires { length numbers.now ≤ most_slots }
         ensures { result ≡ numbers.now }
     {
-        Slots { alloc, numbers }
+        VariableSlots { alloc, numbers }
     }
 
     /// The allocator of code.

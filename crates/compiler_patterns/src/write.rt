@@ -12,7 +12,7 @@ ghost use Rattle.compiler_patterns.specs.Writable.{is_anything, IsWritable, AreW
 
 use crate::draft::Draft;
 use crate::own::{all_spell, open_elements, own_list, own_tuple};
-use crate::slots::Slots;
+use crate::slots::VariableSlots;
 use compiler_assembly::{Op, Target};
 use mspec_syntax::{Pattern, PatternKind};
 use std::alloc::{AllocError, Allocator};
@@ -35,7 +35,7 @@ pub(crate) fn is_anything<A: Allocator>(pattern: &Pattern<A>) -> bool
 /// Puts the lines of a pattern.
 #[cycle(write)]
 pub(crate) fn write_pattern<A: Allocator + Copy>(
-    slots: &Slots<A>,
+    slots: &VariableSlots<A>,
     pattern: &Pattern<A>,
     draft: &mut Draft<A>,
 ) -> Result<(), AllocError>
@@ -56,7 +56,7 @@ pub(crate) fn write_pattern<A: Allocator + Copy>(
 /// Puts the lines of a tuple.
 #[cycle(write)]
 fn write_tuple<A: Allocator + Copy>(
-    slots: &Slots<A>,
+    slots: &VariableSlots<A>,
     elements: &[Pattern<A>],
     draft: &mut Draft<A>,
 ) -> Result<(), AllocError>
@@ -78,7 +78,7 @@ fn write_tuple<A: Allocator + Copy>(
 /// Puts the lines of a tuple's elements; the tuple stays.
 #[cycle(write)]
 fn write_elements<A: Allocator + Copy>(
-    slots: &Slots<A>,
+    slots: &VariableSlots<A>,
     elements: &[Pattern<A>],
     draft: &mut Draft<A>,
 ) -> Result<(), AllocError>
@@ -96,7 +96,7 @@ fn write_elements<A: Allocator + Copy>(
 /// Puts the lines of a tuple's element of this number, none for `'_'`; the tuple stays.
 #[cycle(write)]
 fn write_element<A: Allocator + Copy>(
-    slots: &Slots<A>,
+    slots: &VariableSlots<A>,
     number: u16,
     element: &Pattern<A>,
     draft: &mut Draft<A>,
@@ -119,7 +119,7 @@ fn write_element<A: Allocator + Copy>(
 /// and of that rest.
 #[cycle(write)]
 fn write_list<A: Allocator + Copy>(
-    slots: &Slots<A>,
+    slots: &VariableSlots<A>,
     elements: &[Pattern<A>],
     tail: &Option<Box<Pattern<A>, A>>,
     draft: &mut Draft<A>,
@@ -146,7 +146,7 @@ fn write_list<A: Allocator + Copy>(
 /// Puts the lines of a list's head; the list stays.
 #[cycle(write)]
 fn write_cell<A: Allocator + Copy>(
-    slots: &Slots<A>,
+    slots: &VariableSlots<A>,
     head: &Pattern<A>,
     draft: &mut Draft<A>,
 ) -> Result<(), AllocError>
@@ -165,7 +165,7 @@ fn write_cell<A: Allocator + Copy>(
 /// Puts the lines of a list's tail, which is `[]` where there is none.
 #[cycle(write)]
 fn write_tail<A: Allocator + Copy>(
-    slots: &Slots<A>,
+    slots: &VariableSlots<A>,
     tail: &Option<Box<Pattern<A>, A>>,
     draft: &mut Draft<A>,
 ) -> Result<(), AllocError>
@@ -183,7 +183,7 @@ fn write_tail<A: Allocator + Copy>(
 /// Puts the lines of a map.
 #[cycle(write)]
 fn write_map<A: Allocator + Copy>(
-    slots: &Slots<A>,
+    slots: &VariableSlots<A>,
     fields: &[(Term<A>, Pattern<A>)],
     draft: &mut Draft<A>,
 ) -> Result<(), AllocError>
@@ -200,7 +200,7 @@ fn write_map<A: Allocator + Copy>(
 /// Puts the lines of the values of a map's keys; the map stays.
 #[cycle(write)]
 fn write_fields<A: Allocator + Copy>(
-    slots: &Slots<A>,
+    slots: &VariableSlots<A>,
     fields: &[(Term<A>, Pattern<A>)],
     draft: &mut Draft<A>,
 ) -> Result<(), AllocError>
@@ -219,7 +219,7 @@ fn write_fields<A: Allocator + Copy>(
 /// Puts the lines of the value of a map's key; the map stays.
 #[cycle(write)]
 fn write_field<A: Allocator + Copy>(
-    slots: &Slots<A>,
+    slots: &VariableSlots<A>,
     key: &Term<A>,
     value: &Pattern<A>,
     draft: &mut Draft<A>,

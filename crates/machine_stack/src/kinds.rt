@@ -7,7 +7,8 @@ ghost use Rattle.mcode.specs.declared.kind.Kind.TheVariants as kind;
 
 use mcode::Kind;
 use std::alloc::Allocator;
-use term_operand::{Operand, Value, View};
+use term_core::View;
+use term_operand::{Operand, Value};
 
 /// Whether an operand is a tuple of so many elements.
 #[inline(always)]

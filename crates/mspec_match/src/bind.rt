@@ -11,8 +11,8 @@ ghost use Rattle.mspec_match.specs.Slots.{seen, Answers, BindsFront, NeverFitsFr
 use mspec_syntax::{Pattern, PatternKind, Variables};
 use prims::find_value;
 use std::alloc::Allocator;
-use term_core::Term;
-use term_operand::{Operand, View, compare};
+use term_core::{Term, View};
+use term_operand::{Operand, compare};
 
 /// The slots of a head's variables, in rising order of their numbers.
 pub type Slot<'a, A> = Option<Operand<'a, A>>;

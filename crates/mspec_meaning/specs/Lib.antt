@@ -1,4 +1,4 @@
-pub mod Scope
+pub mod Environment
 pub mod Made
 pub mod Called
 pub mod Decided

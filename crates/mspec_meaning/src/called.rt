@@ -1,11 +1,11 @@
 //! Calls of functions over values.
-use crate::scope::Scope;
+use crate::environment::Environment;
 use prims::call_values;
 use prims_table::Primitive;
 use std::alloc::{AllocError, Allocator};
 use term_operand::Value;
 
-impl<'s, 'a, A: Allocator + Copy> Scope<'s, 'a, A> {
+impl<'s, 'a, A: Allocator + Copy> Environment<'s, 'a, A> {
     ghost use Rattle.std.specs.Prelude.{◌≡◌, map, IfOk};
     ghost use Rattle.std.specs.Option.{option_map};
     ghost use Rattle.term_operand.specs.Value.{value_datum};

@@ -4,8 +4,8 @@ ghost use Rattle.mspec_meaning.specs.Meaning.{AllHold, IsApplicable, Applies, Me
 ghost use Rattle.mspec_meaning.specs.Applied.{AnswersBy};
 ghost use Rattle.mspec_syntax.specs.declared.mode.Mode.TheVariants.{Condition, Body};
 
+use crate::environment::Environment;
 use crate::made::into_term;
-use crate::scope::Scope;
 use crate::value::value;
 use mspec_match::matched;
 use mspec_syntax::{Clause, Expression, Mode, Spec};
@@ -23,16 +23,16 @@ enum Applied<A: Allocator> {
 
 /// Whether all conditions have the value `true`.
 fn all_hold<'a, A: Allocator + Copy>(
-    scope: &Scope<'_, 'a, A>,
+    environment: &Environment<'_, 'a, A>,
     conditions: &'a [Expression<A>],
 ) -> Result<bool, AllocError>
-    requires { scope.now.mode ≡ Condition }
+    requires { environment.now.mode ≡ Condition }
     ensures { IfOk result (λ holds. MatchBool holds
-        (AllHold conditions.now scope.now.substitution scope.now.object)
-        (AllHold conditions.now scope.now.substitution scope.now.object → ⊥)) }
+        (AllHold conditions.now environment.now.substitution environment.now.object)
+        (AllHold conditions.now environment.now.substitution environment.now.object → ⊥)) }
 {
     for condition in conditions {
-        match value(scope, condition)? {
+        match value(environment, condition)? {
             Some(answer) => {
                 if !answer.is_true() {
                     return Ok(false);
@@ -46,18 +46,18 @@ fn all_hold<'a, A: Allocator + Copy>(
 
 /// The value of the last expression of a body.
 fn body_answer<'a, A: Allocator + Copy>(
-    scope: &Scope<'_, 'a, A>,
+    environment: &Environment<'_, 'a, A>,
     body: &'a [Expression<A>],
 ) -> Result<Option<Term<A>>, AllocError>
-    requires { scope.now.mode ≡ Body }
-    ensures { IfOk result (λ answer. answer ≡ body_value body.now scope.now.substitution
-        scope.now.object) }
+    requires { environment.now.mode ≡ Body }
+    ensures { IfOk result (λ answer. answer ≡ body_value body.now environment.now.substitution
+        environment.now.object) }
 {
     let Some(last) = body.last() else {
         return Ok(None);
     };
-    let value = value(scope, last)?;
-    into_term(scope.alloc(), value)
+    let value = value(environment, last)?;
+    into_term(environment.alloc(), value)
 }
 
 /// What a clause answers on an object, where it applies.
@@ -74,11 +74,11 @@ fn clause_answer<A: Allocator + Copy>(
     let slots = slots.as_slice();
     let variables = clause.variables();
     let heap = &alloc;
-    let conditions = Scope::new(heap, Mode::Condition, variables, slots, object);
+    let conditions = Environment::new(heap, Mode::Condition, variables, slots, object);
     if !all_hold(&conditions, clause.conditions())? {
         return Ok(Applied::Not);
     }
-    let body = Scope::new(heap, Mode::Body, variables, slots, object);
+    let body = Environment::new(heap, Mode::Body, variables, slots, object);
     Ok(Applied::Answers(body_answer(&body, clause.body())?))
 }
 

@@ -1,5 +1,5 @@
 //! Arguments of `andalso` and `orelse`.
-use crate::scope::Scope;
+use crate::environment::Environment;
 use std::alloc::{AllocError, Allocator};
 use term_operand::Value;
 
@@ -12,7 +12,7 @@ pub enum Verdict<'a, 's, A: Allocator> {
     Ends(Option<Value<'a, 's, A>>),
 }
 
-impl<'s, 'a, A: Allocator + Copy> Scope<'s, 'a, A> {
+impl<'s, 'a, A: Allocator + Copy> Environment<'s, 'a, A> {
     ghost use Rattle.std.specs.Prelude.{◌≡◌, Option, IfOk};
     ghost use Rattle.std.specs.Option.{option_map};
     ghost use Rattle.term_core.specs.Datum.{Datum};

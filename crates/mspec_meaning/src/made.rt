@@ -3,7 +3,7 @@ ghost use Rattle.std.specs.Prelude.{◌≡◌, ◌++◌, ◌∷◌, [], IfOk, On
 ghost use Rattle.std.specs.Option.{option_map};
 ghost use Rattle.term_operand.specs.Value.{value_datum};
 
-use crate::scope::Scope;
+use crate::environment::Environment;
 use mspec_syntax::{Mode, exit_term};
 use std::alloc::{AllocError, Allocator};
 use term_build::{make_list, make_map, make_tuple};
@@ -52,7 +52,7 @@ pub fn push_entry<A: Allocator + Copy>(
     Ok(())
 }
 
-impl<'s, 'a, A: Allocator + Copy> Scope<'s, 'a, A> {
+impl<'s, 'a, A: Allocator + Copy> Environment<'s, 'a, A> {
     ghost use Rattle.std.specs.Prelude.{◌≡◌, Some, IfOk, IfSome};
     ghost use Rattle.std.specs.Option.{option_map};
     ghost use Rattle.term_operand.specs.Value.{value_datum};

@@ -23,13 +23,13 @@ element_count-cells (d ∷ ds) tail = ap (option_map suc) (element_count-cells d
     one_more None = refl
     one_more (Some n) = ap Some (omega arith)
 
--- how many elements a list has behind its first, and that there is no number where it goes on in a tail
-pub length_of-proper : (head : Datum) (ds : List Datum) (t : Option Datum) (d : Datum) → t ≡ None → cons head (cells ds (tail_of t)) ≡ d → length_of d ≡ fitting (pos (length ds + 1))
-length_of-proper head ds None d none is =
+-- how many elements a proper list has, and that there is no number where it goes on in a tail
+pub length_of-proper : (ds : List Datum) (t : Option Datum) (d : Datum) → t ≡ None → cells ds (tail_of t) ≡ d → length_of d ≡ fitting (pos (length ds))
+length_of-proper ds None d none is =
     ap length_of (sym is)
-    ∙ ap (λ o. option_and_then (λ n. fitting (pos n)) (option_map suc o)) (element_count-cells ds nil)
+    ∙ ap (λ o. option_and_then (λ n. fitting (pos n)) o) (element_count-cells ds nil)
     ∙ ap (λ n. fitting (pos n)) (omega arith)
-length_of-proper head ds (Some x) d some is = absurd (cc)
+length_of-proper ds (Some x) d some is = absurd (cc)
 
 no_count : (d : Datum) → IsNoList d → element_count d ≡ None
 no_count (integer z) h = refl
@@ -40,9 +40,9 @@ no_count nil h = absurd h
 no_count (cons head tail) h = absurd h
 no_count (binary bs) h = refl
 
-pub length_of-improper : (head : Datum) (ds : List Datum) (tail d : Datum) → IsNoList tail → cons head (cells ds tail) ≡ d → None ≡ length_of d
-length_of-improper head ds tail d h is =
-    sym (ap (λ o. option_and_then (λ n. fitting (pos n)) (option_map suc o)) (element_count-cells ds tail ∙ ap (option_map (λ n. length ds + n)) (no_count tail h)))
+pub length_of-improper : (ds : List Datum) (tail d : Datum) → IsNoList tail → cells ds tail ≡ d → None ≡ length_of d
+length_of-improper ds tail d h is =
+    sym (ap (λ o. option_and_then (λ n. fitting (pos n)) o) (element_count-cells ds tail ∙ ap (option_map (λ n. length ds + n)) (no_count tail h)))
     ∙ ap length_of is
 
 -- what `get` gives is the element with so many before it

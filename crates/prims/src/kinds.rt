@@ -5,7 +5,8 @@ ghost use Rattle.prims.specs.Kinds.{test_of};
 
 use prims_table::Test;
 use std::alloc::Allocator;
-use term_operand::{Operand, View};
+use term_core::View;
+use term_operand::Operand;
 
 /// Whether the operand is of the kind.
 pub(crate) fn is_of_kind<A: Allocator>(test: Test, operand: Operand<'_, A>) -> bool

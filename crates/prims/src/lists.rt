@@ -5,15 +5,15 @@ ghost use Rattle.term_operand.specs.Operand.{operand_datum};
 ghost use Rattle.prims.specs.Lists.{head_of, tail_behind, length_of};
 
 use std::alloc::Allocator;
-use term_core::Term;
-use term_operand::{Operand, View};
+use term_core::{Term, View};
+use term_operand::Operand;
 
 /// `hd`
 pub(crate) fn head<'a, A: Allocator>(list: Operand<'a, A>) -> Option<&'a Term<A>>
     ensures { option_copied result ≡ head_of (operand_datum list.entry) }
 {
     match list.view() {
-        View::List(head, _, _) => Some(head),
+        View::List([head, ..], _tail) => Some(head),
         _ => None,
     }
 }
@@ -34,8 +34,8 @@ pub(crate) fn length<A: Allocator>(list: Operand<'_, A>) -> Option<i64>
 {
     match list.view() {
         View::Nil => Some(0),
-        View::List(_, rest, None) => i64::try_from(rest.len() + 1).ok(),
-        View::List(_, _, Some(_)) => None,
+        View::List(elements, None) => i64::try_from(elements.len()).ok(),
+        View::List(_elements, Some(_tail)) => None,
         _ => None,
     }
 }

@@ -8,8 +8,8 @@ ghost use Rattle.prims.specs.Sizes.{size_of};
 use crate::tuples::element_count;
 use prims_table::SizeFunction;
 use std::alloc::Allocator;
-use term_core::{MAX_BINARY, MAX_TUPLE, Term};
-use term_operand::{Operand, View};
+use term_core::{MAX_BINARY, MAX_TUPLE, Term, View};
+use term_operand::Operand;
 
 /// How many bytes a binary has.
 fn byte_count(bytes: &[u8]) -> i64

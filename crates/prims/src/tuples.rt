@@ -7,8 +7,8 @@ ghost use Rattle.term_operand.specs.Operand.{operand_datum};
 ghost use Rattle.prims.specs.Tuples.{element_of, index_of, begins_with, is_named, is_record_of};
 
 use std::alloc::Allocator;
-use term_core::{MAX_TUPLE, Term};
-use term_operand::{Operand, View};
+use term_core::{MAX_TUPLE, Term, View};
+use term_operand::Operand;
 
 /// How many elements a tuple has.
 pub(crate) fn element_count<A: Allocator>(elements: &[Term<A>]) -> i64

@@ -8,29 +8,16 @@ ghost use Rattle.term_core.specs.Order.{rank as rank_of, datum_cmp, items_cmp, k
 ghost use Rattle.term_core.specs.Term.{tail_of, IsTail};
 
 use crate::term::Term;
-use crate::view::View;
+use crate::view::{LIST_RANK, NIL_RANK, View};
 use std::alloc::Allocator;
 use std::cmp::Ordering;
-
-/// Where `[]` stands among the kinds.
-const NIL_RANK: u8 = 4;
-/// Where the other lists stand.
-const LIST_RANK: u8 = 5;
 
 /// Where a term's kind stands among the kinds.
 #[inline(always)]
 fn rank<A: Allocator>(term: &Term<A>) -> u8
     ensures { result ≡ rank_of term.now }
 {
-    match term.view() {
-        View::Integer(_) => 0,
-        View::Atom(_) => 1,
-        View::Tuple(_) => 2,
-        View::Map(_) => 3,
-        View::Nil => NIL_RANK,
-        View::List(_, _) => LIST_RANK,
-        View::Binary(_) => 6,
-    }
+    term.view().rank()
 }
 
 /// Where the kind of a list's tail stands among the kinds.

@@ -9,10 +9,10 @@ use Rattle.term_core.specs.Datum.Datum.{integer, atom, tuple, map, cons, binary}
 use Rattle.std.specs.Option.{option_copied}
 use Rattle.term_core.specs.Term.{tail_of}
 use Rattle.term_core.specs.Order.{rank, datum_cmp}
-use Rattle.term_operand.specs.View.{shown}
+use Rattle.term_core.specs.View.{shown}
 use Rattle.term_operand.specs.Order.{AreDecided, IsSimple}
-use Rattle.term_operand.specs.declared.view.View.{View}
-use Rattle.term_operand.specs.declared.view.View.TheVariants as view
+use Rattle.term_core.specs.declared.view.View.{View}
+use Rattle.term_core.specs.declared.view.View.TheVariants as view
 
 pub datum_cmp-integer : (a b : ℤ) → datum_cmp (integer a) (integer b) ≡ int_cmp a b
 unfolding datum_cmp

@@ -1,4 +1,3 @@
-pub mod View
 pub mod Operand
 pub mod Order
 pub mod Value

@@ -4,16 +4,14 @@
 //! The one contract: an `Operand` and a `Value` stand for a term (`operand_datum`, `value_datum` of `specs/`), and each way to
 //! look at one looks at that term. What isn't made takes no memory.
 //!
-//! - `operand`: what is borrowed; `view`: an operand taken apart; `order`: how two operands stand in the order of terms.
+//! - `operand`: what is borrowed; `order`: how two operands stand in the order of terms.
 //! - `value`: what is borrowed or made.
 #![tactic(auto)]
 
 mod operand;
 mod order;
 mod value;
-mod view;
 
 pub use operand::Operand;
 pub use order::compare;
 pub use value::Value;
-pub use view::View;

@@ -5,15 +5,13 @@ ghost use Rattle.term_core.specs.Datum.{items_of, entries_of};
 ghost use Rattle.term_core.specs.Datum.Datum.{atom, tuple, map, cons};
 ghost use Rattle.term_core.specs.Limits.{IsSound, ArePairsSound};
 ghost use Rattle.term_build.specs.Rest.{rest_of};
-ghost use Rattle.term_core.specs.View.{shown as shown_term, IsSplit};
-ghost use Rattle.term_operand.specs.View.{shown, IsEnded};
+ghost use Rattle.term_core.specs.View.{shown, IsSplit};
 ghost use Rattle.term_operand.specs.Operand.{operand_datum, boolean as boolean_atom, boolean_of, integer_of, IsNoCell, IsNoTuple, IsNoMap};
 ghost use Rattle.term_operand.specs.Order.{IsSimple};
 
-use crate::view::View;
 use std::alloc::{AllocError, Allocator, Global};
 use term_build::{atom_of_text, copy_behind, view_behind};
-use term_core::{Term, View as TermView};
+use term_core::{Term, View};
 
 /// The characters of the atom `true`.
 const TRUE: [char; 4] = ['t', 'r', 'u', 'e'];
@@ -78,8 +76,8 @@ fn split_behind<'a, A: Allocator>(
     ensures { MatchOption result (IsNoCell (rest_of count list.now))
         (λ p. cons p.0.now (operand_datum p.1) ≡ rest_of count list.now) }
 {
-    match View::behind(list, count) {
-        View::List(head, _, _) => Some((head, Operand::Rest(list, count + 1))),
+    match view_behind(list, count) {
+        View::List([head, ..], _tail) => Some((head, Operand::Rest(list, count + 1))),
         _ => None,
     }
 }
@@ -90,7 +88,7 @@ fn whole_behind<A: Allocator>(list: &Term<A>, count: usize) -> Option<&Term<A>>
         (λ t. t.now ≡ rest_of count list.now) }
 {
     match list.view() {
-        TermView::List(elements, tail) => {
+        View::List(elements, tail) => {
             if count < elements.len() {
                 return None;
             }
@@ -102,30 +100,30 @@ fn whole_behind<A: Allocator>(list: &Term<A>, count: usize) -> Option<&Term<A>>
 
 /// The number of an integer.
 #[inline(always)]
-fn integer_of<A: Allocator>(view: TermView<'_, A>) -> Option<i64>
+fn integer_of<A: Allocator>(view: View<'_, A>) -> Option<i64>
     requires { IsSplit view }
-    ensures { result ≡ integer_of (shown_term view.entry) }
+    ensures { result ≡ integer_of (shown view.entry) }
 {
     match view {
-        TermView::Integer(value) => Some(value),
-        TermView::Atom(_) | TermView::Nil | TermView::Tuple(_) => None,
-        TermView::List(_elements, _tail) => None,
-        TermView::Map(_) | TermView::Binary(_) => None,
+        View::Integer(value) => Some(value),
+        View::Atom(_) | View::Nil | View::Tuple(_) => None,
+        View::List(_elements, _tail) => None,
+        View::Map(_) | View::Binary(_) => None,
     }
 }
 
 /// The elements of a tuple.
 #[inline(always)]
-fn elements_of<'a, A: Allocator>(view: TermView<'a, A>) -> Option<&'a [Term<A>]>
+fn elements_of<'a, A: Allocator>(view: View<'a, A>) -> Option<&'a [Term<A>]>
     requires { IsSplit view }
-    ensures { MatchOption result (IsNoTuple (shown_term view.entry))
-        (λ elements. tuple (items_of elements.now) ≡ shown_term view.entry) }
+    ensures { MatchOption result (IsNoTuple (shown view.entry))
+        (λ elements. tuple (items_of elements.now) ≡ shown view.entry) }
 {
     match view {
-        TermView::Tuple(elements) => Some(elements),
-        TermView::Integer(_) | TermView::Atom(_) | TermView::Nil => None,
-        TermView::List(_elements, _tail) => None,
-        TermView::Map(_) | TermView::Binary(_) => None,
+        View::Tuple(elements) => Some(elements),
+        View::Integer(_) | View::Atom(_) | View::Nil => None,
+        View::List(_elements, _tail) => None,
+        View::Map(_) | View::Binary(_) => None,
     }
 }
 
@@ -134,12 +132,12 @@ impl<'a, A: Allocator> Operand<'a, A> {
     #[inline]
     pub fn view(self) -> View<'a, A>
         ensures value { shown result ≡ operand_datum self.entry }
-        ensures ended { IsEnded result }
+        ensures split { IsSplit result }
         ensures within { IsSound (shown result) }
     {
         match self {
-            Operand::Term(term) => View::behind(term, 0),
-            Operand::Rest(list, count) => View::behind(list, count),
+            Operand::Term(term) => term.view(),
+            Operand::Rest(list, count) => view_behind(list, count),
             Operand::Int(value) => View::Integer(value),
             Operand::Bool(true) => View::Atom(&TRUE),
             Operand::Bool(false) => View::Atom(&FALSE),

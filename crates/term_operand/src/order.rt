@@ -1,18 +1,20 @@
 //! How operands stand in the order of terms.
 ghost use Rattle.std.specs.Prelude.{◌≡◌};
 ghost use Rattle.term_core.specs.Order.{datum_cmp};
-ghost use Rattle.term_operand.specs.View.{shown};
+ghost use Rattle.term_core.specs.View.{shown, IsSplit};
 ghost use Rattle.term_operand.specs.Operand.{operand_datum};
 ghost use Rattle.term_operand.specs.Order.{AreDecided, AreEnds};
 
 use crate::operand::Operand;
-use crate::view::View;
 use std::alloc::Allocator;
 use std::cmp::Ordering;
+use term_core::View;
 
 /// How two terms stand whose kinds or own values decide.
 fn compare_views<A: Allocator>(left: View<'_, A>, right: View<'_, A>) -> Ordering
-    requires { AreDecided (shown left) (shown right) }
+    requires left { IsSplit left }
+    requires right { IsSplit right }
+    requires decided { AreDecided (shown left) (shown right) }
     ensures { result ≡ datum_cmp (shown left.entry) (shown right.entry) }
 {
     match (left, right) {

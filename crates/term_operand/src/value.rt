@@ -1,8 +1,7 @@
 //! Terms that are borrowed or were made.
 use crate::operand::Operand;
-use crate::view::View;
 use std::alloc::{AllocError, Allocator, Global};
-use term_core::Term;
+use term_core::{Term, View};
 
 /// A term that is borrowed, or was made. It lasts as long as what is borrowed.
 #[derive(Drop)]
@@ -31,7 +30,7 @@ impl<'a, 'h, A: Allocator> Value<'a, 'h, A> {
     ghost use Rattle.term_core.specs.Limits.{IsSound};
     ghost use Rattle.term_operand.specs.Operand.{operand_datum, boolean as boolean_atom, boolean_of, integer_of};
     ghost use Rattle.term_operand.specs.Value.{value_datum, is_borrowed};
-    ghost use Rattle.term_operand.specs.View.{shown, IsEnded};
+    ghost use Rattle.term_core.specs.View.{shown, IsSplit};
 
     /// The value of an operand.
     #[inline(always)]
@@ -84,7 +83,7 @@ impl<'a, 'h, A: Allocator> Value<'a, 'h, A> {
     #[inline(always)]
     pub fn view(&self) -> View<'_, A>
         ensures value { shown result ≡ value_datum self.now }
-        ensures ended { IsEnded result }
+        ensures split { IsSplit result }
         ensures within { IsSound (shown result) }
     {
         self.operand().view()

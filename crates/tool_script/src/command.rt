@@ -8,8 +8,8 @@ ghost use Rattle.tool_script.specs.Reading.{IsNoAtom, kind_in, ask_alone, ask_wi
 
 use part_core::Kind;
 use std::alloc::{Allocator, Global};
-use term_core::Term;
-use term_operand::{Operand, View};
+use term_core::{Term, View};
+use term_operand::Operand;
 
 /// What a session asks of the table.
 #[derive(Drop)]

@@ -125,15 +125,9 @@ pub(crate) fn step<A: Allocator>(
         walk.new.depths.items walk.new.depth) }
     ensures fault { IfErr result (λ fault. (fault ≡ Memory) ⊎ IsFirstUntyped code.now fault) }
 {
-    match begin(code, pc, walk.falls, &mut walk.shape) {
-        Ok(()) => {}
-        Err(fault) => return Err(fault),
-    }
+    begin(code, pc, walk.falls, &mut walk.shape)?;
     let instr = instr_at(code, pc);
-    match check(code, counts, pc, instr, &walk.shape) {
-        Ok(()) => {}
-        Err(fault) => return Err(fault),
-    }
+    check(code, counts, pc, instr, &walk.shape)?;
     let before = walk.shape.depth();
     note(&mut walk.depths, before)?;
     leave(code, counts, pc, instr, &mut walk.shape)?;

@@ -14,7 +14,7 @@ use crate::pass::{Walk, step};
 use crate::verified::Verified;
 use budget::longest;
 use mcode::{Code, Frame};
-use std::alloc::{AllocError, Allocator};
+use std::alloc::Allocator;
 use term_core::Refused;
 use verifier_types::{Fault, MAX_DEPTH, key_counts};
 
@@ -67,10 +67,7 @@ fn walk_through<A: Allocator + Copy>(alloc: A, code: &Code<A>) -> Result<Walk<A>
     let counts = key_counts(alloc, code.constants())?;
     let mut walk = Walk::start(alloc, code)?;
     for pc in 0..code.instructions().len() {
-        match step(code, counts.as_slice(), pc as u16, &mut walk) {
-            Ok(()) => {}
-            Err(fault) => return Err(fault),
-        }
+        step(code, counts.as_slice(), pc as u16, &mut walk)?;
     }
     Ok(walk)
 }
@@ -88,21 +85,12 @@ fn find_out<A: Allocator + Copy>(alloc: A, code: &Code<A>) -> Result<Findings<A>
     ensures typed { IfOk result (λ f. IsVerified code.now f.depths.items f.budget f.depth) }
     ensures fault { IfErr result (λ fault. (fault ≡ Memory) ⊎ IsFirstFault code.now fault) }
 {
-    match check_frames(code, code.frames()) {
-        Ok(()) => {}
-        Err(fault) => return Err(fault),
-    }
+    check_frames(code, code.frames())?;
     if code.instructions().is_empty() {
         return Err(Fault::FallsOff(0));
     }
-    let walk = match walk_through(alloc, code) {
-        Ok(walk) => walk,
-        Err(fault) => return Err(fault),
-    };
-    let budget = match longest(alloc, code) {
-        Ok(budget) => budget,
-        Err(AllocError) => return Err(Fault::Memory),
-    };
+    let walk = walk_through(alloc, code)?;
+    let budget = longest(alloc, code)?;
     Ok(Findings {
         depths: walk.depths,
         budget,

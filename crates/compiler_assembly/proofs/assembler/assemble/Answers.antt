@@ -1,26 +1,34 @@
 use Rattle.std.proofs.Common.{ap, inl, inr, ◌∙◌, []}
+use Rattle.std.proofs.lemmas.Result.{err_from_is_err_and, IfOk-weaker, IfErr-weaker}
 use Rattle.compiler_assembly.specs.Assembling.{with_blocks}
 use Rattle.compiler_assembly.proofs.AssemblerLemmas.{whole_is, slots_out, no_code}
 use Rattle.compiler_assembly.proofs.assembler.assemble.Goals as goal
 
-pub returns-in-Err-clause-refused : goal.returns-in-Err-clause-refused
-returns-in-Err-clause-refused g c = inr (slots_out c.args.slots c.args.blocks.items c.in-Err.ensures.refused)
+pub returns-in_err-assembler-clause-refused : goal.returns-in_err-assembler-clause-refused
+returns-in_err-assembler-clause-refused g c =
+    let p = err_from_is_err_and c.from_residual.result c.from_residual.ensures.1 in
+    rw (p.1, p.2) (inr (slots_out c.args.slots c.args.blocks.items c.in_err-assembler.ensures.refused))
 
-pub returns-in-Err-add_blocks-clause-refused : goal.returns-in-Err-add_blocks-clause-refused
-returns-in-Err-add_blocks-clause-refused g c =
-    let begun = c.in-Ok.ensures in
-    let whole = whole_is c.in-Ok.assembler.pool c.in-Ok.assembler.builder c.args.slots c.args.blocks.items begun.pool begun.builder in
-    elim c.in-Err-add_blocks.ensures.refused [ inl memory ↦ inl memory | inr out ↦ inr (no_code whole out) ]
+pub returns-in_err-add_blocks-clause-refused : goal.returns-in_err-add_blocks-clause-refused
+returns-in_err-add_blocks-clause-refused g c =
+    let begun = c.in_ok-assembler.ensures in
+    let whole = whole_is c.in_ok-assembler.assembler.pool c.in_ok-assembler.assembler.builder c.args.slots c.args.blocks.items begun.pool begun.builder in
+    let p = err_from_is_err_and c.from_residual-in_err-add_blocks.result c.from_residual-in_err-add_blocks.ensures.1 in
+    rw (p.1, p.2) (elim c.in_err-add_blocks.ensures.refused [ inl memory ↦ inl memory | inr out ↦ inr (no_code whole out) ])
 
-pub returns-in-Ok-with_constants-clause-ok : goal.returns-in-Ok-with_constants-clause-ok
-returns-in-Ok-with_constants-clause-ok g c =
-    let begun = c.in-Ok.ensures in
-    let whole = whole_is c.in-Ok.assembler.pool c.in-Ok.assembler.builder c.args.slots c.args.blocks.items begun.pool begun.builder in
-    c.in-Ok-with_constants.ensures.ok ∙ ap (λ cs. with_blocks cs c.add_blocks.new.self.builder 0 []) c.into_terms.ensures ∙ c.in-Ok-add_blocks.ensures.ok ∙ whole
+pub returns-clause-ok : goal.returns-clause-ok
+returns-clause-ok g c =
+    let begun = c.in_ok-assembler.ensures in
+    let whole = whole_is c.in_ok-assembler.assembler.pool c.in_ok-assembler.assembler.builder c.args.slots c.args.blocks.items begun.pool begun.builder in
+    IfOk-weaker c.with_constants.result _ _
+    (λ code is. is ∙ ap (λ cs. with_blocks cs c.add_blocks.new.self.builder 0 []) c.into_terms.ensures ∙ c.in_ok-add_blocks.ensures.ok ∙ whole)
+    c.with_constants.ensures.ok
 
-pub returns-in-Err-with_constants-clause-refused : goal.returns-in-Err-with_constants-clause-refused
-returns-in-Err-with_constants-clause-refused g c =
-    let begun = c.in-Ok.ensures in
-    let whole = whole_is c.in-Ok.assembler.pool c.in-Ok.assembler.builder c.args.slots c.args.blocks.items begun.pool begun.builder in
-    let same = ap (λ cs. with_blocks cs c.add_blocks.new.self.builder 0 []) c.into_terms.ensures ∙ c.in-Ok-add_blocks.ensures.ok ∙ whole in
-    elim c.in-Err-with_constants.ensures.refused [ inl memory ↦ inl memory | inr out ↦ inr (no_code same out) ]
+pub returns-clause-refused : goal.returns-clause-refused
+returns-clause-refused g c =
+    let begun = c.in_ok-assembler.ensures in
+    let whole = whole_is c.in_ok-assembler.assembler.pool c.in_ok-assembler.assembler.builder c.args.slots c.args.blocks.items begun.pool begun.builder in
+    let same = ap (λ cs. with_blocks cs c.add_blocks.new.self.builder 0 []) c.into_terms.ensures ∙ c.in_ok-add_blocks.ensures.ok ∙ whole in
+    IfErr-weaker c.with_constants.result _ _
+    (λ fault refused. elim refused [ inl memory ↦ inl memory | inr out ↦ inr (no_code same out) ])
+    c.with_constants.ensures.refused

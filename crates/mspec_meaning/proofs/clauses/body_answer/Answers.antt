@@ -6,7 +6,7 @@ use Rattle.mspec_meaning.proofs.clauses.body_answer.Goals as goal
 
 pub returns : goal.returns
 returns g c =
-    let p = c.args.scope.now in
+    let p = c.args.environment.now in
     let last = c.in-Some.last.now in
     IfOk-weaker c.into_term.result _ _
     (λ answer h.

@@ -16,7 +16,7 @@ use Rattle.mspec_meaning.proofs.value.+value.Goals as goal
 
 pub values-loop-argument-init : goal.values-loop-argument-init
 values-loop-argument-init g t c =
-    let p = c.args.scope.now in
+    let p = c.args.environment.now in
     let P : List Datum → Type 0 = λ l. ValuesFront p.mode p.substitution p.object c.args.arguments.now 0 l in
     subst P (sym (ap (map value_datum) c.in_ok-values.ensures.items)) (ValuesFront-start p.mode p.substitution p.object c.args.arguments.now)
 
@@ -26,12 +26,12 @@ values-value-requires g t c κs within =
 
 pub values-returns-in_default : goal.values-returns-in_default
 values-returns-in_default g t c =
-    let p = c.args.scope.now in
+    let p = c.args.environment.now in
     ValuesFront-none p.mode p.substitution p.object c.args.arguments.now c.loop-argument.argument-index c.argument-item.result (map value_datum c.loop-argument.values.items) c.loop-argument-test.true c.argument-item.is (rw c.in_default.is at c.in_ok-value.ensures) c.loop-argument.invariant
 
 pub values-loop-argument-preserved : goal.values-loop-argument-preserved
 values-loop-argument-preserved g t c =
-    let p = c.args.scope.now in
+    let p = c.args.environment.now in
     let value = rw c.in-Some.is at c.in_ok-value.ensures in
     let P : List Datum → Type 0 = λ l. ValuesFront p.mode p.substitution p.object c.args.arguments.now (c.loop-argument.argument-index + 1) l in
     let items = ap (map value_datum) c.in_ok-push.ensures.items ∙ map-append value_datum c.loop-argument.values.items (c.in-Some.value ∷ []) in
@@ -39,12 +39,12 @@ values-loop-argument-preserved g t c =
 
 pub values-returns : goal.values-returns
 values-returns g t c =
-    let p = c.args.scope.now in
+    let p = c.args.environment.now in
     ValuesFront-all p.mode p.substitution p.object c.args.arguments.now c.loop-argument.argument-index (map value_datum c.loop-argument.values.items) c.loop-argument-test.false c.loop-argument.invariant
 
 pub terms-loop-element-init : goal.terms-loop-element-init
 terms-loop-element-init g t c =
-    let p = c.args.scope.now in
+    let p = c.args.environment.now in
     let P : List Datum → Type 0 = λ l. ValuesFront p.mode p.substitution p.object c.args.elements.now 0 l in
     subst P (sym c.in_ok-terms.ensures.items) (ValuesFront-start p.mode p.substitution p.object c.args.elements.now)
 
@@ -54,12 +54,12 @@ terms-value-requires g t c κs within =
 
 pub terms-returns-in_default : goal.terms-returns-in_default
 terms-returns-in_default g t c =
-    let p = c.args.scope.now in
+    let p = c.args.environment.now in
     ValuesFront-none p.mode p.substitution p.object c.args.elements.now c.loop-element.element-index c.element-item.result c.loop-element.terms.items c.loop-element-test.true c.element-item.is (rw c.in_default.is at c.in_ok-value.ensures) c.loop-element.invariant
 
 pub terms-loop-element-preserved : goal.terms-loop-element-preserved
 terms-loop-element-preserved g t c =
-    let p = c.args.scope.now in
+    let p = c.args.environment.now in
     let value = rw c.in-Some.is at c.in_ok-value.ensures in
     let P : List Datum → Type 0 = λ l. ValuesFront p.mode p.substitution p.object c.args.elements.now (c.loop-element.element-index + 1) l in
     subst P (sym c.in_ok-push_element.ensures)
@@ -67,12 +67,12 @@ terms-loop-element-preserved g t c =
 
 pub terms-returns : goal.terms-returns
 terms-returns g t c =
-    let p = c.args.scope.now in
+    let p = c.args.environment.now in
     ValuesFront-all p.mode p.substitution p.object c.args.elements.now c.loop-element.element-index c.loop-element.terms.items c.loop-element-test.false c.loop-element.invariant
 
 pub pairs-loop-key-init : goal.pairs-loop-key-init
 pairs-loop-key-init g t c =
-    let p = c.args.scope.now in
+    let p = c.args.environment.now in
     let P : List (Datum × Datum) → Type 0 = λ l. EntriesFront p.mode p.substitution p.object c.args.assignments.now 0 l in
     subst P (sym c.in_ok-pairs.ensures.items) (EntriesFront-start p.mode p.substitution p.object c.args.assignments.now)
 
@@ -82,12 +82,12 @@ pairs-value-requires g t c κs within =
 
 pub pairs-returns-in_default : goal.pairs-returns-in_default
 pairs-returns-in_default g t c =
-    let p = c.args.scope.now in
+    let p = c.args.environment.now in
     EntriesFront-none p.mode p.substitution p.object c.args.assignments.now c.loop-key.key-index c.loop-key-item.result c.loop-key.pairs.items c.loop-key-test.true c.loop-key-item.is (rw c.in_default.is at c.in_ok-value.ensures) c.loop-key.invariant
 
 pub pairs-loop-key-preserved : goal.pairs-loop-key-preserved
 pairs-loop-key-preserved g t c =
-    let p = c.args.scope.now in
+    let p = c.args.environment.now in
     let value = rw c.in-Some.is at c.in_ok-value.ensures in
     let P : List (Datum × Datum) → Type 0 = λ l. EntriesFront p.mode p.substitution p.object c.args.assignments.now (c.loop-key.key-index + 1) l in
     subst P (sym c.in_ok-push_entry.ensures)
@@ -95,7 +95,7 @@ pairs-loop-key-preserved g t c =
 
 pub pairs-returns : goal.pairs-returns
 pairs-returns g t c =
-    let p = c.args.scope.now in
+    let p = c.args.environment.now in
     EntriesFront-all p.mode p.substitution p.object c.args.assignments.now c.loop-key.key-index c.loop-key.pairs.items c.loop-key-test.false c.loop-key.invariant
 
 pub list-terms-requires : goal.list-terms-requires
@@ -104,7 +104,7 @@ list-terms-requires g t c κs within =
 
 pub list-returns-in_default : goal.list-returns-in_default
 list-returns-in_default g t c =
-    let p = c.args.scope.now in
+    let p = c.args.environment.now in
     let tail = value_of p.mode (tail_expression c.args.tail.now) p.substitution p.object in
     ap (made_of p.mode) (joined_to-none tail)
     ∙ ap (λ x. made_of p.mode (joined_to x tail)) (rw c.in_default.is at c.in_ok-elements.ensures)
@@ -114,7 +114,7 @@ list-tail_term-requires g t c κs within = (omega (arith, c.decreases), within)
 
 pub list-returns : goal.list-returns
 list-returns g t c =
-    let p = c.args.scope.now in
+    let p = c.args.environment.now in
     let elements = rw c.in-Some.is at c.in_ok-elements.ensures in
     let values = argument_values p.mode (expressions_of c.args.elements.now) p.substitution p.object in
     IfOk-weaker c.list.result _ _
@@ -125,7 +125,7 @@ list-returns g t c =
 
 pub tail_term-returns-in_default : goal.tail_term-returns-in_default
 tail_term-returns-in_default g t c =
-    let p = c.args.scope.now in
+    let p = c.args.environment.now in
     ap Some c.nil.ensures ∙ sym (ap (λ x. value_of p.mode (tail_expression x) p.substitution p.object) c.in_default.is)
 
 pub tail_term-value-requires : goal.tail_term-value-requires
@@ -134,7 +134,7 @@ tail_term-value-requires g t c κs within =
 
 pub tail_term-returns : goal.tail_term-returns
 tail_term-returns g t c =
-    let p = c.args.scope.now in
+    let p = c.args.environment.now in
     IfOk-weaker c.into_term.result _ _
     (λ v h.
     h ∙ c.in_ok-value.ensures
@@ -148,7 +148,7 @@ decide-value-requires g t c κs within =
 
 pub decide-returns-in-Ends : goal.decide-returns-in-Ends
 decide-returns-in-Ends g t c =
-    let p = c.args.scope.now in
+    let p = c.args.environment.now in
     let es = c.args.arguments.now in
     let i = c.loop-argument.argument-index in
     let says = c.in_ok-verdict.ensures (decided c.args.decides p.mode (expressions_of (drop (i + 1) es)) p.substitution p.object) in
@@ -157,7 +157,7 @@ decide-returns-in-Ends g t c =
 
 pub decide-loop-argument-preserved : goal.decide-loop-argument-preserved
 decide-loop-argument-preserved g t c =
-    let p = c.args.scope.now in
+    let p = c.args.environment.now in
     let es = c.args.arguments.now in
     let i = c.loop-argument.argument-index in
     let says = c.in_ok-verdict.ensures (decided c.args.decides p.mode (expressions_of (drop (i + 1) es)) p.substitution p.object) in
@@ -166,7 +166,7 @@ decide-loop-argument-preserved g t c =
 
 pub decide-returns : goal.decide-returns
 decide-returns g t c =
-    let p = c.args.scope.now in
+    let p = c.args.environment.now in
     DecidedFront-all p.mode p.substitution p.object c.args.decides c.args.arguments.now c.loop-argument.argument-index c.loop-argument-test.false c.loop-argument.invariant
 
 pub value-values-requires : goal.value-values-requires
@@ -204,44 +204,44 @@ value-pairs-requires g t c κs within =
 
 pub value-map-requires : goal.value-map-requires
 value-map-requires g t c =
-    let p = c.args.scope.now in
+    let p = c.args.environment.now in
     let kept = rw c.in-Map.is at c.kind.ensures.kept in
     pairs-rise p.mode p.substitution p.object (λ pairs. entries_of pairs.items) c.in_ok-pairs-in-Map.pairs (assignments_of c.in-Map.assignments.items)
     (c.in_ok-pairs-in-Map.ensures ∙ ap (λ l. entry_values p.mode (assignments_of l) p.substitution p.object) c.as_slice-in-Map.ensures.value) kept
 
 pub value-returns-in-Variable : goal.value-returns-in-Variable
 value-returns-in-Variable g t c =
-    let p = c.args.scope.now in
+    let p = c.args.environment.now in
     let is = rw c.in-Variable.is at c.kind.ensures.value in
     c.bound.ensures ∙ ap (λ e. value_of p.mode e p.substitution p.object) is
 
 pub value-returns-in-Object : goal.value-returns-in-Object
 value-returns-in-Object g t c =
-    let p = c.args.scope.now in
+    let p = c.args.environment.now in
     let is = rw c.in-Object.is at c.kind.ensures.value in
     ap Some c.object.ensures ∙ ap (λ e. value_of p.mode e p.substitution p.object) is
 
 pub value-returns-in-Bindings : goal.value-returns-in-Bindings
 value-returns-in-Bindings g t c =
-    let p = c.args.scope.now in
+    let p = c.args.environment.now in
     let is = rw c.in-Bindings.is at c.kind.ensures.value in
     IfOk-weaker c.bindings.result _ _ (λ v h. h ∙ ap (λ e. value_of p.mode e p.substitution p.object) is) c.bindings.ensures
 
 pub value-returns-in-Constant : goal.value-returns-in-Constant
 value-returns-in-Constant g t c =
-    let p = c.args.scope.now in
+    let p = c.args.environment.now in
     let is = rw c.in-Constant.is at c.kind.ensures.value in
     ap (λ e. value_of p.mode e p.substitution p.object) is
 
 pub value-returns-in-Quoted : goal.value-returns-in-Quoted
 value-returns-in-Quoted g t c =
-    let p = c.args.scope.now in
+    let p = c.args.environment.now in
     let is = rw c.in-Quoted.is at c.kind.ensures.value in
     ap (λ e. value_of p.mode e p.substitution p.object) is
 
 pub value-returns-in_ok-values-in-Call : goal.value-returns-in_ok-values-in-Call
 value-returns-in_ok-values-in-Call g t c =
-    let p = c.args.scope.now in
+    let p = c.args.environment.now in
     let is = rw c.in-Call.is at c.kind.ensures.value in
     IfOk-weaker c.called.result _ _
     (λ v h.
@@ -252,7 +252,7 @@ value-returns-in_ok-values-in-Call g t c =
 
 pub value-returns-in-AndAlso : goal.value-returns-in-AndAlso
 value-returns-in-AndAlso g t c =
-    let p = c.args.scope.now in
+    let p = c.args.environment.now in
     let is = rw c.in-AndAlso.is at c.kind.ensures.value in
     IfOk-weaker c.decide.result _ _
     (λ v h.
@@ -262,7 +262,7 @@ value-returns-in-AndAlso g t c =
 
 pub value-returns-in-OrElse : goal.value-returns-in-OrElse
 value-returns-in-OrElse g t c =
-    let p = c.args.scope.now in
+    let p = c.args.environment.now in
     let is = rw c.in-OrElse.is at c.kind.ensures.value in
     IfOk-weaker c.decide-in-OrElse.result _ _
     (λ v h.
@@ -272,7 +272,7 @@ value-returns-in-OrElse g t c =
 
 pub value-returns-in_ok-elements-in-Tuple : goal.value-returns-in_ok-elements-in-Tuple
 value-returns-in_ok-elements-in-Tuple g t c =
-    let p = c.args.scope.now in
+    let p = c.args.environment.now in
     let is = rw c.in-Tuple.is at c.kind.ensures.value in
     IfOk-weaker c.tuple.result _ _
     (λ v h.
@@ -283,7 +283,7 @@ value-returns-in_ok-elements-in-Tuple g t c =
 
 pub value-returns-in-List : goal.value-returns-in-List
 value-returns-in-List g t c =
-    let p = c.args.scope.now in
+    let p = c.args.environment.now in
     let is = rw c.in-List.is at c.kind.ensures.value in
     let kept = rw c.in-List.is at c.kind.ensures.kept in
     let tail = value_of p.mode (tail_expression c.in-List.tail) p.substitution p.object in
@@ -296,7 +296,7 @@ value-returns-in-List g t c =
 
 pub value-returns-in_ok-pairs-in-Map : goal.value-returns-in_ok-pairs-in-Map
 value-returns-in_ok-pairs-in-Map g t c =
-    let p = c.args.scope.now in
+    let p = c.args.environment.now in
     let is = rw c.in-Map.is at c.kind.ensures.value in
     IfOk-weaker c.map.result _ _
     (λ v h.

@@ -30,16 +30,16 @@ decreases-decide g l = 4 * expressions_size (expressions_of l.arguments.now)
 
 abbrev pub invariant-values-loop-argument : goal.invariant-values-loop-argument
 invariant-values-loop-argument g l =
-    ValuesFront l.scope.mode l.scope.substitution l.scope.object l.arguments l.argument-index (map value_datum l.values.items)
+    ValuesFront l.environment.mode l.environment.substitution l.environment.object l.arguments l.argument-index (map value_datum l.values.items)
 
 abbrev pub invariant-terms-loop-element : goal.invariant-terms-loop-element
 invariant-terms-loop-element g l =
-    ValuesFront l.scope.mode l.scope.substitution l.scope.object l.elements l.element-index l.terms.items
+    ValuesFront l.environment.mode l.environment.substitution l.environment.object l.elements l.element-index l.terms.items
 
 abbrev pub invariant-pairs-loop-key : goal.invariant-pairs-loop-key
 invariant-pairs-loop-key g l =
-    EntriesFront l.scope.mode l.scope.substitution l.scope.object l.assignments l.key-index l.pairs.items
+    EntriesFront l.environment.mode l.environment.substitution l.environment.object l.assignments l.key-index l.pairs.items
 
 abbrev pub invariant-decide-loop-argument : goal.invariant-decide-loop-argument
 invariant-decide-loop-argument g l =
-    DecidedFront l.scope.mode l.scope.substitution l.scope.object l.decides l.arguments l.argument-index
+    DecidedFront l.environment.mode l.environment.substitution l.environment.object l.decides l.arguments l.argument-index

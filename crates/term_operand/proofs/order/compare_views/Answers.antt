@@ -2,7 +2,7 @@ use Rattle.std.proofs.Common.{◌≡◌, ◌∙◌, sym, rules}
 use Rattle.std.specs.Prelude.{FitsSigned}
 use Rattle.std.specs.Int.{w64}
 use Rattle.std.proofs.lemmas.Int.{to_z-of_z}
-use Rattle.term_operand.specs.View.{shown}
+use Rattle.term_core.specs.View.{shown}
 use Rattle.term_operand.proofs.OrderLemmas.{datum_cmp-integer, datum_cmp-atom, datum_cmp-rank, AreOther, beside_integer, beside_atom, beside_any}
 use Rattle.term_core.specs.Order.{datum_cmp}
 use Rattle.term_operand.proofs.order.compare_views.Given.{Over}
@@ -24,7 +24,7 @@ returns-in-Atom-Atom g c =
 ranked : (g : Over) (c : goal.After-cmp-in_default g) → AreOther (shown c.args.left) (shown c.args.right) → c.cmp-in_default.result ≡ datum_cmp (shown c.args.left) (shown c.args.right)
 ranked g c other =
     c.cmp-in_default.ensures
-    ∙ rw (c.rank.ensures, c.rank-in_default.ensures) (sym (datum_cmp-rank (shown c.args.left) (shown c.args.right) c.requires other))
+    ∙ rw (c.rank.ensures, c.rank-in_default.ensures) (sym (datum_cmp-rank (shown c.args.left) (shown c.args.right) c.requires.decided other))
 
 pub returns-in_default : goal.returns-in_default
 returns-in_default g c =

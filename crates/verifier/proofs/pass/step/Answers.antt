@@ -1,21 +1,24 @@
 use Rattle.std.proofs.Common.{inr}
+use Rattle.std.proofs.lemmas.Result.{err_from_is_err_and}
 use Rattle.mcode.specs.Program.{frame_at}
 use Rattle.verifier.proofs.PassLemmas.{slots_begun, walked_more, unbegun, untyped}
 use Rattle.verifier.proofs.pass.step.Goals as goal
 
-pub returns-in-Err-clause-fault : goal.returns-in-Err-clause-fault
-returns-in-Err-clause-fault g c =
-    unbegun c.args.code.now c.args.pc c.args.walk.now.falls c.args.walk.now.shape c.args.walk.now.depths.items c.args.walk.now.depth c.in-Err.fault c.requires.frames c.requires.inside c.requires.walked c.in-Err.ensures.fault
+pub returns-in_err-begin-clause-fault : goal.returns-in_err-begin-clause-fault
+returns-in_err-begin-clause-fault g c =
+    let p = err_from_is_err_and c.from_residual.result c.from_residual.ensures.1 in
+    rw (p.1, p.2) (unbegun c.args.code.now c.args.pc c.args.walk.now.falls c.args.walk.now.shape c.args.walk.now.depths.items c.args.walk.now.depth c.in_err-begin.error c.requires.frames c.requires.inside c.requires.walked c.in_err-begin.ensures.fault)
 
-pub returns-in-Err-check-clause-fault : goal.returns-in-Err-check-clause-fault
-returns-in-Err-check-clause-fault g c =
-    inr (untyped c.args.code.now c.args.pc c.args.walk.now.falls c.args.walk.now.shape c.begin.new.shape c.args.walk.now.depths.items c.args.walk.now.depth _ c.in-Err-check.fault c.requires.frames c.requires.walked c.instr_at-instr.ensures c.in-Ok.ensures.begins c.in-Err-check.ensures.fault)
+pub returns-in_err-check-clause-fault : goal.returns-in_err-check-clause-fault
+returns-in_err-check-clause-fault g c =
+    let p = err_from_is_err_and c.from_residual-in_err-check.result c.from_residual-in_err-check.ensures.1 in
+    rw (p.1, p.2) (inr (untyped c.args.code.now c.args.pc c.args.walk.now.falls c.args.walk.now.shape c.begin.new.shape c.args.walk.now.depths.items c.args.walk.now.depth _ c.in_err-check.error c.requires.frames c.requires.walked c.instr_at-instr.ensures c.in_ok-begin.ensures.begins c.in_err-check.ensures.fault))
 
 pub leave-requires-clause-slots : goal.leave-requires-clause-slots
 leave-requires-clause-slots g c =
-    slots_begun c.args.code.now c.args.walk.now.shape c.begin.new.shape c.args.walk.now.falls (frame_at c.args.code.now.frames c.args.pc) c.requires.walked.slots c.in-Ok.ensures.begins
+    slots_begun c.args.code.now c.args.walk.now.shape c.begin.new.shape c.args.walk.now.falls (frame_at c.args.code.now.frames c.args.pc) c.requires.walked.slots c.in_ok-begin.ensures.begins
 
 pub returns-clause-typed : goal.returns-clause-typed
 returns-clause-typed g c =
     walked_more c.args.code.now c.args.pc c.args.walk.now.falls c.args.walk.now.shape c.begin.new.shape c.leave.new.shape c.args.walk.now.depths.items c.note.new.depths.items c.args.walk.now.depth c.depth-before.result c.depth.result c.greatest-walk.result _ c.goes_on-walk.result
-    c.requires.walked c.instr_at-instr.ensures c.in-Ok.ensures.begins c.in-Ok-check.ensures.fit c.depth-before.ensures c.in_ok-note.ensures c.in_ok-leave.ensures c.depth.ensures c.greatest-walk.ensures c.goes_on-walk.ensures
+    c.requires.walked c.instr_at-instr.ensures c.in_ok-begin.ensures.begins c.in_ok-check.ensures.fit c.depth-before.ensures c.in_ok-note.ensures c.in_ok-leave.ensures c.depth.ensures c.greatest-walk.ensures c.goes_on-walk.ensures

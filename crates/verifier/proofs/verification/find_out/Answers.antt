@@ -11,13 +11,13 @@ not_empty (x ∷ xs) b is false_one = omega arith
 pub longest-requires : goal.longest-requires
 longest-requires g c =
     let p = c.args.code.now in
-    let walk = c.in-Ok-walk_through.walk in
+    let walk = c.in_ok-walk.walk in
     let some : 0 < length p.instructions = not_empty p.instructions _ (c.is_empty.ensures ∙ ap (λ is. length is == 0) c.instructions.ensures.value) c.if-is_empty.false in
-    typed_forward p (shape_at p) (walked_shapes p walk.falls walk.shape walk.depths.items walk.depth c.in-Ok.ensures.fit some c.in-Ok-walk_through.ensures.typed)
+    typed_forward p (shape_at p) (walked_shapes p walk.falls walk.shape walk.depths.items walk.depth c.in_ok-check_frames.ensures.fit some c.in_ok-walk.ensures.typed)
 
 pub returns-clause-typed : goal.returns-clause-typed
 returns-clause-typed g c =
     let p = c.args.code.now in
-    let walk = c.in-Ok-walk_through.walk in
+    let walk = c.in_ok-walk.walk in
     let some : 0 < length p.instructions = not_empty p.instructions _ (c.is_empty.ensures ∙ ap (λ is. length is == 0) c.instructions.ensures.value) c.if-is_empty.false in
-    walked_verified p walk.falls walk.shape walk.depths.items walk.depth c.in-Ok-longest.budget c.instructions.ensures.within c.in-Ok.ensures.fit some c.in-Ok-walk_through.ensures.typed c.in-Ok-longest.ensures
+    walked_verified p walk.falls walk.shape walk.depths.items walk.depth c.in_ok-budget.budget c.instructions.ensures.within c.in_ok-check_frames.ensures.fit some c.in_ok-walk.ensures.typed c.in_ok-budget.ensures

@@ -1,4 +1,5 @@
 use Rattle.std.proofs.Common.{sym, ap, inl, inr, ◌∙◌, reverse}
+use Rattle.std.proofs.lemmas.Result.{err_from_is_err_and}
 use Rattle.compiler_assembly.specs.Assembling.{with_blocks}
 use Rattle.compiler_assembly.proofs.AssemblerLemmas.{last_first, none_left, last_number, no_code}
 use Rattle.compiler_assembly.proofs.assembler.Assembler.add_blocks.Goals as goal
@@ -9,20 +10,21 @@ loop-block-preserved g c =
     let builder = c.loop-block.self.builder in
     let front = last_first c.loop-block.left.items c.pop.new.self.items c.in-Some.block c.in-Some.ensures.items in
     record {
-      count = c.in-Ok.ensures.count;
-      whole = c.in-Ok.ensures.ok (reverse c.pop.new.self.items) ∙ ap (λ bs. with_blocks pool builder c.loop-block.pc bs) (sym front) ∙ c.loop-block.invariant.whole;
+      count = c.in_ok-add_block.ensures.count;
+      whole = c.in_ok-add_block.ensures.ok (reverse c.pop.new.self.items) ∙ ap (λ bs. with_blocks pool builder c.loop-block.pc bs) (sym front) ∙ c.loop-block.invariant.whole;
     }
 
-pub returns-in-Err-clause-refused : goal.returns-in-Err-clause-refused
-returns-in-Err-clause-refused g c =
+pub returns-in_err-add_block-clause-refused : goal.returns-in_err-add_block-clause-refused
+returns-in_err-add_block-clause-refused g c =
+    let p = err_from_is_err_and c.from_residual.result c.from_residual.ensures.1 in
     let pool = c.loop-block.self.pool in
     let builder = c.loop-block.self.builder in
     let front = last_first c.loop-block.left.items c.pop.new.self.items c.in-Some.block c.in-Some.ensures.items in
     let whole = ap (λ bs. with_blocks pool builder c.loop-block.pc bs) (sym front) ∙ c.loop-block.invariant.whole in
-    elim c.in-Err.ensures.refused [
+    rw (p.1, p.2) (elim c.in_err-add_block.ensures.refused [
       | inl memory ↦ inl memory
       | inr out ↦ inr (no_code whole (out (reverse c.pop.new.self.items)))
-    ]
+    ])
 
 pub returns-clause-ok : goal.returns-clause-ok
 returns-clause-ok g c =

@@ -1,46 +1,54 @@
 use Rattle.std.proofs.Common.{arith, ap, inl, inr, ◌∙◌, ◌≡◌, suc, ◌+◌}
+use Rattle.std.proofs.lemmas.Result.{err_from_is_err_and, on_ok_weaker, IfErr-weaker}
 use Rattle.compiler_assembly.specs.Assembling.{with_labelled}
 use Rattle.compiler_assembly.proofs.AssemblerLemmas.{line_added, line_constants, line_target, line_instruction, line_label, part_refused}
 use Rattle.compiler_assembly.proofs.assembler.Assembler.add_line.Goals as goal
 
-pub returns-in-Err-clause-refused : goal.returns-in-Err-clause-refused
-returns-in-Err-clause-refused g c =
+pub returns-in_err-instr-clause-refused : goal.returns-in_err-instr-clause-refused
+returns-in_err-instr-clause-refused g c =
+    let p = err_from_is_err_and c.from_residual.result c.from_residual.ensures.1 in
     let cs = c.args.self.now.pool in
     let p = c.args.self.now.builder in
-    elim c.in-Err.ensures.refused [
+    rw (p.1, p.2) (elim c.in_err-instr.ensures.refused [
       | inl memory ↦ inl memory
       | inr out ↦
           elim out [
             | inl many ↦ inr (line_constants cs p c.args.slots.now c.args.place.behind c.args.place.pc c.args.line many)
             | inr far ↦ inr (line_target cs p c.args.slots.now c.args.place.behind c.args.place.pc c.args.line far)
           ]
-    ]
+    ])
 
-pub returns-in-Err-instr-clause-refused : goal.returns-in-Err-instr-clause-refused
-returns-in-Err-instr-clause-refused g c =
+pub returns-in_err-pc-clause-refused : goal.returns-in_err-pc-clause-refused
+returns-in_err-pc-clause-refused g c =
+    let p = err_from_is_err_and c.from_residual-in_err-pc.result c.from_residual-in_err-pc.ensures.1 in
     let cs = c.args.self.now.pool in
     let p = c.args.self.now.builder in
-    elim (part_refused _ _ c.in-Err-instr.ensures.refused) [
+    rw (p.1, p.2) (elim (part_refused _ _ c.in_err-pc.ensures.refused) [
       | inl memory ↦ inl memory
       | inr many ↦ inr (line_instruction cs p c.args.slots.now c.args.place.behind c.args.place.pc c.args.line many)
-    ]
+    ])
 
-pub returns-in-Ok-add_label-clause-ok : goal.returns-in-Ok-add_label-clause-ok
-returns-in-Ok-add_label-clause-ok g c =
+pub returns-clause-ok : goal.returns-clause-ok
+returns-clause-ok g c =
     let cs = c.args.self.now.pool in
     let p = c.args.self.now.builder in
     let next : c.args.place.pc + 1 ≡ suc c.args.place.pc = omega arith in
-    let grown = c.in-Ok-add_label.ensures.ok ∙ ap (λ q. with_labelled q c.args.slots.now (c.args.place.pc + 1) c.args.line.label) c.in-Ok-instr.ensures.ok.0 in
-    line_added cs p c.instruction.new.pool c.add_label.new.builder c.args.slots.now c.args.place.behind c.args.place.pc c.args.line c.in-Ok.instr c.in-Ok.ensures.pool c.in-Ok.ensures.instr (rw next at grown)
+    on_ok_weaker c.add_label.result
+    (λ made.
+      let grown = made ∙ ap (λ q. with_labelled q c.args.slots.now (c.args.place.pc + 1) c.args.line.label) c.in_ok-pc.ensures.ok.0 in
+      line_added cs p c.instruction.new.pool c.add_label.new.builder c.args.slots.now c.args.place.behind c.args.place.pc c.args.line c.in_ok-instr.instr c.in_ok-instr.ensures.pool c.in_ok-instr.ensures.instr (rw next at grown))
+    c.add_label.ensures.ok
 
-pub returns-in-Err-add_label-clause-refused : goal.returns-in-Err-add_label-clause-refused
-returns-in-Err-add_label-clause-refused g c =
+pub returns-clause-refused : goal.returns-clause-refused
+returns-clause-refused g c =
     let cs = c.args.self.now.pool in
     let p = c.args.self.now.builder in
     let next : c.args.place.pc + 1 ≡ suc c.args.place.pc = omega arith in
-    elim c.in-Err-add_label.ensures.refused [
+    IfErr-weaker c.add_label.result _ _
+    (λ fault refused. elim refused [
       | inl memory ↦ inl memory
       | inr out ↦
-          let here = rw (next, c.in-Ok-instr.ensures.ok.0) at out in
-          inr (line_label cs p c.args.slots.now c.args.place.behind c.args.place.pc c.args.line c.in-Ok.instr here)
-    ]
+          let here = rw (next, c.in_ok-pc.ensures.ok.0) at out in
+          inr (line_label cs p c.args.slots.now c.args.place.behind c.args.place.pc c.args.line c.in_ok-instr.instr here)
+    ])
+    c.add_label.ensures.refused

@@ -1,6 +1,6 @@
 use Rattle.std.proofs.lemmas.Result.{on_ok_weaker}
 use Rattle.compiler_patterns.proofs.WrittenLemmas.{known-writes, new-writes}
-use Rattle.compiler_patterns.proofs.slots.Slots.write_variable.Goals as goal
+use Rattle.compiler_patterns.proofs.slots.VariableSlots.write_variable.Goals as goal
 
 pub returns-then-bind : goal.returns-then-bind
 returns-then-bind g c =

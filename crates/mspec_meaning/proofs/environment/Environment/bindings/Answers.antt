@@ -3,7 +3,7 @@ use Rattle.std.proofs.lemmas.Result.{IfOk-weaker}
 use Rattle.term_core.specs.Datum.{cells}
 use Rattle.term_core.specs.Datum.Datum.{nil}
 use Rattle.mspec_meaning.specs.Made.{made}
-use Rattle.mspec_meaning.proofs.scope.Scope.bindings.Goals as goal
+use Rattle.mspec_meaning.proofs.environment.Environment.bindings.Goals as goal
 
 pub returns : goal.returns
 returns g c =

@@ -5,7 +5,7 @@ use Rattle.term_core.specs.Datum.Datum.{map}
 use Rattle.term_build.proofs.ByKeyLemmas.{by_key-rising}
 use Rattle.term_core.proofs.MapLemmas.{apart-no_twin, apart_from_rising}
 use Rattle.mspec_meaning.specs.Made.{made, made_of, or_failed}
-use Rattle.mspec_meaning.proofs.scope.Scope.map.Goals as goal
+use Rattle.mspec_meaning.proofs.environment.Environment.map.Goals as goal
 
 pub make_map-requires : goal.make_map-requires
 make_map-requires g c =

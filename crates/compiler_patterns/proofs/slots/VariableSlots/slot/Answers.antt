@@ -1,7 +1,7 @@
 use Rattle.std.proofs.Common.{length, ap, arith}
 use Rattle.mspec_syntax.specs.Rising.{rank_of}
 use Rattle.mspec_syntax.proofs.RankLemmas.{rank-below}
-use Rattle.compiler_patterns.proofs.slots.Slots.slot.Goals as goal
+use Rattle.compiler_patterns.proofs.slots.VariableSlots.slot.Goals as goal
 
 pub overflow_cast-result : goal.overflow_cast-result
 overflow_cast-result g c =

@@ -3,7 +3,7 @@ use Rattle.std.proofs.lemmas.List.{drop_all, append_assoc, append-nil}
 use Rattle.term_operand.specs.Value.{value_datum}
 use Rattle.mspec_match.specs.Slots.{seen, known}
 use Rattle.mspec_meaning.proofs.KnownLemmas.{known-free, known-bound}
-use Rattle.mspec_meaning.proofs.scope.copies.Goals as goal
+use Rattle.mspec_meaning.proofs.environment.copies.Goals as goal
 
 pub loop-slot-init : goal.loop-slot-init
 loop-slot-init g c = ap (λ l. l ++ known (seen c.args.slots.now)) c.in_ok-values.ensures.items

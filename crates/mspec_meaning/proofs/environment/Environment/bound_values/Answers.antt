@@ -4,7 +4,7 @@ use Rattle.mspec_match.specs.Match.{values_of}
 use Rattle.term_operand.specs.Operand.{operand_datum}
 use Rattle.mspec_match.specs.Slots.{seen}
 use Rattle.mspec_match.proofs.MatchLemmas.{known-values, length-seen}
-use Rattle.mspec_meaning.proofs.scope.Scope.bound_values.Goals as goal
+use Rattle.mspec_meaning.proofs.environment.Environment.bound_values.Goals as goal
 
 pub returns : goal.returns
 returns g c =

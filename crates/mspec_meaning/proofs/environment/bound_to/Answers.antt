@@ -4,7 +4,7 @@ use Rattle.term_operand.specs.Operand.{operand_datum}
 use Rattle.mspec_match.specs.Slots.{seen}
 use Rattle.mspec_match.proofs.MatchLemmas.{lookup-known, lookup-unknown, lookup-free}
 use Rattle.mspec_match.proofs.SlotLemmas.{assigned-get}
-use Rattle.mspec_meaning.proofs.scope.bound_to.Goals as goal
+use Rattle.mspec_meaning.proofs.environment.bound_to.Goals as goal
 
 pub returns-in-Some-slots : goal.returns-in-Some-slots
 returns-in-Some-slots g c =

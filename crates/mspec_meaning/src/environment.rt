@@ -51,7 +51,7 @@ fn copies<A: Allocator + Copy>(
 
 /// Where an expression stands, what the variables of the head are bound to, and the object.
 #[derive(Drop)]
-pub struct Scope<'s, 'a, A: Allocator> {
+pub struct Environment<'s, 'a, A: Allocator> {
     heap: &'s A,
     mode: Mode,
     variables: &'s Variables<A>,
@@ -59,13 +59,13 @@ pub struct Scope<'s, 'a, A: Allocator> {
     object: &'a Term<A>,
 }
 
-impl<'s, 'a, A: Allocator> Model for Scope<'s, 'a, A> {
+impl<'s, 'a, A: Allocator> Model for Environment<'s, 'a, A> {
     ghost use Rattle.std.specs.Prelude.{◌≡◌, length};
     ghost use Rattle.std.specs.Coded.{codes};
     ghost use Rattle.term_core.specs.DatumCode.{datum_code};
-    ghost use Rattle.mspec_meaning.specs.Scope.{Scope};
+    ghost use Rattle.mspec_meaning.specs.Environment.{Environment};
 
-    ghost Value = { Scope };
+    ghost Value = { Environment };
 
     ghost coded = { Prim.hlevel (codes, datum_code) };
 
@@ -80,14 +80,14 @@ impl<'s, 'a, A: Allocator> Model for Scope<'s, 'a, A> {
     ghost invariant = { λ s. length s.slots.now ≡ length s.variables.now };
 }
 
-impl<'s, 'a, A: Allocator + Copy> Scope<'s, 'a, A> {
+impl<'s, 'a, A: Allocator + Copy> Environment<'s, 'a, A> {
     ghost use Rattle.std.specs.Prelude.{◌≡◌, length, IfOk};
     ghost use Rattle.std.specs.Option.{option_map};
     ghost use Rattle.mspec_match.specs.Match.{lookup, values_of};
     ghost use Rattle.mspec_match.specs.Slots.{seen, substitution_of};
     ghost use Rattle.term_operand.specs.Value.{value_datum};
 
-    /// The scope of an expression that stands there, each variable of the head having its slot.
+    /// The environment of an expression that stands there, each variable of the head having its slot.
     pub fn new(
         heap: &'s A,
         mode: Mode,
@@ -101,7 +101,7 @@ impl<'s, 'a, A: Allocator + Copy> Scope<'s, 'a, A> {
             (seen slots.now) }
         ensures object { result.object ≡ object.now }
     {
-        Scope {
+        Environment {
             heap,
             mode,
             variables,
