@@ -12,3 +12,4 @@ pub mod ListParts
 pub mod View
 pub mod Fault
 pub mod MapPairs
+pub mod ShortRow

@@ -61,7 +61,7 @@ parts_fall G shape.Nil h = omega arith
 parts_fall G (shape.Short n cs) h = omega arith
 parts_fall G (shape.Atom b) h = omega arith
 parts_fall G shape.Unit h = omega arith
-parts_fall G (shape.TupleOfOne d b) h = omega arith
+parts_fall G (shape.TupleOfOne d b) h = let e = items_fall b.value in omega arith
 parts_fall G (shape.TupleOfTwo d b) h = let e = items_fall b.value in omega arith
 parts_fall G (shape.TupleOfThree d b) h = let e = items_fall b.value in omega arith
 parts_fall G (shape.TupleOfFour d b) h = let e = items_fall b.value in omega arith

@@ -8,7 +8,7 @@ mod term;
 mod view;
 
 pub use fault::{Fault, Refused};
-pub use term::{ListParts, Term, deepest};
+pub use term::{ListParts, ShortRow, Term, deepest};
 pub use view::View;
 
 /// The greatest depth of a term.

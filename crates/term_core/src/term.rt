@@ -17,6 +17,9 @@ use std::sync::Arc;
 
 mod copy;
 mod map;
+mod short_row;
+
+pub use short_row::ShortRow;
 
 /// A term: an integer, an atom, a tuple, a list, a map or a binary.
 #[cycle(term)]
@@ -40,7 +43,7 @@ enum Shape<A: Allocator> {
     Short(u8, [char; SHORT]),
     Atom(Arc<Vec<char, A>, A>),
     Unit,
-    TupleOfOne(u8, Arc<Term<A>, A>),
+    TupleOfOne(u8, Arc<[Term<A>; 1], A>),
     TupleOfTwo(u8, Arc<[Term<A>; 2], A>),
     TupleOfThree(u8, Arc<[Term<A>; 3], A>),
     TupleOfFour(u8, Arc<[Term<A>; 4], A>),
@@ -505,82 +508,6 @@ impl<A: Allocator> Term<A> {
         })
     }
 
-    /// The tuple of one element, in the least memory. A tuple deeper than `MAX_DEPTH` is refused.
-    pub fn tuple_of_one(alloc: A, element: Term<A>) -> Result<Self, Refused<Term<A>>>
-        ensures ok { IfOk result (λ t. t ≡ tuple (items_of (element ∷ []))) }
-        ensures refused { IfErr result (λ r. (r.value ≡ element)
-            × IsFault r.fault (tuple (items_of (element ∷ [])))) }
-    {
-        let deepest = element.depth();
-        if deepest >= MAX_DEPTH {
-            return Err(Refused {
-                value: element,
-                fault: Fault::TooDeep,
-            });
-        }
-        let element = shared(alloc, element)?;
-        Ok(Term {
-            shape: Shape::TupleOfOne(deepest + 1, element),
-        })
-    }
-
-    /// The tuple of two elements, in the least memory. A tuple deeper than `MAX_DEPTH` is refused.
-    pub fn tuple_of_two(alloc: A, elements: [Term<A>; 2]) -> Result<Self, Refused<[Term<A>; 2]>>
-        ensures ok { IfOk result (λ t. t ≡ tuple (items_of elements)) }
-        ensures refused { IfErr result (λ r. (r.value ≡ elements)
-            × IsFault r.fault (tuple (items_of elements))) }
-    {
-        let deepest = deepest(&elements[..]);
-        if deepest >= MAX_DEPTH {
-            return Err(Refused {
-                value: elements,
-                fault: Fault::TooDeep,
-            });
-        }
-        let elements = shared(alloc, elements)?;
-        Ok(Term {
-            shape: Shape::TupleOfTwo(deepest + 1, elements),
-        })
-    }
-
-    /// The tuple of three elements, in the least memory. A tuple deeper than `MAX_DEPTH` is refused.
-    pub fn tuple_of_three(alloc: A, elements: [Term<A>; 3]) -> Result<Self, Refused<[Term<A>; 3]>>
-        ensures ok { IfOk result (λ t. t ≡ tuple (items_of elements)) }
-        ensures refused { IfErr result (λ r. (r.value ≡ elements)
-            × IsFault r.fault (tuple (items_of elements))) }
-    {
-        let deepest = deepest(&elements[..]);
-        if deepest >= MAX_DEPTH {
-            return Err(Refused {
-                value: elements,
-                fault: Fault::TooDeep,
-            });
-        }
-        let elements = shared(alloc, elements)?;
-        Ok(Term {
-            shape: Shape::TupleOfThree(deepest + 1, elements),
-        })
-    }
-
-    /// The tuple of four elements, in the least memory. A tuple deeper than `MAX_DEPTH` is refused.
-    pub fn tuple_of_four(alloc: A, elements: [Term<A>; 4]) -> Result<Self, Refused<[Term<A>; 4]>>
-        ensures ok { IfOk result (λ t. t ≡ tuple (items_of elements)) }
-        ensures refused { IfErr result (λ r. (r.value ≡ elements)
-            × IsFault r.fault (tuple (items_of elements))) }
-    {
-        let deepest = deepest(&elements[..]);
-        if deepest >= MAX_DEPTH {
-            return Err(Refused {
-                value: elements,
-                fault: Fault::TooDeep,
-            });
-        }
-        let elements = shared(alloc, elements)?;
-        Ok(Term {
-            shape: Shape::TupleOfFour(deepest + 1, elements),
-        })
-    }
-
     /// The list of these elements followed by a tail. A tail that is a list is joined on; without elements it is the
     /// tail, or `[]` where there is none. More than `MAX_LIST` elements are refused, and a list deeper than `MAX_DEPTH`.
     pub fn list(
@@ -633,7 +560,7 @@ impl<A: Allocator> Term<A> {
             Shape::Short(count, characters) => View::Atom(&characters[..usize::from(*count)]),
             Shape::Atom(characters) => View::Atom(characters.as_slice()),
             Shape::Unit => View::Tuple(&[]),
-            Shape::TupleOfOne(_, element) => View::Tuple(slice::from_ref(&**element)),
+            Shape::TupleOfOne(_, elements) => View::Tuple(&elements[..]),
             Shape::TupleOfTwo(_, elements) => View::Tuple(&elements[..]),
             Shape::TupleOfThree(_, elements) => View::Tuple(&elements[..]),
             Shape::TupleOfFour(_, elements) => View::Tuple(&elements[..]),

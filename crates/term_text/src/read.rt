@@ -21,7 +21,7 @@ use crate::token::{
 use std::alloc::{AllocError, Allocator};
 use std::collections::BTreeMap;
 use term_build::map_of_pairs;
-use term_core::{Fault, MAX_BINARY, MAX_CHARACTERS, MAX_DEPTH, MAX_LIST, MAX_MAP, MAX_TUPLE, Term};
+use term_core::{MAX_BINARY, MAX_CHARACTERS, MAX_DEPTH, MAX_LIST, MAX_MAP, MAX_TUPLE, Term};
 
 /// What begins the term that has to stand there, where so many levels of nesting and so many terms are left.
 #[tactic(auto, unfolding(crate::specs::Reading::enter))]
@@ -61,17 +61,6 @@ fn integer_term<A: Allocator>(text: &[char]) -> Result<(Term<A>, &[char]), Stop>
     Ok((Term::int(value), rest))
 }
 
-/// What stops the reader where a term within its limits is refused: nothing but want of memory refuses it.
-fn memory_alone(fault: Fault) -> Stop
-    requires { fault ≡ Fault.Memory }
-    ensures { result ≡ Stop.Memory }
-{
-    match fault {
-        Fault::Memory => Stop::Memory,
-        Fault::TooDeep | Fault::TooLong | Fault::DuplicateKey => unreachable!(),
-    }
-}
-
 /// An atom of these characters.
 fn atom_of<A: Allocator>(alloc: A, characters: Vec<char, A>) -> Result<Term<A>, Stop>
     requires { IsWithin (atom characters.items) }
@@ -79,7 +68,7 @@ fn atom_of<A: Allocator>(alloc: A, characters: Vec<char, A>) -> Result<Term<A>, 
 {
     match Term::from_characters(alloc, characters) {
         Ok(term) => Ok(term),
-        Err(refused) => Err(memory_alone(refused.fault)),
+        Err(refused) => Err(Stop::from(refused.fault.alloc_error())),
     }
 }
 
@@ -119,7 +108,7 @@ fn list_of<A: Allocator>(
 {
     match Term::list(alloc, elements, tail) {
         Ok(term) => Ok(term),
-        Err(refused) => Err(memory_alone(refused.fault)),
+        Err(refused) => Err(Stop::from(refused.fault.alloc_error())),
     }
 }
 
@@ -268,7 +257,7 @@ fn binary_of<A: Allocator>(alloc: A, bytes: Vec<u8, A>) -> Result<Term<A>, Stop>
 {
     match Term::binary(alloc, bytes) {
         Ok(term) => Ok(term),
-        Err(refused) => Err(memory_alone(refused.fault)),
+        Err(refused) => Err(Stop::from(refused.fault.alloc_error())),
     }
 }
 
@@ -308,7 +297,7 @@ fn map_of<A: Allocator + Copy>(alloc: A, pairs: Pairs<A>) -> Result<Term<A>, Sto
     let pairs = in_order(alloc, pairs)?;
     match map_of_pairs(alloc, pairs) {
         Ok(map) => Ok(map),
-        Err(refused) => Err(memory_alone(refused.fault)),
+        Err(refused) => Err(Stop::from(refused.fault.alloc_error())),
     }
 }
 
@@ -319,7 +308,7 @@ fn tuple_of<A: Allocator>(alloc: A, elements: Vec<Term<A>, A>) -> Result<Term<A>
 {
     match Term::tuple(alloc, elements) {
         Ok(term) => Ok(term),
-        Err(refused) => Err(memory_alone(refused.fault)),
+        Err(refused) => Err(Stop::from(refused.fault.alloc_error())),
     }
 }
 

@@ -29,9 +29,9 @@ fn copy_shape<A: Allocator>(shape: &Shape<A>) -> Result<Shape<A>, AllocError>
         Shape::Short(count, characters) => Ok(Shape::Short(*count, *characters)),
         Shape::Atom(characters) => Ok(Shape::Atom(Arc::try_clone(characters)?)),
         Shape::Binary(bytes) => Ok(Shape::Binary(Arc::try_clone(bytes)?)),
-        Shape::TupleOfOne(depth, element) => Ok(Shape::TupleOfOne(
+        Shape::TupleOfOne(depth, elements) => Ok(Shape::TupleOfOne(
             *depth,
-            Arc::try_clone(element)?,
+            Arc::try_clone(elements)?,
         )),
         Shape::MapOfOne(depth, pair) => Ok(Shape::MapOfOne(*depth, Arc::try_clone(pair)?)),
         Shape::TupleOfTwo(depth, elements) => Ok(Shape::TupleOfTwo(

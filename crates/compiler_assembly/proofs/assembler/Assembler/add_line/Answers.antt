@@ -35,8 +35,8 @@ returns-clause-ok g c =
     let next : c.args.place.pc + 1 ≡ suc c.args.place.pc = omega arith in
     on_ok_weaker c.add_label.result
     (λ made.
-      let grown = made ∙ ap (λ q. with_labelled q c.args.slots.now (c.args.place.pc + 1) c.args.line.label) c.in_ok-pc.ensures.ok.0 in
-      line_added cs p c.instruction.new.pool c.add_label.new.builder c.args.slots.now c.args.place.behind c.args.place.pc c.args.line c.in_ok-instr.instr c.in_ok-instr.ensures.pool c.in_ok-instr.ensures.instr (rw next at grown))
+    let grown = made ∙ ap (λ q. with_labelled q c.args.slots.now (c.args.place.pc + 1) c.args.line.label) c.in_ok-pc.ensures.ok.0 in
+    line_added cs p c.instruction.new.pool c.add_label.new.builder c.args.slots.now c.args.place.behind c.args.place.pc c.args.line c.in_ok-instr.instr c.in_ok-instr.ensures.pool c.in_ok-instr.ensures.instr (rw next at grown))
     c.add_label.ensures.ok
 
 pub returns-clause-refused : goal.returns-clause-refused

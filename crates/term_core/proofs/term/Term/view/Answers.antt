@@ -10,11 +10,11 @@ slice_bounds-result-end-in-Unit g c = refl
 pub from_ref-requires : goal.from_ref-requires
 from_ref-requires g c = omega arith
 
-pub from_ref-requires-in-MapOfOne : goal.from_ref-requires-in-MapOfOne
-from_ref-requires-in-MapOfOne g c = omega arith
-
 pub shared_whole_as_slice-result : goal.shared_whole_as_slice-result
 shared_whole_as_slice-result g c = omega arith
+
+pub shared_whole_as_slice-result-in-TupleOfTwo : goal.shared_whole_as_slice-result-in-TupleOfTwo
+shared_whole_as_slice-result-in-TupleOfTwo g c = omega arith
 
 pub shared_whole_as_slice-result-in-TupleOfThree :
     goal.shared_whole_as_slice-result-in-TupleOfThree
