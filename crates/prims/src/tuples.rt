@@ -43,7 +43,7 @@ pub(crate) fn element<'a, A: Allocator>(
 fn is_atom<A: Allocator>(term: &Term<A>, name: &[char]) -> bool
     ensures { result ≡ begins_with (item term.now no_items) name.now }
 {
-    match View::behind(term, 0) {
+    match Operand::Term(term).view() {
         View::Atom(characters) => characters == name,
         _ => false,
     }

@@ -1,4 +1,4 @@
 pub mod OrderLemmas
 mod TextLemmas
-mod ViewLemmas
+pub mod ViewLemmas
 pub mod BorrowLemmas

@@ -9,7 +9,7 @@ use Rattle.term_core.specs.Datum.Datum.{integer, atom, tuple, map, cons, binary}
 use Rattle.std.specs.Option.{option_copied}
 use Rattle.term_core.specs.Term.{tail_of}
 use Rattle.term_core.specs.Order.{rank, datum_cmp}
-use Rattle.term_core.specs.View.{shown}
+use Rattle.term_core.specs.View.{shown, IsSplit}
 use Rattle.term_operand.specs.Order.{AreDecided, IsSimple}
 use Rattle.term_core.specs.declared.view.View.{View}
 use Rattle.term_core.specs.declared.view.View.TheVariants as view
@@ -32,19 +32,35 @@ AreOther (integer a) (integer b) = ⊥
 AreOther (atom a) (atom b) = ⊥
 AreOther d e = Unit {0}
 
+-- a list with elements is none of these
+integer_beside_cells : (z : ℤ) (ds : List Datum) (tail : Datum) → 0 < length ds → AreOther (integer z) (cells ds tail)
+integer_beside_cells z [] tail some = absurd (omega arith)
+integer_beside_cells z (d ∷ ds) tail some = tt
+
+atom_beside_cells : (cs : List ℕ) (ds : List Datum) (tail : Datum) → 0 < length ds → AreOther (atom cs) (cells ds tail)
+atom_beside_cells cs [] tail some = absurd (omega arith)
+atom_beside_cells cs (d ∷ ds) tail some = tt
+
+cells_beside : (ds : List Datum) (tail d : Datum) → 0 < length ds → AreOther (cells ds tail) d
+cells_beside [] tail d some = absurd (omega arith)
+cells_beside (e ∷ ds) tail d some = tt
+
 -- views by what they are not
-pub beside_integer : {A : Type 0} (z : ℤ) (v : View A) → ((x : ℤ) → v ≡ view.Integer x → ⊥) → AreOther (integer z) (shown v)
-beside_integer z (view.Integer x) other = other x refl
-beside_integer z v other = tt
+pub beside_integer : {A : Type 0} (z : ℤ) (v : View A) → IsSplit v → ((x : ℤ) → v ≡ view.Integer x → ⊥) → AreOther (integer z) (shown v)
+beside_integer z (view.Integer x) split other = other x refl
+beside_integer z (view.List ds tail) split other = integer_beside_cells z ds.now _ split.0
+beside_integer z v split other = tt
 
-pub beside_atom : {A : Type 0} (cs : List ℕ) (v : View A) → ((x : Bor (List ℕ)) → v ≡ view.Atom x → ⊥) → AreOther (atom cs) (shown v)
-beside_atom cs (view.Atom x) other = other x refl
-beside_atom cs v other = tt
+pub beside_atom : {A : Type 0} (cs : List ℕ) (v : View A) → IsSplit v → ((x : Bor (List ℕ)) → v ≡ view.Atom x → ⊥) → AreOther (atom cs) (shown v)
+beside_atom cs (view.Atom x) split other = other x refl
+beside_atom cs (view.List ds tail) split other = atom_beside_cells cs ds.now _ split.0
+beside_atom cs v split other = tt
 
-pub beside_any : {A : Type 0} (u v : View A) → ((x : ℤ) → u ≡ view.Integer x → ⊥) → ((x : Bor (List ℕ)) → u ≡ view.Atom x → ⊥) → AreOther (shown u) (shown v)
-beside_any (view.Integer x) v integers atoms = absurd (integers x refl)
-beside_any (view.Atom x) v integers atoms = absurd (atoms x refl)
-beside_any u v integers atoms = tt
+pub beside_any : {A : Type 0} (u v : View A) → IsSplit u → ((x : ℤ) → u ≡ view.Integer x → ⊥) → ((x : Bor (List ℕ)) → u ≡ view.Atom x → ⊥) → AreOther (shown u) (shown v)
+beside_any (view.Integer x) v split integers atoms = absurd (integers x refl)
+beside_any (view.Atom x) v split integers atoms = absurd (atoms x refl)
+beside_any (view.List ds tail) v split integers atoms = cells_beside ds.now _ (shown v) split.0
+beside_any u v split integers atoms = tt
 
 pub datum_cmp-rank : (a b : Datum) → AreDecided a b → AreOther a b → datum_cmp a b ≡ nat_cmp (rank a) (rank b)
 unfolding datum_cmp

@@ -1,3 +1,4 @@
 pub mod Operand
 pub mod Order
 pub mod Value
+pub mod View

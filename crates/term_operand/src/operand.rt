@@ -6,6 +6,7 @@ ghost use Rattle.term_core.specs.Datum.Datum.{atom, tuple, map, cons};
 ghost use Rattle.term_core.specs.Limits.{IsSound, ArePairsSound};
 ghost use Rattle.term_build.specs.Rest.{rest_of};
 ghost use Rattle.term_core.specs.View.{shown, IsSplit};
+ghost use Rattle.term_operand.specs.View.{seen};
 ghost use Rattle.term_operand.specs.Operand.{operand_datum, boolean as boolean_atom, boolean_of, integer_of, IsNoCell, IsNoTuple, IsNoMap};
 ghost use Rattle.term_operand.specs.Order.{IsSimple};
 
@@ -131,7 +132,8 @@ impl<'a, A: Allocator> Operand<'a, A> {
     /// The operand taken apart one level down.
     #[inline]
     pub fn view(self) -> View<'a, A>
-        ensures value { shown result ≡ operand_datum self.entry }
+        ensures value { seen result ≡ operand_datum self.entry }
+        ensures shown { shown result ≡ operand_datum self.entry }
         ensures split { IsSplit result }
         ensures within { IsSound (shown result) }
     {

@@ -31,6 +31,7 @@ impl<'a, 'h, A: Allocator> Value<'a, 'h, A> {
     ghost use Rattle.term_operand.specs.Operand.{operand_datum, boolean as boolean_atom, boolean_of, integer_of};
     ghost use Rattle.term_operand.specs.Value.{value_datum, is_borrowed};
     ghost use Rattle.term_core.specs.View.{shown, IsSplit};
+    ghost use Rattle.term_operand.specs.View.{seen};
 
     /// The value of an operand.
     #[inline(always)]
@@ -82,7 +83,8 @@ impl<'a, 'h, A: Allocator> Value<'a, 'h, A> {
     /// The value taken apart one level down.
     #[inline(always)]
     pub fn view(&self) -> View<'_, A>
-        ensures value { shown result ≡ value_datum self.now }
+        ensures value { seen result ≡ value_datum self.now }
+        ensures shown { shown result ≡ value_datum self.now }
         ensures split { IsSplit result }
         ensures within { IsSound (shown result) }
     {

@@ -30,8 +30,8 @@ pub returns-in_default : goal.returns-in_default
 returns-in_default g c =
     ranked g c (elim c.in_default.branch [
       | in_default-via-in-Integer+in_default w ↦
-          rw w.in_default.is-0 (beside_integer w.in_default.field-0-0 c.args.right w.in_default.not-Integer-1)
+          rw w.in_default.is-0 (beside_integer w.in_default.field-0-0 c.args.right c.requires.right w.in_default.not-Integer-1)
       | in_default-via-in-Atom+in_default w ↦
-          rw w.in_default.is-0 (beside_atom w.in_default.field-0-0.now c.args.right w.in_default.not-Atom-1)
-      | in_default-via-in_default w ↦ beside_any c.args.left c.args.right w.in_default.not-Integer-0 w.in_default.not-Atom-0
+          rw w.in_default.is-0 (beside_atom w.in_default.field-0-0.now c.args.right c.requires.right w.in_default.not-Atom-1)
+      | in_default-via-in_default w ↦ beside_any c.args.left c.args.right c.requires.left w.in_default.not-Integer-0 w.in_default.not-Atom-0
     ])
