@@ -49,7 +49,7 @@ fn main(rt: HostRuntime) -> anyhow::Result<ExitCode> {
         }
         None => {
             rt.stderr()
-                .write_all(b"usage: file_bench file < CODE_FILE, or third|each\n")?;
+                .write_all(b"usage: bench_files file < CODE_FILE, or third|each\n")?;
             Ok(ExitCode::FAILURE)
         }
     }

@@ -42,7 +42,7 @@ fn main(rt: HostRuntime) -> anyhow::Result<ExitCode> {
         }
         None => {
             let usage =
-                "usage: machine_bench objects|code < TERMS, of which the first is a specification\n";
+                "usage: bench_machine objects|code < TERMS, of which the first is a specification\n";
             rt.stderr().write_all(usage.as_bytes())?;
             Ok(ExitCode::FAILURE)
         }

@@ -45,7 +45,7 @@ fn main(rt: HostRuntime) -> anyhow::Result<ExitCode> {
         }
         None => {
             rt.stderr()
-                .write_all(b"usage: table_bench times|found < OBJECTS\n")?;
+                .write_all(b"usage: bench_tables times|found < OBJECTS\n")?;
             Ok(ExitCode::FAILURE)
         }
     }

@@ -6,7 +6,8 @@
 //!
 //! - `compilation`: the code of a specification; `laws`: what such code meets, how long and how deep it is. The lines of the
 //!   templates: `compiler_clauses`, `compiler_patterns`, `compiler_expressions`; out of lines code: `compiler_assembly`.
-//! - `meaning`: a law, each run of such code ends in what the specification means (`specs/Meaning.antt`). Runs are put together of
+//! - `meaning`: a law, such code has a run on each object, which ends in what the specification means there, where each frame of the
+//!   code is at an instruction, as in typed code it is (`specs/Meaning.antt`). Runs are put together of
 //!   parts (`Comes` of `specs/Reach.antt`): the lines of an expression push its value, those of a pattern bind what it matches, and
 //!   where one fails the run comes to the next clause with nothing on the stack. Expressions: `proofs/ExpressionLemmas.antt`, by
 //!   `FailLemmas`, `MadeLemmas`, `ListLemmas`, `ArithmeticLemmas`, `ChoiceLemmas` and `BindingLemmas`; patterns:

@@ -2,7 +2,7 @@
 //!
 //! The one contract: `Execution::run` executes the code on an object, by the machine's definition (`Runs` of
 //! `mcode/specs/Machine.antt`): it gives in which place the answer is, and the exact number of instructions executed. Where the code makes
-//! no term and no place holds a made one, it takes no memory (`specs/Memory.antt`). That an instruction finds what it needs follows from
+//! no term, no place holds a made one, and its stack has at most 16 places, it takes no memory (`specs/Memory.antt`). That an instruction finds what it needs follows from
 //! the verifier's typing: where a call below it tests that again, the arm of its failure is proved to be out of reach. What is known of a
 //! state that is of the shape known to the verifier stands in `specs/Fits.antt`.
 //!

@@ -6,8 +6,7 @@
 //! greatest depth, and only `verify` makes one.
 //!
 //! - `verification`: the frames, then each instruction in turn; `pass`: what is known before an instruction, and after one
-//!   more. The checks of one instruction and what it leaves stand in `verifier_types`, what is known of a state in
-//!   `verifier_types`.
+//!   more. What is known of a state, the checks of one instruction and what it leaves stand in `verifier_types`.
 //! - `verified`: what `verify` answers; `laws`: that no code is both typed and at fault.
 #![tactic(auto)]
 
