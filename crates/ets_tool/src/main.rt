@@ -5,11 +5,11 @@
 
 use std::io;
 use std::process::ExitCode;
-use tool_cli::run_program;
+use tool_cli::{Told, run_program};
 
 fn main(rt: HostRuntime) -> ExitCode {
     let mut reader = rt.stdin();
     let mut out = io::writer(&rt);
-    let mut err = rt.stderr();
+    let mut err = Told::new(rt.stderr());
     ExitCode::from(run_program(&rt, &mut reader, &mut out, &mut err))
 }

@@ -1,7 +1,7 @@
 //! Writers that fail, or hold all back until they are flushed.
 use std::alloc::Global;
 use test_streams::{FILE, FailingWriter, HoldingWriter, INPUT};
-use tool_cli::{Request, run_request, run_words};
+use tool_cli::{Request, Told, run_request, run_words};
 use tool_io::ToolFault;
 use tool_query::tool_run;
 
@@ -12,7 +12,7 @@ fn passed_on(alloc: Global, request: Request, input: &str) -> Vec<u8> {
         held: Vec::new(alloc),
         passed: Vec::new(alloc),
     };
-    let mut err = Vec::new(alloc);
+    let mut err = Told::new(Vec::new(alloc));
     let _status = run_request(alloc, request, &mut reader, &mut writer, &mut err);
     writer.passed
 }
@@ -50,14 +50,42 @@ fn a_writer_that_fails_is_refused(rt: HostRuntime) {
 fn left_by_unwritten_help(alloc: Global) -> (u8, Vec<u8>) {
     let mut reader = "".as_bytes();
     let mut out = FailingWriter { calls_left: 3 };
-    let mut err = Vec::new(alloc);
+    let mut err = Told::new(Vec::new(alloc));
     let words = ["ets_tool", "help"];
     let status = run_words(alloc, words.as_slice(), &mut reader, &mut out, &mut err);
-    (status, err)
+    (status, err.writer)
 }
 
 #[test]
 fn help_that_cannot_be_written_is_refused(rt: HostRuntime) {
     let (status, err) = left_by_unwritten_help(rt.alloc());
     assert!(rt; status == 4 && err.as_slice() == b"error E71\n".as_slice());
+}
+
+/// The status of `run` where the first term is no specification and standard error fails, and whether it is kept that it did.
+fn left_by_an_untold_refusal(alloc: Global) -> (u8, bool) {
+    let mut reader = "a.".as_bytes();
+    let mut out = Vec::new(alloc);
+    let mut err = Told::new(FailingWriter { calls_left: 2 });
+    let status = run_request(alloc, Request::Run, &mut reader, &mut out, &mut err);
+    (status, err.has_failed)
+}
+
+/// What the same passes on of a standard error that holds it back, and whether it says that it failed.
+fn passed_on_of_a_refusal(alloc: Global) -> (Vec<u8>, bool) {
+    let mut reader = "a.".as_bytes();
+    let mut out = Vec::new(alloc);
+    let mut err = Told::new(HoldingWriter {
+        held: Vec::new(alloc),
+        passed: Vec::new(alloc),
+    });
+    let _status = run_request(alloc, Request::Run, &mut reader, &mut out, &mut err);
+    (err.writer.passed, err.has_failed)
+}
+
+#[test]
+fn a_refusal_is_told(rt: HostRuntime) {
+    assert!(rt; left_by_an_untold_refusal(rt.alloc()) == (2, true));
+    let (line, has_failed) = passed_on_of_a_refusal(rt.alloc());
+    assert!(rt; line.as_slice() == b"error E10\n".as_slice() && !has_failed);
 }

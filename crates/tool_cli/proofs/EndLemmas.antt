@@ -1,7 +1,6 @@
 -- How the program ends.
-use Rattle.std.proofs.Common.{◌≡◌, ◌≢◌, ◌⊎◌, ℕ, List, Option, Result, Ok, Err, refl, subst, inl, inr}
+use Rattle.std.proofs.Common.{◌≡◌, ◌≢◌, ℕ, List, Option, Result, Ok, Err, refl, subst, inl, inr}
 use Rattle.std.specs.Prelude.{OnOk, IfErr}
-use Rattle.std.specs.Io.KnownBytes.{Keeps}
 use Rattle.clap.specs.Words.{kind_of}
 use Rattle.clap.specs.declared.error.Error.{Error}
 use Rattle.clap.specs.declared.error.kind.ErrorKind.{ErrorKind}
@@ -35,38 +34,27 @@ has_replies known old new (Ok x) ok stopped = ok
 has_replies known old new (Err f) ok stopped = stopped
 
 -- a command that was asked for ran
-pub ends_command : (a : Asked) (r : Request) (known out out' err err' : Option (List ℕ)) (status : ℕ) → Reads a (Ok r) → EndsRequest r known out out' err err' status
-    → EndsAsked a known out out' err err' status
-ends_command (command q) r known out out' err err' status is h = inl (subst (λ s. EndsRequest s known out out' err err' status) is h)
-ends_command help r known out out' err err' status is h = absurd is
-ends_command topic r known out out' err err' status is h = absurd is
-ends_command mistake r known out out' err err' status is h = absurd is
+pub ends_command : (a : Asked) (r : Request) (known out out' err err' : Option (List ℕ)) (failed : Type 0) (status : ℕ) → Reads a (Ok r)
+    → EndsRequest r known out out' err err' failed status → EndsAsked a known out out' err err' failed status
+ends_command (command q) r known out out' err err' failed status is h = inl (subst (λ s. EndsRequest s known out out' err err' failed status) is h)
+ends_command help r known out out' err err' failed status is h = absurd is
+ends_command topic r known out out' err err' failed status is h = absurd is
+ends_command mistake r known out out' err err' failed status is h = absurd is
 
 -- ---- how the program ends where no command runs
 
 -- by the kind of error
-pub record IsEndBy (k : ErrorKind) (out out' err err' : Option (List ℕ)) (status : ℕ) : Type 0 where
-  pub help : k ≡ kind.DisplayHelp → EndsHelp err err' status
-  pub memory : k ≡ kind.OutOfMemory → status ≡ 3
-  pub ended : k ≢ kind.DisplayHelp → k ≢ kind.DisplayVersion → (status ≡ 3) ⊎ (status ≡ 64)
-  pub silent : k ≢ kind.DisplayHelp → k ≢ kind.DisplayVersion → Keeps out out'
+pub record IsEndBy (k : ErrorKind) (out out' err err' : Option (List ℕ)) (failed : Type 0) (status : ℕ) : Type 0 where
+  pub help : k ≡ kind.DisplayHelp → EndsHelp out out' err err' failed status
+  pub memory : k ≡ kind.OutOfMemory → EndsEarly out out' err err' failed status
+  pub ended : k ≢ kind.DisplayHelp → k ≢ kind.DisplayVersion → EndsMistaken out out' err err' failed status
 
-ends_early : (k : ErrorKind) (out out' err err' : Option (List ℕ)) (status : ℕ) → IsEndBy k out out' err err' status
-    → k ≡ kind.OutOfMemory → EndsEarly out out' status
-ends_early k out out' err err' status h is = (h.memory is, h.silent (λ other. absurd (cc)) (λ other. absurd (cc)))
-
-ends_mistaken : (k : ErrorKind) (out out' err err' : Option (List ℕ)) (status : ℕ) → IsEndBy k out out' err err' status
-    → k ≢ kind.DisplayHelp → k ≢ kind.DisplayVersion → EndsMistaken out out' status
-ends_mistaken k out out' err err' status h no_help no_version = (h.ended no_help no_version, h.silent no_help no_version)
-
-pub ends_asked : (a : Asked) (e : Error) (known out out' err err' : Option (List ℕ)) (status : ℕ) → Reads a (Err e)
-    → IsEndBy (kind_of e) out out' err err' status → EndsAsked a known out out' err err' status
-ends_asked (command r) e known out out' err err' status is h = inr (ends_early (kind_of e) out out' err err' status h is)
-ends_asked help e known out out' err err' status (inl is) h = inr (ends_early (kind_of e) out out' err err' status h is)
-ends_asked help e known out out' err err' status (inr is) h = inl (h.help is)
-ends_asked topic e known out out' err err' status (inl is) h =
-    inr (ends_mistaken (kind_of e) out out' err err' status h (λ other. absurd (cc)) (λ other. absurd (cc)))
-ends_asked topic e known out out' err err' status (inr (inl is)) h = inl (h.help is)
-ends_asked topic e known out out' err err' status (inr (inr is)) h =
-    inr (ends_mistaken (kind_of e) out out' err err' status h (λ other. absurd (cc)) (λ other. absurd (cc)))
-ends_asked mistake e known out out' err err' status is h = ends_mistaken (kind_of e) out out' err err' status h is.0 is.1
+pub ends_asked : (a : Asked) (e : Error) (known out out' err err' : Option (List ℕ)) (failed : Type 0) (status : ℕ) → Reads a (Err e)
+    → IsEndBy (kind_of e) out out' err err' failed status → EndsAsked a known out out' err err' failed status
+ends_asked (command r) e known out out' err err' failed status is h = inr (h.memory is)
+ends_asked help e known out out' err err' failed status (inl is) h = inr (inr (h.memory is))
+ends_asked help e known out out' err err' failed status (inr is) h = h.help is
+ends_asked topic e known out out' err err' failed status (inl is) h = inl (inr (inr (h.memory is)))
+ends_asked topic e known out out' err err' failed status (inr (inl is)) h = inl (h.help is)
+ends_asked topic e known out out' err err' failed status (inr (inr is)) h = inr (h.ended (λ other. absurd (cc)) (λ other. absurd (cc)))
+ends_asked mistake e known out out' err err' failed status is h = h.ended is.0 is.1

@@ -1,8 +1,8 @@
 -- How the program ends: what its two streams gain, and its status.
-use Rattle.std.specs.Prelude.{ℕ, ◌≡◌, ◌⊎◌, Option, Result, Ok, Err, List}
+use Rattle.std.specs.Prelude.{ℕ, ◌≡◌, ◌≢◌, ◌⊎◌, Option, Result, Ok, Err, List, []}
 use Rattle.term_core.specs.Datum.{Datum}
-use Rattle.std.specs.Io.KnownBytes.{Keeps}
-use Rattle.tool_io.specs.Fault.{status_of}
+use Rattle.std.specs.Io.KnownBytes.{Keeps, Appends}
+use Rattle.tool_io.specs.Fault.{status_of, line_of}
 use Rattle.tool_io.specs.Terms.{OfTerms}
 use Rattle.tool_io.specs.declared.fault.ToolFault.{ToolFault}
 use Rattle.tool_io.specs.declared.fault.ToolFault.TheVariants as fault
@@ -11,19 +11,22 @@ use Rattle.tool_query.specs.Code.{WritesFile, StopsFile, WritesVerdict, StopsVer
 use Rattle.tool_query.specs.Run.{WritesAnswers, StopsAnswers, Stops}
 use Rattle.tool_script.specs.Run.{WritesReplies, StopsReplies}
 use Rattle.tool_script.specs.Input.{OfScript, StopsScript}
+use Rattle.tool_cli.specs.Telling.{Tells, TellsText}
 use Rattle.tool_cli.specs.Words.{Asked, command, help, topic, mistake}
 use Rattle.tool_cli.specs.declared.words.Request.{Request}
 use Rattle.tool_cli.specs.declared.words.Request.TheVariants as request
 
--- The program ends for this refusal: with its status; or with 3 where there was no memory for its line, and then with
--- nothing on standard error.
-abbrev pub EndsBy : ToolFault → (err err' : Option (List ℕ)) → ℕ → Type 0
-EndsBy f err err' status = (status ≡ status_of f) ⊎ ((status ≡ 3) × Keeps err err')
+-- The program ends for this refusal: with its status, and its line on standard error; or with 3 where there was no memory
+-- for the line, and then with nothing there.
+abbrev pub EndsBy : ToolFault → (err err' : Option (List ℕ)) → (failed : Type 0) → ℕ → Type 0
+EndsBy f err err' failed status =
+    ((status ≡ status_of f) × Tells err err' failed (line_of f)) ⊎ ((status ≡ 3) × Keeps err err')
 
 -- a command's outcome ends the program: with 0 and nothing on standard error, or for its refusal
-abbrev pub EndsWith : Result (Unit {0}) ToolFault → (err err' : Option (List ℕ)) → ℕ → Type 0
-EndsWith (Ok x) err err' status = (status ≡ 0) × Keeps err err'
-EndsWith (Err f) err err' status = EndsBy f err err' status
+abbrev pub EndsWith : Result (Unit {0}) ToolFault → (err err' : Option (List ℕ)) → (failed : Type 0) → ℕ
+    → Type 0
+EndsWith (Ok x) err err' failed status = (status ≡ 0) × Keeps err err'
+EndsWith (Err f) err err' failed status = EndsBy f err err' failed status
 
 -- what a command writes for terms
 abbrev pub Writes : Request → List Datum → (old new : Option (List ℕ)) → Type 0
@@ -51,37 +54,45 @@ HasOutcome r known old new (Err f) =
     Stops known old new f (λ terms. StopsOn r terms old new f)
 
 -- a command ran, and its outcome ends the program
-pub record EndsRequest (r : Request) (known out out' err err' : Option (List ℕ))
+pub record EndsRequest (r : Request) (known out out' err err' : Option (List ℕ)) (failed : Type 0)
     (status : ℕ) : Type 0 where
   pub outcome : Result (Unit {0}) ToolFault
   pub written : HasOutcome r known out out' outcome
-  pub ended : EndsWith outcome err err' status
-
--- help went to standard output and nothing to standard error, or the help could not be written
-abbrev pub EndsHelp : (err err' : Option (List ℕ)) → ℕ → Type 0
-EndsHelp err err' status =
-    ((status ≡ 0) × Keeps err err') ⊎ EndsBy fault.WriteFailed err err' status
+  pub ended : EndsWith outcome err err' failed status
 
 -- no command ran and standard output gained nothing, as there was no memory
-abbrev pub EndsEarly : (out out' : Option (List ℕ)) → ℕ → Type 0
-EndsEarly out out' status = (status ≡ 3) × Keeps out out'
+abbrev pub EndsEarly : (out out' err err' : Option (List ℕ)) → (failed : Type 0) → ℕ → Type 0
+EndsEarly out out' err err' failed status =
+    Keeps out out' × EndsBy fault.Memory err err' failed status
 
--- as the words were not understood, or there was no memory to find that out or to say so
-abbrev pub EndsMistaken : (out out' : Option (List ℕ)) → ℕ → Type 0
-EndsMistaken out out' status = ((status ≡ 3) ⊎ (status ≡ 64)) × Keeps out out'
+-- Help went to standard output, some text, and nothing to standard error; or the help could not be written, or there was
+-- no memory for it.
+abbrev pub EndsHelp : (out out' err err' : Option (List ℕ)) → (failed : Type 0) → ℕ → Type 0
+EndsHelp out out' err err' failed status =
+    ((status ≡ 0) × Keeps err err' × (text : List ℕ) × (text ≢ []) × Appends out out' text)
+    ⊎ EndsBy fault.WriteFailed err err' failed status
+    ⊎ EndsEarly out out' err err' failed status
+
+-- words that were not understood end the program with 64, and standard error says so
+abbrev pub TellsMistake : (err err' : Option (List ℕ)) → (failed : Type 0) → ℕ → Type 0
+TellsMistake err err' failed status = (status ≡ 64) × TellsText err err' failed
+
+-- The words were not understood, or there was no memory to find that out; standard output gains nothing.
+abbrev pub EndsMistaken : (out out' err err' : Option (List ℕ)) → (failed : Type 0) → ℕ → Type 0
+EndsMistaken out out' err err' failed status =
+    Keeps out out' × (TellsMistake err err' failed status ⊎ EndsBy fault.Memory err err' failed status)
 
 -- how the program ends by what its words ask for
-abbrev pub EndsAsked : Asked → (known out out' err err' : Option (List ℕ)) → ℕ → Type 0
-EndsAsked (command r) known out out' err err' status =
-    EndsRequest r known out out' err err' status ⊎ EndsEarly out out' status
-EndsAsked help known out out' err err' status =
-    EndsHelp err err' status ⊎ EndsEarly out out' status
-EndsAsked topic known out out' err err' status =
-    EndsHelp err err' status ⊎ EndsMistaken out out' status
-EndsAsked mistake known out out' err err' status = EndsMistaken out out' status
+abbrev pub EndsAsked : Asked → (known out out' err err' : Option (List ℕ)) → (failed : Type 0) → ℕ → Type 0
+EndsAsked (command r) known out out' err err' failed status =
+    EndsRequest r known out out' err err' failed status ⊎ EndsEarly out out' err err' failed status
+EndsAsked help known out out' err err' failed status = EndsHelp out out' err err' failed status
+EndsAsked topic known out out' err err' failed status =
+    EndsHelp out out' err err' failed status ⊎ EndsMistaken out out' err err' failed status
+EndsAsked mistake known out out' err err' failed status = EndsMistaken out out' err err' failed status
 
 -- The program ended so by what some words ask for: which words it was started with can't be said. Where they could not
 -- be had it ends as by a mistake.
-abbrev pub EndsProgram : (known out out' err err' : Option (List ℕ)) → ℕ → Type 0
-EndsProgram known out out' err err' status =
-    (a : Asked) × EndsAsked a known out out' err err' status
+abbrev pub EndsProgram : (known out out' err err' : Option (List ℕ)) → (failed : Type 0) → ℕ → Type 0
+EndsProgram known out out' err err' failed status =
+    (a : Asked) × EndsAsked a known out out' err err' failed status

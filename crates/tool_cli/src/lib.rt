@@ -5,11 +5,14 @@
 //! command.
 //!
 //! - `program`: from words to a status, `specs/Program.antt`.
+//! - `telling`: what is told why it ends early, `specs/Telling.antt`.
 //! - `words`: what the words of the command line ask for, `specs/Words.antt`.
 #![tactic(auto)]
 
 mod program;
+mod telling;
 mod words;
 
 pub use program::{run_program, run_request, run_words};
+pub use telling::{Tell, Told};
 pub use words::{Request, read_words};

@@ -1,11 +1,14 @@
 //! The program from its words to its status: what it reads, and what it writes on which of two streams.
-ghost use Rattle.std.specs.Prelude.{◌≡◌, ◌≢◌, ◌⊎◌, IfErr, map};
-ghost use Rattle.std.specs.Io.KnownBytes.{Keeps};
+ghost use Rattle.std.specs.Prelude.{◌≡◌, ◌≢◌, ◌⊎◌, [], IfErr, OnOk, map};
+ghost use Rattle.std.specs.Io.KnownBytes.{Appends, Keeps};
 ghost use Rattle.clap.specs.Words.{kind_of};
 ghost use Rattle.std.specs.IoError.{error_kind};
-ghost use Rattle.tool_cli.specs.Program.{HasOutcome, EndsWith, EndsRequest, EndsHelp, EndsAsked, EndsProgram};
+ghost use Rattle.tool_cli.specs.Program.{HasOutcome, EndsBy, EndsWith, EndsRequest, EndsHelp, EndsEarly};
+ghost use Rattle.tool_cli.specs.Program.{TellsMistake, EndsMistaken, EndsAsked, EndsProgram};
+ghost use Rattle.tool_cli.specs.Telling.{TellsText};
 ghost use Rattle.tool_cli.specs.Words.{asked};
 
+use crate::telling::Tell;
 use crate::words::{Request, read_words};
 use clap::error::ErrorKind as WordsErrorKind;
 use part_order::OrderPart;
@@ -26,17 +29,16 @@ const NO_MEMORY: u8 = 3;
 const BAD_WORDS: u8 = 64;
 
 /// Runs the program on the words that it was started with, and answers its status. It reads from `reader`, writes what
-/// it was asked for to `out` and why it ends early to `err`; a writer that fails changes the status only where it is
-/// `out`.
+/// it was asked for to `out` and tells `err` why it ends early; only a failure of `out` changes the status.
 #[tactic(auto, using(tool_query::proofs::RunLemmas::kept))]
-pub fn run_program<H: Env + AllocGlobal, R: Read, O: Write, E: Write>(
+pub fn run_program<H: Env + AllocGlobal, R: Read, O: Write, E: Tell>(
     rt: &H,
     reader: &mut R,
     out: &mut O,
     err: &mut E,
 ) -> u8
     ensures { EndsProgram (R.remaining reader.old) (O.contents out.old) (O.contents out.new)
-        (E.contents err.old) (E.contents err.new) result }
+        (E.told err.old) (E.told err.new) (E.has_failed err.new) result }
 {
     match words_of(rt) {
         Ok(words) => run_words(rt.alloc(), words.as_slice(), reader, out, err),
@@ -52,7 +54,7 @@ fn words_of<H: Env + AllocGlobal>(rt: &H) -> io::Result<Vec<String>> {
 
 /// As `run_program`, on these words, of which the first is the program's name: it runs the command that they ask for, or
 /// shows help where they ask for that.
-pub fn run_words<'a, S: AsStr, R: Read, O: Write, E: Write>(
+pub fn run_words<'a, S: AsStr, R: Read, O: Write, E: Tell>(
     alloc: Global,
     words: &'a [S],
     reader: &mut R,
@@ -60,7 +62,7 @@ pub fn run_words<'a, S: AsStr, R: Read, O: Write, E: Write>(
     err: &mut E,
 ) -> u8
     ensures { EndsAsked (asked (map S.text words.entry.now)) (R.remaining reader.old)
-        (O.contents out.old) (O.contents out.new) (E.contents err.old) (E.contents err.new) result }
+        (O.contents out.old) (O.contents out.new) (E.told err.old) (E.told err.new) (E.has_failed err.new) result }
 {
     match read_words(alloc, words) {
         Ok(request) => run_request(alloc, request, reader, out, err),
@@ -69,7 +71,7 @@ pub fn run_words<'a, S: AsStr, R: Read, O: Write, E: Write>(
 }
 
 /// Runs one command, and answers the status that the program ends with.
-pub fn run_request<A: Allocator + Copy, R: Read, O: Write, E: Write>(
+pub fn run_request<A: Allocator + Copy, R: Read, O: Write, E: Tell>(
     alloc: A,
     request: Request,
     reader: &mut R,
@@ -77,7 +79,7 @@ pub fn run_request<A: Allocator + Copy, R: Read, O: Write, E: Write>(
     err: &mut E,
 ) -> u8
     ensures { EndsRequest request (R.remaining reader.old) (O.contents out.old)
-        (O.contents out.new) (E.contents err.old) (E.contents err.new) result }
+        (O.contents out.new) (E.told err.old) (E.told err.new) (E.has_failed err.new) result }
 {
     let outcome = command_outcome(alloc, request, reader, out);
     end(alloc, outcome, err)
@@ -102,10 +104,9 @@ fn command_outcome<A: Allocator + Copy, R: Read, O: Write>(
     }
 }
 
-/// The status that the outcome of a command ends the program with, once the line of its refusal is written. A line that
-/// can't be written changes nothing.
-fn end<A: Allocator + Copy, E: Write>(alloc: A, outcome: Result<(), ToolFault>, err: &mut E) -> u8
-    ensures { EndsWith outcome (E.contents err.old) (E.contents err.new) result }
+/// The status that the outcome of a command ends the program with, once the line of its refusal is told.
+fn end<A: Allocator + Copy, E: Tell>(alloc: A, outcome: Result<(), ToolFault>, err: &mut E) -> u8
+    ensures { EndsWith outcome (E.told err.old) (E.told err.new) (E.has_failed err.new) result }
 {
     let Err(fault) = outcome else {
         return DONE;
@@ -113,67 +114,94 @@ fn end<A: Allocator + Copy, E: Write>(alloc: A, outcome: Result<(), ToolFault>, 
     let mut line = Vec::new(alloc);
     match fault_line(alloc, &fault, &mut line) {
         Ok(status) => {
-            let _ = err.write_all(line.as_slice());
-            let _ = err.flush();
+            err.tell(line.as_slice());
             status
         }
         Err(AllocError) => NO_MEMORY,
     }
 }
 
-/// The status where the words ask for no command, once their text is written: help that was asked for goes to `out`.
-fn end_unasked<O: Write, E: Write>(
+/// The status where the words ask for no command, once what `clap` says is written: help that was asked for goes to `out`.
+fn end_unasked<O: Write, E: Tell>(
     alloc: Global,
     error: &clap::Error,
     out: &mut O,
     err: &mut E,
 ) -> u8
     ensures help { kind_of error.now ≡ WordsErrorKind.DisplayHelp
-        → EndsHelp (E.contents err.old) (E.contents err.new) result }
+        → EndsHelp (O.contents out.old) (O.contents out.new)
+        (E.told err.old) (E.told err.new) (E.has_failed err.new) result }
     ensures version { kind_of error.now ≡ WordsErrorKind.DisplayVersion
-        → EndsHelp (E.contents err.old) (E.contents err.new) result }
-    ensures memory { kind_of error.now ≡ WordsErrorKind.OutOfMemory → result ≡ 3 }
+        → EndsHelp (O.contents out.old) (O.contents out.new)
+        (E.told err.old) (E.told err.new) (E.has_failed err.new) result }
+    ensures memory { kind_of error.now ≡ WordsErrorKind.OutOfMemory
+        → EndsEarly (O.contents out.old) (O.contents out.new)
+        (E.told err.old) (E.told err.new) (E.has_failed err.new) result }
     ensures mistaken { kind_of error.now ≢ WordsErrorKind.DisplayHelp
         → kind_of error.now ≢ WordsErrorKind.DisplayVersion
-        → kind_of error.now ≢ WordsErrorKind.OutOfMemory → result ≡ 64 }
+        → kind_of error.now ≢ WordsErrorKind.OutOfMemory
+        → TellsMistake (E.told err.old) (E.told err.new) (E.has_failed err.new) result }
     ensures ended { kind_of error.now ≢ WordsErrorKind.DisplayHelp
-        → kind_of error.now ≢ WordsErrorKind.DisplayVersion → (result ≡ 3) ⊎ (result ≡ 64) }
-    ensures silent { kind_of error.now ≢ WordsErrorKind.DisplayHelp
         → kind_of error.now ≢ WordsErrorKind.DisplayVersion
-        → Keeps (O.contents out.old) (O.contents out.new) }
+        → EndsMistaken (O.contents out.old) (O.contents out.new)
+        (E.told err.old) (E.told err.new) (E.has_failed err.new) result }
 {
     if error.kind() == WordsErrorKind::OutOfMemory {
         return end(alloc, Err(ToolFault::Memory), err);
     }
-    if !error.use_stderr() {
-        let outcome = show_help(error, out);
-        return end(alloc, outcome, err);
+    if error.use_stderr() {
+        tell_mistake(alloc, error, err);
+        return BAD_WORDS;
     }
-    let _ = write!(err, "{error}");
-    let _ = err.flush();
-    BAD_WORDS
+    let Ok(text) = error.to_string(alloc) else {
+        return end(alloc, Err(ToolFault::Memory), err);
+    };
+    end(alloc, write_help(shown(&text), out), err)
+}
+
+/// Tells what `clap` says of words that were not understood, or that they were not where there is no memory for its text.
+fn tell_mistake<E: Tell>(alloc: Global, error: &clap::Error, err: &mut E)
+    ensures { TellsText (E.told err.old) (E.told err.new) (E.has_failed err.new) }
+{
+    match error.to_string(alloc) {
+        Ok(text) => err.tell(shown(&text)),
+        Err(AllocError) => err.tell(b"error: the words were not understood\n"),
+    }
+}
+
+/// What is shown of a text of `clap`'s: something in any case.
+fn shown(text: &str) -> &[u8]
+    ensures { result.now ≢ [] }
+{
+    if text.is_empty() {
+        return b"error\n";
+    }
+    text.as_bytes()
 }
 
 /// Writes the help that was asked for.
-fn show_help<O: Write>(error: &clap::Error, out: &mut O) -> Result<(), ToolFault>
-    ensures { IfErr result (λ fault. fault ≡ ToolFault.WriteFailed) }
+fn write_help<O: Write>(text: &[u8], out: &mut O) -> Result<(), ToolFault>
+    ensures written { OnOk result (Appends (O.contents out.old) (O.contents out.new) text.now) }
+    ensures failed { IfErr result (λ fault. fault ≡ ToolFault.WriteFailed) }
 {
-    if write!(out, "{error}").is_err() || out.flush().is_err() {
+    if out.write_all(text).is_err() || out.flush().is_err() {
         return Err(ToolFault::WriteFailed);
     }
     Ok(())
 }
 
 /// The status where the words could not be had: there was no memory, or one is not UTF-8.
-fn end_unread<E: Write>(alloc: Global, error: &io::Error, err: &mut E) -> u8
-    ensures memory { error_kind error.now ≡ ErrorKind.OutOfMemory → result ≡ 3 }
-    ensures mistaken { error_kind error.now ≢ ErrorKind.OutOfMemory → result ≡ 64 }
-    ensures either { (result ≡ 3) ⊎ (result ≡ 64) }
+fn end_unread<E: Tell>(alloc: Global, error: &io::Error, err: &mut E) -> u8
+    ensures memory { error_kind error.now ≡ ErrorKind.OutOfMemory
+        → EndsBy ToolFault.Memory (E.told err.old) (E.told err.new) (E.has_failed err.new) result }
+    ensures mistaken { error_kind error.now ≢ ErrorKind.OutOfMemory
+        → TellsMistake (E.told err.old) (E.told err.new) (E.has_failed err.new) result }
+    ensures either { TellsMistake (E.told err.old) (E.told err.new) (E.has_failed err.new) result
+        ⊎ EndsBy ToolFault.Memory (E.told err.old) (E.told err.new) (E.has_failed err.new) result }
 {
     if error.kind() == ErrorKind::OutOfMemory {
         return end(alloc, Err(ToolFault::Memory), err);
     }
-    let _ = err.write_all(b"error: a word is not UTF-8\n");
-    let _ = err.flush();
+    err.tell(b"error: a word is not UTF-8\n");
     BAD_WORDS
 }

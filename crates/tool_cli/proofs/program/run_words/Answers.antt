@@ -6,9 +6,9 @@ use Rattle.tool_cli.proofs.program.run_words.Goals as goal
 pub returns-in-Err : goal.returns-in-Err
 returns-in-Err g c =
     let ends = c.end_unasked.ensures in
-    ends_asked (asked (map g.S.AsStr.text c.args.words.now)) c.in-Err.error _ _ _ _ _ _ c.in-Err.ensures
-    (record { help = ends.help; memory = ends.memory; ended = ends.ended; silent = ends.silent })
+    ends_asked (asked (map g.S.AsStr.text c.args.words.now)) c.in-Err.error _ _ _ _ _ _ _ c.in-Err.ensures
+    (record { help = ends.help; memory = ends.memory; ended = ends.ended })
 
 pub returns-in-Ok : goal.returns-in-Ok
 returns-in-Ok g c =
-    ends_command (asked (map g.S.AsStr.text c.args.words.now)) c.in-Ok.request _ _ _ _ _ _ c.in-Ok.ensures c.run_request.ensures
+    ends_command (asked (map g.S.AsStr.text c.args.words.now)) c.in-Ok.request _ _ _ _ _ _ _ c.in-Ok.ensures c.run_request.ensures
