@@ -32,7 +32,9 @@ pub trait Part<A: Allocator>: Sized {
         ensures made { IfOk result (λ p. IsServed serves (settings_with kind keypos parts sessions)
             × (settings p ≡ settings_with kind keypos parts sessions) × is_after p []) }
         ensures refused { IsErrOf result OpenFault.BadOptions
-            → ¬ (IsServed serves (settings_with kind keypos parts sessions)) };
+            → ¬ (IsServed serves (settings_with kind keypos parts sessions)) }
+        ensures scarce { IsErrOf result OpenFault.Memory
+            → IsServed serves (settings_with kind keypos parts sessions) };
 
     /// Does an operation for a session. What is done is spent: it is taken out of its place. What is refused stays there, and all
     /// stands as before; want of memory leaves no entry.

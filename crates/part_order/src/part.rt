@@ -104,6 +104,8 @@ impl<A: Allocator + Copy> Part<A> for OrderPart<A> {
             × (p.settings ≡ settings_with kind keypos parts sessions) × IsAfter OrderedSet p []) }
         ensures refused { IsErrOf result OpenFault.BadOptions
             → ¬ (IsServed serves (settings_with kind keypos parts sessions)) }
+        ensures scarce { IsErrOf result OpenFault.Memory
+            → IsServed serves (settings_with kind keypos parts sessions) }
     {
         let settings = Settings {
             kind,

@@ -47,6 +47,7 @@ fn made<A: Allocator + Copy, P: Part<A> + Drop>(
     ensures each { IfOk result (λ parts. All (λ p. IsServed P.serves (settings_of options)
         × (P.settings p ≡ settings_of options) × P.is_after p []) parts.items) }
     ensures refused { IsErrOf result OpenFault.BadOptions → ¬ (IsServed P.serves (settings_of options)) }
+    ensures scarce { IsErrOf result OpenFault.Memory → IsServed P.serves (settings_of options) }
 {
     let mut parts = Vec::new(alloc);
     for _part in 0..options.parts {
@@ -66,12 +67,13 @@ fn made<A: Allocator + Copy, P: Part<A> + Drop>(
 }
 
 impl<P: Part<A> + Drop, A: Allocator + Copy> LocalTable<P, A> {
-    /// A table without objects. Refused where a number is outside its range, an ordered set has more than one part, or the parts don't
-    /// serve the kind.
+    /// A table without objects. The options are refused exactly where a number is outside its range, an ordered set has more than one
+    /// part, or the parts don't serve the kind, also where there is no memory.
     pub fn open(alloc: A, options: Options) -> Result<Self, OpenFault>
         ensures opened { IfOk result (λ t. IsOpenable P.serves options × (t.options ≡ options)
             × AreAfter P.is_after t.parts.items (λ part. [])) }
         ensures refused { IsErrOf result OpenFault.BadOptions → ¬ (IsOpenable P.serves options) }
+        ensures scarce { IsErrOf result OpenFault.Memory → IsOpenable P.serves options }
     {
         if options.parts == 0 {
             return Err(OpenFault::BadOptions);
