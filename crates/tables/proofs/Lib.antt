@@ -2,3 +2,4 @@ mod ReplyLemmas
 pub mod TurnLemmas
 mod LocalLemmas
 mod FixLemmas
+mod ObjectLemmas

@@ -8,7 +8,7 @@ ghost use Rattle.part_core.specs.Legal.{fix_count};
 ghost use Rattle.part_core.specs.Ops.{act_of, answer_in, takes_no_memory};
 ghost use Rattle.part_core.specs.Served.{IsServed};
 ghost use Rattle.part_core.specs.Settings.{is_ordered};
-ghost use Rattle.tables.specs.Local.{AreAfter, local_home};
+ghost use Rattle.tables.specs.Local.{AreAfter, local_home, objects_seen};
 ghost use Rattle.tables.specs.Options.{settings_of, IsOpenable};
 ghost use Rattle.tables.specs.Turns.{Views, Follows, Turned, TurnedEach};
 
@@ -16,7 +16,8 @@ use crate::fixing::release;
 use crate::options::Options;
 use crate::turns::Turns;
 use part_core::{Fault, OpenFault, Part, PartOp, Reply};
-use std::alloc::{Allocator, Global};
+use std::alloc::{AllocError, Allocator, Global};
+use term_core::Term;
 
 /// A table whose parts are used by one thread.
 #[derive(Drop)]
@@ -83,6 +84,19 @@ impl<P: Part<A> + Drop, A: Allocator + Copy> LocalTable<P, A> {
         }
         let parts = made(alloc, options)?;
         Ok(LocalTable { options, parts })
+    }
+
+    /// The objects, in the order of a walk.
+    pub fn objects(&self, alloc: A) -> Result<Vec<Term<A>, A>, AllocError>
+        ensures { IfOk result (λ objects. (v : Views) → AreAfter P.is_after self.now.parts.items v
+            → objects.items ≡ objects_seen self.now.options v) }
+    {
+        let mut objects = Vec::new(alloc);
+        for part in &self.parts {
+            let mut more = part.objects(alloc)?;
+            objects.append(&mut more)?;
+        }
+        Ok(objects)
     }
 }
 
