@@ -2,13 +2,19 @@
 //!
 //! It has no code of its own. What a test here calls is proved in its own crate once, and not a second time with its tests.
 //!
-//! - `queries`: queries by themselves; `requests`: commands of the program, with the line and the status of a refusal.
-//! - `texts`: what refusals are called.
+//! - `queries`: queries by themselves; `requests`: commands of the program, with the line and the status of a refusal; `sweeps`: how many
+//!   lines each of them writes where memory runs out.
+//! - `opening`: options of tables that can't be opened, with memory and without.
+//! - `fault_texts`: what each refusal is called, enum by enum.
 #![tactic(auto)]
 
+#[cfg(test)]
+mod fault_texts;
+#[cfg(test)]
+mod opening;
 #[cfg(test)]
 mod queries;
 #[cfg(test)]
 mod requests;
 #[cfg(test)]
-mod texts;
+mod sweeps;
