@@ -1,7 +1,7 @@
 //! Calls at an ordered set, one for each object.
 ghost use Rattle.std.specs.Prelude.{◌≡◌, ◌<◌, IfOk, IfSome};
 
-use part_core::{Kind, key_in};
+use part_core::{TableKind, key_in};
 use part_order::OrderPart;
 use std::alloc::Global;
 use tables::{LocalTable, Options, delete, insert, lookup};
@@ -16,7 +16,7 @@ pub(crate) fn opened(alloc: Global) -> Option<Ordered>
 {
     let options = Options {
         name: 0,
-        kind: Kind::OrderedSet,
+        kind: TableKind::OrderedSet,
         keypos: 1,
         parts: 1,
         sessions: 1,

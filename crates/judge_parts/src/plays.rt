@@ -1,5 +1,5 @@
 //! Rows that are played, once with memory and again with each request for memory refused in turn.
-use part_core::{Kind, OpenFault, Part};
+use part_core::{OpenFault, Part, TableKind};
 use part_order::OrderPart;
 use part_plain::PlainPart;
 use std::alloc::{Allocator, Global};
@@ -56,7 +56,7 @@ fn made_text<A: Allocator + Copy, P: Part<A> + Drop>(
 fn steps_row<A: Allocator + Copy, P: Part<A> + Drop>(
     alloc: Global,
     heap: A,
-    kind: Kind,
+    kind: TableKind,
     row: &[Term<A>],
     is_scarce: bool,
 ) -> Option<Vec<u8>> {
@@ -102,10 +102,10 @@ fn outcome_of<A: Allocator + Copy>(
     let row = read_terms(heap, given).ok()?;
     let row = row.as_slice();
     match call {
-        "set" => steps_row::<A, PlainPart<A>>(alloc, heap, Kind::Set, row, is_scarce),
+        "set" => steps_row::<A, PlainPart<A>>(alloc, heap, TableKind::Set, row, is_scarce),
         "make_set" => options_row::<A, PlainPart<A>>(alloc, heap, row, is_scarce),
         "ordered_set" => {
-            steps_row::<A, OrderPart<A>>(alloc, heap, Kind::OrderedSet, row, is_scarce)
+            steps_row::<A, OrderPart<A>>(alloc, heap, TableKind::OrderedSet, row, is_scarce)
         }
         "make_ordered_set" => options_row::<A, OrderPart<A>>(alloc, heap, row, is_scarce),
         _ => None,

@@ -16,7 +16,7 @@ use Rattle.term_core.specs.Order.{datum_cmp}
 use Rattle.term_core.specs.OrderLaws.{datum_cmp_total}
 use Rattle.term_operand.specs.Order.{is_same}
 use Rattle.mcode.specs.Machine.{field_of}
-use Rattle.part_core.specs.declared.kind.Kind.TheVariants.{OrderedSet}
+use Rattle.part_core.specs.declared.kind.TableKind.TheVariants.{OrderedSet}
 use Rattle.part_core.specs.declared.settings.Settings.{Settings}
 use Rattle.part_core.specs.Settings.{key_of}
 use Rattle.part_core.specs.Rows.{Row, is_live, has_row, objects_at, rows_at_key, with_object}

@@ -6,7 +6,7 @@ use Rattle.std.specs.Map.{keys_of}
 use Rattle.term_core.specs.Datum.{Datum}
 use Rattle.term_operand.specs.Order.{is_same}
 use Rattle.mcode.specs.Machine.{field_of}
-use Rattle.part_core.specs.declared.kind.Kind.TheVariants.{OrderedSet}
+use Rattle.part_core.specs.declared.kind.TableKind.TheVariants.{OrderedSet}
 use Rattle.part_core.specs.declared.settings.Settings.{Settings}
 use Rattle.part_core.specs.Settings.{is_object}
 use Rattle.part_core.specs.Acts.Act.{Delete, DeleteObject, Take}

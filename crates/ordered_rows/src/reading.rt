@@ -1,6 +1,6 @@
 //! Operations that read one key.
 ghost use Rattle.std.specs.Prelude.{ℕ, ◌≡◌, ◌++◌, List, IfOk, flat_map};
-ghost use Rattle.part_core.specs.declared.kind.Kind.TheVariants.{OrderedSet};
+ghost use Rattle.part_core.specs.declared.kind.TableKind.TheVariants.{OrderedSet};
 ghost use Rattle.part_core.specs.declared.settings.Settings.{Settings};
 ghost use Rattle.part_core.specs.Acts.Act.{Lookup, Member};
 ghost use Rattle.part_core.specs.Plain.{plain_state, IsAnswered};

@@ -1,7 +1,7 @@
 //! The order of a walk, and the rows behind a key.
 ghost use Rattle.std.specs.Prelude.{ℕ, ◌≡◌, List, IfOk};
 ghost use Rattle.std.specs.Option.{option_copied};
-ghost use Rattle.part_core.specs.declared.kind.Kind.TheVariants.{OrderedSet};
+ghost use Rattle.part_core.specs.declared.kind.TableKind.TheVariants.{OrderedSet};
 ghost use Rattle.part_core.specs.declared.settings.Settings.{Settings};
 ghost use Rattle.part_core.specs.Acts.Act.{First, Next};
 ghost use Rattle.part_core.specs.Plain.{plain_state, IsAnswered};

@@ -7,7 +7,7 @@ ghost use Rattle.term_core.specs.Order.{datum_cmp};
 ghost use Rattle.std.specs.List.{IsDistinct};
 ghost use Rattle.std.specs.Map.{keys_of};
 ghost use Rattle.term_operand.specs.Order.{is_same};
-ghost use Rattle.part_core.specs.declared.kind.Kind.TheVariants.{OrderedSet};
+ghost use Rattle.part_core.specs.declared.kind.TableKind.TheVariants.{OrderedSet};
 ghost use Rattle.part_core.specs.declared.settings.Settings.{Settings as AnySettings};
 ghost use Rattle.part_core.specs.Settings.{is_object, key_of};
 ghost use Rattle.part_core.specs.Acts.Act.{Insert, InsertNew, Delete, DeleteObject, Take};

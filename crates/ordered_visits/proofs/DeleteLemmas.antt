@@ -16,7 +16,7 @@ use Rattle.part_core.specs.declared.op.Cursor as cursor_type
 use Rattle.part_core.specs.declared.op.Scope as scope_type
 use Rattle.part_core.specs.declared.op.Scope.TheVariants as scoped
 use Rattle.part_core.specs.Ops.{scope_of}
-use Rattle.part_core.specs.declared.kind.Kind.TheVariants.{OrderedSet}
+use Rattle.part_core.specs.declared.kind.TableKind.TheVariants.{OrderedSet}
 use Rattle.part_core.specs.declared.settings.Settings.{Settings}
 use Rattle.part_core.specs.Settings.{is_ordered, is_set}
 use Rattle.part_core.specs.Acts.{Purpose, Scope}

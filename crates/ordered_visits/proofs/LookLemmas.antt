@@ -9,7 +9,7 @@ use Rattle.std.proofs.lemmas.Map.Keys.{IsDistinct-tail}
 use Rattle.term_core.specs.Datum.{Datum}
 use Rattle.term_operand.specs.Order.{is_same}
 use Rattle.mcode.specs.Program.{Program}
-use Rattle.part_core.specs.declared.kind.Kind.TheVariants.{OrderedSet}
+use Rattle.part_core.specs.declared.kind.TableKind.TheVariants.{OrderedSet}
 use Rattle.part_core.specs.declared.settings.Settings.{Settings}
 use Rattle.part_core.specs.Settings.{is_ordered}
 use Rattle.part_core.specs.Acts.{Purpose, Cursor, Scope}

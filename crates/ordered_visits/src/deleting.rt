@@ -4,7 +4,7 @@ ghost use Rattle.std.specs.List.{IsDistinct, list_any};
 ghost use Rattle.std.specs.Map.{keys_of};
 ghost use Rattle.std.specs.Option.{option_copied, option_map};
 ghost use Rattle.term_operand.specs.Order.{is_same};
-ghost use Rattle.part_core.specs.declared.kind.Kind.TheVariants.{OrderedSet};
+ghost use Rattle.part_core.specs.declared.kind.TableKind.TheVariants.{OrderedSet};
 ghost use Rattle.part_core.specs.declared.settings.Settings.{Settings};
 ghost use Rattle.part_core.specs.Acts.Act.{Visit};
 ghost use Rattle.part_core.specs.Acts.Purpose.{Deletes};

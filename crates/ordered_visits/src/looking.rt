@@ -1,7 +1,7 @@
 //! Where a visit looks.
 ghost use Rattle.std.specs.Prelude.{ℕ, ◌≡◌, List};
 ghost use Rattle.std.specs.Option.{option_copied};
-ghost use Rattle.part_core.specs.declared.kind.Kind.TheVariants.{OrderedSet};
+ghost use Rattle.part_core.specs.declared.kind.TableKind.TheVariants.{OrderedSet};
 ghost use Rattle.part_core.specs.declared.settings.Settings.{Settings};
 ghost use Rattle.part_core.specs.Ops.{scope_of};
 ghost use Rattle.part_core.specs.Plain.{plain_state};

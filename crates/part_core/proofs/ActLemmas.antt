@@ -11,7 +11,7 @@ use Rattle.term_core.specs.Datum.{Datum}
 use Rattle.term_core.specs.Datum.Datum.{nil}
 use Rattle.term_operand.specs.Order.{is_same}
 use Rattle.mcode.specs.Machine.{field_of}
-use Rattle.part_core.specs.declared.kind.Kind.{Kind}
+use Rattle.part_core.specs.declared.kind.TableKind.{TableKind}
 use Rattle.part_core.specs.declared.settings.Settings.{Settings}
 use Rattle.part_core.specs.declared.fault.Fault.{Fault}
 use Rattle.part_core.specs.declared.fault.Fault.TheVariants as fault
@@ -29,22 +29,22 @@ use Rattle.part_core.specs.Plain.{kept_rows, plain_state, Leads, IsPutRefused}
 use Rattle.part_core.proofs.KeyLemmas.{by_test}
 use Rattle.part_core.proofs.LeadLemmas.{replied, read, refused, live_stay}
 
-pub lookup_leads : (kind : Kind) (o : Settings) (rows : List Row) (fixes : List ℕ) (n : ℕ) (k : Datum) (os : List Datum) → os ≡ objects_at rows k → Leads kind o (plain_state rows fixes) n (Lookup k) (Some (Replied (Objects os))) (plain_state rows fixes)
+pub lookup_leads : (kind : TableKind) (o : Settings) (rows : List Row) (fixes : List ℕ) (n : ℕ) (k : Datum) (os : List Datum) → os ≡ objects_at rows k → Leads kind o (plain_state rows fixes) n (Lookup k) (Some (Replied (Objects os))) (plain_state rows fixes)
 unfolding reply_of
 lookup_leads kind o rows fixes n k os is =
     read kind o rows fixes n (Lookup k) (Objects os) (λ _ _. ap (λ xs. Replied (Objects xs)) (sym is)) refl refl
 
-pub member_leads : (kind : Kind) (o : Settings) (rows : List Row) (fixes : List ℕ) (n : ℕ) (k : Datum) (b : Bool) → b ≡ is_live (k, objects_at rows k) → Leads kind o (plain_state rows fixes) n (Member k) (Some (Replied (Flag b))) (plain_state rows fixes)
+pub member_leads : (kind : TableKind) (o : Settings) (rows : List Row) (fixes : List ℕ) (n : ℕ) (k : Datum) (b : Bool) → b ≡ is_live (k, objects_at rows k) → Leads kind o (plain_state rows fixes) n (Member k) (Some (Replied (Flag b))) (plain_state rows fixes)
 unfolding reply_of
 member_leads kind o rows fixes n k b is =
     read kind o rows fixes n (Member k) (Flag b) (λ _ _. ap (λ x. Replied (Flag x)) (sym is)) refl refl
 
-pub delete_leads : (kind : Kind) (o : Settings) (rows left now : List Row) (fixes : List ℕ) (n : ℕ) (k : Datum) → (IsDistinct is_same (keys_of rows) → left ≡ rows_at_key k (λ os. []) rows) → now ≡ kept_rows fixes left → Leads kind o (plain_state rows fixes) n (Delete k) (Some (Replied Nothing)) (plain_state now fixes)
+pub delete_leads : (kind : TableKind) (o : Settings) (rows left now : List Row) (fixes : List ℕ) (n : ℕ) (k : Datum) → (IsDistinct is_same (keys_of rows) → left ≡ rows_at_key k (λ os. []) rows) → now ≡ kept_rows fixes left → Leads kind o (plain_state rows fixes) n (Delete k) (Some (Replied Nothing)) (plain_state now fixes)
 unfolding reply_of
 delete_leads kind o rows left now fixes n k written is =
     replied kind o rows now fixes fixes n (Delete k) Nothing (λ _ _. refl) refl (λ _ state. is ∙ ap (kept_rows fixes) (written state.rows.distinct))
 
-pub take_leads : (kind : Kind) (o : Settings) (rows left now : List Row) (fixes : List ℕ) (n : ℕ) (k : Datum) (os : List Datum) → os ≡ objects_at rows k → (IsDistinct is_same (keys_of rows) → left ≡ rows_at_key k (λ os. []) rows) → now ≡ kept_rows fixes left → Leads kind o (plain_state rows fixes) n (Take k) (Some (Replied (Objects os))) (plain_state now fixes)
+pub take_leads : (kind : TableKind) (o : Settings) (rows left now : List Row) (fixes : List ℕ) (n : ℕ) (k : Datum) (os : List Datum) → os ≡ objects_at rows k → (IsDistinct is_same (keys_of rows) → left ≡ rows_at_key k (λ os. []) rows) → now ≡ kept_rows fixes left → Leads kind o (plain_state rows fixes) n (Take k) (Some (Replied (Objects os))) (plain_state now fixes)
 unfolding reply_of
 take_leads kind o rows left now fixes n k os found written is =
     replied kind o rows now fixes fixes n (Take k) (Objects os) (λ _ _. ap (λ xs. Replied (Objects xs)) (sym found)) refl (λ _ state. is ∙ ap (kept_rows fixes) (written state.rows.distinct))
@@ -53,13 +53,13 @@ take_leads kind o rows left now fixes n k os found written is =
 pub object_key : (o : Settings) (t k : Datum) → field_of o.keypos t ≡ Some k → IsTrue (is_object o t) × (key_of o t ≡ k)
 object_key o t k is = (ap is_some is, ap (λ f. unwrap_or f nil) is)
 
-pub delete_object_leads : (kind : Kind) (o : Settings) (rows left now : List Row) (fixes : List ℕ) (n : ℕ) (t k : Datum) → field_of o.keypos t ≡ Some k → (IsDistinct is_same (keys_of rows) → left ≡ rows_at_key k (objects_without t) rows) → now ≡ kept_rows fixes left → Leads kind o (plain_state rows fixes) n (DeleteObject t) (Some (Replied Nothing)) (plain_state now fixes)
+pub delete_object_leads : (kind : TableKind) (o : Settings) (rows left now : List Row) (fixes : List ℕ) (n : ℕ) (t k : Datum) → field_of o.keypos t ≡ Some k → (IsDistinct is_same (keys_of rows) → left ≡ rows_at_key k (objects_without t) rows) → now ≡ kept_rows fixes left → Leads kind o (plain_state rows fixes) n (DeleteObject t) (Some (Replied Nothing)) (plain_state now fixes)
 unfolding reply_of
 delete_object_leads kind o rows left now fixes n t k object written is =
     let key = object_key o t k object in
     replied kind o rows now fixes fixes n (DeleteObject t) Nothing (λ _ _. let here : is_object o t ≡ true = key.0 in rw here refl) refl (λ _ state. is ∙ ap (kept_rows fixes) (written state.rows.distinct ∙ ap (λ j. rows_at_key j (objects_without t) rows) (sym key.1)))
 
-pub no_object_leads : (kind : Kind) (o : Settings) (rows : List Row) (fixes : List ℕ) (n : ℕ) (t : Datum) → field_of o.keypos t ≡ None → Leads kind o (plain_state rows fixes) n (DeleteObject t) (Some (Refused TooSmall)) (plain_state rows fixes)
+pub no_object_leads : (kind : TableKind) (o : Settings) (rows : List Row) (fixes : List ℕ) (n : ℕ) (t : Datum) → field_of o.keypos t ≡ None → Leads kind o (plain_state rows fixes) n (DeleteObject t) (Some (Refused TooSmall)) (plain_state rows fixes)
 unfolding reply_of
 no_object_leads kind o rows fixes n t none =
     refused kind o (plain_state rows fixes) n (DeleteObject t) TooSmall (λ _ _. let no : is_object o t ≡ false = ap is_some none in rw no refl)
@@ -75,25 +75,25 @@ all_live_at k t (r ∷ rows) a =
     (all_live_at k t rows (All-tail (λ (v : Row). IsTrue (is_live v)) r rows a))
 
 -- an object was put in
-abbrev pub WasPut : Kind → Settings → Datum → List Row → List Row → Type 0
+abbrev pub WasPut : TableKind → Settings → Datum → List Row → List Row → Type 0
 WasPut kind o t rows now =
     IsTrue (is_object o t) × (o.kind ≡ kind → IsDistinct is_same (keys_of rows) → now ≡ with_object o t rows)
 
 -- where all rows are live, putting an object in leaves them so
-abbrev pub StaysLive : Kind → Settings → Datum → List Row → Type 0
+abbrev pub StaysLive : TableKind → Settings → Datum → List Row → Type 0
 StaysLive kind o t rows =
     o.kind ≡ kind → All (λ r. IsTrue (is_live r)) rows → All (λ r. IsTrue (is_live r)) (with_object o t rows)
 
-put_left : (kind : Kind) (o : Settings) (t : Datum) (rows now : List Row) (fixes : List ℕ) → StaysLive kind o t rows → WasPut kind o t rows now → o.kind ≡ kind → IsState o (plain_state rows fixes) → now ≡ kept_rows fixes (with_object o t rows)
+put_left : (kind : TableKind) (o : Settings) (t : Datum) (rows now : List Row) (fixes : List ℕ) → StaysLive kind o t rows → WasPut kind o t rows now → o.kind ≡ kind → IsState o (plain_state rows fixes) → now ≡ kept_rows fixes (with_object o t rows)
 put_left kind o t rows now fixes stays put is state =
     put.1 is state.rows.distinct ∙ sym (live_stay fixes (with_object o t rows) (λ free. stays is (state.live free)))
 
-pub insert_leads : (kind : Kind) (o : Settings) (rows now : List Row) (fixes : List ℕ) (n : ℕ) (t : Datum) → StaysLive kind o t rows → WasPut kind o t rows now → Leads kind o (plain_state rows fixes) n (Insert t) (Some (Replied Nothing)) (plain_state now fixes)
+pub insert_leads : (kind : TableKind) (o : Settings) (rows now : List Row) (fixes : List ℕ) (n : ℕ) (t : Datum) → StaysLive kind o t rows → WasPut kind o t rows now → Leads kind o (plain_state rows fixes) n (Insert t) (Some (Replied Nothing)) (plain_state now fixes)
 unfolding reply_of
 insert_leads kind o rows now fixes n t stays put =
     replied kind o rows now fixes fixes n (Insert t) Nothing (λ _ _. let here : is_object o t ≡ true = put.0 in rw here refl) refl (put_left kind o t rows now fixes stays put)
 
-pub insert_refused : (kind : Kind) (o : Settings) (rows now : List Row) (fixes : List ℕ) (n : ℕ) (t : Datum) (why : Fault) → IsPutRefused o t why → now ≡ rows → Leads kind o (plain_state rows fixes) n (Insert t) (option_map Refused (refusal_of why)) (plain_state now fixes)
+pub insert_refused : (kind : TableKind) (o : Settings) (rows now : List Row) (fixes : List ℕ) (n : ℕ) (t : Datum) (why : Fault) → IsPutRefused o t why → now ≡ rows → Leads kind o (plain_state rows fixes) n (Insert t) (option_map Refused (refusal_of why)) (plain_state now fixes)
 unfolding reply_of
 insert_refused kind o rows now fixes n t fault.TooSmall why same =
     rw same (refused kind o (plain_state rows fixes) n (Insert t) TooSmall (λ _ _. rw why refl))
@@ -108,14 +108,14 @@ not_empty : (os : List Datum) (k : Datum) → is_live (k, os) ≡ true → is_em
 not_empty [] k h = cc
 not_empty (t ∷ os) k h = refl
 
-pub insert_new_leads : (kind : Kind) (o : Settings) (rows now : List Row) (fixes : List ℕ) (n : ℕ) (t : Datum) → (is_object o t && is_live (key_of o t, objects_at rows (key_of o t))) ≡ false → StaysLive kind o t rows → WasPut kind o t rows now → Leads kind o (plain_state rows fixes) n (InsertNew t) (Some (Replied (Flag true))) (plain_state now fixes)
+pub insert_new_leads : (kind : TableKind) (o : Settings) (rows now : List Row) (fixes : List ℕ) (n : ℕ) (t : Datum) → (is_object o t && is_live (key_of o t, objects_at rows (key_of o t))) ≡ false → StaysLive kind o t rows → WasPut kind o t rows now → Leads kind o (plain_state rows fixes) n (InsertNew t) (Some (Replied (Flag true))) (plain_state now fixes)
 unfolding reply_of
 insert_new_leads kind o rows now fixes n t fails stays put =
     let here : is_object o t ≡ true = put.0 in
     let empty : is_empty (objects_at rows (key_of o t)) ≡ true = not_live (objects_at rows (key_of o t)) (key_of o t) (rw here at fails) in
     replied kind o rows now fixes fixes n (InsertNew t) (Flag true) (λ _ _. rw (here, empty) refl) refl (λ is state. rw empty (put_left kind o t rows now fixes stays put is state))
 
-pub insert_new_stays : (kind : Kind) (o : Settings) (rows : List Row) (fixes : List ℕ) (n : ℕ) (t : Datum) → (is_object o t && is_live (key_of o t, objects_at rows (key_of o t))) ≡ true → Leads kind o (plain_state rows fixes) n (InsertNew t) (Some (Replied (Flag false))) (plain_state rows fixes)
+pub insert_new_stays : (kind : TableKind) (o : Settings) (rows : List Row) (fixes : List ℕ) (n : ℕ) (t : Datum) → (is_object o t && is_live (key_of o t, objects_at rows (key_of o t))) ≡ true → Leads kind o (plain_state rows fixes) n (InsertNew t) (Some (Replied (Flag false))) (plain_state rows fixes)
 unfolding reply_of
 insert_new_stays kind o rows fixes n t holds =
     let parts = and_parts (is_object o t) _ holds in
@@ -123,7 +123,7 @@ insert_new_stays kind o rows fixes n t holds =
     let some : is_empty (objects_at rows (key_of o t)) ≡ false = not_empty (objects_at rows (key_of o t)) (key_of o t) parts.1 in
     read kind o rows fixes n (InsertNew t) (Flag false) (λ _ _. rw (here, some) refl) refl (rw some refl)
 
-pub insert_new_refused : (kind : Kind) (o : Settings) (rows now : List Row) (fixes : List ℕ) (n : ℕ) (t : Datum) (why : Fault) → IsPutRefused o t why → now ≡ rows → Leads kind o (plain_state rows fixes) n (InsertNew t) (option_map Refused (refusal_of why)) (plain_state now fixes)
+pub insert_new_refused : (kind : TableKind) (o : Settings) (rows now : List Row) (fixes : List ℕ) (n : ℕ) (t : Datum) (why : Fault) → IsPutRefused o t why → now ≡ rows → Leads kind o (plain_state rows fixes) n (InsertNew t) (option_map Refused (refusal_of why)) (plain_state now fixes)
 unfolding reply_of
 insert_new_refused kind o rows now fixes n t fault.TooSmall why same =
     rw same (refused kind o (plain_state rows fixes) n (InsertNew t) TooSmall (λ _ _. rw why refl))
@@ -132,7 +132,7 @@ insert_new_refused kind o rows now fixes n t other why same = absurd why
 
 -- ---- fixes
 
-pub fix_leads : (kind : Kind) (o : Settings) (rows : List Row) (fixes : List ℕ) (n m count : ℕ) → m ≡ n → n < length fixes → (get_or fixes m 0 + 1 < 65536) × (count ≡ get_or fixes m 0 + 1) → Leads kind o (plain_state rows fixes) n Fix (Some (Replied Nothing)) (plain_state rows (set fixes m count))
+pub fix_leads : (kind : TableKind) (o : Settings) (rows : List Row) (fixes : List ℕ) (n m count : ℕ) → m ≡ n → n < length fixes → (get_or fixes m 0 + 1 < 65536) × (count ≡ get_or fixes m 0 + 1) → Leads kind o (plain_state rows fixes) n Fix (Some (Replied Nothing)) (plain_state rows (set fixes m count))
 unfolding reply_of
 fix_leads kind o rows fixes n m count same within sum =
     let at : count ≡ get_or fixes n 0 + 1 = sum.1 ∙ ap (λ i. get_or fixes i 0 + 1) same in
@@ -149,14 +149,14 @@ fix_leads kind o rows fixes n m count same within sum =
         let fixed : is_fixed counts ≡ true = list_any_at (nat_lt 0) counts n 0 there one in
         replied kind o rows rows fixes counts n Fix Nothing (λ _ _. rw below refl) refl (λ _ _. rw fixed refl)
 
-pub fix_refused : (kind : Kind) (o : Settings) (rows : List Row) (fixes : List ℕ) (n m : ℕ) → m ≡ n → (get_or fixes m 0 + 1 < 65536 → ⊥) → Leads kind o (plain_state rows fixes) n Fix (Some (Refused FixLimit)) (plain_state rows fixes)
+pub fix_refused : (kind : TableKind) (o : Settings) (rows : List Row) (fixes : List ℕ) (n m : ℕ) → m ≡ n → (get_or fixes m 0 + 1 < 65536 → ⊥) → Leads kind o (plain_state rows fixes) n Fix (Some (Refused FixLimit)) (plain_state rows fixes)
 unfolding reply_of
 fix_refused kind o rows fixes n m same full =
     let at : get_or fixes m 0 ≡ get_or fixes n 0 = ap (λ i. get_or fixes i 0) same in
     let no : nat_lt (get_or fixes n 0) 65535 ≡ false = le-ltb _ _ (omega (arith, full, at)) in
     refused kind o (plain_state rows fixes) n Fix FixLimit (λ _ _. rw no refl)
 
-pub unfix_leads : (kind : Kind) (o : Settings) (rows now : List Row) (fixes : List ℕ) (n m count : ℕ) → m ≡ n → (1 ≤ get_or fixes m 0) × (count ≡ get_or fixes m 0 - 1) → now ≡ kept_rows (set fixes m count) rows → Leads kind o (plain_state rows fixes) n Unfix (Some (Replied Nothing)) (plain_state now (set fixes m count))
+pub unfix_leads : (kind : TableKind) (o : Settings) (rows now : List Row) (fixes : List ℕ) (n m count : ℕ) → m ≡ n → (1 ≤ get_or fixes m 0) × (count ≡ get_or fixes m 0 - 1) → now ≡ kept_rows (set fixes m count) rows → Leads kind o (plain_state rows fixes) n Unfix (Some (Replied Nothing)) (plain_state now (set fixes m count))
 unfolding reply_of
 unfix_leads kind o rows now fixes n m count same less is =
     let at : get_or fixes m 0 ≡ get_or fixes n 0 = ap (λ i. get_or fixes i 0) same in
@@ -164,20 +164,20 @@ unfix_leads kind o rows now fixes n m count same less is =
     let counts : set fixes n (get_or fixes n 0 - 1) ≡ set fixes m count = ap (λ c. set fixes n c) (ap (λ c. c - 1) (sym at) ∙ sym less.1) ∙ ap (λ i. set fixes i count) (sym same) in
     replied kind o rows now fixes (set fixes m count) n Unfix Nothing (λ _ _. rw above refl) counts (λ _ _. is)
 
-pub unfix_refused : (kind : Kind) (o : Settings) (rows : List Row) (fixes : List ℕ) (n m : ℕ) → m ≡ n → (1 ≤ get_or fixes m 0 → ⊥) → Leads kind o (plain_state rows fixes) n Unfix (Some (Refused NotFixed)) (plain_state rows fixes)
+pub unfix_refused : (kind : TableKind) (o : Settings) (rows : List Row) (fixes : List ℕ) (n m : ℕ) → m ≡ n → (1 ≤ get_or fixes m 0 → ⊥) → Leads kind o (plain_state rows fixes) n Unfix (Some (Refused NotFixed)) (plain_state rows fixes)
 unfolding reply_of
 unfix_refused kind o rows fixes n m same none =
     let at : get_or fixes m 0 ≡ get_or fixes n 0 = ap (λ i. get_or fixes i 0) same in
     let zero_fixes : get_or fixes n 0 ≡ 0 = omega (arith, none, at) in
     refused kind o (plain_state rows fixes) n Unfix NotFixed (λ _ _. rw zero_fixes refl)
 
-pub release_leads : (kind : Kind) (o : Settings) (rows now : List Row) (fixes : List ℕ) (n : ℕ) → now ≡ kept_rows (set fixes n 0) rows → Leads kind o (plain_state rows fixes) n Release (Some (Replied Nothing)) (plain_state now (set fixes n 0))
+pub release_leads : (kind : TableKind) (o : Settings) (rows now : List Row) (fixes : List ℕ) (n : ℕ) → now ≡ kept_rows (set fixes n 0) rows → Leads kind o (plain_state rows fixes) n Release (Some (Replied Nothing)) (plain_state now (set fixes n 0))
 unfolding reply_of
 release_leads kind o rows now fixes n is =
     replied kind o rows now fixes (set fixes n 0) n Release Nothing (λ _ _. refl) refl (λ _ _. is)
 
 -- a session that fixes nothing has nothing to release
-pub release_stays : (kind : Kind) (o : Settings) (rows : List Row) (fixes : List ℕ) (n : ℕ) → get_or fixes n 0 ≡ 0 → Leads kind o (plain_state rows fixes) n Release (Some (Replied Nothing)) (plain_state rows fixes)
+pub release_stays : (kind : TableKind) (o : Settings) (rows : List Row) (fixes : List ℕ) (n : ℕ) → get_or fixes n 0 ≡ 0 → Leads kind o (plain_state rows fixes) n Release (Some (Replied Nothing)) (plain_state rows fixes)
 unfolding reply_of
 release_stays kind o rows fixes n none =
     read kind o rows fixes n Release Nothing (λ _ _. refl) (ap (λ count. set fixes n count) (sym none) ∙ set-get_or fixes n 0) refl

@@ -3,7 +3,7 @@ use Rattle.std.proofs.Common.{◌≡◌, ℕ, ◌<◌, List, [], ◌∷◌, ◌+
 use Rattle.std.specs.Prelude.{Bool, true, false, not, ◌&&◌, ◌||◌, if◌then◌else◌, nat_lt, IsTrue, Some, Result, Ok, Err, filter, get_or, replicate, All}
 use Rattle.std.proofs.lemmas.List.{append-nil}
 use Rattle.std.proofs.lemmas.List.Elements.{All-head, All-tail}
-use Rattle.part_core.specs.declared.kind.Kind.{Kind}
+use Rattle.part_core.specs.declared.kind.TableKind.{TableKind}
 use Rattle.part_core.specs.declared.settings.Settings.{Settings}
 use Rattle.part_core.specs.declared.fault.Fault.{Fault}
 use Rattle.part_core.specs.declared.fault.Fault.TheVariants as fault
@@ -53,7 +53,7 @@ live_stay fixes rows live = of (is_fixed fixes) live
     of false live = all_kept is_live rows (live refl)
 
 -- an operation that is answered, by what it writes
-pub replied : (kind : Kind) (o : Settings) (rows now : List Row) (fixes counts : List ℕ) (n : ℕ) (act : Act) (said : Said) → (o.kind ≡ kind → IsState o (plain_state rows fixes) → reply_of o (plain_state rows fixes) n act ≡ Replied said) → (counts_after fixes n act ≡ counts) → (o.kind ≡ kind → IsState o (plain_state rows fixes) → now ≡ kept_rows counts (rows_after o (plain_state rows fixes) act)) → Leads kind o (plain_state rows fixes) n act (Some (Replied said)) (plain_state now counts)
+pub replied : (kind : TableKind) (o : Settings) (rows now : List Row) (fixes counts : List ℕ) (n : ℕ) (act : Act) (said : Said) → (o.kind ≡ kind → IsState o (plain_state rows fixes) → reply_of o (plain_state rows fixes) n act ≡ Replied said) → (counts_after fixes n act ≡ counts) → (o.kind ≡ kind → IsState o (plain_state rows fixes) → now ≡ kept_rows counts (rows_after o (plain_state rows fixes) act)) → Leads kind o (plain_state rows fixes) n act (Some (Replied said)) (plain_state now counts)
 replied kind o rows now fixes counts n act said reply is left = λ set state. (
   sym (reply set state),
   ap (λ rs. plain_state rs counts) (left set state)
@@ -63,17 +63,17 @@ replied kind o rows now fixes counts n act said reply is left = λ set state. (
 )
 
 -- an operation that reads
-pub read : (kind : Kind) (o : Settings) (rows : List Row) (fixes : List ℕ) (n : ℕ) (act : Act) (said : Said) → (o.kind ≡ kind → IsState o (plain_state rows fixes) → reply_of o (plain_state rows fixes) n act ≡ Replied said) → counts_after fixes n act ≡ fixes → rows_after o (plain_state rows fixes) act ≡ rows → Leads kind o (plain_state rows fixes) n act (Some (Replied said)) (plain_state rows fixes)
+pub read : (kind : TableKind) (o : Settings) (rows : List Row) (fixes : List ℕ) (n : ℕ) (act : Act) (said : Said) → (o.kind ≡ kind → IsState o (plain_state rows fixes) → reply_of o (plain_state rows fixes) n act ≡ Replied said) → counts_after fixes n act ≡ fixes → rows_after o (plain_state rows fixes) act ≡ rows → Leads kind o (plain_state rows fixes) n act (Some (Replied said)) (plain_state rows fixes)
 read kind o rows fixes n act said reply is stay =
     replied kind o rows rows fixes fixes n act said reply is (λ set state. sym (ap (kept_rows fixes) stay ∙ live_stay fixes rows state.live))
 
 -- an operation that is refused
-pub refused : (kind : Kind) (o : Settings) (s : PartState) (n : ℕ) (act : Act) (refusal : Refusal) → (o.kind ≡ kind → IsState o s → reply_of o s n act ≡ Refused refusal) → Leads kind o s n act (Some (Refused refusal)) s
+pub refused : (kind : TableKind) (o : Settings) (s : PartState) (n : ℕ) (act : Act) (refusal : Refusal) → (o.kind ≡ kind → IsState o s → reply_of o s n act ≡ Refused refusal) → Leads kind o s n act (Some (Refused refusal)) s
 refused kind o s n act refusal reply = λ set state.
     (sym (reply set state), sym (after_refused o s n act refusal (reply set state)))
 
 -- an answer goes on the history
-step : (kind : Kind) (p q : Plain) (n : ℕ) (act : Act) (answer : Answer) (log : History) → StatesAreKept → LegalGoesOn → q.settings ≡ p.settings → n < p.settings.sessions → IsAsked act → IsAfter kind p log → Leads kind p.settings (plain_state p.rows p.fixes) n act (Some answer) (plain_state q.rows q.fixes) → IsAfter kind q (log ++ (record { session = n; act = act; answer = answer }) ∷ [])
+step : (kind : TableKind) (p q : Plain) (n : ℕ) (act : Act) (answer : Answer) (log : History) → StatesAreKept → LegalGoesOn → q.settings ≡ p.settings → n < p.settings.sessions → IsAsked act → IsAfter kind p log → Leads kind p.settings (plain_state p.rows p.fixes) n act (Some answer) (plain_state q.rows q.fixes) → IsAfter kind q (log ++ (record { session = n; act = act; answer = answer }) ∷ [])
 step kind p q n act answer log kept goes settings session asked now leads =
     let was : state_after p.settings log ≡ plain_state p.rows p.fixes = now.0.state in
     let state : IsState p.settings (plain_state p.rows p.fixes) = subst (IsState p.settings) was (kept p.settings log now.1) in
@@ -85,14 +85,14 @@ step kind p q n act answer log kept goes settings session asked now leads =
       subst (λ (o : Settings). IsLegal o (log ++ e ∷ [])) (sym settings) legal,
     )
 
-unmoved : (kind : Kind) (p q : Plain) (log : History) → q.settings ≡ p.settings → IsAfter kind p log → plain_state q.rows q.fixes ≡ plain_state p.rows p.fixes → IsAfter kind q (log ++ [])
+unmoved : (kind : TableKind) (p q : Plain) (log : History) → q.settings ≡ p.settings → IsAfter kind p log → plain_state q.rows q.fixes ≡ plain_state p.rows p.fixes → IsAfter kind q (log ++ [])
 unmoved kind p q log settings now same =
     subst (IsAfter kind q) (sym (append-nil log)) (
       record { served = ap (λ (o : Settings). o.kind) settings ∙ now.0.served; state = ap (λ o. state_after o log) settings ∙ now.0.state ∙ sym same },
       subst (λ (o : Settings). IsLegal o log) (sym settings) now.1,
     )
 
-pub goes_on : {A : Type 0} (kind : Kind) (p q : Plain) (n : ℕ) (act : Act) (log : History) (result : Result (Reply A) (PartOp A × Fault)) → StatesAreKept → LegalGoesOn → q.settings ≡ p.settings → n < p.settings.sessions → IsAsked act → IsAnswered kind p.settings (plain_state p.rows p.fixes) n act (plain_state q.rows q.fixes) result → IsAfter kind p log → IsAfter kind q (log ++ entries_made n act (alone result))
+pub goes_on : {A : Type 0} (kind : TableKind) (p q : Plain) (n : ℕ) (act : Act) (log : History) (result : Result (Reply A) (PartOp A × Fault)) → StatesAreKept → LegalGoesOn → q.settings ≡ p.settings → n < p.settings.sessions → IsAsked act → IsAnswered kind p.settings (plain_state p.rows p.fixes) n act (plain_state q.rows q.fixes) result → IsAfter kind p log → IsAfter kind q (log ++ entries_made n act (alone result))
 goes_on kind p q n act log (Ok r) kept goes settings session asked answered now =
     step kind p q n act _ log kept goes settings session asked now answered.leads
 goes_on kind p q n act log (Err (op, fault.Memory)) kept goes settings session asked answered now =
@@ -116,6 +116,6 @@ begins o rows fixes none free =
 
 -- ---- counts of fixes
 
-pub counts_are : (kind : Kind) (p : Plain) (n : ℕ) (log : History) → FixesAreCounted → n < p.settings.sessions → IsAfter kind p log → get_or p.fixes n 0 ≡ fix_count n log
+pub counts_are : (kind : TableKind) (p : Plain) (n : ℕ) (log : History) → FixesAreCounted → n < p.settings.sessions → IsAfter kind p log → get_or p.fixes n 0 ≡ fix_count n log
 counts_are kind p n log counted within now =
     ap (λ (s : PartState). fixes_of s n) (sym now.0.state) ∙ counted p.settings log n now.1 within

@@ -19,7 +19,7 @@ use Rattle.term_core.specs.Datum.{Datum}
 use Rattle.term_core.specs.Order.{datum_cmp}
 use Rattle.term_core.specs.OrderLaws.{datum_cmp_total}
 use Rattle.term_operand.specs.Order.{is_same}
-use Rattle.part_core.specs.declared.kind.Kind.{Kind}
+use Rattle.part_core.specs.declared.kind.TableKind.{TableKind}
 use Rattle.part_core.specs.declared.settings.Settings.{Settings}
 use Rattle.part_core.specs.Settings.{is_ordered, key_of}
 use Rattle.part_core.specs.Rows.{Row, is_empty, is_live, objects_at, has_row, objects_with, rows_at_key, with_new_row, with_object}
@@ -80,7 +80,7 @@ lookup_inserted j os k (r ∷ rows) none =
     placed Equal apart h = cc
     placed Greater apart h = h
 
-pub lookup_new : (kind : Kind) (j : Datum) (os : List Datum) (k : Datum) (rows : List Row) → has_row rows j ≡ false → lookup (is_same k) (with_new_row kind (j, os) rows) ≡ (if is_same k j then Some os else lookup (is_same k) rows)
+pub lookup_new : (kind : TableKind) (j : Datum) (os : List Datum) (k : Datum) (rows : List Row) → has_row rows j ≡ false → lookup (is_same k) (with_new_row kind (j, os) rows) ≡ (if is_same k j then Some os else lookup (is_same k) rows)
 lookup_new kind j os k rows none =
     by_test (is_ordered kind) _ (λ holds. rw holds (lookup_inserted j os k rows none)) (λ fails. rw fails (lookup_behind j os k rows none))
 

@@ -14,8 +14,8 @@ use Rattle.std.proofs.lemmas.List.Sums.{length-filter, count_by-le-length}
 use Rattle.term_core.specs.Datum.{Datum}
 use Rattle.term_core.specs.Order.{datum_cmp}
 use Rattle.term_operand.specs.Order.{is_same}
-use Rattle.part_core.specs.declared.kind.Kind.{Kind}
-use Rattle.part_core.specs.declared.kind.Kind.TheVariants.{Set, OrderedSet, Bag, DuplicateBag}
+use Rattle.part_core.specs.declared.kind.TableKind.{TableKind}
+use Rattle.part_core.specs.declared.kind.TableKind.TheVariants.{Set, OrderedSet, Bag, DuplicateBag}
 use Rattle.part_core.specs.declared.settings.Settings.{Settings}
 use Rattle.part_core.specs.Settings.{is_ordered, is_set, is_object, key_of}
 use Rattle.part_core.specs.Acts.{Act, Said, Answer}
@@ -44,14 +44,14 @@ opening_state o = record {
   room = λ _ _. omega arith;
 }
 
-all_with : (P : Datum → Type 0) (kind : Kind) (os : List Datum) (t : Datum) → All P os → P t → All P (objects_with kind os t)
+all_with : (P : Datum → Type 0) (kind : TableKind) (os : List Datum) (t : Datum) → All P os → P t → All P (objects_with kind os t)
 all_with P Set os t a p = All-cons P t [] p (All-nil P)
 all_with P OrderedSet os t a p = All-cons P t [] p (All-nil P)
 all_with P Bag os t a p =
     by_test (list_any (is_same t) os) _ (λ holds. rw holds a) (λ fails. rw fails (All-append P os (t ∷ []) a (All-cons P t [] p (All-nil P))))
 all_with P DuplicateBag os t a p = All-append P os (t ∷ []) a (All-cons P t [] p (All-nil P))
 
-single_with : (kind : Kind) (os : List Datum) (t : Datum) → IsTrue (is_set kind) → length (objects_with kind os t) ≤ 1
+single_with : (kind : TableKind) (os : List Datum) (t : Datum) → IsTrue (is_set kind) → length (objects_with kind os t) ≤ 1
 single_with Set os t h = omega arith
 single_with OrderedSet os t h = omega arith
 single_with Bag os t h = cc
@@ -131,7 +131,7 @@ counts_length fixes n Unfix = length-set fixes n _
 counts_length fixes n Release = length-set fixes n 0
 counts_length fixes n act = refl
 
-pub slots_grow : (kind : Kind) (before now slots : ℕ) → IsBase slots → IsBase (slots_after kind before now slots) × (slots ≤ slots_after kind before now slots)
+pub slots_grow : (kind : TableKind) (before now slots : ℕ) → IsBase slots → IsBase (slots_after kind before now slots) × (slots ≤ slots_after kind before now slots)
 slots_grow kind before now slots is =
     by_test (is_ordered kind || not (nat_lt before now && (nat_lt (4 * slots) now && nat_lt slots 8))) _
     (λ stays. rw stays (is, omega arith))

@@ -11,8 +11,8 @@ use Rattle.term_operand.specs.Operand.{boolean}
 use Rattle.mcode.specs.Answer.{answer_of}
 use Rattle.mcode.specs.Program.{Program}
 use Rattle.mcode.specs.declared.instr.Instr.TheVariants as instr
-use Rattle.part_core.specs.declared.kind.Kind.{Kind}
-use Rattle.part_core.specs.declared.kind.Kind.TheVariants.{Set, OrderedSet, Bag, DuplicateBag}
+use Rattle.part_core.specs.declared.kind.TableKind.{TableKind}
+use Rattle.part_core.specs.declared.kind.TableKind.TheVariants.{Set, OrderedSet, Bag, DuplicateBag}
 use Rattle.part_core.specs.declared.settings.Settings.{Settings}
 use Rattle.part_core.specs.Acts.{Act, Answer}
 use Rattle.part_core.specs.Acts.Purpose.{Answers, Counts, Deletes}
@@ -36,7 +36,7 @@ one n = tuple (item (key n) no_items)
 abbrev two : ℕ → ℕ → Datum
 two n m = tuple (item (key n) (item (key m) no_items))
 
-abbrev settings : Kind → Settings
+abbrev settings : TableKind → Settings
 settings kind = record { kind = kind; keypos = 1; parts = 1; sessions = 2 }
 
 abbrev itself : Program
@@ -47,10 +47,10 @@ always =
     record { slots = 0; constants = boolean true ∷ []; instructions = instr.Const 0 ∷ instr.Answer ∷ []; frames = [] }
 
 -- the state after these, of sessions 0 and 1
-abbrev acted : Kind → List (ℕ × Act) → PartState
+abbrev acted : TableKind → List (ℕ × Act) → PartState
 acted kind xs = fold (λ s x. after (settings kind) s x.0 x.1) (opening (settings kind)) xs
 
-abbrev reply : Kind → List (ℕ × Act) → Act → Answer
+abbrev reply : TableKind → List (ℕ × Act) → Act → Answer
 reply kind xs act = reply_of (settings kind) (acted kind xs) 0 act
 
 -- an object that is replaced keeps its place

@@ -5,7 +5,7 @@ use Rattle.std.specs.Map.{keys_of}
 use Rattle.term_core.specs.Datum.{Datum}
 use Rattle.term_operand.specs.Order.{is_same}
 use Rattle.mcode.specs.Program.{Program}
-use Rattle.part_core.specs.declared.kind.Kind.{Kind}
+use Rattle.part_core.specs.declared.kind.TableKind.{TableKind}
 use Rattle.part_core.specs.declared.settings.Settings.{Settings}
 use Rattle.part_core.specs.Settings.{is_ordered, key_of}
 use Rattle.part_core.specs.Acts.{Act, is_refused}
@@ -44,7 +44,7 @@ counts_after fixes n Release = set fixes n 0
 counts_after fixes n act = fixes
 
 -- Where a row was added to a set and there are more than four a slot, dead ones among them, the slots are doubled.
-abbrev pub slots_after : Kind → ℕ → ℕ → ℕ → ℕ
+abbrev pub slots_after : TableKind → ℕ → ℕ → ℕ → ℕ
 slots_after kind before now slots =
     if is_ordered kind || not (nat_lt before now && (nat_lt (4 * slots) now && nat_lt slots most_slots))
     then slots else 2 * slots

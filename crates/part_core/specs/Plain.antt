@@ -1,7 +1,7 @@
 -- Parts whose slots don't grow: the state of one is its rows and its counts of fixes. What it comes to that an operation is
 -- answered as the state does.
 use Rattle.std.specs.Prelude.{ℕ, ◌≡◌, ◌≢◌, false, Option, Some, None, Result, Ok, Err, IfErr, IsTrue, if◌then◌else◌, filter, List}
-use Rattle.part_core.specs.declared.kind.Kind.{Kind}
+use Rattle.part_core.specs.declared.kind.TableKind.{TableKind}
 use Rattle.part_core.specs.declared.settings.Settings.{Settings}
 use Rattle.part_core.specs.declared.fault.Fault.{Fault}
 use Rattle.part_core.specs.declared.fault.Fault.TheVariants as fault
@@ -33,16 +33,16 @@ pub record Plain : Type 0 where
   pub fixes : List ℕ
 
 -- a part of a kind is in a state
-pub record HasState (kind : Kind) (p : Plain) (s : PartState) : Type 0 where
+pub record HasState (kind : TableKind) (p : Plain) (s : PartState) : Type 0 where
   pub served : p.settings.kind ≡ kind
   pub state : s ≡ plain_state p.rows p.fixes
 
 -- a part of a kind is in the state after a history, which is legal
-abbrev pub IsAfter : Kind → Plain → History → Type 0
+abbrev pub IsAfter : TableKind → Plain → History → Type 0
 IsAfter kind p log = HasState kind p (state_after p.settings log) × IsLegal p.settings log
 
 -- An answer is that of the state, and leaves the state after it. For want of memory the state stays.
-abbrev pub Leads : Kind → Settings → PartState → ℕ → Act → Option Answer → PartState → Type 0
+abbrev pub Leads : TableKind → Settings → PartState → ℕ → Act → Option Answer → PartState → Type 0
 Leads kind o s n act None t = t ≡ s
 Leads kind o s n act (Some answer) t =
     o.kind ≡ kind → IsState o s → (answer ≡ reply_of o s n act) × (t ≡ after o s n act)
@@ -53,7 +53,7 @@ alone (Ok r) = Ok r
 alone (Err e) = Err e.1
 
 -- an operation is answered: as the state does; what is refused is handed back; and memory isn't wanting where none is taken
-pub record IsAnswered (kind : Kind) {A : Type 0} (o : Settings) (s : PartState) (n : ℕ) (act : Act) (t : PartState) (result : Result (Reply A) (PartOp A × Fault)) : Type 0 where
+pub record IsAnswered (kind : TableKind) {A : Type 0} (o : Settings) (s : PartState) (n : ℕ) (act : Act) (t : PartState) (result : Result (Reply A) (PartOp A × Fault)) : Type 0 where
   pub leads : Leads kind o s n act (answer_in (alone result)) t
   pub back : IfErr result (λ r. act_of r.0 ≡ act)
   pub sure : IsTrue (takes_no_memory act) → IfErr result (λ r. r.1 ≢ fault.Memory)

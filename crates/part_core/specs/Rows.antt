@@ -6,8 +6,8 @@ use Rattle.std.specs.Map.{lookup}
 use Rattle.term_core.specs.Datum.{Datum}
 use Rattle.term_core.specs.Order.{datum_cmp}
 use Rattle.term_operand.specs.Order.{is_same}
-use Rattle.part_core.specs.declared.kind.Kind.{Kind}
-use Rattle.part_core.specs.declared.kind.Kind.TheVariants.{Set, OrderedSet, Bag, DuplicateBag}
+use Rattle.part_core.specs.declared.kind.TableKind.{TableKind}
+use Rattle.part_core.specs.declared.kind.TableKind.TheVariants.{Set, OrderedSet, Bag, DuplicateBag}
 use Rattle.part_core.specs.declared.settings.Settings.{Settings}
 use Rattle.part_core.specs.Settings.{is_ordered, key_of}
 
@@ -54,7 +54,7 @@ abbrev pub is_fixed : List ℕ → Bool
 is_fixed fixes = list_any (nat_lt 0) fixes
 
 -- an object among those of its key (STDLIB Reference Manual, ets:insert/2)
-abbrev pub objects_with : Kind → List Datum → Datum → List Datum
+abbrev pub objects_with : TableKind → List Datum → Datum → List Datum
 objects_with Set os t = t ∷ []
 objects_with OrderedSet os t = t ∷ []
 objects_with Bag os t = if list_any (is_same t) os then os else os ++ t ∷ []
@@ -69,7 +69,7 @@ abbrev pub rows_at_key : Datum → (List Datum → List Datum) → List Row → 
 rows_at_key k f rows = map (λ r. (r.0, if is_same k r.0 then f r.1 else r.1)) rows
 
 -- a row of a new key: in an ordered set at its place, else behind the others
-abbrev pub with_new_row : Kind → Row → List Row → List Row
+abbrev pub with_new_row : TableKind → Row → List Row → List Row
 with_new_row kind r rows =
     if is_ordered kind then insert_entry datum_cmp rows r.0 r.1 else rows ++ r ∷ []
 

@@ -1,10 +1,10 @@
 -- Which settings a part is made for.
 use Rattle.std.specs.Prelude.{ℕ, ◌≤◌, Bool, IsTrue}
-use Rattle.part_core.specs.declared.kind.Kind.{Kind}
+use Rattle.part_core.specs.declared.kind.TableKind.{TableKind}
 use Rattle.part_core.specs.declared.settings.Settings.{Settings}
 
 -- settings from their parts
-abbrev pub settings_with : Kind → ℕ → ℕ → ℕ → Settings
+abbrev pub settings_with : TableKind → ℕ → ℕ → ℕ → Settings
 settings_with kind keypos parts sessions =
     record { kind = kind; keypos = keypos; parts = parts; sessions = sessions }
 
@@ -15,6 +15,6 @@ pub record AreInRange (o : Settings) : Type 0 where
   pub sessions : (1 ≤ o.sessions) × (o.sessions ≤ 16)
 
 -- a kind that is served, and each number in its range
-pub record IsServed (serves : Kind → Bool) (o : Settings) : Type 0 where
+pub record IsServed (serves : TableKind → Bool) (o : Settings) : Type 0 where
   pub kind : IsTrue (serves o.kind)
   pub ranges : AreInRange o

@@ -5,17 +5,17 @@ use Rattle.term_core.specs.Datum.{Datum}
 use Rattle.term_core.specs.Datum.Datum.{nil}
 use Rattle.term_core.specs.KeyHash.{key_hash}
 use Rattle.mcode.specs.Machine.{field_of}
-use Rattle.part_core.specs.declared.kind.Kind.{Kind}
-use Rattle.part_core.specs.declared.kind.Kind.TheVariants.{Set, OrderedSet}
+use Rattle.part_core.specs.declared.kind.TableKind.{TableKind}
+use Rattle.part_core.specs.declared.kind.TableKind.TheVariants.{Set, OrderedSet}
 use Rattle.part_core.specs.declared.settings.Settings.{Settings}
 
 -- the table is walked by key
-abbrev pub is_ordered : Kind → Bool
+abbrev pub is_ordered : TableKind → Bool
 is_ordered OrderedSet = true
 is_ordered kind = false
 
 -- the table holds at most one object a key
-abbrev pub is_set : Kind → Bool
+abbrev pub is_set : TableKind → Bool
 is_set Set = true
 is_set OrderedSet = true
 is_set kind = false

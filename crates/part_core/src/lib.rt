@@ -30,7 +30,7 @@ pub use fault::{Fault, OpenFault};
 pub use fixes::{fixes_at, is_fixed, no_fixes};
 pub use held::Held;
 pub use key::key_in;
-pub use kind::Kind;
+pub use kind::TableKind;
 pub use laws::{
     base_never_falls, content_is_that_of_the_rows, fixed_rows_stay, fixes_are_counted, legal_front,
     legal_goes_on, legal_last, states_are_kept, visits_answer_their_cover, visits_move_on,

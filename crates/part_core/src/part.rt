@@ -3,13 +3,13 @@ ghost use Rattle.std.specs.Prelude.{ℕ, ◌≡◌, ◌≢◌, ◌<◌, ◌++◌
 ghost use Rattle.part_core.specs.Acts.{Entry as PastEntry, IsAsked};
 ghost use Rattle.part_core.specs.Legal.{IsLegal, fix_count, state_after};
 ghost use Rattle.part_core.specs.Ops.{act_of, entries_made, takes_no_memory};
-ghost use Rattle.part_core.specs.declared.kind.Kind.{Kind};
+ghost use Rattle.part_core.specs.declared.kind.TableKind.{TableKind};
 ghost use Rattle.part_core.specs.declared.settings.Settings.{Settings};
 ghost use Rattle.part_core.specs.Served.{settings_with, IsServed};
 ghost use Rattle.part_core.specs.Visits.{walked_objects};
 
 use crate::fault::{Fault, OpenFault};
-use crate::kind::Kind;
+use crate::kind::TableKind;
 use crate::op::PartOp;
 use crate::reply::Reply;
 use crate::settings::Settings;
@@ -20,7 +20,7 @@ use term_core::Term;
 /// state before it.
 pub trait Part<A: Allocator>: Sized {
     /// The kinds of table that the part is made for.
-    ghost serves: { Kind → Bool };
+    ghost serves: { TableKind → Bool };
     /// What was settled when it was made.
     ghost settings: { Self → Settings };
     /// The part is in the state after this history.
@@ -28,7 +28,13 @@ pub trait Part<A: Allocator>: Sized {
 
     /// A part without rows. Refused where the part doesn't serve the kind or a number is outside its range: keypos from 1
     /// to 65,535, 1 to 64 parts, 1 to 16 sessions.
-    fn make(alloc: A, kind: Kind, keypos: u16, parts: u8, sessions: u8) -> Result<Self, OpenFault>
+    fn make(
+        alloc: A,
+        kind: TableKind,
+        keypos: u16,
+        parts: u8,
+        sessions: u8,
+    ) -> Result<Self, OpenFault>
         ensures made { IfOk result (λ p. IsServed serves (settings_with kind keypos parts sessions)
             × (settings p ≡ settings_with kind keypos parts sessions) × is_after p []) }
         ensures refused { IsErrOf result OpenFault.BadOptions

@@ -2,7 +2,7 @@
 ghost use Rattle.std.specs.Prelude.{◌↔◌, IsTrue};
 ghost use Rattle.part_core.specs.Served.{AreInRange};
 
-use crate::kind::Kind;
+use crate::kind::TableKind;
 
 /// The greatest place of a key in an object.
 pub const MAX_KEYPOS: u16 = 65_535;
@@ -15,7 +15,7 @@ pub const MAX_SESSIONS: u8 = 16;
 #[derive(Clone, Copy, Debug, PartialEq, Eq)]
 pub struct Settings {
     /// What the table holds of a key.
-    pub kind: Kind,
+    pub kind: TableKind,
     /// The place of the key in an object, counted from 1.
     pub keypos: u16,
     /// How many parts the table has.

@@ -1,6 +1,6 @@
 //! Which function answers an operation.
 ghost use Rattle.std.specs.Prelude.{◌<◌, length};
-ghost use Rattle.part_core.specs.declared.kind.Kind.TheVariants.{OrderedSet};
+ghost use Rattle.part_core.specs.declared.kind.TableKind.TheVariants.{OrderedSet};
 ghost use Rattle.part_core.specs.Acts.{IsAsked};
 ghost use Rattle.part_core.specs.Ops.{act_of};
 ghost use Rattle.part_core.specs.Plain.{plain_state, IsAnswered};

@@ -5,7 +5,7 @@ ghost use Rattle.part_plain.specs.Served.{serves};
 
 use crate::answering::answered;
 use part_core::{
-    Fault, Kind, OpenFault, Part, PartOp, Reply, Settings, fixes_are_counted, fixes_at,
+    Fault, OpenFault, Part, PartOp, Reply, Settings, TableKind, fixes_are_counted, fixes_at,
     legal_goes_on, no_fixes, states_are_kept,
 };
 use plain_rows::{Row, objects};
@@ -42,12 +42,12 @@ impl<A: Allocator> Model for PlainPart<A> {
 fn is_served(settings: Settings) -> bool
     ensures { IsTrue result ↔ IsServed serves settings }
 {
-    matches!(settings.kind, Kind::Set) && settings.are_in_range()
+    matches!(settings.kind, TableKind::Set) && settings.are_in_range()
 }
 
 impl<A: Allocator + Copy> PlainPart<A> {
     ghost use Rattle.std.specs.Prelude.{◌≡◌, ◌≢◌, ◌<◌, ◌++◌, IsTrue, IfErr, List};
-    ghost use Rattle.part_core.specs.declared.kind.Kind.TheVariants.{Set};
+    ghost use Rattle.part_core.specs.declared.kind.TableKind.TheVariants.{Set};
     ghost use Rattle.part_core.specs.Acts.{Entry as PastEntry, IsAsked};
     ghost use Rattle.part_core.specs.Ops.{act_of, entries_made, takes_no_memory};
     ghost use Rattle.part_core.specs.Plain.{alone, IsAfter};
@@ -82,7 +82,7 @@ impl<A: Allocator + Copy> PlainPart<A> {
 
 impl<A: Allocator + Copy> Part<A> for PlainPart<A> {
     ghost use Rattle.std.specs.Prelude.{◌≡◌, ◌≢◌, ◌<◌, ◌++◌, IsTrue, IfOk, IfErr, IsErrOf, List, []};
-    ghost use Rattle.part_core.specs.declared.kind.Kind.TheVariants.{Set};
+    ghost use Rattle.part_core.specs.declared.kind.TableKind.TheVariants.{Set};
     ghost use Rattle.part_core.specs.Acts.{Entry as PastEntry, IsAsked};
     ghost use Rattle.part_core.specs.Legal.{fix_count, state_after};
     ghost use Rattle.part_core.specs.Ops.{act_of, entries_made, takes_no_memory};
@@ -99,7 +99,13 @@ impl<A: Allocator + Copy> Part<A> for PlainPart<A> {
 
     ghost legal = { λ p log now. now.1 };
 
-    fn make(alloc: A, kind: Kind, keypos: u16, parts: u8, sessions: u8) -> Result<Self, OpenFault>
+    fn make(
+        alloc: A,
+        kind: TableKind,
+        keypos: u16,
+        parts: u8,
+        sessions: u8,
+    ) -> Result<Self, OpenFault>
         ensures made { IfOk result (λ p. IsServed serves
             (settings_with kind keypos parts sessions)
             × (p.settings ≡ settings_with kind keypos parts sessions) × IsAfter Set p []) }

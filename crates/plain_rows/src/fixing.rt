@@ -1,6 +1,6 @@
 //! Operations on the counts of fixes.
 ghost use Rattle.std.specs.Prelude.{ℕ, ◌≡◌, ◌<◌, length, List};
-ghost use Rattle.part_core.specs.declared.kind.Kind.TheVariants.{Set};
+ghost use Rattle.part_core.specs.declared.kind.TableKind.TheVariants.{Set};
 ghost use Rattle.part_core.specs.declared.settings.Settings.{Settings};
 ghost use Rattle.part_core.specs.Acts.Act.{Fix, Unfix, Release};
 ghost use Rattle.part_core.specs.Plain.{plain_state, IsAnswered};

@@ -1,6 +1,6 @@
 //! Operations that read one key.
 ghost use Rattle.std.specs.Prelude.{ℕ, ◌≡◌, List, IfOk};
-ghost use Rattle.part_core.specs.declared.kind.Kind.TheVariants.{Set};
+ghost use Rattle.part_core.specs.declared.kind.TableKind.TheVariants.{Set};
 ghost use Rattle.part_core.specs.declared.settings.Settings.{Settings};
 ghost use Rattle.part_core.specs.Acts.Act.{Lookup, Member};
 ghost use Rattle.part_core.specs.Rows.{objects_at};

@@ -1,7 +1,7 @@
 //! The order of a walk.
 ghost use Rattle.std.specs.Prelude.{ℕ, ◌≡◌, ◌<◌, ◌+◌, ◌++◌, drop, length, List, IfOk};
 ghost use Rattle.std.specs.Option.{option_copied};
-ghost use Rattle.part_core.specs.declared.kind.Kind.TheVariants.{Set};
+ghost use Rattle.part_core.specs.declared.kind.TableKind.TheVariants.{Set};
 ghost use Rattle.part_core.specs.Acts.Act.{First, Next};
 ghost use Rattle.part_core.specs.Replies.{first_live};
 ghost use Rattle.part_core.specs.Rows.{first_slots};

@@ -12,7 +12,7 @@ use Rattle.term_core.specs.Datum.{Datum}
 use Rattle.term_operand.specs.Operand.{boolean}
 use Rattle.mcode.specs.Answer.{answer_of}
 use Rattle.mcode.specs.Program.{Program}
-use Rattle.part_core.specs.declared.kind.Kind.TheVariants.{Set}
+use Rattle.part_core.specs.declared.kind.TableKind.TheVariants.{Set}
 use Rattle.part_core.specs.declared.settings.Settings.{Settings}
 use Rattle.part_core.specs.Settings.{class_at, is_set}
 use Rattle.part_core.specs.Acts.{Purpose, Cursor, Scope}

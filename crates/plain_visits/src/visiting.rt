@@ -4,7 +4,7 @@ ghost use Rattle.std.specs.List.{count_by};
 ghost use Rattle.std.specs.Option.{option_map, option_to_list};
 ghost use Rattle.mcode.specs.Answer.{answer_of};
 ghost use Rattle.mcode.specs.Program.{Program};
-ghost use Rattle.part_core.specs.declared.kind.Kind.TheVariants.{Set};
+ghost use Rattle.part_core.specs.declared.kind.TableKind.TheVariants.{Set};
 ghost use Rattle.part_core.specs.declared.settings.Settings.{Settings as AnySettings};
 ghost use Rattle.part_core.specs.Acts.{Purpose};
 ghost use Rattle.part_core.specs.Acts.Act.{Visit};

@@ -1,5 +1,5 @@
 //! What a table is opened with.
-use part_core::{Kind, Settings};
+use part_core::{Settings, TableKind};
 
 /// What a table is opened with (STDLIB Reference Manual, ets:new/2).
 #[derive(Clone, Copy, Debug, PartialEq, Eq)]
@@ -7,7 +7,7 @@ pub struct Options {
     /// The table's name; tables that are open at the same time have different ones.
     pub name: u64,
     /// What the table holds of a key.
-    pub kind: Kind,
+    pub kind: TableKind,
     /// The place of the key in an object, counted from 1: 1 to 65,535.
     pub keypos: u16,
     /// How many parts the keys are spread over: 1 to 64, of an ordered set 1.

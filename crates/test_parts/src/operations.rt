@@ -5,15 +5,20 @@ ghost use Rattle.part_core.specs.Ops.{act_of};
 
 use compiler::compile;
 use mspec_reader::read_spec;
-use part_core::{Cursor, Kind, PartOp, Scope};
+use part_core::{Cursor, PartOp, Scope, TableKind};
 use std::alloc::Allocator;
 use term_core::{Term, View};
 use test_rows::{fields, is_atom, number};
 use verifier::Verified;
 
 /// The kind of a table that a term names.
-pub fn kind_of<A: Allocator>(term: &Term<A>) -> Option<Kind> {
-    for kind in [Kind::Set, Kind::OrderedSet, Kind::Bag, Kind::DuplicateBag] {
+pub fn kind_of<A: Allocator>(term: &Term<A>) -> Option<TableKind> {
+    for kind in [
+        TableKind::Set,
+        TableKind::OrderedSet,
+        TableKind::Bag,
+        TableKind::DuplicateBag,
+    ] {
         if is_atom(term, kind_name(kind)) {
             return Some(kind);
         }
@@ -22,12 +27,12 @@ pub fn kind_of<A: Allocator>(term: &Term<A>) -> Option<Kind> {
 }
 
 /// The name of a kind of a table.
-const fn kind_name(kind: Kind) -> &'static str {
+const fn kind_name(kind: TableKind) -> &'static str {
     match kind {
-        Kind::Set => "set",
-        Kind::OrderedSet => "ordered_set",
-        Kind::Bag => "bag",
-        Kind::DuplicateBag => "duplicate_bag",
+        TableKind::Set => "set",
+        TableKind::OrderedSet => "ordered_set",
+        TableKind::Bag => "bag",
+        TableKind::DuplicateBag => "duplicate_bag",
     }
 }
 

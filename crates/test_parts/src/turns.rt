@@ -4,7 +4,7 @@ ghost use Rattle.std.specs.Prelude.{◌≡◌, ◌<◌, IfOk, IfErr};
 ghost use Rattle.part_core.specs.Acts.{IsAsked};
 ghost use Rattle.part_core.specs.Ops.{act_of};
 
-use part_core::{Fault, Kind, OpenFault, Part, PartOp, Reply};
+use part_core::{Fault, OpenFault, Part, PartOp, Reply, TableKind};
 use std::alloc::{AllocError, Allocator};
 use term_core::Term;
 
@@ -19,7 +19,7 @@ pub(crate) struct Turn {
 #[derive(Clone, Copy)]
 pub struct Options {
     /// What the table holds of a key.
-    pub kind: Kind,
+    pub kind: TableKind,
     /// The place of the key in an object, counted from 1.
     pub keypos: u16,
     /// How many parts the table has.

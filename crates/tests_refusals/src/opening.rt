@@ -1,5 +1,5 @@
 //! Tables that are opened: options that can't be are refused as such, also where there is no memory, and none else are.
-use part_core::{Kind, OpenFault, Part};
+use part_core::{OpenFault, Part, TableKind};
 use part_order::OrderPart;
 use part_plain::PlainPart;
 use std::alloc::Global;
@@ -7,7 +7,7 @@ use tables::{LocalTable, Options};
 use test_alloc::Failing;
 
 /// A kind of table, a place of the key, parts and sessions.
-type Numbers = (Kind, u16, u8, u8);
+type Numbers = (TableKind, u16, u8, u8);
 
 /// Why a table can't be opened so, if it can't.
 fn refusal<'a, P: Part<&'a Failing<Global>> + Drop>(
@@ -49,23 +49,23 @@ fn of_ordered_set(alloc: Global, numbers: Numbers) -> (Option<OpenFault>, Option
 fn options_that_cannot_be_opened_are_refused_as_such(rt: HostRuntime) {
     let bad = (Some(OpenFault::BadOptions), Some(OpenFault::BadOptions));
     for numbers in [
-        (Kind::Set, 1, 0, 1),
-        (Kind::Set, 1, 65, 1),
-        (Kind::Set, 0, 1, 1),
-        (Kind::Set, 1, 1, 0),
-        (Kind::Set, 1, 1, 17),
-        (Kind::OrderedSet, 1, 1, 1),
-        (Kind::Bag, 1, 1, 1),
+        (TableKind::Set, 1, 0, 1),
+        (TableKind::Set, 1, 65, 1),
+        (TableKind::Set, 0, 1, 1),
+        (TableKind::Set, 1, 1, 0),
+        (TableKind::Set, 1, 1, 17),
+        (TableKind::OrderedSet, 1, 1, 1),
+        (TableKind::Bag, 1, 1, 1),
     ] {
         assert!(rt; of_set(rt.alloc(), numbers) == bad);
     }
     for numbers in [
-        (Kind::OrderedSet, 1, 0, 1),
-        (Kind::OrderedSet, 1, 2, 1),
-        (Kind::OrderedSet, 0, 1, 1),
-        (Kind::OrderedSet, 1, 1, 17),
-        (Kind::Set, 1, 1, 1),
-        (Kind::DuplicateBag, 1, 1, 1),
+        (TableKind::OrderedSet, 1, 0, 1),
+        (TableKind::OrderedSet, 1, 2, 1),
+        (TableKind::OrderedSet, 0, 1, 1),
+        (TableKind::OrderedSet, 1, 1, 17),
+        (TableKind::Set, 1, 1, 1),
+        (TableKind::DuplicateBag, 1, 1, 1),
     ] {
         assert!(rt; of_ordered_set(rt.alloc(), numbers) == bad);
     }
@@ -74,8 +74,8 @@ fn options_that_cannot_be_opened_are_refused_as_such(rt: HostRuntime) {
 #[test]
 fn options_that_can_be_opened_want_only_memory(rt: HostRuntime) {
     let scarce = (None, Some(OpenFault::Memory));
-    assert!(rt; of_set(rt.alloc(), (Kind::Set, 1, 1, 1)) == scarce);
-    assert!(rt; of_set(rt.alloc(), (Kind::Set, 65_535, 64, 16)) == scarce);
-    assert!(rt; of_ordered_set(rt.alloc(), (Kind::OrderedSet, 1, 1, 1)) == scarce);
-    assert!(rt; of_ordered_set(rt.alloc(), (Kind::OrderedSet, 65_535, 1, 16)) == scarce);
+    assert!(rt; of_set(rt.alloc(), (TableKind::Set, 1, 1, 1)) == scarce);
+    assert!(rt; of_set(rt.alloc(), (TableKind::Set, 65_535, 64, 16)) == scarce);
+    assert!(rt; of_ordered_set(rt.alloc(), (TableKind::OrderedSet, 1, 1, 1)) == scarce);
+    assert!(rt; of_ordered_set(rt.alloc(), (TableKind::OrderedSet, 65_535, 1, 16)) == scarce);
 }

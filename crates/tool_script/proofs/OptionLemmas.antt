@@ -3,8 +3,8 @@ use Rattle.std.proofs.Common.{◌≡◌, ◌≢◌, ℕ, ℤ, pos, ◌≤◌, �
 use Rattle.std.specs.Prelude.{IsTrue, ◌&&◌, ◌||◌, not, nat_le, negsuc, if◌then◌else◌}
 use Rattle.std.proofs.lemmas.Bool.{and_parts, leb-true, eqb-true, false≢true}
 use Rattle.std.proofs.lemmas.Option.{none-some, same_Some}
-use Rattle.part_core.specs.declared.kind.Kind.{Kind}
-use Rattle.part_core.specs.declared.kind.Kind.TheVariants.{Set, OrderedSet, Bag, DuplicateBag}
+use Rattle.part_core.specs.declared.kind.TableKind.{TableKind}
+use Rattle.part_core.specs.declared.kind.TableKind.TheVariants.{Set, OrderedSet, Bag, DuplicateBag}
 use Rattle.part_core.specs.Settings.{is_ordered, is_set}
 use Rattle.tables.specs.declared.options.Options.{Options}
 use Rattle.tables.specs.Options.{IsOpenable}
@@ -21,14 +21,14 @@ number_in low high (pos m) n e = by (nat_le low m && nat_le m high) refl e
 number_in low high (negsuc m) n e = absurd (none-some n e)
 
 -- what options are made of
-record AreFrom (name : ℕ) (kind : Kind) (keypos parts sessions : Option ℕ) (o : Options) : Type 0 where
+record AreFrom (name : ℕ) (kind : TableKind) (keypos parts sessions : Option ℕ) (o : Options) : Type 0 where
   keypos_is : keypos ≡ Some o.keypos
   parts_is : parts ≡ Some o.parts
   sessions_is : sessions ≡ Some o.sessions
   set : IsTrue (is_set o.kind)
   whole : IsTrue (not (is_ordered o.kind) || o.parts == 1)
 
-made_from : (name : ℕ) (kind : Kind) (keypos parts sessions : Option ℕ) (o : Options) → options_with name kind keypos parts sessions ≡ Some o → AreFrom name kind keypos parts sessions o
+made_from : (name : ℕ) (kind : TableKind) (keypos parts sessions : Option ℕ) (o : Options) → options_with name kind keypos parts sessions ≡ Some o → AreFrom name kind keypos parts sessions o
 made_from name kind (Some keypos) (Some parts) (Some sessions) o e = by (is_set kind && (not (is_ordered kind) || parts == 1)) refl e
   where
     made : Options
@@ -41,23 +41,23 @@ made_from name kind (Some keypos) (Some parts) (Some sessions) o e = by (is_set 
     by false fails e = absurd (none-some o e)
 made_from name kind keypos parts sessions o e = absurd (none-some o e)
 
-openable : (serves : Kind → Bool) (name : ℕ) (kind : Kind) (x y z : ℤ) (o : Options) → IsTrue (serves o.kind) → AreFrom name kind (number_within 1 65535 x) (number_within 1 64 y) (number_within 1 16 z) o → IsOpenable serves o
+openable : (serves : TableKind → Bool) (name : ℕ) (kind : TableKind) (x y z : ℤ) (o : Options) → IsTrue (serves o.kind) → AreFrom name kind (number_within 1 65535 x) (number_within 1 64 y) (number_within 1 16 z) o → IsOpenable serves o
 openable serves name kind x y z o served from = record {
   served = record { kind = served; ranges = record { keypos = number_in 1 65535 x o.keypos from.keypos_is; parts = number_in 1 64 y o.parts from.parts_is; sessions = number_in 1 16 z o.sessions from.sessions_is } };
   whole = λ ordered. eqb-true o.parts 1 (subst (λ b. IsTrue (not b || o.parts == 1)) ordered from.whole);
 }
 
-pub set_openable : (serves : Kind → Bool) (name : ℕ) (kind : Kind) (x y z : ℤ) (o : Options) → IsTrue (serves Set) → options_with name kind (number_within 1 65535 x) (number_within 1 64 y) (number_within 1 16 z) ≡ Some o → o.kind ≡ Set → IsOpenable serves o
+pub set_openable : (serves : TableKind → Bool) (name : ℕ) (kind : TableKind) (x y z : ℤ) (o : Options) → IsTrue (serves Set) → options_with name kind (number_within 1 65535 x) (number_within 1 64 y) (number_within 1 16 z) ≡ Some o → o.kind ≡ Set → IsOpenable serves o
 set_openable serves name kind x y z o served made is =
     openable serves name kind x y z o (ap serves is ∙ served) (made_from name kind _ _ _ o made)
 
-ordered_there : (kind : Kind) → IsTrue (is_set kind) → kind ≢ Set → kind ≡ OrderedSet
+ordered_there : (kind : TableKind) → IsTrue (is_set kind) → kind ≢ Set → kind ≡ OrderedSet
 ordered_there Set set other = absurd (other refl)
 ordered_there OrderedSet set other = refl
 ordered_there Bag set other = absurd (false≢true set)
 ordered_there DuplicateBag set other = absurd (false≢true set)
 
-pub ordered_openable : (serves : Kind → Bool) (name : ℕ) (kind : Kind) (x y z : ℤ) (o : Options) → IsTrue (serves OrderedSet) → options_with name kind (number_within 1 65535 x) (number_within 1 64 y) (number_within 1 16 z) ≡ Some o → o.kind ≢ Set → IsOpenable serves o
+pub ordered_openable : (serves : TableKind → Bool) (name : ℕ) (kind : TableKind) (x y z : ℤ) (o : Options) → IsTrue (serves OrderedSet) → options_with name kind (number_within 1 65535 x) (number_within 1 64 y) (number_within 1 16 z) ≡ Some o → o.kind ≢ Set → IsOpenable serves o
 ordered_openable serves name kind x y z o served made other =
     let from = made_from name kind _ _ _ o made in
     openable serves name kind x y z o (ap serves (ordered_there o.kind from.set other) ∙ served) from

@@ -7,8 +7,8 @@ use Rattle.term_core.specs.Datum.{Datum, Items, items_of}
 use Rattle.term_core.specs.Datum.Datum.{integer, atom, tuple, map, nil, cons, binary}
 use Rattle.term_core.specs.Datum.Items.{no_items, item}
 use Rattle.term_operand.specs.Operand.{integer_of}
-use Rattle.part_core.specs.declared.kind.Kind.{Kind}
-use Rattle.part_core.specs.declared.kind.Kind.TheVariants.{Set, OrderedSet, Bag, DuplicateBag}
+use Rattle.part_core.specs.declared.kind.TableKind.{TableKind}
+use Rattle.part_core.specs.declared.kind.TableKind.TheVariants.{Set, OrderedSet, Bag, DuplicateBag}
 use Rattle.tool_script.specs.Command.{Ask, Command, called, kind_name, ask_term, command_term, IsNoCommand}
 use Rattle.tool_script.specs.Command.Ask.{Insert, InsertNew, Lookup, Member, Delete, DeleteObject, Take, Fix, Unfix, Leave, First, Next}
 use Rattle.tool_script.specs.Command.Command.{Open, Session, Close}
@@ -28,7 +28,7 @@ choice {later = later} name cs x P here there y e = by (pointwise nat_eq name cs
 nothing : {X : Type 0} (P : X → Type 0) (y : X) → None ≡ Some y → P y
 nothing P y e = absurd (none-some y e)
 
-kind_sound : (cs : List ℕ) (kind : Kind) → kind_in cs ≡ Some kind → cs ≡ kind_name kind
+kind_sound : (cs : List ℕ) (kind : TableKind) → kind_in cs ≡ Some kind → cs ≡ kind_name kind
 kind_sound cs =
     choice (codes "set") cs Set (λ n k. n ≡ kind_name k) refl
     (choice (codes "ordered_set") cs OrderedSet (λ n k. n ≡ kind_name k) refl
@@ -67,7 +67,7 @@ integer_is nil z e = absurd (none-some z e)
 integer_is (cons h t) z e = absurd (none-some z e)
 integer_is (binary bs) z e = absurd (none-some z e)
 
-kind_is : (d : Datum) (kind : Kind) → kind_by d ≡ Some kind → d ≡ atom (kind_name kind)
+kind_is : (d : Datum) (kind : TableKind) → kind_by d ≡ Some kind → d ≡ atom (kind_name kind)
 kind_is (atom cs) kind e = ap atom (kind_sound cs kind e)
 kind_is (integer x) kind e = absurd (none-some kind e)
 kind_is (tuple ds) kind e = absurd (none-some kind e)
@@ -81,7 +81,7 @@ asked_sound term s (Some z) (Some a) c numbered asked e =
     ap term (numbered z refl) ∙ asked z a refl ∙ ap command_term (same_Some (Session z a) c e)
 asked_sound term s number ask c numbered asked e = absurd (none-some c e)
 
-opened_sound : (kind keypos parts sessions : Datum) (k : Option Kind) (x y z : Option ℤ) (c : Command) → ((j : Kind) → k ≡ Some j → kind ≡ atom (kind_name j)) → ((i : ℤ) → x ≡ Some i → keypos ≡ integer i) → ((i : ℤ) → y ≡ Some i → parts ≡ integer i) → ((i : ℤ) → z ≡ Some i → sessions ≡ integer i) → opened_with k x y z ≡ Some c → called (codes "open") (kind ∷ keypos ∷ parts ∷ sessions ∷ []) ≡ command_term c
+opened_sound : (kind keypos parts sessions : Datum) (k : Option TableKind) (x y z : Option ℤ) (c : Command) → ((j : TableKind) → k ≡ Some j → kind ≡ atom (kind_name j)) → ((i : ℤ) → x ≡ Some i → keypos ≡ integer i) → ((i : ℤ) → y ≡ Some i → parts ≡ integer i) → ((i : ℤ) → z ≡ Some i → sessions ≡ integer i) → opened_with k x y z ≡ Some c → called (codes "open") (kind ∷ keypos ∷ parts ∷ sessions ∷ []) ≡ command_term c
 opened_sound kind keypos parts sessions (Some k) (Some x) (Some y) (Some z) c first second third fourth e =
     rw (first k refl, second x refl, third y refl, fourth z refl) (ap command_term (same_Some (Open k x y z) c e))
 opened_sound kind keypos parts sessions k x y z c first second third fourth e = absurd (none-some c e)

@@ -7,8 +7,8 @@ use Rattle.term_core.specs.Datum.Datum.{integer, atom, tuple, nil}
 use Rattle.term_core.specs.KeyHash.{key_hash}
 use Rattle.term_core.specs.Order.{datum_cmp}
 use Rattle.term_operand.specs.Operand.{boolean}
-use Rattle.part_core.specs.declared.kind.Kind.{Kind}
-use Rattle.part_core.specs.declared.kind.Kind.TheVariants.{Set, OrderedSet, Bag}
+use Rattle.part_core.specs.declared.kind.TableKind.{TableKind}
+use Rattle.part_core.specs.declared.kind.TableKind.TheVariants.{Set, OrderedSet, Bag}
 use Rattle.part_core.specs.Visits.{walk_order}
 use Rattle.part_core.specs.Replies.{reply_of}
 use Rattle.part_core.specs.After.{after}
@@ -57,7 +57,7 @@ not_so = boolean false
 abbrev list : List Datum → Datum
 list ds = cells ds nil
 
-abbrev opens : Kind → ℕ → ℕ → ℕ → Command
+abbrev opens : TableKind → ℕ → ℕ → ℕ → Command
 opens kind keypos parts sessions = Open kind (pos keypos) (pos parts) (pos sessions)
 
 abbrev does : ℕ → Ask → Command
@@ -105,7 +105,7 @@ session_first = refl
 
 -- ---- one session at a table
 
-abbrev session_of : Kind → List Command
+abbrev session_of : TableKind → List Command
 session_of kind =
     opens kind 1 1 1 ∷ does 0 (Insert (tuple (items_of []))) ∷ does 0 (Insert (word (codes "a"))) ∷ does 5 Fix
     ∷ does 0 (Insert (two 1 (word (codes "a")))) ∷ does 0 (Insert (two 1 (word (codes "b")))) ∷ does 0 (Lookup (key 1))

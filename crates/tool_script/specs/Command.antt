@@ -2,8 +2,8 @@
 use Rattle.std.specs.Prelude.{ℕ, ℤ, ◌≢◌, List, [], ◌∷◌, codes}
 use Rattle.term_core.specs.Datum.{Datum, items_of}
 use Rattle.term_core.specs.Datum.Datum.{integer, atom, tuple}
-use Rattle.part_core.specs.declared.kind.Kind.{Kind}
-use Rattle.part_core.specs.declared.kind.Kind.TheVariants.{Set, OrderedSet, Bag, DuplicateBag}
+use Rattle.part_core.specs.declared.kind.TableKind.{TableKind}
+use Rattle.part_core.specs.declared.kind.TableKind.TheVariants.{Set, OrderedSet, Bag, DuplicateBag}
 
 -- what a session asks of the table
 pub data Ask : Type 0 where
@@ -23,12 +23,12 @@ pub data Ask : Type 0 where
 -- A table is opened, of a kind, with a place of the key, parts and sessions; a session, by its number, asks something; the
 -- table is closed.
 pub data Command : Type 0 where
-  Open : Kind → ℤ → ℤ → ℤ → Command
+  Open : TableKind → ℤ → ℤ → ℤ → Command
   Session : ℤ → Ask → Command
   Close : Command
 
 -- the atom of a kind
-abbrev pub kind_name : Kind → List ℕ
+abbrev pub kind_name : TableKind → List ℕ
 kind_name Set = codes "set"
 kind_name OrderedSet = codes "ordered_set"
 kind_name Bag = codes "bag"

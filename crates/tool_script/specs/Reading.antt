@@ -4,8 +4,8 @@ use Rattle.std.specs.Cmp.Lexicographic.{pointwise}
 use Rattle.term_core.specs.Datum.{Datum}
 use Rattle.term_core.specs.Datum.Datum.{atom}
 use Rattle.term_operand.specs.Operand.{integer_of}
-use Rattle.part_core.specs.declared.kind.Kind.{Kind}
-use Rattle.part_core.specs.declared.kind.Kind.TheVariants.{Set, OrderedSet, Bag, DuplicateBag}
+use Rattle.part_core.specs.declared.kind.TableKind.{TableKind}
+use Rattle.part_core.specs.declared.kind.TableKind.TheVariants.{Set, OrderedSet, Bag, DuplicateBag}
 use Rattle.tool_script.specs.Command.{Ask, Command}
 use Rattle.tool_script.specs.Command.Ask.{Insert, InsertNew, Lookup, Member, Delete, DeleteObject, Take, Fix, Unfix, Leave, First, Next}
 use Rattle.tool_script.specs.Command.Command.{Open, Session, Close}
@@ -16,7 +16,7 @@ IsNoAtom (atom cs) = ⊥
 IsNoAtom d = Unit {0}
 
 -- the kind of a name
-abbrev pub kind_in : List ℕ → Option Kind
+abbrev pub kind_in : List ℕ → Option TableKind
 kind_in cs =
     if pointwise nat_eq (codes "set") cs then Some Set
     else if pointwise nat_eq (codes "ordered_set") cs then Some OrderedSet
@@ -55,12 +55,12 @@ abbrev pub asked_by : Datum → Option Ask → Option Command
 asked_by s ask = asked_with (integer_of s) ask
 
 -- the kind that a term names
-abbrev pub kind_by : Datum → Option Kind
+abbrev pub kind_by : Datum → Option TableKind
 kind_by (atom cs) = kind_in cs
 kind_by d = None
 
 -- what opens a table, by what its arguments are
-abbrev pub opened_with : Option Kind → Option ℤ → Option ℤ → Option ℤ → Option Command
+abbrev pub opened_with : Option TableKind → Option ℤ → Option ℤ → Option ℤ → Option Command
 opened_with (Some kind) (Some keypos) (Some parts) (Some sessions) =
     Some (Open kind keypos parts sessions)
 opened_with kind keypos parts sessions = None

@@ -6,7 +6,7 @@ ghost use Rattle.tool_script.specs.Command.{command_term, IsNoCommand};
 ghost use Rattle.tool_script.specs.Commands.{ask_of, command_of};
 ghost use Rattle.tool_script.specs.Reading.{IsNoAtom, kind_in, ask_alone, ask_with, asked_by, closed_by, opened_by, command_with, elements_in};
 
-use part_core::Kind;
+use part_core::TableKind;
 use std::alloc::{Allocator, Global};
 use term_core::{Term, View};
 use term_operand::Operand;
@@ -44,7 +44,7 @@ pub enum Ask<'a, A: Allocator = Global> {
 #[derive(Drop)]
 pub enum Command<'a, A: Allocator = Global> {
     /// Opens a table of a kind, with a place of the key, parts and sessions.
-    Open(Kind, i64, i64, i64),
+    Open(TableKind, i64, i64, i64),
     /// A session, by its number, asks something.
     Session(i64, Ask<'a, A>),
     /// Closes the table.
@@ -79,20 +79,20 @@ fn name_in<A: Allocator>(term: &Term<A>) -> Option<&[char]>
 }
 
 /// The kind of a table that these characters name.
-fn kind_named(name: &[char]) -> Option<Kind>
+fn kind_named(name: &[char]) -> Option<TableKind>
     ensures { result ≡ kind_in name.now }
 {
     if is_text(name, "set") {
-        return Some(Kind::Set);
+        return Some(TableKind::Set);
     }
     if is_text(name, "ordered_set") {
-        return Some(Kind::OrderedSet);
+        return Some(TableKind::OrderedSet);
     }
     if is_text(name, "bag") {
-        return Some(Kind::Bag);
+        return Some(TableKind::Bag);
     }
     if is_text(name, "duplicate_bag") {
-        return Some(Kind::DuplicateBag);
+        return Some(TableKind::DuplicateBag);
     }
     None
 }

@@ -7,7 +7,7 @@ ghost use Rattle.tool_script.specs.Script.{number_within, options_with, is_leavi
 use crate::command::Ask;
 use crate::reply::Reply;
 use crate::table::Table;
-use part_core::{Kind, MAX_KEYPOS, MAX_PARTS, MAX_SESSIONS, Part};
+use part_core::{MAX_KEYPOS, MAX_PARTS, MAX_SESSIONS, Part, TableKind};
 use std::alloc::{AllocError, Allocator, Global};
 use tables::Options;
 use term_core::Term;
@@ -39,7 +39,7 @@ fn small_in(value: i64, most: u8) -> Option<u8>
 /// the table may hold more than one object a key.
 pub(crate) fn options_in(
     name: u64,
-    kind: Kind,
+    kind: TableKind,
     keypos: i64,
     parts: i64,
     sessions: i64,
@@ -142,8 +142,8 @@ impl<S: Part<A> + Drop, O: Part<A> + Drop, A: Allocator + Copy> OpenTable<S, O, 
 
     /// A table that is opened, which no session has left.
     pub(crate) fn new(alloc: A, options: Options) -> Result<Self, AllocError>
-        requires set { options.kind ≡ Kind.Set → IsOpenable S.serves options }
-        requires ordered { options.kind ≢ Kind.Set → IsOpenable O.serves options }
+        requires set { options.kind ≡ TableKind.Set → IsOpenable S.serves options }
+        requires ordered { options.kind ≢ TableKind.Set → IsOpenable O.serves options }
         ensures { IfOk result (λ table. IsOpen table (newly_opened options)) }
     {
         let table = Table::open(alloc, options)?;

@@ -1,6 +1,6 @@
 //! Scripts, from a reader to a writer.
 ghost use Rattle.std.specs.Prelude.{◌≡◌, ◌≤◌, ◌<◌, ◌+◌, IfErr, IfOk, IsTrue, OnOk, OnErr};
-ghost use Rattle.part_core.specs.declared.kind.Kind.TheVariants.{Set, OrderedSet};
+ghost use Rattle.part_core.specs.declared.kind.TableKind.TheVariants.{Set, OrderedSet};
 ghost use Rattle.tool_script.specs.Script.{beginning};
 ghost use Rattle.tool_script.specs.Scripts.{HasState};
 ghost use Rattle.tool_script.specs.Input.{OfScript, StopsScript};

@@ -2,7 +2,7 @@
 use crate::command::{Ask, Command, read_command};
 use crate::open::{OpenTable, options_in};
 use crate::reply::Reply;
-use part_core::{Kind, Part};
+use part_core::{Part, TableKind};
 use std::alloc::{AllocError, Allocator, Global};
 use std::mem;
 use term_core::Term;
@@ -25,7 +25,7 @@ fn let_go<S: Part<A> + Drop, O: Part<A> + Drop, A: Allocator>(_table: Option<Ope
 
 impl<S: Part<A> + Drop, O: Part<A> + Drop, A: Allocator + Copy> Script<S, O, A> {
     ghost use Rattle.std.specs.Prelude.{◌≡◌, ◌≤◌, ◌<◌, ◌+◌, IfOk, IsTrue};
-    ghost use Rattle.part_core.specs.declared.kind.Kind.TheVariants.{Set, OrderedSet};
+    ghost use Rattle.part_core.specs.declared.kind.TableKind.TheVariants.{Set, OrderedSet};
     ghost use Rattle.tool_script.specs.Command.Command.{Open, Session, Close};
     ghost use Rattle.tool_script.specs.Commands.{ask_of, command_of};
     ghost use Rattle.tool_script.specs.Replies.{reply_term};
@@ -47,7 +47,7 @@ impl<S: Part<A> + Drop, O: Part<A> + Drop, A: Allocator + Copy> Script<S, O, A> 
     /// Opens a table.
     fn open(
         &mut self,
-        kind: Kind,
+        kind: TableKind,
         keypos: i64,
         parts: i64,
         sessions: i64,

@@ -11,7 +11,7 @@ ghost use Rattle.tool_script.specs.State.{IsAt, IsAnswered};
 use crate::command::Ask;
 use crate::reply::Reply;
 use crate::session::answer;
-use part_core::{Kind, OpenFault, Part};
+use part_core::{OpenFault, Part, TableKind};
 use std::alloc::{AllocError, Allocator, Global};
 use tables::{LocalTable, Options};
 use term_core::Term;
@@ -128,13 +128,13 @@ impl<S: Part<A> + Drop, O: Part<A> + Drop, A: Allocator + Copy> Table<S, O, A> {
 
     /// A table that is opened.
     pub(crate) fn open(alloc: A, options: Options) -> Result<Self, AllocError>
-        requires set { options.kind ≡ Kind.Set → IsOpenable S.serves options }
-        requires ordered { options.kind ≢ Kind.Set → IsOpenable O.serves options }
+        requires set { options.kind ≡ TableKind.Set → IsOpenable S.serves options }
+        requires ordered { options.kind ≢ TableKind.Set → IsOpenable O.serves options }
         ensures options { IfOk result (λ table. options_of table ≡ options) }
         ensures state { IfOk result (λ table. IsTable table (opened options)) }
     {
         match options.kind {
-            Kind::Set => Ok(Table::Set(open_at(alloc, options)?)),
+            TableKind::Set => Ok(Table::Set(open_at(alloc, options)?)),
             _ => Ok(Table::Ordered(open_at(alloc, options)?)),
         }
     }

@@ -5,7 +5,7 @@ use Rattle.std.specs.List.{range_with_len}
 use Rattle.std.proofs.lemmas.Bool.{eqb-true, eqb-false, le-ltb, ltb-true, ltb-false}
 use Rattle.std.proofs.lemmas.List.{append-nil}
 use Rattle.term_core.specs.Datum.{Datum}
-use Rattle.part_core.specs.declared.kind.Kind.{Kind}
+use Rattle.part_core.specs.declared.kind.TableKind.{TableKind}
 use Rattle.part_core.specs.declared.settings.Settings.{Settings}
 use Rattle.term_core.specs.KeyHash.{key_hash}
 use Rattle.std.proofs.lemmas.Nat.{mod_below}
@@ -51,7 +51,7 @@ settled_from o s (e ∷ es) settled = settled_from o (after o s e.session e.act)
 lt_itself : (n : ℕ) → nat_lt n n ≡ false
 lt_itself n = le-ltb n n (omega arith)
 
-same_slots : (kind : Kind) (n slots : ℕ) → slots_after kind n n slots ≡ slots
+same_slots : (kind : TableKind) (n slots : ℕ) → slots_after kind n n slots ≡ slots
 same_slots kind n slots =
     by_test (is_ordered kind) (slots_after kind n n slots ≡ slots) (λ ordered. rw ordered refl) (λ plain. rw (plain, lt_itself n) refl)
 

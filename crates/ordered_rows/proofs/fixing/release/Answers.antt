@@ -1,4 +1,4 @@
-use Rattle.part_core.specs.declared.kind.Kind.TheVariants.{OrderedSet}
+use Rattle.part_core.specs.declared.kind.TableKind.TheVariants.{OrderedSet}
 use Rattle.std.proofs.Common.{ap, sym, ◌∙◌, get_or, set}
 use Rattle.part_core.specs.Plain.{kept_rows}
 use Rattle.part_core.proofs.ActLemmas.{release_leads, release_stays}

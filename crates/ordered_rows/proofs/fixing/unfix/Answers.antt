@@ -1,4 +1,4 @@
-use Rattle.part_core.specs.declared.kind.Kind.TheVariants.{OrderedSet}
+use Rattle.part_core.specs.declared.kind.TableKind.TheVariants.{OrderedSet}
 use Rattle.std.proofs.Common.{refl}
 use Rattle.part_core.proofs.ActLemmas.{unfix_leads, unfix_refused}
 use Rattle.ordered_rows.proofs.fixing.unfix.Goals as goal

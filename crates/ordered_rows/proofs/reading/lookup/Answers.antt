@@ -1,4 +1,4 @@
-use Rattle.part_core.specs.declared.kind.Kind.TheVariants.{OrderedSet}
+use Rattle.part_core.specs.declared.kind.TableKind.TheVariants.{OrderedSet}
 use Rattle.part_core.proofs.ActLemmas.{lookup_leads}
 use Rattle.ordered_rows.proofs.reading.lookup.Goals as goal
 

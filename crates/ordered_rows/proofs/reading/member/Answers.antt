@@ -1,6 +1,6 @@
 use Rattle.std.proofs.Common.{ap}
 use Rattle.std.specs.Prelude.{not}
-use Rattle.part_core.specs.declared.kind.Kind.TheVariants.{OrderedSet}
+use Rattle.part_core.specs.declared.kind.TableKind.TheVariants.{OrderedSet}
 use Rattle.part_core.proofs.ActLemmas.{member_leads}
 use Rattle.ordered_rows.proofs.reading.member.Goals as goal
 

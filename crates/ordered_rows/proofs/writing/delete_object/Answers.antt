@@ -1,5 +1,5 @@
 use Rattle.std.proofs.Common.{refl}
-use Rattle.part_core.specs.declared.kind.Kind.TheVariants.{OrderedSet}
+use Rattle.part_core.specs.declared.kind.TableKind.TheVariants.{OrderedSet}
 use Rattle.part_core.proofs.ActLemmas.{no_object_leads}
 use Rattle.ordered_rows.proofs.WriteLemmas.{delete_object_leads}
 use Rattle.ordered_rows.proofs.writing.delete_object.Goals as goal

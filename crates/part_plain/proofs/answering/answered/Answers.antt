@@ -1,4 +1,4 @@
-use Rattle.part_core.specs.declared.kind.Kind.TheVariants.{Set}
+use Rattle.part_core.specs.declared.kind.TableKind.TheVariants.{Set}
 use Rattle.std.proofs.Common.{List, subst}
 use Rattle.part_core.specs.Ops.{act_of}
 use Rattle.part_core.specs.Rows.{Row}

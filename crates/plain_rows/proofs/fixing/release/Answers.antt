@@ -1,4 +1,4 @@
-use Rattle.part_core.specs.declared.kind.Kind.TheVariants.{Set}
+use Rattle.part_core.specs.declared.kind.TableKind.TheVariants.{Set}
 use Rattle.std.proofs.Common.{ap, ◌∙◌, set}
 use Rattle.part_core.specs.Plain.{kept_rows}
 use Rattle.part_core.proofs.ActLemmas.{release_leads}

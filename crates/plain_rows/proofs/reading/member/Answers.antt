@@ -1,4 +1,4 @@
-use Rattle.part_core.specs.declared.kind.Kind.TheVariants.{Set}
+use Rattle.part_core.specs.declared.kind.TableKind.TheVariants.{Set}
 use Rattle.part_core.proofs.ActLemmas.{member_leads}
 use Rattle.plain_rows.proofs.reading.member.Goals as goal
 

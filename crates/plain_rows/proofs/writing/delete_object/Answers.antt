@@ -1,4 +1,4 @@
-use Rattle.part_core.specs.declared.kind.Kind.TheVariants.{Set}
+use Rattle.part_core.specs.declared.kind.TableKind.TheVariants.{Set}
 use Rattle.std.proofs.Common.{refl}
 use Rattle.part_core.proofs.ActLemmas.{delete_object_leads, no_object_leads}
 use Rattle.plain_rows.proofs.writing.delete_object.Goals as goal

@@ -1,4 +1,4 @@
-use Rattle.part_core.specs.declared.kind.Kind.TheVariants.{Set}
+use Rattle.part_core.specs.declared.kind.TableKind.TheVariants.{Set}
 use Rattle.std.proofs.Common.{ap, sym, ◌∙◌}
 use Rattle.std.proofs.lemmas.Bool.{false≢true}
 use Rattle.std.specs.Prelude.{Bool, List, ◌&&◌}

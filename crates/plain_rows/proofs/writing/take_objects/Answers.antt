@@ -1,4 +1,4 @@
-use Rattle.part_core.specs.declared.kind.Kind.TheVariants.{Set}
+use Rattle.part_core.specs.declared.kind.TableKind.TheVariants.{Set}
 use Rattle.part_core.proofs.ActLemmas.{take_leads}
 use Rattle.plain_rows.proofs.writing.take_objects.Goals as goal
 

@@ -1,5 +1,5 @@
 use Rattle.std.proofs.Common.{ap, ◌∙◌, get_or}
-use Rattle.part_core.specs.declared.kind.Kind.TheVariants.{OrderedSet}
+use Rattle.part_core.specs.declared.kind.TableKind.TheVariants.{OrderedSet}
 use Rattle.part_core.specs.Plain.{Plain}
 use Rattle.part_core.proofs.LeadLemmas.{counts_are}
 use Rattle.part_order.proofs.part.OrderPartPart.fixes.Goals as goal

@@ -1,4 +1,4 @@
-use Rattle.part_core.specs.declared.kind.Kind.TheVariants.{Set}
+use Rattle.part_core.specs.declared.kind.TableKind.TheVariants.{Set}
 use Rattle.std.proofs.Common.{◌≡◌, ℕ, ◌<◌, ◌++◌, List, length, refl, subst, sym, arith}
 use Rattle.std.specs.Vec.{with_items}
 use Rattle.std.proofs.lemmas.List.{with_items_is}

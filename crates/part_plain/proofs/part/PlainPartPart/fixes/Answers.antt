@@ -1,5 +1,5 @@
 use Rattle.std.proofs.Common.{ℕ, List, ap, ◌∙◌, get_or}
-use Rattle.part_core.specs.declared.kind.Kind.TheVariants.{Set}
+use Rattle.part_core.specs.declared.kind.TableKind.TheVariants.{Set}
 use Rattle.part_core.specs.Plain.{Plain}
 use Rattle.part_core.proofs.LeadLemmas.{counts_are}
 use Rattle.part_plain.proofs.part.PlainPartPart.fixes.Goals as goal

@@ -11,7 +11,7 @@ loop-part-preserved g c =
     let item : get_or table.parts.items c.loop-part.part-index c.part-item.result ≡ c.part-item.result = ap (λ xs. get_or xs c.loop-part.part-index c.part-item.result) (sym c.deref-part-items.ensures.value) ∙ search rules in
     subst (Gathered part.is_after table.options table.parts.items (c.loop-part.part-index + 1)) (sym c.in_ok-append.ensures.items)
     (gathered_more part.settings part.is_after table.options table.parts.items c.loop-part.part-index c.part-item.result c.loop-part.objects.items c.in_ok-more.more.items
-      (slice_get-get_or table.parts.items c.loop-part.part-index c.part-item.result inside ∙ ap Some item) table.same c.in_ok-more.ensures c.loop-part.invariant)
+    (slice_get-get_or table.parts.items c.loop-part.part-index c.part-item.result inside ∙ ap Some item) table.same c.in_ok-more.ensures c.loop-part.invariant)
 
 pub returns : goal.returns
 returns g c =
