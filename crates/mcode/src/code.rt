@@ -37,10 +37,7 @@ fn add_frame<A: Allocator>(
     ensures kept { OnErr result (frames.new.items ≡ frames.old.items) }
     ensures back { IfErr result (λ failed. frame_of failed.value ≡ frame_of frame) }
 {
-    match frames.push(frame) {
-        Ok(()) => Ok(()),
-        Err(failed) => Err(failed),
-    }
+    frames.push(frame)
 }
 
 /// Instructions for the machine, with the constants and frames that they name.

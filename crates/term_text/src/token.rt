@@ -186,7 +186,7 @@ fn behind_sign(text: &[char]) -> (bool, &[char])
 }
 
 /// An integer: a sign or none, and digits.
-#[tactic(auto, unfolding(crate::specs::Reading::integer_at))]
+#[tactic(auto, unfolding(crate::specs::TokenReading::integer_at))]
 pub fn integer(text: &[char]) -> Result<(i64, &[char]), Stop>
     ensures { Gives (λ x. (x.0, x.1.now)) result (integer_at text.now) }
 {
@@ -207,7 +207,7 @@ fn word_len(text: &[char]) -> usize
 }
 
 /// The characters of a bare word, and the text behind them.
-#[tactic(auto, unfolding(crate::specs::Reading::word_at))]
+#[tactic(auto, unfolding(crate::specs::TokenReading::word_at))]
 pub fn word(text: &[char]) -> Result<(&[char], &[char]), Stop>
     ensures { Gives (λ x. (x.0.now, x.1.now)) result (word_at text.now) }
 {
@@ -245,7 +245,7 @@ fn escaped(character: char) -> Option<char>
 }
 
 /// A character as it is or as an escape.
-#[tactic(auto, unfolding(crate::specs::Reading::character_at))]
+#[tactic(auto, unfolding(crate::specs::TokenReading::character_at))]
 fn character(only_bytes: bool, text: &[char]) -> Result<(char, &[char]), Stop>
     ensures { Gives (λ x. (x.0, x.1.now)) result (character_at only_bytes text.now) }
 {
@@ -261,7 +261,7 @@ fn character(only_bytes: bool, text: &[char]) -> Result<(char, &[char]), Stop>
 }
 
 /// The next character behind so many, none at the mark.
-#[tactic(auto, unfolding(crate::specs::Reading::next_quoted))]
+#[tactic(auto, unfolding(crate::specs::TokenReading::next_quoted))]
 fn next_quoted(marks: Marks, count: usize, text: &[char]) -> Result<(Option<char>, &[char]), Stop>
     ensures { Gives (λ x. (x.0, x.1.now)) result (next_quoted marks count text.now) }
 {

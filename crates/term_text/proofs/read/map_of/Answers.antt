@@ -10,5 +10,5 @@ returns-in-Ok g c =
     let made : map (entries_of c.in_ok-pairs.pairs.items) ≡ c.in-Ok.map = c.in-Ok.ensures.only (map (entries_of c.in_ok-pairs.pairs.items)) (map_of_sorted c.in_ok-pairs.pairs.items c.in_ok-pairs.ensures.ordered) in
     rw (← c.in_ok-pairs.ensures.items, made) refl
 
-pub memory_alone-requires : goal.memory_alone-requires
-memory_alone-requires g c = memory_alone_map _ c.in_ok-pairs.pairs.items (rw (c.in_ok-pairs.ensures.items) c.requires) c.in_ok-pairs.ensures.ordered c.in-Err.ensures.refused.1
+pub alloc_error-requires : goal.alloc_error-requires
+alloc_error-requires g c = memory_alone_map _ c.in_ok-pairs.pairs.items (rw (c.in_ok-pairs.ensures.items) c.requires) c.in_ok-pairs.ensures.ordered c.in-Err.ensures.refused.1
