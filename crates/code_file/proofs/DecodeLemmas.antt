@@ -1,6 +1,6 @@
 -- Code that was read from a file, and what follows it.
 use Rattle.std.specs.List.{AllByRecursion}
-use Rattle.std.proofs.Common.{◌≡◌, ◌≢◌, ℕ, ◌<◌, ◌-◌, List, [], ◌∷◌, ◌++◌, length, refl, sym, ap, ◌∙◌, append_assoc, arith, inl}
+use Rattle.std.proofs.Common.{◌≡◌, ◌≢◌, ℕ, ◌<◌, ◌≤◌, ◌-◌, List, [], ◌∷◌, ◌++◌, length, refl, sym, ap, ◌∙◌, append_assoc, arith}
 use Rattle.std.proofs.lemmas.List.{append-nil, length-append}
 use Rattle.std.proofs.lemmas.List.Elements.{All-from_recursion}
 use Rattle.term_core.specs.Datum.{Datum}
@@ -15,7 +15,11 @@ use Rattle.code_format.specs.Formats.{u16_format, constant_format, place_format,
 use Rattle.code_format.proofs.FormatLemmas.{both_rest}
 use Rattle.code_format.proofs.NumberLemmas.{u16_free}
 use Rattle.code_format.proofs.FileLemmas.{body_free, rest_begins}
-use Rattle.code_file.specs.declared.stop.Stop.{Stop}
+use Rattle.code_file.specs.declared.stop.FileStop.{FileStop}
+use Rattle.code_file.specs.Due.{Due}
+use Rattle.code_file.specs.Due.Item.{a_slot_count, a_count}
+use Rattle.code_file.specs.Due.Row.{constants}
+use Rattle.code_file.specs.Causes.{IsWrong}
 use Rattle.code_file.specs.Reads.{Blames, IsStop}
 use Rattle.code_file.specs.declared.fault.FileFault.TheVariants as faults
 use Rattle.code_file.specs.Faults.{IsNoFile, IsHeader, IsRead, fault_of}
@@ -89,17 +93,30 @@ body_behind bytes slots rest p h s =
     (rest_begins (u16_bytes version ++ (u16_bytes slots ++ rest)) bytes p h.parts s) in
     both_rest u16_format body_format u16_free (u16_bytes slots ++ rest) slots rest (p.slots, body_of p) [] (record { fits = h.fits; parts = refl }) behind.1
 
+-- behind the version the number of slots is due
+slots_due : (bytes : List ℕ) (slots : ℕ) (rest : List ℕ) → IsHeader bytes slots rest → Due bytes a_slot_count (u16_bytes slots ++ rest)
+slots_due bytes slots rest h = Due.behind_version (Due.behind_magic h.parts) (record { fits = omega arith; parts = refl })
+
 pub too_many_slots : (bytes : List ℕ) (slots : ℕ) (rest : List ℕ) → IsHeader bytes slots rest → most_slots < slots → IsNoFile bytes faults.Limit
 too_many_slots bytes slots rest h many = record {
   none = λ p s. omega (arith, (body_behind bytes slots rest p h s).0, s.program.slots, many);
-  why = inl (slots, h.fits, many, (rest, h.parts ∙ ap (λ (t : List ℕ). magic ++ t) (sym (append_assoc (u16_bytes version) (u16_bytes slots) rest))));
+  why = (
+    length (magic ++ u16_bytes version),
+    record {
+      front = magic ++ u16_bytes version;
+      rest = u16_bytes slots ++ rest;
+      parts = h.parts;
+      at_is = refl;
+      wrong = IsWrong.many_slots (slots_due bytes slots rest h) (record { fits = h.fits; parts = refl }) many;
+    },
+  );
 }
 
-pub body_stopped : (bytes : List ℕ) (slots : ℕ) (rest : List ℕ) (stop : Stop) → IsHeader bytes slots rest → IsStop body_format rest (Blames rest) stop → fault_of stop (length bytes) ≢ faults.Memory → IsNoFile bytes (fault_of stop (length bytes))
-body_stopped bytes slots rest stop h k =
-    stopped body_format bytes (magic ++ (u16_bytes version ++ u16_bytes slots)) rest stop
-    (h.parts ∙ ap (λ (t : List ℕ). magic ++ t) (sym (append_assoc (u16_bytes version) (u16_bytes slots) rest)))
-    (λ none p s. none (body_of p) [] (body_behind bytes slots rest p h s).1) k
+pub body_stopped : (bytes : List ℕ) (slots : ℕ) (rest : List ℕ) (stop : FileStop) → IsHeader bytes slots rest → slots ≤ most_slots → IsStop body_format rest (Blames (a_count constants) rest) stop
+    → fault_of stop (length bytes) ≢ faults.Memory → IsNoFile bytes (fault_of stop (length bytes))
+body_stopped bytes slots rest stop h few k =
+    stopped body_format (a_count constants) bytes rest stop (λ none p s. none (body_of p) [] (body_behind bytes slots rest p h s).1)
+    (Due.behind_slot_count (slots_due bytes slots rest h) (record { fits = h.fits; parts = refl }) few) k
 
 pub goes_on : (bytes : List ℕ) (p : Program) (more : List ℕ) → IsRead bytes p more → 0 < length more → IsNoFile bytes (faults.Trailing (length bytes - length more))
 goes_on bytes p more h some =

@@ -1,53 +1,56 @@
 -- Kinds, places, slots and frames that are read, and what refuses them.
 use Rattle.std.specs.Prelude.{IfSome}
-use Rattle.std.specs.List.{flat_map}
 use Rattle.std.proofs.Common.{◌≡◌, ◌≢◌, ℕ, ◌<◌, List, [], ◌∷◌, ◌++◌, length, refl, sym, ap, subst, ◌∙◌, append_assoc, arith, Option}
 use Rattle.mcode.specs.Program.{Frame, Rise, place_number}
 use Rattle.mcode.specs.declared.kind.Kind.{Kind}
 use Rattle.mcode.specs.declared.kind.Kind.TheVariants as kind
-use Rattle.code_format.specs.Spelling.{u16_bytes, kind_bytes, place_bytes}
+use Rattle.code_format.specs.Spelling.{u16_bytes, kind_bytes}
 use Rattle.code_format.specs.File.{IsU8}
-use Rattle.code_format.specs.Format.{Begins, BeginsNone, both, rows, such}
+use Rattle.code_format.specs.Format.{Format, Begins, BeginsNone, both, rows, such}
 use Rattle.code_format.specs.Formats.{u8_format, u16_format, kind_format, place_format, places_format, slots_format, frame_rest_format, frame_format}
-use Rattle.code_format.proofs.FormatLemmas.{both_begins, both_rest}
+use Rattle.code_format.proofs.FormatLemmas.{both_begins, both_first, both_rest}
 use Rattle.code_format.proofs.NumberLemmas.{u8_free, u16_free}
 use Rattle.code_format.proofs.InstructionLemmas.{head_is}
-use Rattle.code_format.proofs.FrameLemmas.{KindOpened, RisingSlots, flat_bytes, frame_to, kind_opened, kind_rest, kind_spelled, kind_tag, places_free, slot_rows, slots_from, slots_to}
-use Rattle.code_file.specs.declared.stop.Cause.TheVariants.{BadOpcode, NotCanonical}
-use Rattle.code_file.specs.declared.stop.Stop.{Stop}
-use Rattle.code_file.specs.Causes.{BeginsWith, IsNameless, IsUnordered}
-use Rattle.code_file.specs.Reads.{Blames, IsRefuted, IsStop}
-use Rattle.code_file.proofs.StopLemmas.{stop_none, stop_behind, stop_before, both_stop_first, both_stop_second}
-use Rattle.code_file.proofs.RowLemmas.{such_stop, IsRowSoFar, row_stop, such_counted_begins, such_counted_stop, such_counted_stop_first, ends_with_last}
+use Rattle.code_format.proofs.FrameLemmas.{KindOpened, RisingSlots, frame_to, kind_opened, kind_rest, kind_spelled, kind_tag, place_free, places_free, slot_rows, slots_from, slots_to}
+use Rattle.code_file.specs.declared.stop.FileCause.TheVariants.{BadOpcode, NotCanonical}
+use Rattle.code_file.specs.declared.stop.FileStop.{FileStop}
+use Rattle.code_file.specs.Due.{BeginsWith, Due}
+use Rattle.code_file.specs.Due.Item.{a_count, many, a_depth, a_place, a_kind, a_slot, so_many}
+use Rattle.code_file.specs.Due.Row.{places, slots}
+use Rattle.code_file.specs.Causes.{IsWrong}
+use Rattle.code_file.specs.Reads.{Blames, IsCut, IsRefuted, IsStop}
+use Rattle.code_file.proofs.StopLemmas.{stop_none, stop_due, stop_cut}
+use Rattle.code_file.proofs.RowLemmas.{IsRowSoFar, row_stop, such_counted_begins, such_counted_short, such_counted_stop}
 use Rattle.code_file.specs.Rising.{LastIs}
-use Rattle.code_file.proofs.RiseLemmas.{rise_above, not_above, rise_front}
+use Rattle.code_file.proofs.RiseLemmas.{rise_above, above_last, rise_front}
 
 -- ---- kinds
 
-pub kind_short : (bytes : List ℕ) (stop : Stop) → IsStop u8_format bytes (Blames bytes) stop → IsStop kind_format bytes (Blames bytes) stop
-kind_short bytes stop h = stop_none u8_format kind_format bytes bytes (Blames bytes) stop (λ none k s l. none (kind_tag k) (kind_rest k ++ s) (record {
+pub kind_short : (bytes : List ℕ) (stop : FileStop) → IsStop u8_format bytes (IsCut 1 bytes) stop → IsStop kind_format bytes (Blames a_kind bytes) stop
+kind_short bytes stop h = stop_cut u8_format kind_format 1 a_kind a_kind bytes bytes stop refl (λ none k s l. none (kind_tag k) (kind_rest k ++ s) (record {
   fits = small k;
   parts = l.parts ∙ ap (λ (bs : List ℕ). bs ++ s) (kind_spelled k l.fits.1);
-})) h
+})) (λ file due. due) h
   where
     small : (k : Kind) → IsU8 (kind_tag k)
     small kind.Any = omega arith
     small k = omega arith
 
 -- no size behind the tag of tuples
-pub kind_short_size : (bytes : List ℕ) (b : ℕ) (r : List ℕ) (stop : Stop) → Begins u8_format bytes b r → b ≡ 5 → IsStop u16_format r (Blames r) stop → IsStop kind_format bytes (Blames bytes) stop
+pub kind_short_size : (bytes : List ℕ) (b : ℕ) (r : List ℕ) (stop : FileStop) → Begins u8_format bytes b r → b ≡ 5 → IsStop u16_format r (IsCut 2 r) stop → IsStop kind_format bytes (Blames a_kind bytes) stop
 kind_short_size bytes b r stop h five k =
-    stop_behind u16_format kind_format (b ∷ []) r bytes stop h.parts (λ none l s g. go l (kind_opened bytes b r l s h.parts g) none) k
+    stop_cut u16_format kind_format 2 (so_many 2) a_kind r bytes stop refl (λ none l s g. go l (kind_opened bytes b r l s h.parts g) none)
+    (λ file due. Due.tuple_size (subst (λ c. Due file a_kind (c ∷ r)) five (subst (Due file a_kind) h.parts due))) k
   where
     go : (l : Kind) {s : List ℕ} → KindOpened b r l s → BeginsNone u16_format r → ⊥
     go (kind.Tuple n) {s} o none = none n s (record { fits = o.size; parts = o.rest_is })
     go l o none = absurd (omega (arith, o.tag_is, five))
 
 -- a byte that is the tag of no kind
-pub kind_unnamed : (bytes : List ℕ) (b : ℕ) (r : List ℕ) → Begins u8_format bytes b r → b ≢ 1 → b ≢ 2 → b ≢ 3 → b ≢ 4 → b ≢ 5 → IsRefuted kind_format bytes (Blames bytes BadOpcode (length bytes))
+pub kind_unnamed : (bytes : List ℕ) (b : ℕ) (r : List ℕ) → Begins u8_format bytes b r → b ≢ 1 → b ≢ 2 → b ≢ 3 → b ≢ 4 → b ≢ 5 → IsRefuted kind_format bytes (Blames a_kind bytes BadOpcode (length bytes))
 kind_unnamed bytes b r h n1 n2 n3 n4 n5 = record {
   none = λ k s l. let o = kind_opened bytes b r k s h.parts l in go k o.some o.tag_is;
-  blame = record { front = []; behind = bytes; parts = refl; left_is = refl; cause_is = (b, (r, h.parts), IsNameless.no_kind names) };
+  blame = λ file due. (b ∷ r, ap length h.parts, IsWrong.no_kind (subst (Due file a_kind) h.parts due) names);
 }
   where
     go : (k : Kind) → k ≢ kind.Any → kind_tag k ≡ b → ⊥
@@ -80,33 +83,26 @@ tuple_begins bytes b r n s h five k = record {
 abbrev AbovePlaces : List (ℕ × Kind) → ℕ × Kind → Type 0
 AbovePlaces before p = Rise place_number (before ++ p ∷ [])
 
-pub place_short : (before : List (ℕ × Kind)) (bytes : List ℕ) (stop : Stop) → IsStop u16_format bytes (Blames bytes) stop → IsStop (such place_format (AbovePlaces before)) bytes (Blames (flat_map place_bytes before ++ bytes)) stop
+pub place_short : (before : List (ℕ × Kind)) (bytes : List ℕ) (stop : FileStop) → IsStop u16_format bytes (IsCut 2 bytes) stop → IsStop (such place_format (AbovePlaces before)) bytes (Blames (a_place before) bytes) stop
 place_short before bytes stop h =
-    such_stop place_format (AbovePlaces before) bytes (Blames (flat_map place_bytes before ++ bytes)) stop
-    (both_stop_first u16_format kind_format bytes (Blames (flat_map place_bytes before ++ bytes)) stop (stop_before u16_format (flat_map place_bytes before) bytes (flat_map place_bytes before ++ bytes) stop refl h))
+    stop_cut u16_format (such place_format (AbovePlaces before)) 2 (a_place before) (a_place before) bytes bytes stop refl
+    (λ none p s k. none p.0 (kind_bytes p.1 ++ s) (both_first u16_format kind_format bytes p s (record { fits = k.fits.0; parts = k.parts }))) (λ file due. due) h
 
-pub place_kind : (before : List (ℕ × Kind)) (bytes : List ℕ) (n : ℕ) (r : List ℕ) (stop : Stop) → Begins u16_format bytes n r → IsStop kind_format r (Blames r) stop → IsStop (such place_format (AbovePlaces before)) bytes (Blames (flat_map place_bytes before ++ bytes)) stop
-place_kind before bytes n r stop h k =
-    such_stop place_format (AbovePlaces before) bytes (Blames (flat_map place_bytes before ++ bytes)) stop
-    (stop_before place_format (flat_map place_bytes before) bytes (flat_map place_bytes before ++ bytes) stop refl (both_stop_second u16_format kind_format u16_free bytes n r stop h k))
+pub place_kind : (before : List (ℕ × Kind)) (last : Option ℕ) (bytes : List ℕ) (n : ℕ) (r : List ℕ) (stop : FileStop) → LastIs place_number before last → Begins u16_format bytes n r → IfSome last (λ l. l < n)
+    → IsStop kind_format r (Blames a_kind r) stop → IsStop (such place_format (AbovePlaces before)) bytes (Blames (a_place before) bytes) stop
+place_kind before last bytes n r stop is h above k =
+    stop_due kind_format (such place_format (AbovePlaces before)) a_kind (a_place before) r bytes stop
+    (λ none p s l. none p.1 s (both_rest u16_format kind_format u16_free bytes n r p s h (record { fits = l.fits.0; parts = l.parts })).1)
+    (λ file due. Due.kind due h ((above_last place_number before last n is).0 above)) k
 
 pub place_unordered : (before : List (ℕ × Kind)) (last : Option ℕ) (bytes : List ℕ) (n : ℕ) (r : List ℕ) → LastIs place_number before last → Rise place_number before → Begins u16_format bytes n r → ¬ IfSome last (λ l. l < n)
-    → IsRefuted (such place_format (AbovePlaces before)) bytes (Blames (flat_map place_bytes before ++ bytes) NotCanonical (length bytes))
-place_unordered before last bytes n r is up h low =
-    let low_last = not_above last n low in
-    let end = subst (LastIs place_number before) low_last.1 is in
-    record {
-      none = λ p s k.
-          let same = both_rest u16_format kind_format u16_free bytes n r p s h (record { fits = k.fits.0; parts = k.parts }) in
-          low (subst (λ m. IfSome last (λ l. l < m)) (sym same.0) ((rise_above place_number before last p is up).1 k.fits.1));
-      blame = record {
-        front = flat_map place_bytes before;
-        behind = bytes;
-        parts = refl;
-        left_is = refl;
-        cause_is = IsUnordered.place end.1 n (ends_with_last place_bytes before end.0 end.1 end.2) (r, h.parts) (omega (arith, low_last.2, end.3));
-      };
-    }
+    → IsRefuted (such place_format (AbovePlaces before)) bytes (Blames (a_place before) bytes NotCanonical (length bytes))
+place_unordered before last bytes n r is up h low = record {
+  none = λ p s k.
+      let same = both_rest u16_format kind_format u16_free bytes n r p s h (record { fits = k.fits.0; parts = k.parts }) in
+      low (subst (λ m. IfSome last (λ l. l < m)) (sym same.0) ((rise_above place_number before last p is up).1 k.fits.1));
+  blame = λ file due. (bytes, refl, IsWrong.low_place due h (λ above. low ((above_last place_number before last n is).1 above)));
+}
 
 pub place_begins : (before : List (ℕ × Kind)) (last : Option ℕ) (bytes : List ℕ) (n : ℕ) (r : List ℕ) (k : Kind) (s : List ℕ) → LastIs place_number before last → Rise place_number before → IfSome last (λ l. l < n)
     → Begins u16_format bytes n r → Begins kind_format r k s → Begins (such place_format (AbovePlaces before)) bytes (n, k) s
@@ -115,59 +111,71 @@ place_begins before last bytes n r k s is up above h g = record {
   parts = h.parts ∙ ap (λ (t : List ℕ). u16_bytes n ++ t) g.parts ∙ sym (append_assoc (u16_bytes n) (kind_bytes k) s);
 }
 
+pub place_row_stop : (bytes : List ℕ) (xs : List (ℕ × Kind)) (rest : List ℕ) (i n : ℕ) (stop : FileStop) → IsRowSoFar place_format (Rise place_number) bytes xs rest i → i < n
+    → IsStop (such place_format (AbovePlaces xs)) rest (Blames (a_place xs) rest) stop → IsStop (such (rows place_format n) (Rise place_number)) bytes (Blames (many places n) bytes) stop
+place_row_stop bytes xs rest i n stop h fewer k =
+    row_stop place_format (Rise place_number) (a_place xs) (many places n) place_free (rise_front place_number) bytes xs rest i n stop h fewer (λ file due begun. Due.place due begun fewer) k
+
 -- ---- slots
 
 abbrev AboveSlots : List ℕ → ℕ → Type 0
 AboveSlots before v = Rise (λ slot. slot) (before ++ v ∷ [])
 
-pub slot_short : (before bytes : List ℕ) (stop : Stop) → IsStop u8_format bytes (Blames bytes) stop → IsStop (such u8_format (AboveSlots before)) bytes (Blames (before ++ bytes)) stop
-slot_short before bytes stop h = such_stop u8_format (AboveSlots before) bytes (Blames (before ++ bytes)) stop (stop_before u8_format before bytes (before ++ bytes) stop refl h)
+pub slot_short : (before bytes : List ℕ) (stop : FileStop) → IsStop u8_format bytes (IsCut 1 bytes) stop → IsStop (such u8_format (AboveSlots before)) bytes (Blames (a_slot before) bytes) stop
+slot_short before bytes stop h =
+    stop_cut u8_format (such u8_format (AboveSlots before)) 1 (a_slot before) (a_slot before) bytes bytes stop refl (λ none v s k. none v s (record { fits = k.fits.0; parts = k.parts })) (λ file due. due) h
 
 pub slot_unordered : (before : List ℕ) (last : Option ℕ) (bytes : List ℕ) (v : ℕ) (r : List ℕ) → LastIs (λ slot. slot) before last → Rise (λ slot. slot) before → Begins u8_format bytes v r → ¬ IfSome last (λ l. l < v)
-    → IsRefuted (such u8_format (AboveSlots before)) bytes (Blames (before ++ bytes) NotCanonical (length bytes))
-slot_unordered before last bytes v r is up h low =
-    let low_last = not_above last v low in
-    let end = subst (LastIs (λ slot. slot) before) low_last.1 is in
-    record {
-      none = λ w s k.
-          let same = u8_free.one bytes v w r s h (record { fits = k.fits.0; parts = k.parts }) in
-          low (subst (λ m. IfSome last (λ l. l < m)) (sym same.0) ((rise_above (λ slot. slot) before last w is up).1 k.fits.1));
-      blame = record {
-        front = before;
-        behind = bytes;
-        parts = refl;
-        left_is = refl;
-        cause_is = IsUnordered.slot end.1 v (end.0, end.2) (r, h.parts) (omega (arith, low_last.2, end.3));
-      };
-    }
+    → IsRefuted (such u8_format (AboveSlots before)) bytes (Blames (a_slot before) bytes NotCanonical (length bytes))
+slot_unordered before last bytes v r is up h low = record {
+  none = λ w s k.
+      let same = u8_free.one bytes v w r s h (record { fits = k.fits.0; parts = k.parts }) in
+      low (subst (λ m. IfSome last (λ l. l < m)) (sym same.0) ((rise_above (λ slot. slot) before last w is up).1 k.fits.1));
+  blame = λ file due. (bytes, refl, IsWrong.low_slot due h (λ above. low ((above_last (λ slot. slot) before last v is).1 above)));
+}
 
 pub slot_begins : (before : List ℕ) (last : Option ℕ) (bytes : List ℕ) (v : ℕ) (r : List ℕ) → LastIs (λ slot. slot) before last → Rise (λ slot. slot) before → IfSome last (λ l. l < v) → Begins u8_format bytes v r → Begins (such u8_format (AboveSlots before)) bytes v r
 slot_begins before last bytes v r is up above h = record { fits = (h.fits, (rise_above (λ slot. slot) before last v is up).0 above); parts = h.parts }
 
-pub slot_row_stop : (bytes xs rest : List ℕ) (i n : ℕ) (stop : Stop) → IsRowSoFar u8_format RisingSlots bytes xs rest i → i < n
-    → IsStop (such u8_format (AboveSlots xs)) rest (Blames (xs ++ rest)) stop → IsStop (such (rows u8_format n) RisingSlots) bytes (Blames bytes) stop
+pub slot_row_stop : (bytes xs rest : List ℕ) (i n : ℕ) (stop : FileStop) → IsRowSoFar u8_format RisingSlots bytes xs rest i → i < n
+    → IsStop (such u8_format (AboveSlots xs)) rest (Blames (a_slot xs) rest) stop → IsStop (such (rows u8_format n) RisingSlots) bytes (Blames (many slots n) bytes) stop
 slot_row_stop bytes xs rest i n stop h fewer k =
-    row_stop u8_format RisingSlots u8_free (rise_front (λ slot. slot)) bytes xs rest i n stop h fewer (subst (λ (t : List ℕ). IsStop (such u8_format (AboveSlots xs)) rest (Blames (t ++ rest)) stop) (sym (flat_bytes xs)) k)
+    row_stop u8_format RisingSlots (a_slot xs) (many slots n) u8_free (rise_front (λ slot. slot)) bytes xs rest i n stop h fewer (λ file due begun. Due.slot due begun fewer) k
 
-slots_stop : (bytes : List ℕ) (stop : Stop) → IsStop slot_rows bytes (Blames bytes) stop → IsStop slots_format bytes (Blames bytes) stop
-slots_stop bytes stop h = stop_none slot_rows slots_format bytes bytes (Blames bytes) stop (λ none vs s k. none vs s (slots_from bytes vs s k)) h
+slots_stop : (bytes : List ℕ) (stop : FileStop) → IsStop slot_rows bytes (Blames (a_count slots) bytes) stop → IsStop slots_format bytes (Blames (a_count slots) bytes) stop
+slots_stop bytes stop h = stop_none slot_rows slots_format bytes bytes (Blames (a_count slots) bytes) stop (λ none vs s k. none vs s (slots_from bytes vs s k)) h
 
 pub slots_begins : (bytes : List ℕ) (n : ℕ) (r vs s : List ℕ) → Begins u16_format bytes n r → Begins (such (rows u8_format n) RisingSlots) r vs s → Begins slots_format bytes vs s
 slots_begins bytes n r vs s h k = slots_to bytes vs s (such_counted_begins u16_format u8_format RisingSlots bytes n r vs s h k)
 
-pub slots_short : (bytes : List ℕ) (stop : Stop) → IsStop u16_format bytes (Blames bytes) stop → IsStop slots_format bytes (Blames bytes) stop
-slots_short bytes stop h = slots_stop bytes stop (such_counted_stop_first u16_format u8_format RisingSlots bytes (Blames bytes) stop h)
+pub slots_short : (bytes : List ℕ) (stop : FileStop) → IsStop u16_format bytes (IsCut 2 bytes) stop → IsStop slots_format bytes (Blames (a_count slots) bytes) stop
+slots_short bytes stop h = slots_stop bytes stop (such_counted_short u8_format RisingSlots slots bytes stop h)
 
-pub slots_row_stop : (bytes : List ℕ) (n : ℕ) (r : List ℕ) (stop : Stop) → Begins u16_format bytes n r → IsStop (such (rows u8_format n) RisingSlots) r (Blames r) stop → IsStop slots_format bytes (Blames bytes) stop
-slots_row_stop bytes n r stop h k = slots_stop bytes stop (such_counted_stop u16_format u8_format RisingSlots u16_free bytes n r stop h k)
+pub slots_row_stop : (bytes : List ℕ) (n : ℕ) (r : List ℕ) (stop : FileStop) → Begins u16_format bytes n r → IsStop (such (rows u8_format n) RisingSlots) r (Blames (many slots n) r) stop → IsStop slots_format bytes (Blames (a_count slots) bytes) stop
+slots_row_stop bytes n r stop h k = slots_stop bytes stop (such_counted_stop u8_format RisingSlots slots bytes n r stop h k)
 
 -- ---- frames
 
-pub frame_rest_places : (bytes : List ℕ) (n : ℕ) (r : List ℕ) (stop : Stop) → Begins u16_format bytes n r → IsStop places_format r (Blames r) stop → IsStop frame_rest_format bytes (Blames bytes) stop
-frame_rest_places bytes n r stop h k = both_stop_second u16_format (both places_format slots_format) u16_free bytes n r stop h (both_stop_first places_format slots_format r (Blames r) stop k)
+abbrev two_rows : Format (List (ℕ × Kind) × List ℕ)
+two_rows = both places_format slots_format
 
-pub frame_rest_slots : (bytes : List ℕ) (n : ℕ) (r : List ℕ) (ps : List (ℕ × Kind)) (t : List ℕ) (stop : Stop) → Begins u16_format bytes n r → Begins places_format r ps t → IsStop slots_format t (Blames t) stop → IsStop frame_rest_format bytes (Blames bytes) stop
-frame_rest_slots bytes n r ps t stop h g k = both_stop_second u16_format (both places_format slots_format) u16_free bytes n r stop h (both_stop_second places_format slots_format places_free r ps t stop g k)
+pub depth_short : (bytes : List ℕ) (stop : FileStop) → IsStop u16_format bytes (IsCut 2 bytes) stop → IsStop frame_rest_format bytes (Blames a_depth bytes) stop
+depth_short bytes stop h =
+    stop_cut u16_format frame_rest_format 2 a_depth a_depth bytes bytes stop refl (λ none p s k. none p.0 (two_rows.spell p.1 ++ s) (both_first u16_format two_rows bytes p s k)) (λ file due. due) h
+
+rest_none : (bytes : List ℕ) (n : ℕ) (r : List ℕ) → Begins u16_format bytes n r → BeginsNone two_rows r → BeginsNone frame_rest_format bytes
+rest_none bytes n r h none p s k = none p.1 s (both_rest u16_format two_rows u16_free bytes n r p s h k).1
+
+pub frame_rest_places : (bytes : List ℕ) (n : ℕ) (r : List ℕ) (stop : FileStop) → Begins u16_format bytes n r → IsStop places_format r (Blames (a_count places) r) stop → IsStop frame_rest_format bytes (Blames a_depth bytes) stop
+frame_rest_places bytes n r stop h k =
+    stop_due places_format frame_rest_format (a_count places) a_depth r bytes stop
+    (λ none. rest_none bytes n r h (λ p s l. none p.0 (slots_format.spell p.1 ++ s) (both_first places_format slots_format r p s l))) (λ file due. Due.behind_depth due h) k
+
+pub frame_rest_slots : (bytes : List ℕ) (n : ℕ) (r : List ℕ) (ps : List (ℕ × Kind)) (t : List ℕ) (stop : FileStop) → Begins u16_format bytes n r → Begins places_format r ps t → IsStop slots_format t (Blames (a_count slots) t) stop
+    → IsStop frame_rest_format bytes (Blames a_depth bytes) stop
+frame_rest_slots bytes n r ps t stop h g k =
+    stop_due slots_format frame_rest_format (a_count slots) a_depth t bytes stop
+    (λ none. rest_none bytes n r h (λ p s l. none p.1 s (both_rest places_format slots_format places_free r ps t p s g l).1)) (λ file due. Due.behind_places (Due.behind_depth due h) g) k
 
 pub frame_begins : (bytes : List ℕ) (f : Frame) (r s : List ℕ) → Begins u16_format bytes f.pc r → Begins frame_rest_format r (f.depth, (f.places, f.slots)) s → Begins frame_format bytes f s
 frame_begins bytes f r s h k = frame_to bytes f s (both_begins u16_format frame_rest_format bytes f.pc r (f.depth, (f.places, f.slots)) s h k)

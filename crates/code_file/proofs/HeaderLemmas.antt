@@ -1,6 +1,11 @@
 -- The front of a code file, and its faults.
-use Rattle.std.proofs.Common.{◌≡◌, ◌≢◌, ℕ, ◌-◌, List, [], ◌++◌, length, refl, ap, ◌∙◌, arith, inr}
-use Rattle.std.proofs.lemmas.List.{length-append}
+use Rattle.std.proofs.Common.{◌≡◌, ◌≢◌, ℕ, ◌-◌, ◌<◌, List, [], ◌++◌, length, take, drop, refl, sym, ap, subst, ◌∙◌, arith}
+use Rattle.std.specs.Prelude.{min, Bool, true}
+use Rattle.std.specs.List.{starts_with}
+use Rattle.std.proofs.Math.Dec.{eqb}
+use Rattle.std.proofs.lemmas.Bool.Decides.{Decides-eqb}
+use Rattle.std.proofs.lemmas.Slice.Eq.{starts_is}
+use Rattle.std.proofs.lemmas.List.{append-nil, length-append, take_all}
 use Rattle.term_core.specs.Datum.{Datum}
 use Rattle.mcode.specs.Program.{Program, Frame}
 use Rattle.mcode.specs.declared.instr.Instr.{Instr}
@@ -11,27 +16,58 @@ use Rattle.code_format.specs.Formats.{u16_format, body_format, body_of}
 use Rattle.code_format.proofs.FormatLemmas.{both_first, both_rest}
 use Rattle.code_format.proofs.NumberLemmas.{u16_free}
 use Rattle.code_format.proofs.FileLemmas.{rest_begins}
-use Rattle.code_file.specs.declared.stop.Cause.{Cause}
-use Rattle.code_file.specs.declared.stop.Cause.TheVariants as causes
-use Rattle.code_file.specs.declared.stop.Stop.{Stop}
-use Rattle.code_file.specs.declared.stop.Stop.TheVariants as stops
-use Rattle.code_file.specs.Reads.{Blames, IsStop}
-use Rattle.code_file.proofs.StopLemmas.{blames_behind}
+use Rattle.code_file.specs.declared.stop.FileCause.{FileCause}
+use Rattle.code_file.specs.declared.stop.FileCause.TheVariants as causes
+use Rattle.code_file.specs.declared.stop.FileStop.{FileStop}
+use Rattle.code_file.specs.declared.stop.FileStop.TheVariants as stops
+use Rattle.code_file.specs.Due.{BeginsWith, Item, Due}
+use Rattle.code_file.specs.Due.Item.{a_version, a_slot_count}
+use Rattle.code_file.specs.Causes.{IsWrong, width}
+use Rattle.code_file.specs.Reads.{Blames, IsCut, IsStop}
+use Rattle.code_file.proofs.StopLemmas.{stop_cut}
+use Rattle.code_file.proofs.EndLemmas.{wrong_ends}
 use Rattle.code_file.specs.declared.fault.FileFault.TheVariants as faults
-use Rattle.code_file.specs.Faults.{IsFileFault, IsNoFile, IsHeader, fault_of, at_byte}
+use Rattle.code_file.specs.Faults.{StandsAt, IsFileFault, IsNoFile, IsHeader, fault_of, at_byte}
 
 -- ---- what stops
 
-why_stopped : (bytes : List ℕ) (cause : Cause) (left : ℕ) → Blames bytes cause left → IsFileFault (at_byte cause (length bytes - left)) bytes
-why_stopped bytes causes.Truncated left h = omega (arith, h.left_is, ap length h.cause_is)
-why_stopped bytes causes.BadOpcode left h = record { front = h.front; behind = h.behind; parts = h.parts; at_is = omega (arith, h.left_is, ap length h.parts, length-append h.front h.behind); cause_is = h.cause_is }
-why_stopped bytes causes.NotCanonical left h = record { front = h.front; behind = h.behind; parts = h.parts; at_is = omega (arith, h.left_is, ap length h.parts, length-append h.front h.behind); cause_is = h.cause_is }
-why_stopped bytes causes.Limit left h = inr (length bytes - left, record { front = h.front; behind = h.behind; parts = h.parts; at_is = omega (arith, h.left_is, ap length h.parts, length-append h.front h.behind); cause_is = h.cause_is })
+why_stopped : (bytes : List ℕ) (cause : FileCause) (left : ℕ) (rest : List ℕ) → left ≡ length rest → IsWrong bytes cause rest → IsFileFault (at_byte cause (length bytes - left)) bytes
+why_stopped bytes cause left rest left_is wrong = by cause stands
+  where
+    stands : StandsAt bytes cause (length bytes - left)
+    stands =
+        let end = wrong_ends wrong in
+        record { front = end.0; rest = rest; parts = end.1; at_is = omega (arith, left_is, ap length end.1, length-append end.0 rest); wrong = wrong }
 
-pub stopped : {X : Type 0} (F : Format X) (bytes x r : List ℕ) (stop : Stop) → bytes ≡ x ++ r → (BeginsNone F r → (p : Program) → ¬ Spells bytes p) → IsStop F r (Blames r) stop
+    by : (c : FileCause) → StandsAt bytes c (length bytes - left) → IsFileFault (at_byte c (length bytes - left)) bytes
+    by causes.Truncated s = s
+    by causes.BadOpcode s = s
+    by causes.NotCanonical s = s
+    by causes.Limit s = (length bytes - left, s)
+
+pub stopped : {X : Type 0} (F : Format X) (i : Item) (bytes r : List ℕ) (stop : FileStop) → (BeginsNone F r → (p : Program) → ¬ Spells bytes p) → Due bytes i r → IsStop F r (Blames i r) stop
     → fault_of stop (length bytes) ≢ faults.Memory → IsNoFile bytes (fault_of stop (length bytes))
-stopped F bytes x r stops.Memory is none h other = absurd (other refl)
-stopped F bytes x r (stops.At cause left) is none h other = record { none = none h.none; why = why_stopped bytes cause left (blames_behind x r bytes cause left is h.blame) }
+stopped F i bytes r stops.Memory none due h other = absurd (other refl)
+stopped F i bytes r (stops.At cause left) none due h other =
+    let wrong = h.blame bytes due in record { none = none h.none; why = why_stopped bytes cause left wrong.0 wrong.1 wrong.2 }
+
+-- a number that is cut off, where it is due
+cut_number : (i : Item) (bytes : List ℕ) (stop : FileStop) → width i ≡ 2 → IsStop u16_format bytes (IsCut 2 bytes) stop → IsStop u16_format bytes (Blames i bytes) stop
+cut_number i bytes stop is h = stop_cut u16_format u16_format 2 i i bytes bytes stop is (λ none. none) (λ file due. due) h
+
+-- ---- the magic
+
+-- what is shorter than the magic and its beginning is a beginning of it
+pub magic_begins : (bytes front : List ℕ) (n : ℕ) (r : Bool) → r ≡ starts_with eqb magic front → r ≡ true → front ≡ take n bytes → n ≡ min (length bytes) 4 → length bytes < 4 → BeginsWith (take 4 bytes) magic
+magic_begins bytes front n r value so front_is n_is short =
+    let same : front ≡ take 4 bytes = front_is ∙ take_all n bytes (omega (arith, n_is)) ∙ sym (take_all 4 bytes (omega arith)) in
+    (drop (length front) magic, (starts_is Decides-eqb magic front r value).0 so ∙ ap (λ (t : List ℕ). t ++ drop (length front) magic) same)
+
+pub magic_short : (bytes : List ℕ) → BeginsWith (take 4 bytes) magic → length bytes < 4 → IsNoFile bytes (faults.Truncated (length bytes))
+magic_short bytes begins short = record {
+  none = λ p s. omega (arith, short, ap length s.spelling);
+  why = record { front = bytes; rest = []; parts = sym (append-nil bytes); at_is = refl; wrong = IsWrong.cut_off (Due.start begins) short };
+}
 
 -- ---- the version and the number of slots
 
@@ -44,9 +80,11 @@ behind_version : (bytes rest : List ℕ) (n : ℕ) (more : List ℕ) (p : Progra
     → (n ≡ version) × Begins slots_format more (p.slots, body_of p) []
 behind_version bytes rest n more p is h s = both_rest u16_format slots_format u16_free rest n more (version, (p.slots, body_of p)) [] h (rest_begins rest bytes p is s)
 
-pub version_stopped : (bytes rest : List ℕ) (stop : Stop) → bytes ≡ magic ++ rest → IsStop u16_format rest (Blames rest) stop → fault_of stop (length bytes) ≢ faults.Memory → IsNoFile bytes (fault_of stop (length bytes))
+pub version_stopped : (bytes rest : List ℕ) (stop : FileStop) → bytes ≡ magic ++ rest → IsStop u16_format rest (IsCut 2 rest) stop → fault_of stop (length bytes) ≢ faults.Memory → IsNoFile bytes (fault_of stop (length bytes))
 version_stopped bytes rest stop is h =
-    stopped u16_format bytes magic rest stop is (λ none p s. none version (slots_format.spell (p.slots, body_of p) ++ []) (both_first u16_format slots_format rest (version, (p.slots, body_of p)) [] (rest_begins rest bytes p is s))) h
+    stopped u16_format a_version bytes rest stop
+    (λ none p s. none version (slots_format.spell (p.slots, body_of p) ++ []) (both_first u16_format slots_format rest (version, (p.slots, body_of p)) [] (rest_begins rest bytes p is s)))
+    (Due.behind_magic is) (cut_number a_version rest stop refl h)
 
 pub bad_version : (bytes rest : List ℕ) (n : ℕ) (more : List ℕ) → bytes ≡ magic ++ rest → Begins u16_format rest n more → n ≢ version → IsNoFile bytes faults.BadVersion
 bad_version bytes rest n more is h other = record {
@@ -54,11 +92,12 @@ bad_version bytes rest n more is h other = record {
   why = (n, h.fits, other, (more, is ∙ ap (λ (t : List ℕ). magic ++ t) h.parts));
 }
 
-pub slots_stopped : (bytes rest : List ℕ) (n : ℕ) (more : List ℕ) (stop : Stop) → bytes ≡ magic ++ rest → Begins u16_format rest n more → IsStop u16_format more (Blames more) stop → fault_of stop (length bytes) ≢ faults.Memory
+pub slots_stopped : (bytes rest : List ℕ) (n : ℕ) (more : List ℕ) (stop : FileStop) → bytes ≡ magic ++ rest → Begins u16_format rest n more → n ≡ version → IsStop u16_format more (IsCut 2 more) stop → fault_of stop (length bytes) ≢ faults.Memory
     → IsNoFile bytes (fault_of stop (length bytes))
-slots_stopped bytes rest n more stop is h k =
-    stopped u16_format bytes (magic ++ u16_bytes n) more stop (is ∙ ap (λ (t : List ℕ). magic ++ t) h.parts)
-    (λ none p s. none p.slots (body_format.spell (body_of p) ++ []) (both_first u16_format body_format more (p.slots, body_of p) [] (behind_version bytes rest n more p is h s).1)) k
+slots_stopped bytes rest n more stop is h same k =
+    stopped u16_format a_slot_count bytes more stop
+    (λ none p s. none p.slots (body_format.spell (body_of p) ++ []) (both_first u16_format body_format more (p.slots, body_of p) [] (behind_version bytes rest n more p is h s).1))
+    (Due.behind_version (Due.behind_magic is) (subst (λ m. Begins u16_format rest m more) same h)) (cut_number a_slot_count more stop refl k)
 
 pub header_read : (bytes rest : List ℕ) (n : ℕ) (more : List ℕ) (slots : ℕ) (body : List ℕ) → bytes ≡ magic ++ rest → Begins u16_format rest n more → n ≡ version → Begins u16_format more slots body → IsHeader bytes slots body
 header_read bytes rest n more slots body is h same k = record {

@@ -1,6 +1,6 @@
 -- What is read behind an opcode, and what refuses it.
 use Rattle.std.specs.Prelude.{◌↔◌}
-use Rattle.std.proofs.Common.{◌≡◌, ◌≢◌, ℕ, ◌<◌, ◌^◌, List, [], ◌∷◌, ◌++◌, length, refl, sym, ap, ◌∙◌, arith, Some, None}
+use Rattle.std.proofs.Common.{◌≡◌, ◌≢◌, ℕ, ◌<◌, ◌^◌, List, [], ◌∷◌, ◌++◌, length, refl, sym, ap, subst, ◌∙◌, arith, Some, None}
 use Rattle.prims_table.specs.Numbers.{function_number, arithmetic_number}
 use Rattle.prims_table.specs.declared.prim.Function.{Function}
 use Rattle.prims_table.specs.declared.prim.Function.TheVariants as function
@@ -30,12 +30,14 @@ use Rattle.code_format.specs.Opcodes.{bare_instr, slotted_instr, single_instr, d
 use Rattle.code_format.specs.Format.{Format, Begins, BeginsNone, both}
 use Rattle.code_format.specs.Formats.{u8_format, u16_format, opcode_format, function_format, arithmetic_format, instruction_format}
 use Rattle.code_format.proofs.InstructionLemmas.{arith_in, arithmetic_free, call_in, function_free, head_is, one_in, opcode_of, opened, parts_of, rest_bytes, self_opened, slot_in, spelled, two_in}
-use Rattle.code_file.specs.declared.stop.Cause.{Cause}
-use Rattle.code_file.specs.declared.stop.Cause.TheVariants.{BadOpcode}
-use Rattle.code_file.specs.declared.stop.Stop.{Stop}
-use Rattle.code_file.specs.Causes.{IsNameless}
-use Rattle.code_file.specs.Reads.{Blames, IsRefuted, IsStop}
-use Rattle.code_file.proofs.StopLemmas.{stop_none, stop_behind, stop_before, both_stop_first, both_stop_second}
+use Rattle.code_format.proofs.FormatLemmas.{both_first, both_rest}
+use Rattle.code_file.specs.declared.stop.FileCause.TheVariants.{BadOpcode}
+use Rattle.code_file.specs.declared.stop.FileStop.{FileStop}
+use Rattle.code_file.specs.Due.{Item, Due}
+use Rattle.code_file.specs.Due.Item.{an_instruction, a_function, an_arithmetic, so_many}
+use Rattle.code_file.specs.Causes.{IsWrong, width}
+use Rattle.code_file.specs.Reads.{Blames, IsCut, IsRefuted, IsStop}
+use Rattle.code_file.proofs.StopLemmas.{stop_none, stop_due, stop_cut}
 
 -- ---- what is read behind an opcode
 
@@ -63,11 +65,12 @@ arith_begins bytes r p s h k = record { fits = k.fits.1; parts = h.parts ∙ ap 
 
 -- ---- refusals
 
--- fewer bytes than an opcode, a function or a kind has
-pub numbered_stop : {X : Type 0} (number : X → ℕ) → ((x : X) → number x < 2 ^ 8) → (bytes : List ℕ) (blames : Cause → ℕ → Type 0) (stop : Stop)
-    → IsStop u8_format bytes blames stop → IsStop (record { spell = λ (x : X). number x ∷ []; Fits = λ _. Unit {0} }) bytes blames stop
-numbered_stop {X} number small bytes blames stop h =
-    stop_none u8_format (record { spell = λ (x : X). number x ∷ []; Fits = λ _. Unit {0} }) bytes bytes blames stop (λ none x s k. none (number x) s (record { fits = small x; parts = k.parts })) h
+-- no byte where the number of one is due
+numbered_stop : {X : Type 0} (number : X → ℕ) (i : Item) → width i ≡ 1 → ((x : X) → number x < 2 ^ 8) → (bytes : List ℕ) (stop : FileStop)
+    → IsStop u8_format bytes (IsCut 1 bytes) stop → IsStop (record { spell = λ (x : X). number x ∷ []; Fits = λ _. Unit {0} }) bytes (Blames i bytes) stop
+numbered_stop {X} number i is small bytes stop h =
+    stop_cut u8_format (record { spell = λ (x : X). number x ∷ []; Fits = λ _. Unit {0} }) 1 i i bytes bytes stop is
+    (λ none x s k. none (number x) s (record { fits = small x; parts = k.parts })) (λ file due. due) h
 
 -- a byte that isn't the number of any
 pub numberless : {X : Type 0} (number : X → ℕ) (bytes : List ℕ) (b : ℕ) (rest : List ℕ)
@@ -100,51 +103,49 @@ arithmetic_small : (a : Arithmetic) → arithmetic_number a < 2 ^ 8
 arithmetic_small arithmetic.Add = omega arith
 arithmetic_small a = omega arith
 
-pub opcode_short : (bytes : List ℕ) (stop : Stop) → IsStop u8_format bytes (Blames bytes) stop → IsStop opcode_format bytes (Blames bytes) stop
-opcode_short bytes stop h = numbered_stop opcode_number opcode_small bytes (Blames bytes) stop h
+pub opcode_short : (bytes : List ℕ) (stop : FileStop) → IsStop u8_format bytes (IsCut 1 bytes) stop → IsStop opcode_format bytes (Blames an_instruction bytes) stop
+opcode_short bytes stop h = numbered_stop opcode_number an_instruction refl opcode_small bytes stop h
 
-pub opcode_unnamed : (bytes : List ℕ) (b : ℕ) (rest : List ℕ) → Begins u8_format bytes b rest → ((o : Opcode) → (None ≡ Some o) ↔ (opcode_number o ≡ b)) → IsRefuted opcode_format bytes (Blames bytes BadOpcode (length bytes))
+pub function_short : (bytes : List ℕ) (stop : FileStop) → IsStop u8_format bytes (IsCut 1 bytes) stop → IsStop function_format bytes (Blames a_function bytes) stop
+function_short bytes stop h = numbered_stop function_number a_function refl function_small bytes stop h
+
+pub arithmetic_short : (bytes : List ℕ) (stop : FileStop) → IsStop u8_format bytes (IsCut 1 bytes) stop → IsStop arithmetic_format bytes (Blames an_arithmetic bytes) stop
+arithmetic_short bytes stop h = numbered_stop arithmetic_number an_arithmetic refl arithmetic_small bytes stop h
+
+pub opcode_unnamed : (bytes : List ℕ) (b : ℕ) (rest : List ℕ) → Begins u8_format bytes b rest → ((o : Opcode) → (None ≡ Some o) ↔ (opcode_number o ≡ b)) → IsRefuted opcode_format bytes (Blames an_instruction bytes BadOpcode (length bytes))
 opcode_unnamed bytes b rest h unnamed =
     let differs : (o : Opcode) → opcode_number o ≢ b = λ o is. none_is_none o ((unnamed o).1 is) in
     record {
       none = numberless opcode_number bytes b rest h.parts differs;
-      blame = record {
-        front = [];
-        behind = bytes;
-        parts = refl;
-        left_is = refl;
-        cause_is = (b, (rest, h.parts), IsNameless.no_opcode (λ i w. differs (opcode_of (parts_of i)) (head_is (opcode_number (opcode_of (parts_of i))) b (rest_bytes (parts_of i)) w.0 (sym (spelled i) ∙ w.1))));
-      };
+      blame = λ file due. (
+        b ∷ rest,
+        ap length h.parts,
+        IsWrong.no_opcode (subst (Due file an_instruction) h.parts due)
+            (λ i w. differs (opcode_of (parts_of i)) (head_is (opcode_number (opcode_of (parts_of i))) b (rest_bytes (parts_of i)) w.0 (sym (spelled i) ∙ w.1))),
+      );
     }
 
--- the byte behind an opcode
-behind_opcode : (bytes : List ℕ) (o : Opcode) (r : List ℕ) → Begins opcode_format bytes o r → bytes ≡ (opcode_number o ∷ []) ++ r
-behind_opcode bytes o r h = h.parts
-
-pub function_short : (bytes r : List ℕ) (stop : Stop) → Begins opcode_format bytes opcode.Call r → IsStop u8_format r (Blames r) stop → IsStop function_format r (Blames bytes) stop
-function_short bytes r stop h k = stop_before function_format (16 ∷ []) r bytes stop h.parts (numbered_stop function_number function_small r (Blames r) stop k)
-
-pub arithmetic_short : (bytes r : List ℕ) (stop : Stop) → Begins opcode_format bytes opcode.Arith r → IsStop u8_format r (Blames r) stop → IsStop arithmetic_format r (Blames bytes) stop
-arithmetic_short bytes r stop h k = stop_before arithmetic_format (18 ∷ []) r bytes stop h.parts (numbered_stop arithmetic_number arithmetic_small r (Blames r) stop k)
-
-pub function_unnamed : (bytes r : List ℕ) (b : ℕ) (rest : List ℕ) → Begins opcode_format bytes opcode.Call r → Begins u8_format r b rest → ((f : Function) → (None ≡ Some f) ↔ (function_number f ≡ b)) → IsRefuted function_format r (Blames bytes BadOpcode (length r))
-function_unnamed bytes r b rest h k unnamed =
+pub function_unnamed : (bytes : List ℕ) (b : ℕ) (rest : List ℕ) → Begins u8_format bytes b rest → ((f : Function) → (None ≡ Some f) ↔ (function_number f ≡ b)) → IsRefuted function_format bytes (Blames a_function bytes BadOpcode (length bytes))
+function_unnamed bytes b rest h unnamed =
     let differs : (f : Function) → function_number f ≢ b = λ f is. none_is_none f ((unnamed f).1 is) in
     record {
-      none = numberless function_number r b rest k.parts differs;
-      blame = record { front = 16 ∷ []; behind = r; parts = h.parts; left_is = refl; cause_is = (b, (rest, k.parts), IsNameless.no_function ([], refl) differs) };
+      none = numberless function_number bytes b rest h.parts differs;
+      blame = λ file due. (b ∷ rest, ap length h.parts, IsWrong.no_function (subst (Due file a_function) h.parts due) differs);
     }
 
-pub arithmetic_unnamed : (bytes r : List ℕ) (b : ℕ) (rest : List ℕ) → Begins opcode_format bytes opcode.Arith r → Begins u8_format r b rest → ((a : Arithmetic) → (None ≡ Some a) ↔ (arithmetic_number a ≡ b)) → IsRefuted arithmetic_format r (Blames bytes BadOpcode (length r))
-arithmetic_unnamed bytes r b rest h k unnamed =
+pub arithmetic_unnamed : (bytes : List ℕ) (b : ℕ) (rest : List ℕ) → Begins u8_format bytes b rest → ((a : Arithmetic) → (None ≡ Some a) ↔ (arithmetic_number a ≡ b)) → IsRefuted arithmetic_format bytes (Blames an_arithmetic bytes BadOpcode (length bytes))
+arithmetic_unnamed bytes b rest h unnamed =
     let differs : (a : Arithmetic) → arithmetic_number a ≢ b = λ a is. none_is_none a ((unnamed a).1 is) in
     record {
-      none = numberless arithmetic_number r b rest k.parts differs;
-      blame = record { front = 18 ∷ []; behind = r; parts = h.parts; left_is = refl; cause_is = (b, (rest, k.parts), IsNameless.no_arithmetic ([], refl) differs) };
+      none = numberless arithmetic_number bytes b rest h.parts differs;
+      blame = λ file due. (b ∷ rest, ap length h.parts, IsWrong.no_arithmetic (subst (Due file an_arithmetic) h.parts due) differs);
     }
 
+abbrev two_format : Format (ℕ × ℕ)
+two_format = both u16_format u16_format
+
 abbrev call_format : Format (Function × (ℕ × ℕ))
-call_format = both function_format (both u16_format u16_format)
+call_format = both function_format two_format
 
 abbrev arith_format : Format (Arithmetic × ℕ)
 arith_format = both arithmetic_format u16_format
@@ -155,26 +156,40 @@ call_none bytes r h none i s k = let c = call_in r (parts_of i) s (opened bytes 
 arith_none : (bytes r : List ℕ) → Begins opcode_format bytes opcode.Arith r → BeginsNone arith_format r → BeginsNone instruction_format bytes
 arith_none bytes r h none i s k = let c = arith_in r (parts_of i) s (opened bytes opcode.Arith r i s h k) in none c.0 s c.2
 
-pub call_stop_function : (bytes r : List ℕ) (stop : Stop) → Begins opcode_format bytes opcode.Call r → IsStop function_format r (Blames bytes) stop → IsStop instruction_format bytes (Blames bytes) stop
-call_stop_function bytes r stop h k = stop_none call_format instruction_format r bytes (Blames bytes) stop (call_none bytes r h) (both_stop_first function_format (both u16_format u16_format) r (Blames bytes) stop k)
+pub call_stop_function : (bytes r : List ℕ) (stop : FileStop) → Begins opcode_format bytes opcode.Call r → IsStop function_format r (Blames a_function r) stop → IsStop instruction_format bytes (Blames an_instruction bytes) stop
+call_stop_function bytes r stop h k =
+    stop_due function_format instruction_format a_function an_instruction r bytes stop
+    (λ none. call_none bytes r h (λ p s l. none p.0 (two_format.spell p.1 ++ s) (both_first function_format two_format r p s l))) (λ file due. Due.function due h) k
 
-pub call_stop_arguments : (bytes r : List ℕ) (f : Function) (t : List ℕ) (stop : Stop) → Begins opcode_format bytes opcode.Call r → Begins function_format r f t → IsStop (both u16_format u16_format) t (Blames t) stop → IsStop instruction_format bytes (Blames bytes) stop
-call_stop_arguments bytes r f t stop h k l = stop_behind call_format instruction_format (16 ∷ []) r bytes stop h.parts (call_none bytes r h) (both_stop_second function_format (both u16_format u16_format) function_free r f t stop k l)
+pub call_stop_arguments : (bytes r : List ℕ) (f : Function) (t : List ℕ) (stop : FileStop) → Begins opcode_format bytes opcode.Call r → Begins function_format r f t → IsStop two_format t (IsCut 4 t) stop → IsStop instruction_format bytes (Blames an_instruction bytes) stop
+call_stop_arguments bytes r f t stop h k l =
+    stop_cut two_format instruction_format 4 (so_many 4) an_instruction t bytes stop refl
+    (λ none. call_none bytes r h (λ p s m. none p.1 s (both_rest function_format two_format function_free r f t p s k m).1)) (λ file due. Due.behind_function (Due.function due h) k) l
 
-pub arith_stop_function : (bytes r : List ℕ) (stop : Stop) → Begins opcode_format bytes opcode.Arith r → IsStop arithmetic_format r (Blames bytes) stop → IsStop instruction_format bytes (Blames bytes) stop
-arith_stop_function bytes r stop h k = stop_none arith_format instruction_format r bytes (Blames bytes) stop (arith_none bytes r h) (both_stop_first arithmetic_format u16_format r (Blames bytes) stop k)
+pub arith_stop_function : (bytes r : List ℕ) (stop : FileStop) → Begins opcode_format bytes opcode.Arith r → IsStop arithmetic_format r (Blames an_arithmetic r) stop → IsStop instruction_format bytes (Blames an_instruction bytes) stop
+arith_stop_function bytes r stop h k =
+    stop_due arithmetic_format instruction_format an_arithmetic an_instruction r bytes stop
+    (λ none. arith_none bytes r h (λ p s l. none p.0 (u16_format.spell p.1 ++ s) (both_first arithmetic_format u16_format r p s l))) (λ file due. Due.arithmetic due h) k
 
-pub arith_stop_target : (bytes r : List ℕ) (a : Arithmetic) (t : List ℕ) (stop : Stop) → Begins opcode_format bytes opcode.Arith r → Begins arithmetic_format r a t → IsStop u16_format t (Blames t) stop → IsStop instruction_format bytes (Blames bytes) stop
-arith_stop_target bytes r a t stop h k l = stop_behind arith_format instruction_format (18 ∷ []) r bytes stop h.parts (arith_none bytes r h) (both_stop_second arithmetic_format u16_format arithmetic_free r a t stop k l)
+pub arith_stop_target : (bytes r : List ℕ) (a : Arithmetic) (t : List ℕ) (stop : FileStop) → Begins opcode_format bytes opcode.Arith r → Begins arithmetic_format r a t → IsStop u16_format t (IsCut 2 t) stop → IsStop instruction_format bytes (Blames an_instruction bytes) stop
+arith_stop_target bytes r a t stop h k l =
+    stop_cut u16_format instruction_format 2 (so_many 2) an_instruction t bytes stop refl
+    (λ none. arith_none bytes r h (λ p s m. none p.1 s (both_rest arithmetic_format u16_format arithmetic_free r a t p s k m).1)) (λ file due. Due.behind_arithmetic (Due.arithmetic due h) k) l
 
-pub opcode_stop : (bytes : List ℕ) (stop : Stop) → IsStop opcode_format bytes (Blames bytes) stop → IsStop instruction_format bytes (Blames bytes) stop
-opcode_stop bytes stop h = stop_none opcode_format instruction_format bytes bytes (Blames bytes) stop (λ none i s k. none (opcode_of (parts_of i)) (rest_bytes (parts_of i) ++ s) (self_opened bytes i s k)) h
+pub opcode_stop : (bytes : List ℕ) (stop : FileStop) → IsStop opcode_format bytes (Blames an_instruction bytes) stop → IsStop instruction_format bytes (Blames an_instruction bytes) stop
+opcode_stop bytes stop h = stop_none opcode_format instruction_format bytes bytes (Blames an_instruction bytes) stop (λ none i s k. none (opcode_of (parts_of i)) (rest_bytes (parts_of i) ++ s) (self_opened bytes i s k)) h
 
-pub slotted_stop : (bytes : List ℕ) (o : Slotted) (r : List ℕ) (stop : Stop) → Begins opcode_format bytes (opcode.Slotted o) r → IsStop u8_format r (Blames r) stop → IsStop instruction_format bytes (Blames bytes) stop
-slotted_stop bytes o r stop h k = stop_behind u8_format instruction_format (opcode_number (opcode.Slotted o) ∷ []) r bytes stop h.parts (λ none i s l. let c = slot_in o r (parts_of i) s (opened bytes (opcode.Slotted o) r i s h l) in none c.0 s c.2) k
+pub slotted_stop : (bytes : List ℕ) (o : Slotted) (r : List ℕ) (stop : FileStop) → Begins opcode_format bytes (opcode.Slotted o) r → IsStop u8_format r (IsCut 1 r) stop → IsStop instruction_format bytes (Blames an_instruction bytes) stop
+slotted_stop bytes o r stop h k =
+    stop_cut u8_format instruction_format 1 (so_many 1) an_instruction r bytes stop refl
+    (λ none i s l. let c = slot_in o r (parts_of i) s (opened bytes (opcode.Slotted o) r i s h l) in none c.0 s c.2) (λ file due. Due.argument_slot due h) k
 
-pub single_stop : (bytes : List ℕ) (o : Single) (r : List ℕ) (stop : Stop) → Begins opcode_format bytes (opcode.Single o) r → IsStop u16_format r (Blames r) stop → IsStop instruction_format bytes (Blames bytes) stop
-single_stop bytes o r stop h k = stop_behind u16_format instruction_format (opcode_number (opcode.Single o) ∷ []) r bytes stop h.parts (λ none i s l. let c = one_in o r (parts_of i) s (opened bytes (opcode.Single o) r i s h l) in none c.0 s c.2) k
+pub single_stop : (bytes : List ℕ) (o : Single) (r : List ℕ) (stop : FileStop) → Begins opcode_format bytes (opcode.Single o) r → IsStop u16_format r (IsCut 2 r) stop → IsStop instruction_format bytes (Blames an_instruction bytes) stop
+single_stop bytes o r stop h k =
+    stop_cut u16_format instruction_format 2 (so_many 2) an_instruction r bytes stop refl
+    (λ none i s l. let c = one_in o r (parts_of i) s (opened bytes (opcode.Single o) r i s h l) in none c.0 s c.2) (λ file due. Due.argument due h) k
 
-pub double_stop : (bytes : List ℕ) (o : Double) (r : List ℕ) (stop : Stop) → Begins opcode_format bytes (opcode.Double o) r → IsStop (both u16_format u16_format) r (Blames r) stop → IsStop instruction_format bytes (Blames bytes) stop
-double_stop bytes o r stop h k = stop_behind (both u16_format u16_format) instruction_format (opcode_number (opcode.Double o) ∷ []) r bytes stop h.parts (λ none i s l. let c = two_in o r (parts_of i) s (opened bytes (opcode.Double o) r i s h l) in none c.0 s c.2) k
+pub double_stop : (bytes : List ℕ) (o : Double) (r : List ℕ) (stop : FileStop) → Begins opcode_format bytes (opcode.Double o) r → IsStop two_format r (IsCut 4 r) stop → IsStop instruction_format bytes (Blames an_instruction bytes) stop
+double_stop bytes o r stop h k =
+    stop_cut two_format instruction_format 4 (so_many 4) an_instruction r bytes stop refl
+    (λ none i s l. let c = two_in o r (parts_of i) s (opened bytes (opcode.Double o) r i s h l) in none c.0 s c.2) (λ file due. Due.arguments due h) k

@@ -1,15 +1,14 @@
 -- Terms with so many levels left: what is read of those with parts, and what is refused.
 use Rattle.std.specs.Str.{encode_utf8_all, chars}
-use Rattle.std.specs.List.{flat_map, AllByRecursion}
-use Rattle.std.proofs.Common.{◌≡◌, ◌≢◌, ℕ, zero, suc, ◌-◌, ◌<◌, ◌≤◌, List, [], ◌∷◌, ◌++◌, length, refl, sym, ap, subst, ◌∙◌, append_assoc, arith, Bool, true, false, ◌&&◌, inl, inr}
-use Rattle.std.proofs.lemmas.List.{append-nil, length-append}
+use Rattle.std.specs.List.{flat_map}
+use Rattle.std.proofs.Common.{◌≡◌, ◌≢◌, ℕ, suc, ◌-◌, ◌<◌, ◌≤◌, List, [], ◌∷◌, ◌++◌, length, refl, sym, ap, subst, ◌∙◌, append_assoc, arith, Bool, true, false, ◌&&◌}
+use Rattle.std.proofs.lemmas.List.{length-append}
 use Rattle.std.proofs.Math.Utf8.{scalars}
 use Rattle.std.proofs.lemmas.Str.{encodes-chars, scalars-chars}
 use Rattle.term_core.specs.Datum.{Datum, items_of, entries_of, cells, cell_count}
 use Rattle.term_core.specs.Datum.Datum.{integer, atom, tuple, map, nil, cons, binary}
 use Rattle.term_core.specs.Limits.{AreScalars, IsTerm}
 use Rattle.term_core.specs.MapPairs.{IsMapOf, IsMapFault}
-use Rattle.term_core.specs.Order.{IsBelow}
 use Rattle.term_core.specs.Fault.{IsFault}
 use Rattle.term_core.specs.Sizes.{list_limit}
 use Rattle.term_core.specs.declared.fault.Fault.{Fault}
@@ -19,107 +18,45 @@ use Rattle.term_core.proofs.MapLemmas.{apart-no_twin, apart_from_rising, map_fro
 use Rattle.code_format.specs.Spelling.{u16_bytes, u32_bytes, constant_bytes, pair_bytes}
 use Rattle.code_format.specs.File.{IsU8}
 use Rattle.code_format.specs.Format.{Format, Begins, BeginsNone, rows, counted, such}
-use Rattle.code_format.specs.Formats.{u8_format, u16_format, i64_format, constant_format, utf8_format, binary_format, tuple_format, pair_format, map_format, list_format, length_format, RisingPairs, IsNoCell}
+use Rattle.code_format.specs.Formats.{u8_format, u16_format, i64_format, bytes_format, constant_format, utf8_format, binary_format, tuple_format, pair_format, map_format, list_format, length_format, RisingPairs, IsNoCell}
 use Rattle.code_format.proofs.FormatLemmas.{both_first, both_rest, counted_first, counted_rest, counted_begins}
 use Rattle.code_format.proofs.NumberLemmas.{u16_free, length-u16_bytes}
 use Rattle.code_format.proofs.InstructionLemmas.{head_is}
 use Rattle.code_format.proofs.LeafLemmas.{utf8_free, length_free, chars_of_text}
 use Rattle.code_format.proofs.ConstantLemmas.{Node, node_of, tag_of, spelled, rest_bytes, Opened, opened, integer_in, atom_in, tuple_in, map_in, list_in, binary_in, pair_free, elements_free, constant_free, some_depth, tuple_bytes, map_bytes, list_bytes, cell_count-ends, fit_items, fit_entries, fit_cells}
-use Rattle.code_file.specs.declared.stop.Cause.{Cause}
-use Rattle.code_file.specs.declared.stop.Cause.TheVariants as causes
-use Rattle.code_file.specs.declared.stop.Stop.{Stop}
-use Rattle.code_file.specs.declared.stop.Stop.TheVariants as stops
-use Rattle.code_file.specs.Causes.{BeginsWith, IsNameless, IsUnordered, IsPastLimit, IsOpening}
-use Rattle.code_file.specs.Reads.{Blames, IsRefuted, IsStop, BlamesBehind, BlamesWithin, AtFront, AtTerm, InPair, BehindPairs, InPairs, limit_stop}
+use Rattle.code_file.specs.declared.stop.FileCause.TheVariants as causes
+use Rattle.code_file.specs.declared.stop.FileStop.{FileStop}
+use Rattle.code_file.specs.Due.{BeginsWith, Due}
+use Rattle.code_file.specs.Due.Item.{a_count, many, a_term, a_tail, a_pair, a_text_size, a_list_length, a_binary_size, so_many}
+use Rattle.code_file.specs.Due.Row.{terms, pairs}
+use Rattle.code_file.specs.Causes.{IsWrong}
+use Rattle.code_file.specs.Reads.{Blames, IsCut, IsRefuted, IsStop, limit_stop}
 use Rattle.term_order.specs.Keys.{IsAboveKeys}
-use Rattle.code_file.proofs.StopLemmas.{blames_behind, stop_none}
-use Rattle.code_file.proofs.RowLemmas.{IsRowSoFar, row_start, row_step, row_end, plain_step, plain_end, such_rows_none, rows_none, such_counted_none, ends_with_last}
-
--- ---- blames
-
-pub behind_move : (x r bytes : List ℕ) (Q P : List ℕ → Type 0) (room : ℕ) (cause : Cause) (left : ℕ) → bytes ≡ x ++ r → ((before : List ℕ) → Q before → P (x ++ before)) → BlamesBehind Q room r cause left → BlamesBehind P room bytes cause left
-behind_move x r bytes Q P room cause left is at (inl b) = inl (blames_behind x r bytes cause left is b)
-behind_move x r bytes Q P room cause left is at (inr d) = inr (
-  d.0,
-  record {
-    before = x ++ d.1.before;
-    inner = d.1.inner;
-    whole = is ∙ ap (λ (t : List ℕ). x ++ t) d.1.whole ∙ sym (append_assoc x d.1.before d.1.inner);
-    at = at d.1.before d.1.at;
-    deep = d.1.deep;
-  },
-)
-
-pub move_stop : {X Y : Type 0} (F : Format X) (G : Format Y) (x r bytes : List ℕ) (Q P : List ℕ → Type 0) (room : ℕ) (stop : Stop) → bytes ≡ x ++ r → ((before : List ℕ) → Q before → P (x ++ before))
-    → (BeginsNone F r → BeginsNone G bytes) → IsStop F r (BlamesBehind Q room r) stop → IsStop G bytes (BlamesBehind P room bytes) stop
-move_stop F G x r bytes Q P room stops.Memory is at none h = tt
-move_stop F G x r bytes Q P room (stops.At cause left) is at none h = record { none = none h.none; blame = behind_move x r bytes Q P room cause left is at h.blame }
-
--- a blame without levels
-pub plain_stop : {X Y : Type 0} (F : Format X) (G : Format Y) (x r bytes : List ℕ) (P : List ℕ → Type 0) (room : ℕ) (stop : Stop) → bytes ≡ x ++ r
-    → (BeginsNone F r → BeginsNone G bytes) → IsStop F r (Blames r) stop → IsStop G bytes (BlamesBehind P room bytes) stop
-plain_stop F G x r bytes P room stops.Memory is none h = tt
-plain_stop F G x r bytes P room (stops.At cause left) is none h = record { none = none h.none; blame = inl (blames_behind x r bytes cause left is h.blame) }
-
--- the same, where the blame names the bytes before it already
-pub whole_stop : {X Y : Type 0} (F : Format X) (G : Format Y) (r bytes : List ℕ) (P : List ℕ → Type 0) (room : ℕ) (stop : Stop)
-    → (BeginsNone F r → BeginsNone G bytes) → IsStop F r (Blames bytes) stop → IsStop G bytes (BlamesBehind P room bytes) stop
-whole_stop F G r bytes P room stops.Memory none h = tt
-whole_stop F G r bytes P room (stops.At cause left) none h = record { none = none h.none; blame = inl h.blame }
-
--- one level up
-raise : (P : List ℕ → Type 0) (room : ℕ) (bytes : List ℕ) (cause : Cause) (left : ℕ) → ((before : List ℕ) → P before → IsOpening before) → BlamesBehind P room bytes cause left → BlamesWithin (suc room) bytes cause left
-raise P room bytes cause left opens (inl b) = inl b
-raise P room bytes cause left opens (inr d) = inr (
-  d.0,
-  record {
-    before = [];
-    inner = bytes;
-    whole = refl;
-    at = refl;
-    deep = record {
-      front = d.1.before ++ d.1.deep.front;
-      behind = d.1.deep.behind;
-      parts = d.1.whole ∙ ap (λ (t : List ℕ). d.1.before ++ t) d.1.deep.parts ∙ sym (append_assoc d.1.before d.1.deep.front d.1.deep.behind);
-      left_is = d.1.deep.left_is;
-      path = (d.1.before, d.1.deep.front, refl, opens d.1.before d.1.at, d.1.deep.path);
-      some = d.1.deep.some;
-    };
-  },
-)
-
-raise_stop : {X : Type 0} (F : Format X) (P : List ℕ → Type 0) (room : ℕ) (bytes : List ℕ) (stop : Stop) → ((before : List ℕ) → P before → IsOpening before) → IsStop F bytes (BlamesBehind P room bytes) stop → IsStop F bytes (BlamesWithin (suc room) bytes) stop
-raise_stop F P room bytes stops.Memory opens h = tt
-raise_stop F P room bytes (stops.At cause left) opens h = record { none = h.none; blame = raise P room bytes cause left opens h.blame }
+use Rattle.code_file.proofs.StopLemmas.{stop_due, stop_cut}
+use Rattle.code_file.proofs.RowLemmas.{IsRowSoFar, row_start, row_step, row_end, row_stop, plain_step, plain_end, plain_stop, such_counted_none}
 
 -- ---- the first byte
 
-pub tag_short : (room : ℕ) (bytes : List ℕ) (stop : Stop) → IsStop u8_format bytes (Blames bytes) stop → IsStop (constant_format room) bytes (BlamesWithin room bytes) stop
-tag_short zero bytes stop h = plain_stop u8_format (constant_format 0) [] bytes bytes AtFront 0 stop refl (λ none d s k. omega (arith, some_depth d, k.fits.1)) h
-tag_short (suc room) bytes stop h = plain_stop u8_format (constant_format (suc room)) [] bytes bytes AtFront (suc room) stop refl (λ none d s k. first d s k none) h
+pub tag_short : (room : ℕ) (bytes : List ℕ) (stop : FileStop) → IsStop u8_format bytes (IsCut 1 bytes) stop → IsStop (constant_format room) bytes (Blames (a_term room) bytes) stop
+tag_short room bytes stop h = stop_cut u8_format (constant_format room) 1 (a_term room) (a_term room) bytes bytes stop refl (λ none d s k. first d s k none) (λ file due. due) h
   where
     small : (n : Node) → IsU8 (tag_of n)
     small (Node.of_integer z) = omega arith
     small n = omega arith
 
-    first : (d : Datum) (s : List ℕ) → Begins (constant_format (suc room)) bytes d s → BeginsNone u8_format bytes → ⊥
+    first : (d : Datum) (s : List ℕ) → Begins (constant_format room) bytes d s → BeginsNone u8_format bytes → ⊥
     first d s k none = none (tag_of (node_of d)) (rest_bytes (node_of d) ++ s) (record { fits = small (node_of d); parts = k.parts ∙ ap (λ (bs : List ℕ). bs ++ s) (spelled d) })
 
 -- no level left
-pub level_past : (bytes : List ℕ) (b : ℕ) (r : List ℕ) → Begins u8_format bytes b r → IsRefuted (constant_format 0) bytes (BlamesWithin 0 bytes causes.Limit (length bytes))
+pub level_past : (bytes : List ℕ) (b : ℕ) (r : List ℕ) → Begins u8_format bytes b r → IsRefuted (constant_format 0) bytes (Blames (a_term 0) bytes causes.Limit (length bytes))
 level_past bytes b r h = record {
   none = λ d s k. omega (arith, some_depth d, k.fits.1);
-  blame = inr (
-    refl,
-    record {
-      before = [];
-      inner = bytes;
-      whole = refl;
-      at = refl;
-      deep = record { front = []; behind = bytes; parts = refl; left_is = refl; path = refl; some = omega (arith, ap length h.parts) };
-    },
-  );
+  blame = λ file due. (b ∷ r, ap length h.parts, IsWrong.too_deep (subst (Due file (a_term 0)) h.parts due));
 }
+
+-- a term is due, of which the tag was read
+tagged : {file : List ℕ} (room level : ℕ) (bytes : List ℕ) (b : ℕ) (r : List ℕ) → suc room ≡ level → Begins u8_format bytes b r → Due file (a_term level) bytes → Due file (a_term (suc room)) (b ∷ r)
+tagged {file} room level bytes b r next h due = subst (λ l. Due file (a_term l) (b ∷ r)) (sym next) (subst (Due file (a_term level)) h.parts due)
 
 -- ---- terms without parts
 
@@ -131,16 +68,19 @@ behind_none F room level bytes b r next h out none d s k = out (node_of d) s (op
 integer_none : (room level : ℕ) (bytes r : List ℕ) → suc room ≡ level → Begins u8_format bytes 1 r → BeginsNone i64_format r → BeginsNone (constant_format level) bytes
 integer_none room level bytes r next h none = behind_none i64_format room level bytes 1 r next h (λ n s o m. let v = integer_in r room n s o in m v.0 s v.2) none
 
-pub integer_short : (room level : ℕ) (bytes r : List ℕ) (stop : Stop) → suc room ≡ level → Begins u8_format bytes 1 r → IsStop i64_format r (Blames r) stop → IsStop (constant_format level) bytes (BlamesWithin level bytes) stop
-integer_short room level bytes r stop next h k = plain_stop i64_format (constant_format level) (1 ∷ []) r bytes AtFront level stop h.parts (integer_none room level bytes r next h) k
+pub integer_short : (room level : ℕ) (bytes r : List ℕ) (stop : FileStop) → suc room ≡ level → Begins u8_format bytes 1 r → IsStop i64_format r (IsCut 8 r) stop → IsStop (constant_format level) bytes (Blames (a_term level) bytes) stop
+integer_short room level bytes r stop next h k =
+    stop_cut i64_format (constant_format level) 8 (so_many 8) (a_term level) r bytes stop refl (integer_none room level bytes r next h) (λ file due. Due.integer (tagged room level bytes 1 r next h due)) k
 
-pub text_stop : (room level : ℕ) (bytes r : List ℕ) (stop : Stop) → suc room ≡ level → Begins u8_format bytes 2 r → IsStop utf8_format r (Blames bytes) stop → IsStop (constant_format level) bytes (BlamesWithin level bytes) stop
+pub text_stop : (room level : ℕ) (bytes r : List ℕ) (stop : FileStop) → suc room ≡ level → Begins u8_format bytes 2 r → IsStop utf8_format r (Blames a_text_size r) stop → IsStop (constant_format level) bytes (Blames (a_term level) bytes) stop
 text_stop room level bytes r stop next h k =
-    whole_stop utf8_format (constant_format level) r bytes AtFront level stop (behind_none utf8_format room level bytes 2 r next h (λ n s o m. let v = atom_in r room n s o in m (encode_utf8_all v.0) s v.2)) k
+    stop_due utf8_format (constant_format level) a_text_size (a_term level) r bytes stop
+    (behind_none utf8_format room level bytes 2 r next h (λ n s o m. let v = atom_in r room n s o in m (encode_utf8_all v.0) s v.2)) (λ file due. Due.text_size (tagged room level bytes 2 r next h due)) k
 
-pub content_stop : (room level : ℕ) (bytes r : List ℕ) (stop : Stop) → suc room ≡ level → Begins u8_format bytes 7 r → IsStop binary_format r (Blames bytes) stop → IsStop (constant_format level) bytes (BlamesWithin level bytes) stop
+pub content_stop : (room level : ℕ) (bytes r : List ℕ) (stop : FileStop) → suc room ≡ level → Begins u8_format bytes 7 r → IsStop binary_format r (Blames a_binary_size r) stop → IsStop (constant_format level) bytes (Blames (a_term level) bytes) stop
 content_stop room level bytes r stop next h k =
-    whole_stop binary_format (constant_format level) r bytes AtFront level stop (behind_none binary_format room level bytes 7 r next h (λ n s o m. let v = binary_in r room n s o in m v.0 s v.2)) k
+    stop_due binary_format (constant_format level) a_binary_size (a_term level) r bytes stop
+    (behind_none binary_format room level bytes 7 r next h (λ n s o m. let v = binary_in r room n s o in m v.0 s v.2)) (λ file due. Due.binary_size (tagged room level bytes 7 r next h due)) k
 
 -- a text that is there
 pub atom_begins : (level : ℕ) (bytes r bs s : List ℕ) → 0 < level → Begins u8_format bytes 2 r → Begins utf8_format r bs s → IsTerm (atom (chars bs)) → Begins (constant_format level) bytes (atom (chars bs)) s
@@ -164,7 +104,7 @@ scalars_each (c ∷ cs) h = let each = parts_so _ (scalars cs) h in (each.0, sca
     parts_so false b h = absurd (cc)
 
 pub atom_refused : (room level : ℕ) (bytes r bs s : List ℕ) (f : Fault) (left : ℕ) → suc room ≡ level → Begins u8_format bytes 2 r → Begins utf8_format r bs s → IsFault f (atom (chars bs)) → left ≡ length r - 2
-    → IsStop (constant_format level) bytes (BlamesWithin level bytes) (limit_stop f left)
+    → IsStop (constant_format level) bytes (Blames (a_term level) bytes) (limit_stop f left)
 atom_refused room level bytes r bs s fault.Memory left next h k l left_is = tt
 atom_refused room level bytes r bs s fault.TooDeep left next h k l left_is = absurd (omega (arith, l))
 atom_refused room level bytes r bs s fault.DuplicateKey left next h k l left_is = absurd l
@@ -174,14 +114,14 @@ atom_refused room level bytes r bs s fault.TooLong left next h k l left_is = rec
       let same = utf8_free.one r bs (encode_utf8_all o.0) s t k o.2 in
       let cs_is : o.0 ≡ chars bs = sym (chars_of_text o.0 o.4) ∙ ap chars (sym same.0) in
       omega (arith, o.3, l.1, ap length cs_is);
-  blame = inl (record {
-    front = 2 ∷ u16_bytes (length bs);
-    behind = bs ++ s;
-    parts = h.parts ∙ ap (λ (t : List ℕ). 2 ∷ t) (k.parts ∙ append_assoc (u16_bytes (length bs)) bs s);
-    left_is = left_is ∙ omega (arith, ap length (k.parts ∙ append_assoc (u16_bytes (length bs)) bs s), length-append (u16_bytes (length bs)) (bs ++ s), length-u16_bytes (length bs));
-    cause_is = IsPastLimit.atom (chars bs) (scalars_each (chars bs) (scalars-chars bs k.fits.1))
-        ([], ap (λ (t : List ℕ). 2 ∷ u16_bytes (length t)) (sym (encodes-chars bs k.fits.1))) (s, ap (λ (t : List ℕ). t ++ s) (sym (encodes-chars bs k.fits.1))) l.1;
-  });
+  blame = λ file due.
+      let size : Begins u16_format r (length bs) (bs ++ s) = record { fits = k.fits.0; parts = k.parts ∙ append_assoc (u16_bytes (length bs)) bs s } in
+      let text : Begins (bytes_format (length bs)) (bs ++ s) (encode_utf8_all (chars bs)) s =
+      record { fits = ap length (encodes-chars bs k.fits.1); parts = ap (λ (t : List ℕ). t ++ s) (sym (encodes-chars bs k.fits.1)) } in (
+        bs ++ s,
+        left_is ∙ omega (arith, ap length size.parts, length-append (u16_bytes (length bs)) (bs ++ s), length-u16_bytes (length bs)),
+        IsWrong.many_characters (chars bs) (Due.text (Due.text_size (tagged room level bytes 2 r next h due)) size) (scalars_each (chars bs) (scalars-chars bs k.fits.1)) text l.1,
+      );
 }
 
 pub not_deep : (cs : List ℕ) (f : Fault) → IsFault f (atom cs) → (f ≢ fault.TooDeep) × (f ≢ fault.DuplicateKey)
@@ -206,16 +146,14 @@ nil_begins level bytes b r some five h = record { fits = (tt, omega arith); part
 
 -- a byte that is the tag of no term
 pub tag_unnamed : (room level : ℕ) (bytes : List ℕ) (b : ℕ) (r : List ℕ) → suc room ≡ level → Begins u8_format bytes b r → b ≢ 1 → b ≢ 2 → b ≢ 3 → b ≢ 4 → b ≢ 5 → b ≢ 6 → b ≢ 7
-    → IsRefuted (constant_format level) bytes (BlamesWithin level bytes causes.BadOpcode (length bytes))
+    → IsRefuted (constant_format level) bytes (Blames (a_term level) bytes causes.BadOpcode (length bytes))
 tag_unnamed room level bytes b r next h n1 n2 n3 n4 n5 n6 n7 = record {
   none = λ d s k. go (node_of d) (opened room bytes b r d s h.parts (subst (λ l. Begins (constant_format l) bytes d s) (sym next) k)).tag_is;
-  blame = inl (record {
-    front = [];
-    behind = bytes;
-    parts = refl;
-    left_is = refl;
-    cause_is = (b, (r, h.parts), IsNameless.no_tag (λ d w. go (node_of d) (head_is (tag_of (node_of d)) b (rest_bytes (node_of d)) w.0 (sym (spelled d) ∙ w.1))));
-  });
+  blame = λ file due. (
+    b ∷ r,
+    ap length h.parts,
+    IsWrong.no_tag (tagged room level bytes b r next h due) (λ d w. go (node_of d) (head_is (tag_of (node_of d)) b (rest_bytes (node_of d)) w.0 (sym (spelled d) ∙ w.1))),
+  );
 }
   where
     go : (n : Node) → tag_of n ≡ b → ⊥
@@ -229,30 +167,28 @@ tag_unnamed room level bytes b r next h n1 n2 n3 n4 n5 n6 n7 = record {
 
 -- ---- elements
 
-pub elements_stop : (room n : ℕ) (bytes : List ℕ) (xs : List Datum) (rest : List ℕ) (i : ℕ) (stop : Stop) → IsRowSoFar (constant_format room) (λ _. Unit {0}) bytes xs rest i → i < n
-    → IsStop (constant_format room) rest (BlamesWithin room rest) stop → IsStop (rows (constant_format room) n) bytes (BlamesBehind (AtTerm n) room bytes) stop
+pub elements_stop : (room n : ℕ) (bytes : List ℕ) (xs : List Datum) (rest : List ℕ) (i : ℕ) (stop : FileStop) → IsRowSoFar (constant_format room) (λ _. Unit {0}) bytes xs rest i → i < n
+    → IsStop (constant_format room) rest (Blames (a_term room) rest) stop → IsStop (rows (constant_format room) n) bytes (Blames (many (terms room) n) bytes) stop
 elements_stop room n bytes xs rest i stop h fewer k =
-    move_stop (constant_format room) (rows (constant_format room) n) (flat_map constant_bytes xs) rest bytes AtFront (AtTerm n) room stop h.parts
-    (λ before at. (xs, omega (arith, h.count), ap (λ (t : List ℕ). flat_map constant_bytes xs ++ t) at ∙ append-nil (flat_map constant_bytes xs)))
-    (rows_none (constant_format room) (constant_free room) n bytes xs rest h.parts h.each (omega (arith, h.count))) k
+    plain_stop (constant_format room) (a_term room) (many (terms room) n) (constant_free room) bytes xs rest i n stop h fewer (λ file due begun. Due.term due begun fewer) k
 
 -- ---- tuples
 
 tuple_none : (room level : ℕ) (bytes r : List ℕ) → suc room ≡ level → Begins u8_format bytes 3 r → BeginsNone (tuple_format room) r → BeginsNone (constant_format level) bytes
 tuple_none room level bytes r next h none = behind_none (tuple_format room) room level bytes 3 r next h (λ n s o m. let v = tuple_in r room n s o in m v.0 s v.2) none
 
-pub tuple_short : (room level : ℕ) (bytes r : List ℕ) (stop : Stop) → suc room ≡ level → Begins u8_format bytes 3 r → IsStop u16_format r (Blames r) stop → IsStop (constant_format level) bytes (BlamesWithin level bytes) stop
+pub tuple_short : (room level : ℕ) (bytes r : List ℕ) (stop : FileStop) → suc room ≡ level → Begins u8_format bytes 3 r → IsStop u16_format r (IsCut 2 r) stop → IsStop (constant_format level) bytes (Blames (a_term level) bytes) stop
 tuple_short room level bytes r stop next h k =
-    plain_stop u16_format (constant_format level) (3 ∷ []) r bytes AtFront level stop h.parts
-    (λ none. tuple_none room level bytes r next h (λ ds s l. none (length ds) (flat_map constant_bytes ds ++ s) (counted_first u16_format (constant_format room) r ds s l))) k
+    stop_cut u16_format (constant_format level) 2 (a_count (terms room)) (a_term level) r bytes stop refl
+    (λ none. tuple_none room level bytes r next h (λ ds s l. none (length ds) (flat_map constant_bytes ds ++ s) (counted_first u16_format (constant_format room) r ds s l)))
+    (λ file due. Due.tuple (tagged room level bytes 3 r next h due)) k
 
-pub tuple_stop : (room level : ℕ) (bytes r : List ℕ) (n : ℕ) (t : List ℕ) (stop : Stop) → suc room ≡ level → Begins u8_format bytes 3 r → Begins u16_format r n t
-    → IsStop (rows (constant_format room) n) t (BlamesBehind (AtTerm n) room t) stop → IsStop (constant_format level) bytes (BlamesWithin level bytes) stop
+pub tuple_stop : (room level : ℕ) (bytes r : List ℕ) (n : ℕ) (t : List ℕ) (stop : FileStop) → suc room ≡ level → Begins u8_format bytes 3 r → Begins u16_format r n t
+    → IsStop (rows (constant_format room) n) t (Blames (many (terms room) n) t) stop → IsStop (constant_format level) bytes (Blames (a_term level) bytes) stop
 tuple_stop room level bytes r n t stop next h k l =
-    let up = move_stop (rows (constant_format room) n) (constant_format level) (3 ∷ u16_bytes n) t bytes (AtTerm n) IsOpening room stop (h.parts ∙ ap (λ (x : List ℕ). 3 ∷ x) k.parts)
-    (λ before at. IsOpening.element n at.0 at.1 (ap (λ (x : List ℕ). 3 ∷ u16_bytes n ++ x) at.2))
-    (λ none. tuple_none room level bytes r next h (λ ds s m. none ds s (counted_rest u16_format (constant_format room) u16_free r n t ds s k m))) l in
-    subst (λ q. IsStop (constant_format level) bytes (BlamesWithin q bytes) stop) next (raise_stop (constant_format level) IsOpening room bytes stop (λ before at. at) up)
+    stop_due (rows (constant_format room) n) (constant_format level) (many (terms room) n) (a_term level) t bytes stop
+    (λ none. tuple_none room level bytes r next h (λ ds s m. none ds s (counted_rest u16_format (constant_format room) u16_free r n t ds s k m)))
+    (λ file due. Due.behind_count (Due.tuple (tagged room level bytes 3 r next h due)) k) l
 
 pub tuple_begins : (room level : ℕ) (bytes r : List ℕ) (n : ℕ) (t : List ℕ) (ds : List Datum) (s : List ℕ) → suc room ≡ level → Begins u8_format bytes 3 r → Begins u16_format r n t
     → Begins (rows (constant_format room) n) t ds s → Begins (constant_format level) bytes (tuple (items_of ds)) s
@@ -307,61 +243,26 @@ rising_front [] z zs up = (tt, tt)
 rising_front (x ∷ []) z zs up = (up.0, (tt, tt))
 rising_front (x ∷ x' ∷ xs) z zs up = (up.0, rising_front (x' ∷ xs) z zs up.1)
 
-pair_behind : (room : ℕ) (before : List (Datum × Datum)) (bytes : List ℕ) (blames : Cause → ℕ → Type 0) (stop : Stop) → IsStop (pair_format room) bytes blames stop → IsStop (such (pair_format room) (AbovePairs before)) bytes blames stop
-pair_behind room before bytes blames stop h = stop_none (pair_format room) (such (pair_format room) (AbovePairs before)) bytes bytes blames stop (λ none p s k. none p s (record { fits = k.fits.0; parts = k.parts })) h
+pub pair_key_stop : (room : ℕ) (before : List (Datum × Datum)) (bytes : List ℕ) (stop : FileStop) → IsStop (constant_format room) bytes (Blames (a_term room) bytes) stop
+    → IsStop (such (pair_format room) (AbovePairs before)) bytes (Blames (a_pair room before) bytes) stop
+pair_key_stop room before bytes stop h =
+    stop_due (constant_format room) (such (pair_format room) (AbovePairs before)) (a_term room) (a_pair room before) bytes bytes stop
+    (λ none p s k. none p.0 (constant_bytes p.1 ++ s) (both_first (constant_format room) (constant_format room) bytes p s (record { fits = k.fits.0; parts = k.parts }))) (λ file due. Due.key due) h
 
-pub pair_key_stop : (room : ℕ) (before : List (Datum × Datum)) (bytes : List ℕ) (stop : Stop) → IsStop (constant_format room) bytes (BlamesWithin room bytes) stop
-    → IsStop (such (pair_format room) (AbovePairs before)) bytes (BlamesBehind (BehindPairs before) room (flat_map pair_bytes before ++ bytes)) stop
-pair_key_stop room before bytes stop h = go stop h
-  where
-    go : (stop : Stop) → IsStop (constant_format room) bytes (BlamesWithin room bytes) stop → IsStop (such (pair_format room) (AbovePairs before)) bytes (BlamesBehind (BehindPairs before) room (flat_map pair_bytes before ++ bytes)) stop
-    go stops.Memory h = tt
-    go (stops.At cause left) h = record {
-      none = λ p s k. h.none p.0 (constant_bytes p.1 ++ s) (both_first (constant_format room) (constant_format room) bytes p s (record { fits = k.fits.0; parts = k.parts }));
-      blame = behind_move (flat_map pair_bytes before) bytes (flat_map pair_bytes before ++ bytes) AtFront (BehindPairs before) room cause left refl (λ at is. (at, refl, inl is)) h.blame;
-    }
+pub pair_value_stop : (room : ℕ) (before : List (Datum × Datum)) (bytes : List ℕ) (key : Datum) (r : List ℕ) (stop : FileStop) → Begins (constant_format room) bytes key r → IsAboveKeys before key
+    → IsStop (constant_format room) r (Blames (a_term room) r) stop → IsStop (such (pair_format room) (AbovePairs before)) bytes (Blames (a_pair room before) bytes) stop
+pair_value_stop room before bytes key r stop h above k =
+    stop_due (constant_format room) (such (pair_format room) (AbovePairs before)) (a_term room) (a_pair room before) r bytes stop
+    (λ none p s l. none p.1 s (both_rest (constant_format room) (constant_format room) (constant_free room) bytes key r p s h (record { fits = l.fits.0; parts = l.parts })).1) (λ file due. Due.value due h above) k
 
-pub pair_value_stop : (room : ℕ) (before : List (Datum × Datum)) (bytes : List ℕ) (key : Datum) (r : List ℕ) (stop : Stop) → Begins (constant_format room) bytes key r → IsStop (constant_format room) r (BlamesWithin room r) stop
-    → IsStop (such (pair_format room) (AbovePairs before)) bytes (BlamesBehind (BehindPairs before) room (flat_map pair_bytes before ++ bytes)) stop
-pair_value_stop room before bytes key r stop h k = go stop k
-  where
-    go : (stop : Stop) → IsStop (constant_format room) r (BlamesWithin room r) stop → IsStop (such (pair_format room) (AbovePairs before)) bytes (BlamesBehind (BehindPairs before) room (flat_map pair_bytes before ++ bytes)) stop
-    go stops.Memory k = tt
-    go (stops.At cause left) k = record {
-      none = λ p s l. k.none p.1 s (both_rest (constant_format room) (constant_format room) (constant_free room) bytes key r p s h (record { fits = l.fits.0; parts = l.parts })).1;
-      blame = behind_move (flat_map pair_bytes before ++ constant_bytes key) r (flat_map pair_bytes before ++ bytes) AtFront (BehindPairs before) room cause left
-          (ap (λ (t : List ℕ). flat_map pair_bytes before ++ t) h.parts ∙ sym (append_assoc (flat_map pair_bytes before) (constant_bytes key) r))
-          (λ at is. (constant_bytes key ++ at, append_assoc (flat_map pair_bytes before) (constant_bytes key) at, inr (key, ap (λ (t : List ℕ). constant_bytes key ++ t) is ∙ append-nil (constant_bytes key)))) k.blame;
-    }
-
-last_fits : (room : ℕ) (front : List (Datum × Datum)) (p : Datum × Datum) → AllByRecursion (pair_format room).Fits (front ++ p ∷ []) → (pair_format room).Fits p
-last_fits room [] p h = h.0
-last_fits room (q ∷ front) p h = last_fits room front p h.1
-
-split_last : (ps : List (Datum × Datum)) (key : Datum) → ¬ IsAboveKeys ps key → (front : List (Datum × Datum)) × (p : Datum × Datum) × (ps ≡ front ++ p ∷ []) × ¬ IsBelow p.0 key
-split_last [] key low = absurd (low tt)
-split_last (q ∷ []) key low = ([], q, refl, low)
-split_last (q ∷ q' ∷ ps) key low = let rest = split_last (q' ∷ ps) key low in (q ∷ rest.0, rest.1, ap (λ (x : List (Datum × Datum)). q ∷ x) rest.2, rest.3)
-
-pub key_unordered : (room : ℕ) (before : List (Datum × Datum)) (bytes : List ℕ) (key : Datum) (r : List ℕ) → room < 256 → AllByRecursion (pair_format room).Fits before → Begins (constant_format room) bytes key r → ¬ IsAboveKeys before key
-    → IsRefuted (such (pair_format room) (AbovePairs before)) bytes (BlamesBehind (BehindPairs before) room (flat_map pair_bytes before ++ bytes) causes.NotCanonical (length bytes))
-key_unordered room before bytes key r small each h low =
-    let end = split_last before key low in
-    let fits = last_fits room end.0 end.1 (subst (AllByRecursion (pair_format room).Fits) end.2 each) in
-    record {
-      none = λ p s k.
-          let same = both_rest (constant_format room) (constant_format room) (constant_free room) bytes key r p s h (record { fits = k.fits.0; parts = k.parts }) in
-          low (subst (IsAboveKeys before) (sym same.0) (above_rising before p k.fits.1));
-      blame = inl (record {
-        front = flat_map pair_bytes before;
-        behind = bytes;
-        parts = refl;
-        left_is = refl;
-        cause_is = IsUnordered.key end.1.0 end.1.1 key
-            (record { sound = fits.0.0; shallow = omega (arith, fits.0.1) }) (record { sound = h.fits.0; shallow = omega (arith, h.fits.1) })
-            (ends_with_last pair_bytes before end.0 end.1 end.2) (r, h.parts) end.3;
-      });
-    }
+pub key_unordered : (room : ℕ) (before : List (Datum × Datum)) (bytes : List ℕ) (key : Datum) (r : List ℕ) → Begins (constant_format room) bytes key r → ¬ IsAboveKeys before key
+    → IsRefuted (such (pair_format room) (AbovePairs before)) bytes (Blames (a_pair room before) bytes causes.NotCanonical (length bytes))
+key_unordered room before bytes key r h low = record {
+  none = λ p s k.
+      let same = both_rest (constant_format room) (constant_format room) (constant_free room) bytes key r p s h (record { fits = k.fits.0; parts = k.parts }) in
+      low (subst (IsAboveKeys before) (sym same.0) (above_rising before p k.fits.1));
+  blame = λ file due. (bytes, refl, IsWrong.low_key due h low);
+}
 
 pub pair_begins : (room : ℕ) (before : List (Datum × Datum)) (bytes : List ℕ) (key : Datum) (r : List ℕ) (value : Datum) (s : List ℕ) → RisingPairs before → IsAboveKeys before key
     → Begins (constant_format room) bytes key r → Begins (constant_format room) r value s → Begins (such (pair_format room) (AbovePairs before)) bytes (key, value) s
@@ -370,38 +271,26 @@ pair_begins room before bytes key r value s up above h k = record {
   parts = h.parts ∙ ap (λ (t : List ℕ). constant_bytes key ++ t) k.parts ∙ sym (append_assoc (constant_bytes key) (constant_bytes value) s);
 }
 
-pub pairs_stop : (room n : ℕ) (bytes : List ℕ) (xs : List (Datum × Datum)) (rest : List ℕ) (i : ℕ) (stop : Stop) → IsRowSoFar (pair_format room) RisingPairs bytes xs rest i → i < n
-    → IsStop (such (pair_format room) (AbovePairs xs)) rest (BlamesBehind (BehindPairs xs) room (flat_map pair_bytes xs ++ rest)) stop → IsStop (such (rows (pair_format room) n) RisingPairs) bytes (BlamesBehind (InPairs n) room bytes) stop
-pairs_stop room n bytes xs rest i stop h fewer k = go stop k
-  where
-    go : (stop : Stop) → IsStop (such (pair_format room) (AbovePairs xs)) rest (BlamesBehind (BehindPairs xs) room (flat_map pair_bytes xs ++ rest)) stop → IsStop (such (rows (pair_format room) n) RisingPairs) bytes (BlamesBehind (InPairs n) room bytes) stop
-    go stops.Memory k = tt
-    go (stops.At cause left) k = record {
-      none = such_rows_none (pair_format room) RisingPairs (pair_free room (constant_free room)) rising_front n bytes xs rest h.parts h.each (omega (arith, h.count)) k.none;
-      blame = behind_move [] (flat_map pair_bytes xs ++ rest) bytes (BehindPairs xs) (InPairs n) room cause left h.parts (λ before at. (xs, omega (arith, h.count), at)) k.blame;
-    }
+pub pairs_stop : (room n : ℕ) (bytes : List ℕ) (xs : List (Datum × Datum)) (rest : List ℕ) (i : ℕ) (stop : FileStop) → IsRowSoFar (pair_format room) RisingPairs bytes xs rest i → i < n
+    → IsStop (such (pair_format room) (AbovePairs xs)) rest (Blames (a_pair room xs) rest) stop → IsStop (such (rows (pair_format room) n) RisingPairs) bytes (Blames (many (pairs room) n) bytes) stop
+pairs_stop room n bytes xs rest i stop h fewer k =
+    row_stop (pair_format room) RisingPairs (a_pair room xs) (many (pairs room) n) (pair_free room (constant_free room)) rising_front bytes xs rest i n stop h fewer (λ file due begun. Due.pair due begun fewer) k
 
 map_none : (room level : ℕ) (bytes r : List ℕ) → suc room ≡ level → Begins u8_format bytes 4 r → BeginsNone (map_format room) r → BeginsNone (constant_format level) bytes
 map_none room level bytes r next h none = behind_none (map_format room) room level bytes 4 r next h (λ n s o m. let v = map_in r room n s o in m v.0 s v.2) none
 
-pub map_short : (room level : ℕ) (bytes r : List ℕ) (stop : Stop) → suc room ≡ level → Begins u8_format bytes 4 r → IsStop u16_format r (Blames r) stop → IsStop (constant_format level) bytes (BlamesWithin level bytes) stop
+pub map_short : (room level : ℕ) (bytes r : List ℕ) (stop : FileStop) → suc room ≡ level → Begins u8_format bytes 4 r → IsStop u16_format r (IsCut 2 r) stop → IsStop (constant_format level) bytes (Blames (a_term level) bytes) stop
 map_short room level bytes r stop next h k =
-    plain_stop u16_format (constant_format level) (4 ∷ []) r bytes AtFront level stop h.parts
-    (λ none. map_none room level bytes r next h (λ ps s l. none (length ps) (flat_map pair_bytes ps ++ s) (counted_first u16_format (pair_format room) r ps s (record { fits = l.fits.0; parts = l.parts })))) k
+    stop_cut u16_format (constant_format level) 2 (a_count (pairs room)) (a_term level) r bytes stop refl
+    (λ none. map_none room level bytes r next h (λ ps s l. none (length ps) (flat_map pair_bytes ps ++ s) (counted_first u16_format (pair_format room) r ps s (record { fits = l.fits.0; parts = l.parts }))))
+    (λ file due. Due.map (tagged room level bytes 4 r next h due)) k
 
-map_opens : (n : ℕ) (before : List ℕ) → InPairs n before → IsOpening (4 ∷ u16_bytes n ++ before)
-map_opens n before at = by at.2.2
-  where
-    by : InPair at.2.0 → IsOpening (4 ∷ u16_bytes n ++ before)
-    by (inl none) = IsOpening.key n at.0 at.1 (ap (λ (x : List ℕ). 4 ∷ u16_bytes n ++ x) (at.2.1 ∙ ap (λ (x : List ℕ). flat_map pair_bytes at.0 ++ x) none ∙ append-nil (flat_map pair_bytes at.0)))
-    by (inr k) = IsOpening.value n at.0 k.0 at.1 (ap (λ (x : List ℕ). 4 ∷ u16_bytes n ++ x) (at.2.1 ∙ ap (λ (x : List ℕ). flat_map pair_bytes at.0 ++ x) k.1))
-
-pub map_stop : (room level : ℕ) (bytes r : List ℕ) (n : ℕ) (t : List ℕ) (stop : Stop) → suc room ≡ level → Begins u8_format bytes 4 r → Begins u16_format r n t
-    → IsStop (such (rows (pair_format room) n) RisingPairs) t (BlamesBehind (InPairs n) room t) stop → IsStop (constant_format level) bytes (BlamesWithin level bytes) stop
+pub map_stop : (room level : ℕ) (bytes r : List ℕ) (n : ℕ) (t : List ℕ) (stop : FileStop) → suc room ≡ level → Begins u8_format bytes 4 r → Begins u16_format r n t
+    → IsStop (such (rows (pair_format room) n) RisingPairs) t (Blames (many (pairs room) n) t) stop → IsStop (constant_format level) bytes (Blames (a_term level) bytes) stop
 map_stop room level bytes r n t stop next h k l =
-    let up = move_stop (such (rows (pair_format room) n) RisingPairs) (constant_format level) (4 ∷ u16_bytes n) t bytes (InPairs n) IsOpening room stop (h.parts ∙ ap (λ (x : List ℕ). 4 ∷ x) k.parts)
-    (map_opens n) (λ none. map_none room level bytes r next h (such_counted_none u16_format (pair_format room) RisingPairs u16_free r n t k none)) l in
-    subst (λ q. IsStop (constant_format level) bytes (BlamesWithin q bytes) stop) next (raise_stop (constant_format level) IsOpening room bytes stop (λ before at. at) up)
+    stop_due (such (rows (pair_format room) n) RisingPairs) (constant_format level) (many (pairs room) n) (a_term level) t bytes stop
+    (λ none. map_none room level bytes r next h (such_counted_none u16_format (pair_format room) RisingPairs u16_free r n t k none))
+    (λ file due. Due.behind_count (Due.map (tagged room level bytes 4 r next h due)) k) l
 
 pub map_begins : (room level : ℕ) (bytes r : List ℕ) (n : ℕ) (t : List ℕ) (ps : List (Datum × Datum)) (s : List ℕ) → suc room ≡ level → Begins u8_format bytes 4 r → Begins u16_format r n t
     → Begins (such (rows (pair_format room) n) RisingPairs) t ps s → Begins (constant_format level) bytes (map (entries_of ps)) s
@@ -440,25 +329,24 @@ elements_format room = counted length_format (constant_format room)
 abbrev end_format : ℕ → Format Datum
 end_format room = such (constant_format room) IsNoCell
 
-pub list_short : (room level : ℕ) (bytes r : List ℕ) (stop : Stop) → suc room ≡ level → Begins u8_format bytes 6 r → IsStop length_format r (Blames bytes) stop → IsStop (constant_format level) bytes (BlamesWithin level bytes) stop
+pub list_short : (room level : ℕ) (bytes r : List ℕ) (stop : FileStop) → suc room ≡ level → Begins u8_format bytes 6 r → IsStop length_format r (Blames a_list_length r) stop → IsStop (constant_format level) bytes (Blames (a_term level) bytes) stop
 list_short room level bytes r stop next h k =
-    whole_stop length_format (constant_format level) r bytes AtFront level stop
+    stop_due length_format (constant_format level) a_list_length (a_term level) r bytes stop
     (λ none. list_none room level bytes r next h (λ l s m.
     let first = both_first (elements_format room) (end_format room) r l s m in
-    none (length l.0) (flat_map constant_bytes l.0 ++ (constant_bytes l.1 ++ s)) (counted_first length_format (constant_format room) r l.0 (constant_bytes l.1 ++ s) first))) k
+    none (length l.0) (flat_map constant_bytes l.0 ++ (constant_bytes l.1 ++ s)) (counted_first length_format (constant_format room) r l.0 (constant_bytes l.1 ++ s) first)))
+    (λ file due. Due.list_length (tagged room level bytes 6 r next h due)) k
 
 -- the elements that were read are those of any list there
 elements_none : (room level : ℕ) (bytes r : List ℕ) (n : ℕ) (t : List ℕ) → suc room ≡ level → Begins u8_format bytes 6 r → Begins length_format r n t → BeginsNone (rows (constant_format room) n) t → BeginsNone (constant_format level) bytes
 elements_none room level bytes r n t next h k none = list_none room level bytes r next h (λ l s m.
     none l.0 (constant_bytes l.1 ++ s) (counted_rest length_format (constant_format room) length_free r n t l.0 (constant_bytes l.1 ++ s) k (both_first (elements_format room) (end_format room) r l s m)))
 
-pub list_stop : (room level : ℕ) (bytes r : List ℕ) (n : ℕ) (t : List ℕ) (stop : Stop) → suc room ≡ level → Begins u8_format bytes 6 r → Begins length_format r n t
-    → IsStop (rows (constant_format room) n) t (BlamesBehind (AtTerm n) room t) stop → IsStop (constant_format level) bytes (BlamesWithin level bytes) stop
+pub list_stop : (room level : ℕ) (bytes r : List ℕ) (n : ℕ) (t : List ℕ) (stop : FileStop) → suc room ≡ level → Begins u8_format bytes 6 r → Begins length_format r n t
+    → IsStop (rows (constant_format room) n) t (Blames (many (terms room) n) t) stop → IsStop (constant_format level) bytes (Blames (a_term level) bytes) stop
 list_stop room level bytes r n t stop next h k l =
-    let up = move_stop (rows (constant_format room) n) (constant_format level) (6 ∷ u32_bytes n) t bytes (AtTerm n) IsOpening room stop (h.parts ∙ ap (λ (x : List ℕ). 6 ∷ x) k.parts)
-    (λ before at. IsOpening.cell n at.0 (omega (arith, at.1)) (ap (λ (x : List ℕ). 6 ∷ u32_bytes n ++ x) at.2))
-    (elements_none room level bytes r n t next h k) l in
-    subst (λ q. IsStop (constant_format level) bytes (BlamesWithin q bytes) stop) next (raise_stop (constant_format level) IsOpening room bytes stop (λ before at. at) up)
+    stop_due (rows (constant_format room) n) (constant_format level) (many (terms room) n) (a_term level) t bytes stop
+    (elements_none room level bytes r n t next h k) (λ file due. Due.elements (tagged room level bytes 6 r next h due) k) l
 
 -- a list behind its elements
 tail_none : (room level : ℕ) (bytes r : List ℕ) (n : ℕ) (t : List ℕ) (ds : List Datum) (u : List ℕ) → suc room ≡ level → Begins u8_format bytes 6 r → Begins length_format r n t → Begins (rows (constant_format room) n) t ds u
@@ -471,27 +359,25 @@ list_parts : (room : ℕ) (bytes r : List ℕ) (n : ℕ) (t : List ℕ) (ds : Li
     → bytes ≡ (6 ∷ u32_bytes n ++ flat_map constant_bytes ds) ++ u
 list_parts room bytes r n t ds u h k l = h.parts ∙ ap (λ (x : List ℕ). 6 ∷ x) (k.parts ∙ ap (λ (x : List ℕ). u32_bytes n ++ x) l.parts ∙ sym (append_assoc (u32_bytes n) (flat_map constant_bytes ds) u))
 
-pub tail_stop : (room level : ℕ) (bytes r : List ℕ) (n : ℕ) (t : List ℕ) (ds : List Datum) (u : List ℕ) (stop : Stop) → suc room ≡ level → Begins u8_format bytes 6 r → Begins length_format r n t → Begins (rows (constant_format room) n) t ds u
-    → IsStop (constant_format room) u (BlamesWithin room u) stop → IsStop (constant_format level) bytes (BlamesWithin level bytes) stop
-tail_stop room level bytes r n t ds u stop next h k l m =
-    let up = move_stop (constant_format room) (constant_format level) (6 ∷ u32_bytes n ++ flat_map constant_bytes ds) u bytes AtFront IsOpening room stop (list_parts room bytes r n t ds u h k l)
-    (λ before at. IsOpening.cell n ds (omega (arith, l.fits.0)) (ap (λ (x : List ℕ). (6 ∷ u32_bytes n ++ flat_map constant_bytes ds) ++ x) at ∙ append-nil (6 ∷ u32_bytes n ++ flat_map constant_bytes ds)))
-    (λ none. tail_none room level bytes r n t ds u next h k l (λ e s o. none e s (record { fits = o.fits.0; parts = o.parts }))) m in
-    subst (λ q. IsStop (constant_format level) bytes (BlamesWithin q bytes) stop) next (raise_stop (constant_format level) IsOpening room bytes stop (λ before at. at) up)
+-- the tail of a list is due behind its elements
+tail_due : {file : List ℕ} (room level : ℕ) (bytes r : List ℕ) (n : ℕ) (t : List ℕ) (ds : List Datum) (u : List ℕ) → suc room ≡ level → Begins u8_format bytes 6 r → Begins length_format r n t → Begins (rows (constant_format room) n) t ds u
+    → Due file (a_term level) bytes → Due file (a_tail room) u
+tail_due room level bytes r n t ds u next h k l due = Due.tail (tagged room level bytes 6 r next h due) (counted_begins length_format (constant_format room) r n t ds u k l)
+
+pub tail_stop : (room level : ℕ) (bytes r : List ℕ) (n : ℕ) (t : List ℕ) (ds : List Datum) (u : List ℕ) (stop : FileStop) → suc room ≡ level → Begins u8_format bytes 6 r → Begins length_format r n t → Begins (rows (constant_format room) n) t ds u
+    → ¬ BeginsWith (6 ∷ []) u → IsStop (constant_format room) u (Blames (a_term room) u) stop → IsStop (constant_format level) bytes (Blames (a_term level) bytes) stop
+tail_stop room level bytes r n t ds u stop next h k l no_six m =
+    stop_due (constant_format room) (constant_format level) (a_term room) (a_term level) u bytes stop
+    (λ none. tail_none room level bytes r n t ds u next h k l (λ e s o. none e s (record { fits = o.fits.0; parts = o.parts })))
+    (λ file due. Due.tail_term (tail_due room level bytes r n t ds u next h k l due) no_six) m
 
 -- the tag of a list where a tail is due
 pub tail_joined : (room level : ℕ) (bytes r : List ℕ) (n : ℕ) (t : List ℕ) (ds : List Datum) (u : List ℕ) → suc room ≡ level → Begins u8_format bytes 6 r → Begins length_format r n t → Begins (rows (constant_format room) n) t ds u
-    → BeginsWith (6 ∷ []) u → IsRefuted (constant_format level) bytes (BlamesWithin level bytes causes.NotCanonical (length u))
+    → BeginsWith (6 ∷ []) u → IsRefuted (constant_format level) bytes (Blames (a_term level) bytes causes.NotCanonical (length u))
 tail_joined room level bytes r n t ds u next h k l six = record {
   none = tail_none room level bytes r n t ds u next h k l (λ e s o.
       no_list e o.fits.1 (sym (head_is 6 (tag_of (node_of e)) six.0 (rest_bytes (node_of e) ++ s) (sym six.1 ∙ o.parts ∙ ap (λ (bs : List ℕ). bs ++ s) (spelled e)))));
-  blame = inl (record {
-    front = 6 ∷ u32_bytes n ++ flat_map constant_bytes ds;
-    behind = u;
-    parts = list_parts room bytes r n t ds u h k l;
-    left_is = refl;
-    cause_is = IsUnordered.joined ds ([], ap (λ m. 6 ∷ u32_bytes m ++ flat_map constant_bytes ds) (sym l.fits.0)) six;
-  });
+  blame = λ file due. (u, refl, IsWrong.list_as_tail (tail_due room level bytes r n t ds u next h k l due) six);
 }
   where
     no_list : (e : Datum) → IsNoCell e → tag_of (node_of e) ≡ 6 → ⊥

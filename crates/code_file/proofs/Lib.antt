@@ -7,5 +7,6 @@ pub mod RiseLemmas
 pub mod InstructionLemmas
 pub mod FrameLemmas
 pub mod BodyLemmas
+pub mod EndLemmas
 pub mod HeaderLemmas
 pub mod DecodeLemmas

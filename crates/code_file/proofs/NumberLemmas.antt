@@ -1,17 +1,17 @@
 -- Numbers and rows of bytes that are read.
 use Rattle.std.specs.Int.{w16, w32, w64, to_be_bytes, from_be_bytes, cast_unsigned, cast_signed}
-use Rattle.std.proofs.Common.{◌≡◌, ℕ, ℤ, ◌<◌, ◌≤◌, ◌^◌, List, [], ◌++◌, length, get_or, take, drop, refl, sym, ap, ◌∙◌, arith, inl, inr}
+use Rattle.std.proofs.Common.{◌≡◌, ℕ, ℤ, ◌<◌, ◌≤◌, ◌^◌, List, ◌++◌, length, get_or, take, drop, refl, sym, ap, ◌∙◌, arith, inl, inr}
 use Rattle.std.proofs.lemmas.Nat.{be_bytes_2, be_bytes_4, be_bytes_8}
 use Rattle.std.proofs.lemmas.Int.{of_z-to_z}
 use Rattle.std.proofs.Math.Facts.{sfits_to_z}
 use Rattle.std.proofs.lemmas.Bool.{cases_lt}
-use Rattle.std.proofs.lemmas.List.{take-append-drop, append-nil, length-append, length-take, get_or-take, get_or_past}
+use Rattle.std.proofs.lemmas.List.{take-append-drop, length-append, length-take, get_or-take, get_or_past}
 use Rattle.code_format.specs.Spelling.{u16_bytes, u32_bytes, i64_bytes}
 use Rattle.code_format.specs.Format.{Format, Begins}
 use Rattle.code_format.specs.Formats.{u16_format, u32_format, i64_format, bytes_format}
 use Rattle.code_format.proofs.NumberLemmas.{length-i64_bytes, length-u16_bytes, length-u32_bytes}
-use Rattle.code_file.specs.Reads.{IsRefuted, Blames}
-use Rattle.code_file.specs.declared.stop.Cause.TheVariants.{Truncated}
+use Rattle.code_file.specs.Reads.{IsRefuted, IsCut}
+use Rattle.code_file.specs.declared.stop.FileCause.TheVariants.{Truncated}
 
 -- ---- what is read
 
@@ -27,22 +27,22 @@ AreBytesAt-take n bytes h i =
     ]
 
 -- fewer bytes than the number has
-pub too_short : {X : Type 0} (F : Format X) (n : ℕ) (bytes : List ℕ) → ((x : X) → F.Fits x → n ≤ length (F.spell x)) → length bytes < n → IsRefuted F bytes (Blames bytes Truncated 0)
+pub too_short : {X : Type 0} (F : Format X) (n : ℕ) (bytes : List ℕ) → ((x : X) → F.Fits x → n ≤ length (F.spell x)) → length bytes < n → IsRefuted F bytes (IsCut n bytes Truncated 0)
 too_short F n bytes long short = record {
   none = λ x rest h. omega (arith, long x h.fits, ap length h.parts, length-append (F.spell x) rest);
-  blame = record { front = bytes; behind = []; parts = sym (append-nil bytes); left_is = refl; cause_is = refl };
+  blame = (refl, refl, short);
 }
 
-pub u16_short : (bytes : List ℕ) → length bytes < 2 → IsRefuted u16_format bytes (Blames bytes Truncated 0)
+pub u16_short : (bytes : List ℕ) → length bytes < 2 → IsRefuted u16_format bytes (IsCut 2 bytes Truncated 0)
 u16_short bytes short = too_short u16_format 2 bytes (λ n fits. omega (arith, length-u16_bytes n)) short
 
-pub u32_short : (bytes : List ℕ) → length bytes < 4 → IsRefuted u32_format bytes (Blames bytes Truncated 0)
+pub u32_short : (bytes : List ℕ) → length bytes < 4 → IsRefuted u32_format bytes (IsCut 4 bytes Truncated 0)
 u32_short bytes short = too_short u32_format 4 bytes (λ n fits. omega (arith, length-u32_bytes n)) short
 
-pub i64_short : (bytes : List ℕ) → length bytes < 8 → IsRefuted i64_format bytes (Blames bytes Truncated 0)
+pub i64_short : (bytes : List ℕ) → length bytes < 8 → IsRefuted i64_format bytes (IsCut 8 bytes Truncated 0)
 i64_short bytes short = too_short i64_format 8 bytes (λ z fits. omega (arith, length-i64_bytes z)) short
 
-pub bytes_short : (n : ℕ) (bytes : List ℕ) → length bytes < n → IsRefuted (bytes_format n) bytes (Blames bytes Truncated 0)
+pub bytes_short : (n : ℕ) (bytes : List ℕ) → length bytes < n → IsRefuted (bytes_format n) bytes (IsCut n bytes Truncated 0)
 bytes_short n bytes short = too_short (bytes_format n) n bytes (λ bs fits. omega (arith, fits)) short
 
 pub bytes_read : (n : ℕ) (bytes front rest : List ℕ) → n ≤ length bytes → front ≡ take n bytes → rest ≡ drop n bytes → Begins (bytes_format n) bytes front rest

@@ -1,10 +1,10 @@
 -- What is above the last of a row that rises.
-use Rattle.std.specs.Prelude.{◌⊎◌, IfSome}
-use Rattle.std.proofs.Common.{◌≡◌, ℕ, zero, suc, ◌+◌, ◌<◌, ◌≤◌, List, [], ◌∷◌, ◌++◌, length, get_or, refl, sym, ap, subst, ◌∙◌, append_assoc, arith, Option, Some, None, inl, inr}
+use Rattle.std.specs.Prelude.{IfSome}
+use Rattle.std.proofs.Common.{◌≡◌, ℕ, zero, suc, ◌+◌, ◌<◌, List, [], ◌∷◌, ◌++◌, length, get_or, refl, sym, ap, subst, ◌∙◌, append_assoc, arith, Option, Some, None}
 use Rattle.std.proofs.lemmas.List.{get_or_append_left, length-append}
-use Rattle.std.proofs.lemmas.Bool.{cases_lt}
 use Rattle.mcode.specs.Program.{Rise}
 use Rattle.mcode.proofs.RiseLemmas.{rise_more, rise_last}
+use Rattle.code_file.specs.Due.{IsAbove}
 use Rattle.code_file.specs.Rising.{LastIs}
 
 pub rise_front : {X : Type 0} (number : X → ℕ) (xs : List X) (z : X) (zs : List X) → Rise number (xs ++ z ∷ zs) → Rise number (xs ++ z ∷ [])
@@ -39,11 +39,16 @@ rise_above {X} number xs (Some n) y is up = (
       omega (arith, below, ap number same, is.3),
 )
 
--- what isn't above the last one has one
-pub not_above : (last : Option ℕ) (n : ℕ) → ¬ IfSome last (λ l. l < n) → (m : ℕ) × (last ≡ Some m) × (n ≤ m)
-not_above None n low = absurd (low tt)
-not_above (Some m) n low = (m, refl, by (cases_lt m n))
-  where
-    by : (m < n) ⊎ (n ≤ m) → n ≤ m
-    by (inl below) = absurd (low below)
-    by (inr above) = above
+-- ---- above the last
+
+end_above : {X : Type 0} (number : X → ℕ) (front : List X) (x : X) (n : ℕ) → (number x < n → IsAbove number (front ++ x ∷ []) n) × (IsAbove number (front ++ x ∷ []) n → number x < n)
+end_above number [] x n = (λ h. h, λ h. h)
+end_above number (y ∷ []) x n = (λ h. h, λ h. h)
+end_above number (y ∷ z ∷ front) x n = end_above number (z ∷ front) x n
+
+pub above_last : {X : Type 0} (number : X → ℕ) (xs : List X) (last : Option ℕ) (n : ℕ) → LastIs number xs last → (IfSome last (λ l. l < n) → IsAbove number xs n) × (IsAbove number xs n → IfSome last (λ l. l < n))
+above_last {X} number xs None n is = (λ _. subst (λ (zs : List X). IsAbove number zs n) (sym is) tt, λ _. tt)
+above_last {X} number xs (Some m) n is = (
+  λ above. subst (λ (zs : List X). IsAbove number zs n) (sym is.2) ((end_above number is.0 is.1 n).0 (omega (arith, above, is.3))),
+  λ above. let below = (end_above number is.0 is.1 n).1 (subst (λ (zs : List X). IsAbove number zs n) is.2 above) in omega (arith, below, is.3),
+)

@@ -6,15 +6,13 @@ use Rattle.std.proofs.lemmas.List.{append-nil, length-append}
 use Rattle.std.proofs.lemmas.List.Concat.{flat_map-append}
 use Rattle.code_format.specs.Format.{Format, Begins, BeginsNone, rows, counted, such}
 use Rattle.code_format.proofs.FormatLemmas.{IsPrefixFree, rows_go_on, counted_first, counted_rest, counted_begins}
-use Rattle.code_file.specs.declared.stop.Stop.{Stop}
-use Rattle.code_file.specs.Causes.{EndsWith}
-use Rattle.code_file.specs.Reads.{Blames, IsStop}
-use Rattle.code_file.specs.declared.stop.Cause.{Cause}
-use Rattle.code_file.proofs.StopLemmas.{stop_none, stop_behind}
-
--- what ends with the last of some
-pub ends_with_last : {X : Type 0} (spell : X → List ℕ) (xs front : List X) (x : X) → xs ≡ front ++ x ∷ [] → EndsWith (spell x) (flat_map spell xs)
-ends_with_last spell xs front x is = (flat_map spell front, ap (flat_map spell) is ∙ flat_map-append spell front (x ∷ []) ∙ ap (λ (t : List ℕ). flat_map spell front ++ t) (append-nil (spell x)))
+use Rattle.code_format.specs.Formats.{u16_format}
+use Rattle.code_format.proofs.NumberLemmas.{u16_free}
+use Rattle.code_file.specs.declared.stop.FileStop.{FileStop}
+use Rattle.code_file.specs.Due.{Item, Row, Due}
+use Rattle.code_file.specs.Due.Item.{a_count, many}
+use Rattle.code_file.specs.Reads.{Blames, IsCut, IsStop}
+use Rattle.code_file.proofs.StopLemmas.{stop_due, stop_cut}
 
 -- ---- one more
 
@@ -45,12 +43,6 @@ such_rows_none {X} F P free closed n bytes xs rest so_far each fewer none ys s h
       parts = behind ∙ append_assoc (F.spell z) (flat_map F.spell zs) s;
     })
 
-pub such_rows_stop : {X : Type 0} (F : Format X) (P : List X → Type 0) → IsPrefixFree F → ((xs : List X) (z : X) (zs : List X) → P (xs ++ z ∷ zs) → P (xs ++ z ∷ []))
-    → (n : ℕ) (bytes : List ℕ) (xs : List X) (rest : List ℕ) (blames : Cause → ℕ → Type 0) (stop : Stop) → bytes ≡ flat_map F.spell xs ++ rest → AllByRecursion F.Fits xs → length xs < n
-    → IsStop (such F (λ y. P (xs ++ y ∷ []))) rest blames stop → IsStop (such (rows F n) P) bytes blames stop
-such_rows_stop F P free closed n bytes xs rest blames stop so_far each fewer h =
-    stop_none (such F (λ y. P (xs ++ y ∷ []))) (such (rows F n) P) rest bytes blames stop (such_rows_none F P free closed n bytes xs rest so_far each fewer) h
-
 -- the same of any row
 pub rows_none : {X : Type 0} (F : Format X) → IsPrefixFree F → (n : ℕ) (bytes : List ℕ) (xs : List X) (rest : List ℕ) → bytes ≡ flat_map F.spell xs ++ rest → AllByRecursion F.Fits xs → length xs < n
     → BeginsNone F rest → BeginsNone (rows F n) bytes
@@ -66,10 +58,11 @@ such_counted_begins N F P bytes n r xs s h k =
     let begun = counted_begins N F bytes n r xs s h (record { fits = k.fits.0; parts = k.parts }) in
     record { fits = (begun.fits, k.fits.1); parts = begun.parts }
 
-pub such_counted_stop_first : {X : Type 0} (N : Format ℕ) (F : Format X) (P : List X → Type 0) (bytes : List ℕ) (blames : Cause → ℕ → Type 0) (stop : Stop)
-    → IsStop N bytes blames stop → IsStop (such (counted N F) P) bytes blames stop
-such_counted_stop_first N F P bytes blames stop h =
-    stop_none N (such (counted N F) P) bytes bytes blames stop (λ none xs s k. none (length xs) (flat_map F.spell xs ++ s) (counted_first N F bytes xs s (record { fits = k.fits.0; parts = k.parts }))) h
+pub such_counted_short : {X : Type 0} (F : Format X) (P : List X → Type 0) (row : Row) (bytes : List ℕ) (stop : FileStop)
+    → IsStop u16_format bytes (IsCut 2 bytes) stop → IsStop (such (counted u16_format F) P) bytes (Blames (a_count row) bytes) stop
+such_counted_short F P row bytes stop h =
+    stop_cut u16_format (such (counted u16_format F) P) 2 (a_count row) (a_count row) bytes bytes stop refl
+    (λ none xs s k. none (length xs) (flat_map F.spell xs ++ s) (counted_first u16_format F bytes xs s (record { fits = k.fits.0; parts = k.parts }))) (λ file due. due) h
 
 pub such_counted_none : {X : Type 0} (N : Format ℕ) (F : Format X) (P : List X → Type 0) → IsPrefixFree N → (bytes : List ℕ) (n : ℕ) (r : List ℕ)
     → Begins N bytes n r → BeginsNone (such (rows F n) P) r → BeginsNone (such (counted N F) P) bytes
@@ -77,10 +70,10 @@ such_counted_none N F P free bytes n r h none xs s k =
     let rest = counted_rest N F free bytes n r xs s h (record { fits = k.fits.0; parts = k.parts }) in
     none xs s (record { fits = (rest.fits, k.fits.1); parts = rest.parts })
 
-pub such_counted_stop : {X : Type 0} (N : Format ℕ) (F : Format X) (P : List X → Type 0) → IsPrefixFree N → (bytes : List ℕ) (n : ℕ) (r : List ℕ) (stop : Stop)
-    → Begins N bytes n r → IsStop (such (rows F n) P) r (Blames r) stop → IsStop (such (counted N F) P) bytes (Blames bytes) stop
-such_counted_stop N F P free bytes n r stop h k =
-    stop_behind (such (rows F n) P) (such (counted N F) P) (N.spell n) r bytes stop h.parts (such_counted_none N F P free bytes n r h) k
+pub such_counted_stop : {X : Type 0} (F : Format X) (P : List X → Type 0) (row : Row) (bytes : List ℕ) (n : ℕ) (r : List ℕ) (stop : FileStop)
+    → Begins u16_format bytes n r → IsStop (such (rows F n) P) r (Blames (many row n) r) stop → IsStop (such (counted u16_format F) P) bytes (Blames (a_count row) bytes) stop
+such_counted_stop F P row bytes n r stop h k =
+    stop_due (such (rows F n) P) (such (counted u16_format F) P) (many row n) (a_count row) r bytes stop (such_counted_none u16_format F P u16_free bytes n r h) (λ file due. Due.behind_count due h) k
 
 -- ---- what a loop knows
 
@@ -106,16 +99,15 @@ pub row_end : {X : Type 0} (F : Format X) (P : List X → Type 0) (bytes : List 
     → IsRowSoFar F P bytes xs rest n → Begins (such (rows F n) P) bytes xs rest
 row_end F P bytes xs rest n h = record { fits = ((h.count, h.each), h.so); parts = h.parts }
 
-pub row_stop : {X : Type 0} (F : Format X) (P : List X → Type 0) → IsPrefixFree F → ((xs : List X) (z : X) (zs : List X) → P (xs ++ z ∷ zs) → P (xs ++ z ∷ []))
-    → (bytes : List ℕ) (xs : List X) (rest : List ℕ) (i n : ℕ) (stop : Stop) → IsRowSoFar F P bytes xs rest i → i < n
-    → IsStop (such F (λ y. P (xs ++ y ∷ []))) rest (Blames (flat_map F.spell xs ++ rest)) stop → IsStop (such (rows F n) P) bytes (Blames bytes) stop
-row_stop F P free closed bytes xs rest i n stop h fewer k =
-    such_rows_stop F P free closed n bytes xs rest (Blames bytes) stop h.parts h.each (omega (arith, h.count))
-    (subst (λ (t : List ℕ). IsStop (such F (λ y. P (xs ++ y ∷ []))) rest (Blames t) stop) (sym h.parts) k)
-
--- a refusal of any is one of those that are more than that
-pub such_stop : {X : Type 0} (F : Format X) (P : X → Type 0) (bytes : List ℕ) (blames : Cause → ℕ → Type 0) (stop : Stop) → IsStop F bytes blames stop → IsStop (such F P) bytes blames stop
-such_stop F P bytes blames stop h = stop_none F (such F P) bytes bytes blames stop (λ none x s k. none x s (record { fits = k.fits.0; parts = k.parts })) h
+-- the next value of a row, which is due in it
+pub row_stop : {X : Type 0} (F : Format X) (P : List X → Type 0) (i j : Item) → IsPrefixFree F → ((xs : List X) (z : X) (zs : List X) → P (xs ++ z ∷ zs) → P (xs ++ z ∷ []))
+    → (bytes : List ℕ) (xs : List X) (rest : List ℕ) (k n : ℕ) (stop : FileStop) → IsRowSoFar F P bytes xs rest k → k < n
+    → ((file : List ℕ) → Due file j bytes → Begins (such (rows F k) P) bytes xs rest → Due file i rest)
+    → IsStop (such F (λ y. P (xs ++ y ∷ []))) rest (Blames i rest) stop → IsStop (such (rows F n) P) bytes (Blames j bytes) stop
+row_stop F P i j free closed bytes xs rest k n stop h fewer step l =
+    stop_due (such F (λ y. P (xs ++ y ∷ []))) (such (rows F n) P) i j rest bytes stop
+    (such_rows_none F P free closed n bytes xs rest h.parts h.each (omega (arith, h.count)))
+    (λ file due. step file due (row_end F P bytes xs rest k h)) l
 
 pub not_so : {P : Type 0} → (P → IsTrue false) → ¬ P
 not_so h p = absurd (never (h p))
@@ -130,3 +122,20 @@ plain_step F bytes xs rest n y r h k = row_step F (λ _. Unit {0}) bytes xs rest
 
 pub plain_end : {X : Type 0} (F : Format X) (bytes : List ℕ) (xs : List X) (rest : List ℕ) (n : ℕ) → IsRowSoFar F (λ _. Unit {0}) bytes xs rest n → Begins (rows F n) bytes xs rest
 plain_end F bytes xs rest n h = record { fits = (h.count, h.each); parts = h.parts }
+
+-- the next value of a row of any values
+pub plain_stop : {X : Type 0} (F : Format X) (i j : Item) → IsPrefixFree F → (bytes : List ℕ) (xs : List X) (rest : List ℕ) (k n : ℕ) (stop : FileStop) → IsRowSoFar F (λ _. Unit {0}) bytes xs rest k → k < n
+    → ((file : List ℕ) → Due file j bytes → Begins (rows F k) bytes xs rest → Due file i rest)
+    → IsStop F rest (Blames i rest) stop → IsStop (rows F n) bytes (Blames j bytes) stop
+plain_stop F i j free bytes xs rest k n stop h fewer step l =
+    stop_due F (rows F n) i j rest bytes stop (rows_none F free n bytes xs rest h.parts h.each (omega (arith, h.count)))
+    (λ file due. step file due (plain_end F bytes xs rest k h)) l
+
+-- a row of any values behind their number
+pub counted_short : {X : Type 0} (F : Format X) (row : Row) (bytes : List ℕ) (stop : FileStop) → IsStop u16_format bytes (IsCut 2 bytes) stop → IsStop (counted u16_format F) bytes (Blames (a_count row) bytes) stop
+counted_short F row bytes stop h =
+    stop_cut u16_format (counted u16_format F) 2 (a_count row) (a_count row) bytes bytes stop refl (λ none xs s k. none (length xs) (flat_map F.spell xs ++ s) (counted_first u16_format F bytes xs s k)) (λ file due. due) h
+
+pub counted_stop : {X : Type 0} (F : Format X) (row : Row) (bytes : List ℕ) (n : ℕ) (r : List ℕ) (stop : FileStop) → Begins u16_format bytes n r → IsStop (rows F n) r (Blames (many row n) r) stop → IsStop (counted u16_format F) bytes (Blames (a_count row) bytes) stop
+counted_stop F row bytes n r stop h k =
+    stop_due (rows F n) (counted u16_format F) (many row n) (a_count row) r bytes stop (λ none xs s l. none xs s (counted_rest u16_format F u16_free bytes n r xs s h l)) (λ file due. Due.behind_count due h) k

@@ -1,107 +1,92 @@
--- What stands at the place of a fault.
-use Rattle.std.specs.Prelude.{ℕ, zero, suc, ◌≡◌, ◌≢◌, ◌<◌, ◌≤◌, List, [], ◌∷◌, ◌++◌, length}
-use Rattle.std.specs.List.{flat_map}
+-- What is wrong where something is due.
+use Rattle.std.specs.Prelude.{ℕ, suc, ◌≢◌, ◌<◌, List, [], ◌∷◌, length}
 use Rattle.std.specs.Str.{IsUtf8, encode_utf8_all}
 use Rattle.prims_table.specs.Numbers.{function_number, arithmetic_number}
 use Rattle.prims_table.specs.declared.prim.Function.{Function}
 use Rattle.prims_table.specs.declared.prim.Arithmetic.{Arithmetic}
 use Rattle.term_core.specs.Datum.{Datum}
-use Rattle.term_core.specs.Limits.{AreScalars, IsTerm}
-use Rattle.term_core.specs.Order.{IsBelow}
-use Rattle.term_core.specs.Sizes.{depth_limit, atom_limit, list_limit, binary_limit}
-use Rattle.mcode.specs.Program.{Frame}
+use Rattle.term_core.specs.Limits.{AreScalars}
+use Rattle.term_core.specs.Sizes.{atom_limit, list_limit, binary_limit}
+use Rattle.term_order.specs.Keys.{IsAboveKeys}
+use Rattle.mcode.specs.Program.{Frame, place_number, frame_number, most_slots}
 use Rattle.mcode.specs.declared.kind.Kind.{Kind}
 use Rattle.mcode.specs.declared.instr.Instr.{Instr}
-use Rattle.code_format.specs.Spelling.{u16_bytes, u32_bytes, constant_bytes, pair_bytes, instruction_bytes, kind_bytes, place_bytes, frame_bytes}
-use Rattle.code_file.specs.declared.stop.Cause.{Cause}
-use Rattle.code_file.specs.declared.stop.Cause.TheVariants as causes
+use Rattle.code_format.specs.Spelling.{constant_bytes, instruction_bytes, kind_bytes}
+use Rattle.code_format.specs.Format.{Begins}
+use Rattle.code_format.specs.Formats.{u8_format, u16_format, u32_format, bytes_format, constant_format}
+use Rattle.code_file.specs.Due.{BeginsWith, IsAbove, Item, Due}
+use Rattle.code_file.specs.Due.Item.{a_magic, a_version, a_slot_count, a_count, many, a_term, a_tail, a_pair, a_text_size, a_text, a_list_length, a_binary_size, an_instruction, a_function, an_arithmetic, a_frame, a_depth, a_place, a_kind, a_slot, so_many}
+use Rattle.code_file.specs.declared.stop.FileCause.{FileCause}
+use Rattle.code_file.specs.declared.stop.FileCause.TheVariants as causes
 
--- these bytes end so
-abbrev pub EndsWith : List ℕ → List ℕ → Type 0
-EndsWith end bytes = (start : List ℕ) × (bytes ≡ start ++ end)
+-- How many bytes an item has at least, before what else is due in it.
+abbrev pub width : Item → ℕ
+width a_magic = 4
+width a_version = 2
+width a_slot_count = 2
+width (a_count row) = 2
+width (many row n) = 0
+width (a_term levels) = 1
+width (a_tail levels) = 1
+width (a_pair levels ps) = 1
+width a_text_size = 2
+width (a_text n) = n
+width a_list_length = 4
+width a_binary_size = 4
+width an_instruction = 1
+width a_function = 1
+width an_arithmetic = 1
+width (a_frame fs) = 2
+width a_depth = 2
+width (a_place ps) = 2
+width a_kind = 1
+width (a_slot vs) = 1
+width (so_many n) = n
 
--- these bytes begin so
-abbrev pub BeginsWith : List ℕ → List ℕ → Type 0
-BeginsWith front bytes = (more : List ℕ) × (bytes ≡ front ++ more)
-
--- A byte that names nothing, behind these: no tag of a term, no opcode, no kind, and behind the opcode of a call no
--- function of its table.
-pub data IsNameless (front : List ℕ) (b : ℕ) : Type 0 where
-  no_tag : ((d : Datum) → ¬ BeginsWith (b ∷ []) (constant_bytes d)) → IsNameless front b
-  no_opcode : ((i : Instr) → ¬ BeginsWith (b ∷ []) (instruction_bytes i)) → IsNameless front b
-  no_function :
-      EndsWith (16 ∷ []) front → ((f : Function) → function_number f ≢ b) → IsNameless front b
-  no_arithmetic :
-      EndsWith (18 ∷ []) front → ((a : Arithmetic) → arithmetic_number a ≢ b) → IsNameless front b
-  no_kind : ((k : Kind) → ¬ BeginsWith (b ∷ []) (kind_bytes k)) → IsNameless front b
-
--- What another file would spell otherwise, between the bytes before it and from it on: a key that isn't above the one
--- before it, a frame, a place or a slot that isn't, a list of no elements, a list as the tail of one, and an atom that
--- isn't UTF-8.
-pub data IsUnordered (front behind : List ℕ) : Type 0 where
-  key :
-      (k v l : Datum) → IsTerm k → IsTerm l → EndsWith (pair_bytes (k, v)) front
-      → BeginsWith (constant_bytes l) behind → ¬ IsBelow k l → IsUnordered front behind
-  frame :
-      (f : Frame) (pc : ℕ) → EndsWith (frame_bytes f) front → BeginsWith (u16_bytes pc) behind
-      → pc ≤ f.pc → IsUnordered front behind
-  place :
-      (p : ℕ × Kind) (n : ℕ) → EndsWith (place_bytes p) front → BeginsWith (u16_bytes n) behind
-      → n ≤ p.0 → IsUnordered front behind
-  slot :
-      (v w : ℕ) → EndsWith (v ∷ []) front → BeginsWith (w ∷ []) behind → w ≤ v
-      → IsUnordered front behind
-  no_elements : EndsWith (6 ∷ []) front → BeginsWith (u32_bytes 0) behind → IsUnordered front behind
-  joined :
-      (ds : List Datum) → EndsWith (6 ∷ u32_bytes (length ds) ++ flat_map constant_bytes ds) front
-      → BeginsWith (6 ∷ []) behind → IsUnordered front behind
-  no_text :
-      (bs : List ℕ) → EndsWith (2 ∷ u16_bytes (length bs)) front → BeginsWith bs behind
-      → ¬ IsUtf8 bs → IsUnordered front behind
-
--- The beginning of a tuple, a map or a list, up to one of the terms in it.
-pub data IsOpening (bytes : List ℕ) : Type 0 where
-  element :
-      (n : ℕ) (ds : List Datum) → length ds < n
-      → bytes ≡ 3 ∷ u16_bytes n ++ flat_map constant_bytes ds → IsOpening bytes
-  key :
-      (n : ℕ) (es : List (Datum × Datum)) → length es < n
-      → bytes ≡ 4 ∷ u16_bytes n ++ flat_map pair_bytes es → IsOpening bytes
-  value :
-      (n : ℕ) (es : List (Datum × Datum)) (k : Datum) → length es < n
-      → bytes ≡ 4 ∷ u16_bytes n ++ (flat_map pair_bytes es ++ constant_bytes k)
-      → IsOpening bytes
-  cell :
-      (n : ℕ) (ds : List Datum) → length ds ≤ n
-      → bytes ≡ 6 ∷ u32_bytes n ++ flat_map constant_bytes ds → IsOpening bytes
-
--- these bytes lead so many levels down into a term
-abbrev pub LeadsDown : ℕ → List ℕ → Type 0
-LeadsDown zero bytes = bytes ≡ []
-LeadsDown (suc n) bytes =
-    (outer : List ℕ) × (inner : List ℕ) × (bytes ≡ outer ++ inner) × IsOpening outer
-    × LeadsDown n inner
-
--- What is past a limit of terms: a list or a binary by its number, an atom by its characters, a term on level 256.
-pub data IsPastLimit (front behind : List ℕ) : Type 0 where
-  list :
-      (n : ℕ) → EndsWith (6 ∷ []) front → BeginsWith (u32_bytes n) behind → list_limit < n
-      → IsPastLimit front behind
-  binary :
-      (n : ℕ) → EndsWith (7 ∷ []) front → BeginsWith (u32_bytes n) behind → binary_limit < n
-      → IsPastLimit front behind
-  atom :
-      (cs : List ℕ) → AreScalars cs
-      → EndsWith (2 ∷ u16_bytes (length (encode_utf8_all cs))) front
-      → BeginsWith (encode_utf8_all cs) behind → atom_limit < length cs → IsPastLimit front behind
-  deep :
-      (path : List ℕ) → LeadsDown depth_limit path → EndsWith path front → 0 < length behind
-      → IsPastLimit front behind
-
--- what stands between the bytes before a place and those from it on
-abbrev pub IsCause : Cause → List ℕ → List ℕ → Type 0
-IsCause causes.Truncated front behind = behind ≡ []
-IsCause causes.BadOpcode front behind =
-    (b : ℕ) × BeginsWith (b ∷ []) behind × IsNameless front b
-IsCause causes.NotCanonical front behind = IsUnordered front behind
-IsCause causes.Limit front behind = IsPastLimit front behind
+-- What is wrong in the file, where the last argument is what is left of it.
+pub data IsWrong (file : List ℕ) : FileCause → List ℕ → Type 0 where
+  -- the file ends before what is due does
+  cut_off : {i : Item} {t : List ℕ} → Due file i t → length t < width i
+      → IsWrong file causes.Truncated []
+  -- a byte begins no term, no instruction and no kind, or is the number of no function
+  no_tag : {levels b : ℕ} {t : List ℕ} → Due file (a_term (suc levels)) (b ∷ t)
+      → ((d : Datum) → ¬ BeginsWith (b ∷ []) (constant_bytes d))
+      → IsWrong file causes.BadOpcode (b ∷ t)
+  no_opcode : {b : ℕ} {t : List ℕ} → Due file an_instruction (b ∷ t)
+      → ((i : Instr) → ¬ BeginsWith (b ∷ []) (instruction_bytes i))
+      → IsWrong file causes.BadOpcode (b ∷ t)
+  no_function : {b : ℕ} {t : List ℕ} → Due file a_function (b ∷ t)
+      → ((f : Function) → function_number f ≢ b) → IsWrong file causes.BadOpcode (b ∷ t)
+  no_arithmetic : {b : ℕ} {t : List ℕ} → Due file an_arithmetic (b ∷ t)
+      → ((a : Arithmetic) → arithmetic_number a ≢ b) → IsWrong file causes.BadOpcode (b ∷ t)
+  no_kind : {b : ℕ} {t : List ℕ} → Due file a_kind (b ∷ t)
+      → ((k : Kind) → ¬ BeginsWith (b ∷ []) (kind_bytes k)) → IsWrong file causes.BadOpcode (b ∷ t)
+  -- a key, a frame, a place or a slot isn't above the one before it
+  low_key : {levels : ℕ} {ps : List (Datum × Datum)} {k : Datum} {t u : List ℕ}
+      → Due file (a_pair levels ps) t → Begins (constant_format levels) t k u → ¬ IsAboveKeys ps k
+      → IsWrong file causes.NotCanonical t
+  low_frame : {pc : ℕ} {fs : List Frame} {t u : List ℕ} → Due file (a_frame fs) t
+      → Begins u16_format t pc u → ¬ IsAbove frame_number fs pc
+      → IsWrong file causes.NotCanonical t
+  low_place : {n : ℕ} {ps : List (ℕ × Kind)} {t u : List ℕ} → Due file (a_place ps) t
+      → Begins u16_format t n u → ¬ IsAbove place_number ps n → IsWrong file causes.NotCanonical t
+  low_slot : {v : ℕ} {vs : List ℕ} {t u : List ℕ} → Due file (a_slot vs) t
+      → Begins u8_format t v u → ¬ IsAbove (λ v. v) vs v → IsWrong file causes.NotCanonical t
+  -- a list has no elements, or a list for its tail, or an atom's bytes aren't UTF-8
+  no_elements : {t u : List ℕ} → Due file a_list_length t → Begins u32_format t 0 u
+      → IsWrong file causes.NotCanonical t
+  list_as_tail : {levels : ℕ} {t : List ℕ} → Due file (a_tail levels) t → BeginsWith (6 ∷ []) t
+      → IsWrong file causes.NotCanonical t
+  no_text : {n : ℕ} {bs t u : List ℕ} → Due file (a_text n) t → Begins (bytes_format n) t bs u
+      → ¬ IsUtf8 bs → IsWrong file causes.NotCanonical t
+  -- more slots than code has, more elements, bytes or characters than a term has, or a term where no level is left
+  many_slots : {n : ℕ} {t u : List ℕ} → Due file a_slot_count t → Begins u16_format t n u
+      → most_slots < n → IsWrong file causes.Limit t
+  many_elements : {n : ℕ} {t u : List ℕ} → Due file a_list_length t → Begins u32_format t n u
+      → list_limit < n → IsWrong file causes.Limit t
+  many_bytes : {n : ℕ} {t u : List ℕ} → Due file a_binary_size t → Begins u32_format t n u
+      → binary_limit < n → IsWrong file causes.Limit t
+  many_characters : {n : ℕ} {t u : List ℕ} (cs : List ℕ) → Due file (a_text n) t → AreScalars cs
+      → Begins (bytes_format n) t (encode_utf8_all cs) u → atom_limit < length cs
+      → IsWrong file causes.Limit t
+  too_deep : {b : ℕ} {t : List ℕ} → Due file (a_term 0) (b ∷ t) → IsWrong file causes.Limit (b ∷ t)

@@ -1,25 +1,26 @@
 -- What the faults of a file say, and that there is no code in it.
-use Rattle.std.specs.Prelude.{ℕ, ◌≡◌, ◌≢◌, ◌<◌, ◌≤◌, ◌⊎◌, ◌-◌, List, ◌++◌, length, take}
+use Rattle.std.specs.Prelude.{ℕ, ◌≡◌, ◌≢◌, ◌<◌, ◌≤◌, ◌-◌, List, ◌++◌, length, take}
 use Rattle.mcode.specs.Program.{Program, most_slots}
 use Rattle.code_format.specs.Spelling.{u16_bytes}
 use Rattle.code_format.specs.File.{Spells, IsU16, magic, version}
 use Rattle.code_format.specs.Format.{Begins}
 use Rattle.code_format.specs.Formats.{body_format, body_of}
-use Rattle.code_file.specs.Causes.{BeginsWith, IsCause}
-use Rattle.code_file.specs.declared.stop.Cause.{Cause}
-use Rattle.code_file.specs.declared.stop.Cause.TheVariants as causes
-use Rattle.code_file.specs.declared.stop.Stop.{Stop}
-use Rattle.code_file.specs.declared.stop.Stop.TheVariants as stops
+use Rattle.code_file.specs.Due.{BeginsWith}
+use Rattle.code_file.specs.Causes.{IsWrong}
+use Rattle.code_file.specs.declared.stop.FileCause.{FileCause}
+use Rattle.code_file.specs.declared.stop.FileCause.TheVariants as causes
+use Rattle.code_file.specs.declared.stop.FileStop.{FileStop}
+use Rattle.code_file.specs.declared.stop.FileStop.TheVariants as stops
 use Rattle.code_file.specs.declared.fault.FileFault.{FileFault}
 use Rattle.code_file.specs.declared.fault.FileFault.TheVariants as faults
 
 -- The cause stands behind so many bytes.
-pub record StandsAt (bytes : List ℕ) (cause : Cause) (at : ℕ) : Type 0 where
+pub record StandsAt (bytes : List ℕ) (cause : FileCause) (at : ℕ) : Type 0 where
   pub front : List ℕ
-  pub behind : List ℕ
-  pub parts : bytes ≡ front ++ behind
+  pub rest : List ℕ
+  pub parts : bytes ≡ front ++ rest
   pub at_is : at ≡ length front
-  pub cause_is : IsCause cause front behind
+  pub wrong : IsWrong bytes cause rest
 
 -- More follows a file of so many bytes.
 pub record GoesOn (bytes : List ℕ) (at : ℕ) : Type 0 where
@@ -36,23 +37,16 @@ abbrev pub IsOtherVersion : List ℕ → Type 0
 IsOtherVersion bytes =
     (n : ℕ) × IsU16 n × (n ≢ version) × BeginsWith (magic ++ u16_bytes n) bytes
 
--- there are more slots than code has
-abbrev pub HasTooManySlots : List ℕ → Type 0
-HasTooManySlots bytes =
-    (n : ℕ) × IsU16 n × (most_slots < n)
-    × BeginsWith (magic ++ (u16_bytes version ++ u16_bytes n)) bytes
-
 -- what a fault says of a file; of one for want of memory nothing is said
 abbrev pub IsFileFault : FileFault → List ℕ → Type 0
 IsFileFault faults.Memory bytes = ⊥
 IsFileFault faults.BadMagic bytes = ¬ BeginsWith (take 4 bytes) magic
 IsFileFault faults.BadVersion bytes = IsOtherVersion bytes
-IsFileFault (faults.Truncated at) bytes = at ≡ length bytes
+IsFileFault (faults.Truncated at) bytes = StandsAt bytes causes.Truncated at
 IsFileFault (faults.BadOpcode at) bytes = StandsAt bytes causes.BadOpcode at
 IsFileFault (faults.NotCanonical at) bytes = StandsAt bytes causes.NotCanonical at
 IsFileFault (faults.Trailing at) bytes = GoesOn bytes at
-IsFileFault faults.Limit bytes =
-    HasTooManySlots bytes ⊎ ((at : ℕ) × StandsAt bytes causes.Limit at)
+IsFileFault faults.Limit bytes = (at : ℕ) × StandsAt bytes causes.Limit at
 
 -- The bytes are no code file, and the fault says why.
 pub record IsNoFile (bytes : List ℕ) (fault : FileFault) : Type 0 where
@@ -60,14 +54,14 @@ pub record IsNoFile (bytes : List ℕ) (fault : FileFault) : Type 0 where
   pub why : IsFileFault fault bytes
 
 -- the fault of a cause at a byte
-abbrev pub at_byte : Cause → ℕ → FileFault
+abbrev pub at_byte : FileCause → ℕ → FileFault
 at_byte causes.Truncated at = faults.Truncated at
 at_byte causes.BadOpcode at = faults.BadOpcode at
 at_byte causes.NotCanonical at = faults.NotCanonical at
 at_byte causes.Limit at = faults.Limit
 
 -- a stop in a file of so many bytes
-abbrev pub fault_of : Stop → ℕ → FileFault
+abbrev pub fault_of : FileStop → ℕ → FileFault
 fault_of stops.Memory size = faults.Memory
 fault_of (stops.At cause left) size = at_byte cause (size - left)
 

@@ -1,3 +1,4 @@
+pub mod Due
 pub mod Causes
 pub mod Reads
 pub mod FaultNumbers

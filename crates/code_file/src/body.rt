@@ -1,43 +1,35 @@
 //! The parts of code, read into a builder.
 ghost use Rattle.std.specs.Prelude.{◌≡◌, ◌<◌, length, ◌++◌, ◌∷◌, [], IfOk, IfErr};
-ghost use Rattle.std.specs.List.{flat_map};
 ghost use Rattle.mcode.specs.Program.{Rise, frame_number, most_parts};
 ghost use Rattle.mcode.specs.declared.fault.Fault.TheVariants as Refusal;
-ghost use Rattle.code_format.specs.Spelling.{frame_bytes};
 ghost use Rattle.code_format.specs.Format.{Begins, rows, such};
 ghost use Rattle.code_format.specs.Formats.{constant_format, constants_format, instruction_format, instructions_format, frame_format, frames_format};
 ghost use Rattle.term_core.specs.Sizes.{depth_limit};
-ghost use Rattle.code_file.specs.Reads.{Reads, Blames, IsStop};
+ghost use Rattle.code_file.specs.Due.Item.{a_count, many, a_frame};
+ghost use Rattle.code_file.specs.Due.Row.{constants, instructions, frames};
+ghost use Rattle.code_file.specs.Reads.{Blames, IsStop};
 ghost use Rattle.code_file.specs.Parts.{with_constants, with_instructions, with_frames, IsNextRead};
 ghost use Rattle.code_file.specs.Rising.{LastIs};
-ghost use Rattle.code_file.specs.declared.stop.Stop.TheVariants.{Memory as OutOfMemory};
+ghost use Rattle.code_file.specs.declared.stop.FileStop.TheVariants.{Memory as OutOfMemory};
 
 use crate::constant::read_constant;
 use crate::frame::{is_above, read_frame_at};
 use crate::instr::read_instr;
 use crate::number::read_u16;
-use crate::stop::{Cause, Stop};
+use crate::stop::{FileCause, FileStop};
 use mcode::{Builder, Fault};
 use std::alloc::Allocator;
 use term_core::{MAX_DEPTH, Term};
 
 /// Why a part wasn't added that code has room for.
-fn memory_alone(fault: Fault) -> Stop
+fn memory_alone(fault: Fault) -> FileStop
     requires { fault ≡ Refusal.Memory }
     ensures { result ≡ OutOfMemory }
 {
     match fault {
-        Fault::Memory => Stop::Memory,
+        Fault::Memory => FileStop::Memory,
         Fault::Limit | Fault::FrameOrder => unreachable!(),
     }
-}
-
-/// A constant.
-fn read_term<A: Allocator + Copy>(alloc: A, bytes: &[u8]) -> Result<(Term<A>, &[u8]), Stop>
-    ensures { Reads (constant_format depth_limit) (Blames bytes.now) (λ r. (r.0, r.1.now)) bytes.now
-        result }
-{
-    read_constant(alloc, bytes, MAX_DEPTH)
 }
 
 /// So many constants.
@@ -46,18 +38,18 @@ fn read_constant_rows<'a, A: Allocator + Copy>(
     builder: &mut Builder<A>,
     count: u16,
     bytes: &'a [u8],
-) -> Result<&'a [u8], Stop>
+) -> Result<&'a [u8], FileStop>
     requires { builder.old.constants ≡ [] }
     ensures ok { IfOk result (λ rest. Begins (rows (constant_format depth_limit) count) bytes.now
         builder.new.constants rest.now) }
     ensures kept { IfOk result (λ rest. builder.new ≡ with_constants builder.old
         builder.new.constants) }
     ensures refused { IfErr result (λ stop. IsStop (rows (constant_format depth_limit) count)
-        bytes.now (Blames bytes.now) stop) }
+        bytes.now (Blames (many constants count) bytes.now) stop) }
 {
     let mut rest = bytes;
     for _read in 0..count {
-        let (constant, behind) = read_term(alloc, rest)?;
+        let (constant, behind) = read_constant(alloc, rest, MAX_DEPTH)?;
         match builder.constant(constant) {
             Ok(_number) => {}
             Err(refused) => return Err(memory_alone(refused.fault)),
@@ -72,13 +64,13 @@ pub(crate) fn read_constants<'a, A: Allocator + Copy>(
     alloc: A,
     builder: &mut Builder<A>,
     bytes: &'a [u8],
-) -> Result<&'a [u8], Stop>
+) -> Result<&'a [u8], FileStop>
     requires { builder.old.constants ≡ [] }
     ensures ok { IfOk result (λ rest. Begins constants_format bytes.now builder.new.constants
         rest.now) }
     ensures kept { IfOk result (λ rest. builder.new ≡ with_constants builder.old
         builder.new.constants) }
-    ensures refused { IfErr result (λ stop. IsStop constants_format bytes.now (Blames bytes.now)
+    ensures refused { IfErr result (λ stop. IsStop constants_format bytes.now (Blames (a_count constants) bytes.now)
         stop) }
 {
     let (count, rest) = read_u16(bytes)?;
@@ -90,14 +82,14 @@ fn read_instr_rows<'a, A: Allocator>(
     builder: &mut Builder<A>,
     count: u16,
     bytes: &'a [u8],
-) -> Result<&'a [u8], Stop>
+) -> Result<&'a [u8], FileStop>
     requires { builder.old.instructions ≡ [] }
     ensures ok { IfOk result (λ rest. Begins (rows instruction_format count) bytes.now
         builder.new.instructions rest.now) }
     ensures kept { IfOk result (λ rest. builder.new ≡ with_instructions builder.old
         builder.new.instructions) }
     ensures refused { IfErr result (λ stop. IsStop (rows instruction_format count) bytes.now
-        (Blames bytes.now) stop) }
+        (Blames (many instructions count) bytes.now) stop) }
 {
     let mut rest = bytes;
     for _read in 0..count {
@@ -115,13 +107,13 @@ fn read_instr_rows<'a, A: Allocator>(
 pub(crate) fn read_instrs<'a, A: Allocator>(
     builder: &mut Builder<A>,
     bytes: &'a [u8],
-) -> Result<&'a [u8], Stop>
+) -> Result<&'a [u8], FileStop>
     requires { builder.old.instructions ≡ [] }
     ensures ok { IfOk result (λ rest. Begins instructions_format bytes.now
         builder.new.instructions rest.now) }
     ensures kept { IfOk result (λ rest. builder.new ≡ with_instructions builder.old
         builder.new.instructions) }
-    ensures refused { IfErr result (λ stop. IsStop instructions_format bytes.now (Blames bytes.now)
+    ensures refused { IfErr result (λ stop. IsStop instructions_format bytes.now (Blames (a_count instructions) bytes.now)
         stop) }
 {
     let (count, rest) = read_u16(bytes)?;
@@ -134,18 +126,17 @@ fn read_frame<'a, A: Allocator + Copy>(
     builder: &mut Builder<A>,
     last: Option<u16>,
     bytes: &'a [u8],
-) -> Result<(u16, &'a [u8]), Stop>
+) -> Result<(u16, &'a [u8]), FileStop>
     requires last { LastIs frame_number builder.old.frames last }
     requires rise { Rise frame_number builder.old.frames }
     requires few { length builder.old.frames < most_parts }
     ensures ok { IfOk result (λ r. IsNextRead builder.old builder.new bytes.now r.0 r.1.now) }
     ensures refused { IfErr result (λ stop. IsStop (such frame_format (λ f. Rise frame_number
-        (builder.old.frames ++ f ∷ []))) bytes.now (Blames (flat_map frame_bytes builder.old.frames
-        ++ bytes.now)) stop) }
+        (builder.old.frames ++ f ∷ []))) bytes.now (Blames (a_frame builder.old.frames) bytes.now) stop) }
 {
     let (pc, rest) = read_u16(bytes)?;
     if !is_above(last, pc) {
-        return Err(Stop::At(Cause::NotCanonical, bytes.len()));
+        return Err(FileStop::At(FileCause::NotCanonical, bytes.len()));
     }
     let (frame, rest) = read_frame_at(alloc, pc, rest)?;
     match builder.frame(frame) {
@@ -160,13 +151,13 @@ fn read_frame_rows<'a, A: Allocator + Copy>(
     builder: &mut Builder<A>,
     count: u16,
     bytes: &'a [u8],
-) -> Result<&'a [u8], Stop>
+) -> Result<&'a [u8], FileStop>
     requires { builder.old.frames ≡ [] }
     ensures ok { IfOk result (λ rest. Begins (such (rows frame_format count) (Rise frame_number))
         bytes.now builder.new.frames rest.now) }
     ensures kept { IfOk result (λ rest. builder.new ≡ with_frames builder.old builder.new.frames) }
     ensures refused { IfErr result (λ stop. IsStop (such (rows frame_format count)
-        (Rise frame_number)) bytes.now (Blames bytes.now) stop) }
+        (Rise frame_number)) bytes.now (Blames (many frames count) bytes.now) stop) }
 {
     let mut last = None;
     let mut rest = bytes;
@@ -183,11 +174,11 @@ pub(crate) fn read_frames<'a, A: Allocator + Copy>(
     alloc: A,
     builder: &mut Builder<A>,
     bytes: &'a [u8],
-) -> Result<&'a [u8], Stop>
+) -> Result<&'a [u8], FileStop>
     requires { builder.old.frames ≡ [] }
     ensures ok { IfOk result (λ rest. Begins frames_format bytes.now builder.new.frames rest.now) }
     ensures kept { IfOk result (λ rest. builder.new ≡ with_frames builder.old builder.new.frames) }
-    ensures refused { IfErr result (λ stop. IsStop frames_format bytes.now (Blames bytes.now)
+    ensures refused { IfErr result (λ stop. IsStop frames_format bytes.now (Blames (a_count frames) bytes.now)
         stop) }
 {
     let (count, rest) = read_u16(bytes)?;

@@ -1,16 +1,16 @@
 //! Constants at the front of a file's rest.
 ghost use Rattle.std.specs.Prelude.{◌≡◌, ◌≢◌, ◌<◌, ◌≤◌, ◌↔◌, ◌++◌, ◌∷◌, [], IsTrue, ◌*◌, max, vec_len, vec_capacity};
-ghost use Rattle.std.specs.List.{flat_map, AllByRecursion};
 ghost use Rattle.term_core.specs.declared.fault.Fault.TheVariants as Refusal;
-ghost use Rattle.code_format.specs.Spelling.{pair_bytes};
 ghost use Rattle.code_format.specs.Format.{Begins, rows, such};
 ghost use Rattle.code_format.specs.Formats.{u8_format, u16_format, length_format, constant_format, utf8_format, binary_format, pair_format, RisingPairs};
-ghost use Rattle.code_file.specs.Causes.{BeginsWith};
-ghost use Rattle.code_file.specs.Reads.{Reads, Blames, BlamesWithin, BlamesBehind, AtTerm, BehindPairs, InPairs, limit_stop};
-ghost use Rattle.code_file.specs.declared.stop.Stop.TheVariants.{Memory as OutOfMemory};
+ghost use Rattle.code_file.specs.Due.{BeginsWith};
+ghost use Rattle.code_file.specs.Due.Item.{many, a_term, a_pair, a_text_size, a_list_length, a_binary_size};
+ghost use Rattle.code_file.specs.Due.Row.{terms, pairs};
+ghost use Rattle.code_file.specs.Reads.{Reads, Blames, limit_stop};
+ghost use Rattle.code_file.specs.declared.stop.FileStop.TheVariants.{Memory as OutOfMemory};
 
 use crate::number::{read_i64, read_u8, read_u16, read_u32, take};
-use crate::stop::{Cause, Stop};
+use crate::stop::{FileCause, FileStop};
 use std::alloc::{AllocError, Allocator};
 use std::str::from_utf8;
 use term_build::{atom_of_text, map_of_pairs};
@@ -21,69 +21,69 @@ use term_order::is_key_above;
 const LIST: u8 = 6;
 
 /// Why a term wasn't made whose parts are within the limits.
-fn memory_alone(fault: Fault) -> Stop
+fn memory_alone(fault: Fault) -> FileStop
     requires { fault ≡ Refusal.Memory }
     ensures { result ≡ OutOfMemory }
 {
     match fault {
-        Fault::Memory => Stop::Memory,
+        Fault::Memory => FileStop::Memory,
         Fault::TooDeep | Fault::TooLong | Fault::DuplicateKey => unreachable!(),
     }
 }
 
 /// Why an atom wasn't made whose characters stand where so many bytes are left.
-fn atom_stop(fault: Fault, left: usize) -> Stop
+fn atom_stop(fault: Fault, left: usize) -> FileStop
     requires deep { fault ≢ Refusal.TooDeep }
     requires twice { fault ≢ Refusal.DuplicateKey }
     ensures { result ≡ limit_stop fault left }
 {
     match fault {
-        Fault::Memory => Stop::Memory,
-        Fault::TooLong => Stop::At(Cause::Limit, left),
+        Fault::Memory => FileStop::Memory,
+        Fault::TooLong => FileStop::At(FileCause::Limit, left),
         Fault::TooDeep | Fault::DuplicateKey => unreachable!(),
     }
 }
 
-/// The text of an atom, behind the tag with which these bytes begin.
-fn read_text<'a>(bytes: &[u8], rest: &'a [u8]) -> Result<(&'a str, &'a [u8]), Stop>
-    requires { Begins u8_format bytes.now 2 rest.now }
-    ensures { Reads utf8_format (Blames bytes.now) (λ r. (r.0.now, r.1.now)) rest.now result }
+/// The text of an atom.
+fn read_text(bytes: &[u8]) -> Result<(&str, &[u8]), FileStop>
+    ensures { Reads utf8_format (Blames a_text_size bytes.now) (λ r. (r.0.now, r.1.now)) bytes.now
+        result }
 {
-    let (count, behind) = read_u16(rest)?;
-    let (text, next) = take(behind, usize::from(count))?;
+    let (count, behind) = read_u16(bytes)?;
+    let (text, rest) = take(behind, usize::from(count))?;
     match from_utf8(text) {
-        Ok(text) => Ok((text, next)),
-        Err(_) => Err(Stop::At(Cause::NotCanonical, behind.len())),
+        Ok(text) => Ok((text, rest)),
+        Err(_) => Err(FileStop::At(FileCause::NotCanonical, behind.len())),
     }
 }
 
-/// The bytes of a binary, behind the tag with which these bytes begin.
-fn read_binary_bytes<'a>(bytes: &[u8], rest: &'a [u8]) -> Result<(&'a [u8], &'a [u8]), Stop>
-    requires { Begins u8_format bytes.now 7 rest.now }
-    ensures { Reads binary_format (Blames bytes.now) (λ r. (r.0.now, r.1.now)) rest.now result }
+/// The bytes of a binary.
+fn read_binary_bytes(bytes: &[u8]) -> Result<(&[u8], &[u8]), FileStop>
+    ensures { Reads binary_format (Blames a_binary_size bytes.now) (λ r. (r.0.now, r.1.now))
+        bytes.now result }
 {
-    let (count, behind) = read_u32(rest)?;
+    let (count, behind) = read_u32(bytes)?;
     let count = count as usize;
     if count > MAX_BINARY {
-        return Err(Stop::At(Cause::Limit, rest.len()));
+        return Err(FileStop::At(FileCause::Limit, bytes.len()));
     }
-    let (content, next) = take(behind, count)?;
-    Ok((content, next))
+    let (content, rest) = take(behind, count)?;
+    Ok((content, rest))
 }
 
-/// How many elements a list has, behind the tag with which these bytes begin.
-fn read_length<'a>(bytes: &[u8], rest: &'a [u8]) -> Result<(u32, &'a [u8]), Stop>
-    requires { Begins u8_format bytes.now 6 rest.now }
-    ensures { Reads length_format (Blames bytes.now) (λ r. (r.0, r.1.now)) rest.now result }
+/// How many elements a list has.
+fn read_length(bytes: &[u8]) -> Result<(u32, &[u8]), FileStop>
+    ensures { Reads length_format (Blames a_list_length bytes.now) (λ r. (r.0, r.1.now)) bytes.now
+        result }
 {
-    let (count, behind) = read_u32(rest)?;
+    let (count, rest) = read_u32(bytes)?;
     if count == 0 {
-        return Err(Stop::At(Cause::NotCanonical, rest.len()));
+        return Err(FileStop::At(FileCause::NotCanonical, bytes.len()));
     }
     if count as usize > MAX_LIST {
-        return Err(Stop::At(Cause::Limit, rest.len()));
+        return Err(FileStop::At(FileCause::Limit, bytes.len()));
     }
-    Ok((count, behind))
+    Ok((count, rest))
 }
 
 /// An integer, behind its tag.
@@ -91,10 +91,10 @@ fn read_integer<'a, A: Allocator>(
     bytes: &[u8],
     rest: &'a [u8],
     room: u8,
-) -> Result<(Term<A>, &'a [u8]), Stop>
+) -> Result<(Term<A>, &'a [u8]), FileStop>
     requires tag { Begins u8_format bytes.now 1 rest.now }
     requires room { 0 < room }
-    ensures { Reads (constant_format room) (BlamesWithin room bytes.now) (λ r. (r.0, r.1.now))
+    ensures { Reads (constant_format room) (Blames (a_term room) bytes.now) (λ r. (r.0, r.1.now))
         bytes.now result }
 {
     let (value, behind) = read_i64(rest)?;
@@ -107,13 +107,13 @@ fn read_atom<'a, A: Allocator + Copy>(
     bytes: &[u8],
     rest: &'a [u8],
     room: u8,
-) -> Result<(Term<A>, &'a [u8]), Stop>
+) -> Result<(Term<A>, &'a [u8]), FileStop>
     requires tag { Begins u8_format bytes.now 2 rest.now }
     requires room { 0 < room }
-    ensures { Reads (constant_format room) (BlamesWithin room bytes.now) (λ r. (r.0, r.1.now))
+    ensures { Reads (constant_format room) (Blames (a_term room) bytes.now) (λ r. (r.0, r.1.now))
         bytes.now result }
 {
-    let (text, behind) = read_text(bytes, rest)?;
+    let (text, behind) = read_text(rest)?;
     match atom_of_text(alloc, text) {
         Ok(atom) => {
             // Asked for the proof: a term is within its limits.
@@ -130,13 +130,13 @@ fn read_binary<'a, A: Allocator + Copy>(
     bytes: &[u8],
     rest: &'a [u8],
     room: u8,
-) -> Result<(Term<A>, &'a [u8]), Stop>
+) -> Result<(Term<A>, &'a [u8]), FileStop>
     requires tag { Begins u8_format bytes.now 7 rest.now }
     requires room { 0 < room }
-    ensures { Reads (constant_format room) (BlamesWithin room bytes.now) (λ r. (r.0, r.1.now))
+    ensures { Reads (constant_format room) (Blames (a_term room) bytes.now) (λ r. (r.0, r.1.now))
         bytes.now result }
 {
-    let (content, behind) = read_binary_bytes(bytes, rest)?;
+    let (content, behind) = read_binary_bytes(rest)?;
     match Term::binary(alloc, Vec::from_slice(alloc, content)?) {
         Ok(binary) => {
             // Asked for the proof: a term is within its limits.
@@ -163,13 +163,13 @@ pub fn read_constant<A: Allocator + Copy>(
     alloc: A,
     bytes: &[u8],
     room: u8,
-) -> Result<(Term<A>, &[u8]), Stop>
-    ensures { Reads (constant_format room) (BlamesWithin room bytes.now) (λ r. (r.0, r.1.now))
+) -> Result<(Term<A>, &[u8]), FileStop>
+    ensures { Reads (constant_format room) (Blames (a_term room) bytes.now) (λ r. (r.0, r.1.now))
         bytes.now result }
 {
     let (tag, rest) = read_u8(bytes)?;
     if room == 0 {
-        return Err(Stop::At(Cause::Limit, bytes.len()));
+        return Err(FileStop::At(FileCause::Limit, bytes.len()));
     }
     match tag {
         1 => read_integer(bytes, rest, room),
@@ -179,7 +179,7 @@ pub fn read_constant<A: Allocator + Copy>(
         5 => Ok((Term::nil(), rest)),
         LIST => read_list(alloc, bytes, rest, room),
         7 => read_binary(alloc, bytes, rest, room),
-        _ => Err(Stop::At(Cause::BadOpcode, bytes.len())),
+        _ => Err(FileStop::At(FileCause::BadOpcode, bytes.len())),
     }
 }
 
@@ -214,8 +214,8 @@ fn read_elements<A: Allocator + Copy>(
     count: u32,
     bytes: &[u8],
     room: u8,
-) -> Result<(Vec<Term<A>, A>, &[u8]), Stop>
-    ensures { Reads (rows (constant_format room) count) (BlamesBehind (AtTerm count) room bytes.now)
+) -> Result<(Vec<Term<A>, A>, &[u8]), FileStop>
+    ensures { Reads (rows (constant_format room) count) (Blames (many (terms room) count) bytes.now)
         (λ r. (r.0.items, r.1.now)) bytes.now result }
 {
     let mut elements = Vec::with_capacity(alloc, first_places(count, FIRST_TERMS))?;
@@ -237,11 +237,11 @@ fn read_tuple_of_one<'a, A: Allocator + Copy>(
     rest: &[u8],
     behind: &'a [u8],
     room: u8,
-) -> Result<(Term<A>, &'a [u8]), Stop>
+) -> Result<(Term<A>, &'a [u8]), FileStop>
     requires tag { Begins u8_format bytes.now 3 rest.now }
     requires count { Begins u16_format rest.now 1 behind.now }
     requires room { 0 < room }
-    ensures { Reads (constant_format room) (BlamesWithin room bytes.now) (λ r. (r.0, r.1.now))
+    ensures { Reads (constant_format room) (Blames (a_term room) bytes.now) (λ r. (r.0, r.1.now))
         bytes.now result }
 {
     let (element, behind) = read_constant(alloc, behind, room - 1)?;
@@ -259,11 +259,11 @@ fn read_tuple_of_two<'a, A: Allocator + Copy>(
     rest: &[u8],
     behind: &'a [u8],
     room: u8,
-) -> Result<(Term<A>, &'a [u8]), Stop>
+) -> Result<(Term<A>, &'a [u8]), FileStop>
     requires tag { Begins u8_format bytes.now 3 rest.now }
     requires count { Begins u16_format rest.now 2 behind.now }
     requires room { 0 < room }
-    ensures { Reads (constant_format room) (BlamesWithin room bytes.now) (λ r. (r.0, r.1.now))
+    ensures { Reads (constant_format room) (Blames (a_term room) bytes.now) (λ r. (r.0, r.1.now))
         bytes.now result }
 {
     let (first, after_first) = read_constant(alloc, behind, room - 1)?;
@@ -282,11 +282,11 @@ fn read_tuple_of_three<'a, A: Allocator + Copy>(
     rest: &[u8],
     behind: &'a [u8],
     room: u8,
-) -> Result<(Term<A>, &'a [u8]), Stop>
+) -> Result<(Term<A>, &'a [u8]), FileStop>
     requires tag { Begins u8_format bytes.now 3 rest.now }
     requires count { Begins u16_format rest.now 3 behind.now }
     requires room { 0 < room }
-    ensures { Reads (constant_format room) (BlamesWithin room bytes.now) (λ r. (r.0, r.1.now))
+    ensures { Reads (constant_format room) (Blames (a_term room) bytes.now) (λ r. (r.0, r.1.now))
         bytes.now result }
 {
     let (first, after_first) = read_constant(alloc, behind, room - 1)?;
@@ -306,11 +306,11 @@ fn read_tuple_of_four<'a, A: Allocator + Copy>(
     rest: &[u8],
     behind: &'a [u8],
     room: u8,
-) -> Result<(Term<A>, &'a [u8]), Stop>
+) -> Result<(Term<A>, &'a [u8]), FileStop>
     requires tag { Begins u8_format bytes.now 3 rest.now }
     requires count { Begins u16_format rest.now 4 behind.now }
     requires room { 0 < room }
-    ensures { Reads (constant_format room) (BlamesWithin room bytes.now) (λ r. (r.0, r.1.now))
+    ensures { Reads (constant_format room) (Blames (a_term room) bytes.now) (λ r. (r.0, r.1.now))
         bytes.now result }
 {
     let (first, after_first) = read_constant(alloc, behind, room - 1)?;
@@ -330,10 +330,10 @@ fn read_tuple<'a, A: Allocator + Copy>(
     bytes: &[u8],
     rest: &'a [u8],
     room: u8,
-) -> Result<(Term<A>, &'a [u8]), Stop>
+) -> Result<(Term<A>, &'a [u8]), FileStop>
     requires tag { Begins u8_format bytes.now 3 rest.now }
     requires room { 0 < room }
-    ensures { Reads (constant_format room) (BlamesWithin room bytes.now) (λ r. (r.0, r.1.now))
+    ensures { Reads (constant_format room) (Blames (a_term room) bytes.now) (λ r. (r.0, r.1.now))
         bytes.now result }
 {
     let (count, behind) = read_u16(rest)?;
@@ -358,16 +358,15 @@ fn read_pair<'a, A: Allocator + Copy>(
     before: &[(Term<A>, Term<A>)],
     bytes: &'a [u8],
     room: u8,
-) -> Result<((Term<A>, Term<A>), &'a [u8]), Stop>
-    requires fits { AllByRecursion (pair_format room).Fits before.now }
+) -> Result<((Term<A>, Term<A>), &'a [u8]), FileStop>
     requires rising { RisingPairs before.now }
     ensures { Reads (such (pair_format room) (λ p. RisingPairs (before.now ++ p ∷ [])))
-        (BlamesBehind (BehindPairs before.now) room (flat_map pair_bytes before.now ++ bytes.now))
+        (Blames (a_pair room before.now) bytes.now)
         (λ r. (r.0, r.1.now)) bytes.now result }
 {
     let (key, rest) = read_constant(alloc, bytes, room)?;
     if !is_key_above(before, &key) {
-        return Err(Stop::At(Cause::NotCanonical, bytes.len()));
+        return Err(FileStop::At(FileCause::NotCanonical, bytes.len()));
     }
     let (value, rest) = read_constant(alloc, rest, room)?;
     Ok(((key, value), rest))
@@ -380,9 +379,9 @@ fn read_pairs<A: Allocator + Copy>(
     count: u16,
     bytes: &[u8],
     room: u8,
-) -> Result<(Vec<(Term<A>, Term<A>), A>, &[u8]), Stop>
+) -> Result<(Vec<(Term<A>, Term<A>), A>, &[u8]), FileStop>
     ensures { Reads (such (rows (pair_format room) count) RisingPairs)
-        (BlamesBehind (InPairs count) room bytes.now) (λ r. (r.0.items, r.1.now)) bytes.now result }
+        (Blames (many (pairs room) count) bytes.now) (λ r. (r.0.items, r.1.now)) bytes.now result }
 {
     let mut pairs = Vec::with_capacity(alloc, first_places(u32::from(count), FIRST_PAIRS))?;
     let mut rest = bytes;
@@ -403,11 +402,11 @@ fn read_map_of_one<'a, A: Allocator + Copy>(
     rest: &[u8],
     behind: &'a [u8],
     room: u8,
-) -> Result<(Term<A>, &'a [u8]), Stop>
+) -> Result<(Term<A>, &'a [u8]), FileStop>
     requires tag { Begins u8_format bytes.now 4 rest.now }
     requires count { Begins u16_format rest.now 1 behind.now }
     requires room { 0 < room }
-    ensures { Reads (constant_format room) (BlamesWithin room bytes.now) (λ r. (r.0, r.1.now))
+    ensures { Reads (constant_format room) (Blames (a_term room) bytes.now) (λ r. (r.0, r.1.now))
         bytes.now result }
 {
     let before = Vec::new(alloc);
@@ -425,10 +424,10 @@ fn read_map<'a, A: Allocator + Copy>(
     bytes: &[u8],
     rest: &'a [u8],
     room: u8,
-) -> Result<(Term<A>, &'a [u8]), Stop>
+) -> Result<(Term<A>, &'a [u8]), FileStop>
     requires tag { Begins u8_format bytes.now 4 rest.now }
     requires room { 0 < room }
-    ensures { Reads (constant_format room) (BlamesWithin room bytes.now) (λ r. (r.0, r.1.now))
+    ensures { Reads (constant_format room) (Blames (a_term room) bytes.now) (λ r. (r.0, r.1.now))
         bytes.now result }
 {
     let (count, behind) = read_u16(rest)?;
@@ -449,16 +448,16 @@ fn read_list<'a, A: Allocator + Copy>(
     bytes: &[u8],
     rest: &'a [u8],
     room: u8,
-) -> Result<(Term<A>, &'a [u8]), Stop>
+) -> Result<(Term<A>, &'a [u8]), FileStop>
     requires tag { Begins u8_format bytes.now 6 rest.now }
     requires room { 0 < room }
-    ensures { Reads (constant_format room) (BlamesWithin room bytes.now) (λ r. (r.0, r.1.now))
+    ensures { Reads (constant_format room) (Blames (a_term room) bytes.now) (λ r. (r.0, r.1.now))
         bytes.now result }
 {
-    let (count, behind) = read_length(bytes, rest)?;
+    let (count, behind) = read_length(rest)?;
     let (elements, behind) = read_elements(alloc, count, behind, room - 1)?;
     if begins_list(behind) {
-        return Err(Stop::At(Cause::NotCanonical, behind.len()));
+        return Err(FileStop::At(FileCause::NotCanonical, behind.len()));
     }
     let (tail, behind) = read_constant(alloc, behind, room - 1)?;
     match Term::list(alloc, elements, Some(tail)) {

@@ -1,21 +1,21 @@
 //! Frames at the front of a file's rest.
 ghost use Rattle.std.specs.Prelude.{◌≡◌, ◌<◌, ◌↔◌, ◌++◌, ◌∷◌, [], IsTrue, IfSome, IfOk};
-ghost use Rattle.std.specs.List.{flat_map};
 ghost use Rattle.mcode.specs.Program.{Rise, place_number};
-ghost use Rattle.code_format.specs.Spelling.{place_bytes};
 ghost use Rattle.code_format.specs.Format.{rows, such};
 ghost use Rattle.code_format.specs.Formats.{u8_format, kind_format, place_format, places_format, slots_format, frame_rest_format};
+ghost use Rattle.code_file.specs.Due.Item.{a_count, many, a_depth, a_place, a_kind, a_slot};
+ghost use Rattle.code_file.specs.Due.Row.{places, slots};
 ghost use Rattle.code_file.specs.Reads.{Reads, Blames};
 ghost use Rattle.code_file.specs.Rising.{LastIs};
 
 use crate::number::{read_u8, read_u16};
-use crate::stop::{Cause, Stop};
+use crate::stop::{FileCause, FileStop};
 use mcode::{Frame, Kind, Places, Slots};
 use std::alloc::Allocator;
 
 /// A kind.
-fn read_kind(bytes: &[u8]) -> Result<(Kind, &[u8]), Stop>
-    ensures { Reads kind_format (Blames bytes.now) (λ r. (r.0, r.1.now)) bytes.now result }
+fn read_kind(bytes: &[u8]) -> Result<(Kind, &[u8]), FileStop>
+    ensures { Reads kind_format (Blames a_kind bytes.now) (λ r. (r.0, r.1.now)) bytes.now result }
 {
     let (tag, rest) = read_u8(bytes)?;
     match tag {
@@ -27,7 +27,7 @@ fn read_kind(bytes: &[u8]) -> Result<(Kind, &[u8]), Stop>
             let (size, rest) = read_u16(rest)?;
             Ok((Kind::Tuple(size), rest))
         }
-        _ => Err(Stop::At(Cause::BadOpcode, bytes.len())),
+        _ => Err(FileStop::At(FileCause::BadOpcode, bytes.len())),
     }
 }
 
@@ -62,15 +62,18 @@ fn last_slot(slots: &[u8]) -> Option<u16>
 }
 
 /// A place above those that stand before it.
-fn read_place<'a>(before: &[(u16, Kind)], bytes: &'a [u8]) -> Result<((u16, Kind), &'a [u8]), Stop>
+fn read_place<'a>(
+    before: &[(u16, Kind)],
+    bytes: &'a [u8],
+) -> Result<((u16, Kind), &'a [u8]), FileStop>
     requires { Rise place_number before.now }
     ensures { Reads (such place_format (λ p. Rise place_number (before.now ++ p ∷ [])))
-        (Blames (flat_map place_bytes before.now ++ bytes.now)) (λ r. (r.0, r.1.now)) bytes.now
+        (Blames (a_place before.now) bytes.now) (λ r. (r.0, r.1.now)) bytes.now
         result }
 {
     let (number, rest) = read_u16(bytes)?;
     if !is_above(last_place(before), number) {
-        return Err(Stop::At(Cause::NotCanonical, bytes.len()));
+        return Err(FileStop::At(FileCause::NotCanonical, bytes.len()));
     }
     let (kind, rest) = read_kind(rest)?;
     Ok(((number, kind), rest))
@@ -81,8 +84,8 @@ fn read_place_rows<A: Allocator>(
     alloc: A,
     count: u16,
     bytes: &[u8],
-) -> Result<(Vec<(u16, Kind), A>, &[u8]), Stop>
-    ensures { Reads (such (rows place_format count) (Rise place_number)) (Blames bytes.now)
+) -> Result<(Vec<(u16, Kind), A>, &[u8]), FileStop>
+    ensures { Reads (such (rows place_format count) (Rise place_number)) (Blames (many places count) bytes.now)
         (λ r. (r.0.items, r.1.now)) bytes.now result }
 {
     let mut places = Vec::new(alloc);
@@ -96,8 +99,8 @@ fn read_place_rows<A: Allocator>(
 }
 
 /// The places of a frame.
-fn read_places<A: Allocator>(alloc: A, bytes: &[u8]) -> Result<(Places<A>, &[u8]), Stop>
-    ensures { Reads places_format (Blames bytes.now) (λ r. (r.0, r.1.now)) bytes.now result }
+fn read_places<A: Allocator>(alloc: A, bytes: &[u8]) -> Result<(Places<A>, &[u8]), FileStop>
+    ensures { Reads places_format (Blames (a_count places) bytes.now) (λ r. (r.0, r.1.now)) bytes.now result }
 {
     let (count, rest) = read_u16(bytes)?;
     let (places, rest) = read_place_rows(alloc, count, rest)?;
@@ -105,14 +108,14 @@ fn read_places<A: Allocator>(alloc: A, bytes: &[u8]) -> Result<(Places<A>, &[u8]
 }
 
 /// A slot above those that stand before it.
-fn read_slot<'a>(before: &[u8], bytes: &'a [u8]) -> Result<(u8, &'a [u8]), Stop>
+fn read_slot<'a>(before: &[u8], bytes: &'a [u8]) -> Result<(u8, &'a [u8]), FileStop>
     requires { Rise (λ slot. slot) before.now }
     ensures { Reads (such u8_format (λ v. Rise (λ slot. slot) (before.now ++ v ∷ [])))
-        (Blames (before.now ++ bytes.now)) (λ r. (r.0, r.1.now)) bytes.now result }
+        (Blames (a_slot before.now) bytes.now) (λ r. (r.0, r.1.now)) bytes.now result }
 {
     let (slot, rest) = read_u8(bytes)?;
     if !is_above(last_slot(before), u16::from(slot)) {
-        return Err(Stop::At(Cause::NotCanonical, bytes.len()));
+        return Err(FileStop::At(FileCause::NotCanonical, bytes.len()));
     }
     Ok((slot, rest))
 }
@@ -122,8 +125,8 @@ fn read_slot_rows<A: Allocator>(
     alloc: A,
     count: u16,
     bytes: &[u8],
-) -> Result<(Vec<u8, A>, &[u8]), Stop>
-    ensures { Reads (such (rows u8_format count) (Rise (λ slot. slot))) (Blames bytes.now)
+) -> Result<(Vec<u8, A>, &[u8]), FileStop>
+    ensures { Reads (such (rows u8_format count) (Rise (λ slot. slot))) (Blames (many slots count) bytes.now)
         (λ r. (r.0.items, r.1.now)) bytes.now result }
 {
     let mut slots = Vec::new(alloc);
@@ -137,8 +140,8 @@ fn read_slot_rows<A: Allocator>(
 }
 
 /// The slots of a frame.
-fn read_slots<A: Allocator>(alloc: A, bytes: &[u8]) -> Result<(Slots<A>, &[u8]), Stop>
-    ensures { Reads slots_format (Blames bytes.now) (λ r. (r.0, r.1.now)) bytes.now result }
+fn read_slots<A: Allocator>(alloc: A, bytes: &[u8]) -> Result<(Slots<A>, &[u8]), FileStop>
+    ensures { Reads slots_format (Blames (a_count slots) bytes.now) (λ r. (r.0, r.1.now)) bytes.now result }
 {
     let (count, rest) = read_u16(bytes)?;
     let (slots, rest) = read_slot_rows(alloc, count, rest)?;
@@ -150,8 +153,8 @@ pub(crate) fn read_frame_at<A: Allocator + Copy>(
     alloc: A,
     pc: u16,
     bytes: &[u8],
-) -> Result<(Frame<A>, &[u8]), Stop>
-    ensures rest { Reads frame_rest_format (Blames bytes.now)
+) -> Result<(Frame<A>, &[u8]), FileStop>
+    ensures rest { Reads frame_rest_format (Blames a_depth bytes.now)
         (λ r. ((r.0.depth, (r.0.places, r.0.slots)), r.1.now)) bytes.now result }
     ensures pc { IfOk result (λ r. r.0.pc ≡ pc) }
 {

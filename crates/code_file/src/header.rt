@@ -6,7 +6,7 @@ ghost use Rattle.code_file.specs.declared.fault.FileFault.TheVariants.{Memory as
 
 use crate::fault::FileFault;
 use crate::number::read_u16;
-use crate::stop::{Cause, Stop};
+use crate::stop::{FileCause, FileStop};
 
 /// EMSC, with which each code file begins.
 const MAGIC: [u8; 4] = [69, 77, 83, 67];
@@ -14,18 +14,18 @@ const MAGIC: [u8; 4] = [69, 77, 83, 67];
 const VERSION: u16 = 1;
 
 /// Why reading a file of so many bytes stopped.
-pub(crate) fn file_fault(stop: Stop, size: usize) -> FileFault
+pub(crate) fn file_fault(stop: FileStop, size: usize) -> FileFault
     ensures { result ≡ fault_of stop size }
 {
-    let Stop::At(cause, left) = stop else {
+    let FileStop::At(cause, left) = stop else {
         return FileFault::Memory;
     };
     let at = size.saturating_sub(left);
     match cause {
-        Cause::Truncated => FileFault::Truncated(at),
-        Cause::BadOpcode => FileFault::BadOpcode(at),
-        Cause::NotCanonical => FileFault::NotCanonical(at),
-        Cause::Limit => FileFault::Limit,
+        FileCause::Truncated => FileFault::Truncated(at),
+        FileCause::BadOpcode => FileFault::BadOpcode(at),
+        FileCause::NotCanonical => FileFault::NotCanonical(at),
+        FileCause::Limit => FileFault::Limit,
     }
 }
 

@@ -2,28 +2,29 @@
 ghost use Rattle.code_format.specs.declared.opcode.Opcode.TheVariants as Opcode;
 ghost use Rattle.code_format.specs.Format.{Begins, both};
 ghost use Rattle.code_format.specs.Formats.{u16_format, opcode_format, function_format, arithmetic_format, instruction_format};
-ghost use Rattle.code_file.specs.Reads.{Reads, Blames};
+ghost use Rattle.code_file.specs.Due.Item.{an_instruction, a_function, an_arithmetic};
+ghost use Rattle.code_file.specs.Reads.{Reads, Blames, IsCut};
 
 use crate::number::{read_u8, read_u16};
-use crate::stop::{Cause, Stop};
+use crate::stop::{FileCause, FileStop};
 use code_format::Opcode;
 use mcode::Instr;
 use prims_table::{Arithmetic, Function};
 
 /// An opcode.
-fn read_opcode(bytes: &[u8]) -> Result<(Opcode, &[u8]), Stop>
-    ensures { Reads opcode_format (Blames bytes.now) (λ r. (r.0, r.1.now)) bytes.now result }
+fn read_opcode(bytes: &[u8]) -> Result<(Opcode, &[u8]), FileStop>
+    ensures { Reads opcode_format (Blames an_instruction bytes.now) (λ r. (r.0, r.1.now)) bytes.now result }
 {
     let (byte, rest) = read_u8(bytes)?;
     match Opcode::numbered(byte) {
         Some(opcode) => Ok((opcode, rest)),
-        None => Err(Stop::At(Cause::BadOpcode, bytes.len())),
+        None => Err(FileStop::At(FileCause::BadOpcode, bytes.len())),
     }
 }
 
 /// Two numbers.
-fn read_two(bytes: &[u8]) -> Result<((u16, u16), &[u8]), Stop>
-    ensures { Reads (both u16_format u16_format) (Blames bytes.now) (λ r. (r.0, r.1.now)) bytes.now
+fn read_two(bytes: &[u8]) -> Result<((u16, u16), &[u8]), FileStop>
+    ensures { Reads (both u16_format u16_format) (IsCut 4 bytes.now) (λ r. (r.0, r.1.now)) bytes.now
         result }
 {
     let (first, rest) = read_u16(bytes)?;
@@ -31,36 +32,36 @@ fn read_two(bytes: &[u8]) -> Result<((u16, u16), &[u8]), Stop>
     Ok(((first, second), rest))
 }
 
-/// A function of the table of calls, behind the opcode of a call, with which these bytes begin.
-fn read_function<'a>(bytes: &[u8], rest: &'a [u8]) -> Result<(Function, &'a [u8]), Stop>
-    requires { Begins opcode_format bytes.now Opcode.Call rest.now }
-    ensures { Reads function_format (Blames bytes.now) (λ r. (r.0, r.1.now)) rest.now result }
+/// A function of the table of calls.
+fn read_function(bytes: &[u8]) -> Result<(Function, &[u8]), FileStop>
+    ensures { Reads function_format (Blames a_function bytes.now) (λ r. (r.0, r.1.now)) bytes.now
+        result }
 {
-    let (byte, behind) = read_u8(rest)?;
+    let (byte, rest) = read_u8(bytes)?;
     match Function::numbered(byte) {
-        Some(function) => Ok((function, behind)),
-        None => Err(Stop::At(Cause::BadOpcode, rest.len())),
+        Some(function) => Ok((function, rest)),
+        None => Err(FileStop::At(FileCause::BadOpcode, bytes.len())),
     }
 }
 
-/// A function of two integers, behind the opcode of one, with which these bytes begin.
-fn read_arithmetic<'a>(bytes: &[u8], rest: &'a [u8]) -> Result<(Arithmetic, &'a [u8]), Stop>
-    requires { Begins opcode_format bytes.now Opcode.Arith rest.now }
-    ensures { Reads arithmetic_format (Blames bytes.now) (λ r. (r.0, r.1.now)) rest.now result }
+/// A function of two integers.
+fn read_arithmetic(bytes: &[u8]) -> Result<(Arithmetic, &[u8]), FileStop>
+    ensures { Reads arithmetic_format (Blames an_arithmetic bytes.now) (λ r. (r.0, r.1.now))
+        bytes.now result }
 {
-    let (byte, behind) = read_u8(rest)?;
+    let (byte, rest) = read_u8(bytes)?;
     match Arithmetic::numbered(byte) {
-        Some(arithmetic) => Ok((arithmetic, behind)),
-        None => Err(Stop::At(Cause::BadOpcode, rest.len())),
+        Some(arithmetic) => Ok((arithmetic, rest)),
+        None => Err(FileStop::At(FileCause::BadOpcode, bytes.len())),
     }
 }
 
 /// A call, behind its opcode.
-fn read_call<'a>(bytes: &[u8], rest: &'a [u8]) -> Result<(Instr, &'a [u8]), Stop>
+fn read_call<'a>(bytes: &[u8], rest: &'a [u8]) -> Result<(Instr, &'a [u8]), FileStop>
     requires { Begins opcode_format bytes.now Opcode.Call rest.now }
-    ensures { Reads instruction_format (Blames bytes.now) (λ r. (r.0, r.1.now)) bytes.now result }
+    ensures { Reads instruction_format (Blames an_instruction bytes.now) (λ r. (r.0, r.1.now)) bytes.now result }
 {
-    let (function, rest) = read_function(bytes, rest)?;
+    let (function, rest) = read_function(rest)?;
     let ((arguments, otherwise), rest) = read_two(rest)?;
     let instr = Instr::Call {
         function,
@@ -71,11 +72,11 @@ fn read_call<'a>(bytes: &[u8], rest: &'a [u8]) -> Result<(Instr, &'a [u8]), Stop
 }
 
 /// A function of two integers with where to go otherwise, behind its opcode.
-fn read_arith<'a>(bytes: &[u8], rest: &'a [u8]) -> Result<(Instr, &'a [u8]), Stop>
+fn read_arith<'a>(bytes: &[u8], rest: &'a [u8]) -> Result<(Instr, &'a [u8]), FileStop>
     requires { Begins opcode_format bytes.now Opcode.Arith rest.now }
-    ensures { Reads instruction_format (Blames bytes.now) (λ r. (r.0, r.1.now)) bytes.now result }
+    ensures { Reads instruction_format (Blames an_instruction bytes.now) (λ r. (r.0, r.1.now)) bytes.now result }
 {
-    let (function, rest) = read_arithmetic(bytes, rest)?;
+    let (function, rest) = read_arithmetic(rest)?;
     let (otherwise, rest) = read_u16(rest)?;
     Ok((
         Instr::Arith {
@@ -87,8 +88,8 @@ fn read_arith<'a>(bytes: &[u8], rest: &'a [u8]) -> Result<(Instr, &'a [u8]), Sto
 }
 
 /// An instruction.
-pub(crate) fn read_instr(bytes: &[u8]) -> Result<(Instr, &[u8]), Stop>
-    ensures { Reads instruction_format (Blames bytes.now) (λ r. (r.0, r.1.now)) bytes.now result }
+pub(crate) fn read_instr(bytes: &[u8]) -> Result<(Instr, &[u8]), FileStop>
+    ensures { Reads instruction_format (Blames an_instruction bytes.now) (λ r. (r.0, r.1.now)) bytes.now result }
 {
     let (opcode, rest) = read_opcode(bytes)?;
     match opcode {

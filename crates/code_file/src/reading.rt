@@ -3,6 +3,8 @@ ghost use Rattle.std.specs.Prelude.{◌≡◌, ◌≢◌, IfOk, IfErr};
 ghost use Rattle.mcode.specs.Building.{empty_program};
 ghost use Rattle.code_format.specs.Formats.{body_format};
 ghost use Rattle.code_format.specs.File.{Spells};
+ghost use Rattle.code_file.specs.Due.Item.{a_count};
+ghost use Rattle.code_file.specs.Due.Row.{constants};
 ghost use Rattle.code_file.specs.Reads.{Reads, Blames};
 ghost use Rattle.code_format.specs.Formats.{body_of};
 ghost use Rattle.code_file.specs.Faults.{IsNoFile, IsRead};
@@ -11,7 +13,7 @@ ghost use Rattle.code_file.specs.declared.fault.FileFault.TheVariants.{Memory as
 use crate::body::{read_constants, read_frames, read_instrs};
 use crate::fault::FileFault;
 use crate::header::{file_fault, read_header};
-use crate::stop::Stop;
+use crate::stop::FileStop;
 use mcode::{Builder, Code};
 use std::alloc::Allocator;
 
@@ -21,9 +23,9 @@ fn read_body<A: Allocator + Copy>(
     slots: u16,
     mut builder: Builder<A>,
     bytes: &[u8],
-) -> Result<(Code<A>, &[u8]), Stop>
+) -> Result<(Code<A>, &[u8]), FileStop>
     requires { builder ≡ empty_program slots }
-    ensures body { Reads body_format (Blames bytes.now) (λ r. (body_of r.0, r.1.now)) bytes.now
+    ensures body { Reads body_format (Blames (a_count constants) bytes.now) (λ r. (body_of r.0, r.1.now)) bytes.now
         result }
     ensures slots { IfOk result (λ r. r.0.slots ≡ slots) }
 {

@@ -1,12 +1,12 @@
 //! Why a reader stops.
 ghost use Rattle.std.specs.Prelude.{◌≡◌};
-ghost use Rattle.code_file.specs.declared.stop.Stop.TheVariants.{Memory};
+ghost use Rattle.code_file.specs.declared.stop.FileStop.TheVariants.{Memory};
 
 use std::alloc::{AllocError, AllocFailed};
 
 /// What is wrong at a place of a file.
 #[derive(Clone, Copy, PartialEq, Eq)]
-pub enum Cause {
+pub enum FileCause {
     /// The file ends too early.
     Truncated,
     /// A byte names no tag, opcode, function or kind.
@@ -19,25 +19,25 @@ pub enum Cause {
 
 /// Why reading stops: for want of memory, or at a place that is counted in the bytes from there to the end.
 #[derive(Clone, Copy)]
-pub enum Stop {
+pub enum FileStop {
     /// No memory was given.
     Memory,
     /// Something is wrong where so many bytes are left.
-    At(Cause, usize),
+    At(FileCause, usize),
 }
 
-impl From<AllocError> for Stop {
+impl From<AllocError> for FileStop {
     ghost from_gives = { λ _ e. e ≡ Memory };
 
-    fn from(_refused: AllocError) -> Stop {
-        Stop::Memory
+    fn from(_refused: AllocError) -> FileStop {
+        FileStop::Memory
     }
 }
 
-impl<T: Drop> From<AllocFailed<T>> for Stop {
+impl<T: Drop> From<AllocFailed<T>> for FileStop {
     ghost from_gives = { λ _ e. e ≡ Memory };
 
-    fn from(_refused: AllocFailed<T>) -> Stop {
-        Stop::Memory
+    fn from(_refused: AllocFailed<T>) -> FileStop {
+        FileStop::Memory
     }
 }

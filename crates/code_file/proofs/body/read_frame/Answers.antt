@@ -19,7 +19,7 @@ returns-then-not-is_above-clause-refused g c = frame_unordered c.args.builder.no
 pub returns-in_err-frame-clause-refused : goal.returns-in_err-frame-clause-refused
 returns-in_err-frame-clause-refused g c =
     let p = err_from_is_err_and c.from_residual-in_err-frame.result c.from_residual-in_err-frame.ensures.1 in
-    rw (p.1, p.2) (frame_rest_stop c.args.builder.now.frames c.args.bytes.now c.in_ok-pc.pc c.in_ok-pc.rest.now _ c.in_ok-pc.ensures c.in_err-frame.ensures.rest)
+    rw (p.1, p.2) (frame_rest_stop c.args.builder.now.frames c.args.last c.args.bytes.now c.in_ok-pc.pc c.in_ok-pc.rest.now _ c.requires.last c.in_ok-pc.ensures (c.if-not-is_above.ensures.0 refl) c.in_err-frame.ensures.rest)
 
 pub memory_alone-requires : goal.memory_alone-requires
 memory_alone-requires g c =

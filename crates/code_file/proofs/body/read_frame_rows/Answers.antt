@@ -1,10 +1,5 @@
 use Rattle.std.proofs.lemmas.Result.{err_from_is_err_and}
-use Rattle.mcode.specs.Program.{Rise, frame_number}
-use Rattle.code_format.specs.Formats.{frame_format}
-use Rattle.code_format.proofs.FrameLemmas.{frame_free}
-use Rattle.code_file.proofs.RowLemmas.{row_stop}
-use Rattle.code_file.proofs.RiseLemmas.{rise_front}
-use Rattle.code_file.proofs.BodyLemmas.{frames_start, frames_step}
+use Rattle.code_file.proofs.BodyLemmas.{frames_start, frames_step, frames_stop}
 use Rattle.code_file.proofs.body.read_frame_rows.Goals as goal
 
 pub loop-read-init : goal.loop-read-init
@@ -13,7 +8,7 @@ loop-read-init g c = frames_start c.args.builder.now c.args.bytes.now c.requires
 pub returns-in_err-pc-clause-refused : goal.returns-in_err-pc-clause-refused
 returns-in_err-pc-clause-refused g c =
     let p = err_from_is_err_and c.from_residual.result c.from_residual.ensures.1 in
-    rw (p.1, p.2) (row_stop frame_format (Rise frame_number) frame_free (rise_front frame_number) c.args.bytes.now c.loop-read.builder.frames c.loop-read.rest.now c.loop-read._read c.args.count _ c.loop-read.invariant.row c.loop-read-test.true c.in_err-pc.ensures.refused)
+    rw (p.1, p.2) (frames_stop c.args.bytes.now c.loop-read.builder.frames c.loop-read.rest.now c.loop-read._read c.args.count _ c.loop-read.invariant.row c.loop-read-test.true c.in_err-pc.ensures.refused)
 
 pub loop-read-preserved : goal.loop-read-preserved
 loop-read-preserved g c =

@@ -1,9 +1,14 @@
-use Rattle.std.proofs.lemmas.Result.{IfErr-weaker, IfOk-weaker}
+use Rattle.std.proofs.lemmas.Result.{err_from_is_err_and, IfErr-weaker, IfOk-weaker}
 use Rattle.mcode.specs.Program.{Rise, frame_number}
 use Rattle.code_format.specs.Formats.{u16_format, frame_format}
-use Rattle.code_format.proofs.NumberLemmas.{u16_free}
-use Rattle.code_file.proofs.RowLemmas.{such_counted_stop, such_counted_begins}
+use Rattle.code_file.specs.Due.Row.{frames}
+use Rattle.code_file.proofs.RowLemmas.{such_counted_short, such_counted_stop, such_counted_begins}
 use Rattle.code_file.proofs.body.read_frames.Goals as goal
+
+pub returns-in_err-count-clause-refused : goal.returns-in_err-count-clause-refused
+returns-in_err-count-clause-refused g c =
+    let p = err_from_is_err_and c.from_residual.result c.from_residual.ensures.1 in
+    rw (p.1, p.2) (such_counted_short frame_format (Rise frame_number) frames c.args.bytes.now _ c.in_err-count.ensures)
 
 pub returns-clause-ok : goal.returns-clause-ok
 returns-clause-ok g c =
@@ -11,4 +16,4 @@ returns-clause-ok g c =
 
 pub returns-clause-refused : goal.returns-clause-refused
 returns-clause-refused g c =
-    IfErr-weaker c.read_frame_rows.result _ _ (λ stop h. such_counted_stop u16_format frame_format (Rise frame_number) u16_free c.args.bytes.now c.in_ok-count.count c.in_ok-count.rest.now stop c.in_ok-count.ensures h) c.read_frame_rows.ensures.refused
+    IfErr-weaker c.read_frame_rows.result _ _ (λ stop h. such_counted_stop frame_format (Rise frame_number) frames c.args.bytes.now c.in_ok-count.count c.in_ok-count.rest.now stop c.in_ok-count.ensures h) c.read_frame_rows.ensures.refused

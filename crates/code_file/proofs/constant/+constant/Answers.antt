@@ -3,6 +3,7 @@ use Rattle.std.proofs.lemmas.Result.{err_from_is_err_and}
 use Rattle.term_core.specs.Datum.Datum.{tuple, map}
 use Rattle.term_core.specs.Datum.{items_of, entries_of, cells}
 use Rattle.code_format.specs.Formats.{constant_format, pair_format, RisingPairs}
+use Rattle.code_file.specs.Due.{BeginsWith}
 use Rattle.code_file.proofs.RowLemmas.{row_start, row_step, plain_step, not_so}
 use Rattle.code_file.proofs.LevelLemmas.{tag_short, level_past, nil_begins, tag_unnamed, elements_stop, tuple_short, tuple_stop, tuple_begins, row_of_one, row_of_two, row_of_three, row_of_four, tuple_of_row, made, pair_key_stop, pair_value_stop, key_unordered, pair_begins, pairs_stop, map_short, map_stop, map_begins, map_of_one, map_made, map_term, list_short, list_stop, tail_stop, tail_joined, tail_no_cell, list_begins}
 use Rattle.code_file.proofs.constant.+constant.Goals as goal
@@ -188,12 +189,12 @@ read_pair-returns-in_err-key g t c =
     rw (p.1, p.2) (pair_key_stop c.args.room c.args.before.now c.args.bytes.now _ c.in_err-key.ensures)
 
 pub read_pair-returns-then-not-is_key_above : goal.read_pair-returns-then-not-is_key_above
-read_pair-returns-then-not-is_key_above g t c = key_unordered c.args.room c.args.before.now c.args.bytes.now c.in_ok-key.key c.in_ok-key.rest.now (omega arith) c.requires.fits c.in_ok-key.ensures (not_so c.if-not-is_key_above.ensures.1)
+read_pair-returns-then-not-is_key_above g t c = key_unordered c.args.room c.args.before.now c.args.bytes.now c.in_ok-key.key c.in_ok-key.rest.now c.in_ok-key.ensures (not_so c.if-not-is_key_above.ensures.1)
 
 pub read_pair-returns-in_err-value : goal.read_pair-returns-in_err-value
 read_pair-returns-in_err-value g t c =
     let p = err_from_is_err_and c.from_residual-in_err-value.result c.from_residual-in_err-value.ensures.1 in
-    rw (p.1, p.2) (pair_value_stop c.args.room c.args.before.now c.args.bytes.now c.in_ok-key.key c.in_ok-key.rest.now _ c.in_ok-key.ensures c.in_err-value.ensures)
+    rw (p.1, p.2) (pair_value_stop c.args.room c.args.before.now c.args.bytes.now c.in_ok-key.key c.in_ok-key.rest.now _ c.in_ok-key.ensures (c.if-not-is_key_above.ensures.0 refl) c.in_err-value.ensures)
 
 pub read_pair-returns : goal.read_pair-returns
 read_pair-returns g t c = pair_begins c.args.room c.args.before.now c.args.bytes.now c.in_ok-key.key c.in_ok-key.rest.now c.in_ok-value.value c.in_ok-value.rest.now c.requires.rising (c.if-not-is_key_above.ensures.0 refl) c.in_ok-key.ensures c.in_ok-value.ensures
@@ -260,7 +261,7 @@ read_list-returns-then-begins_list g t c = tail_joined (c.args.room - 1) c.args.
 pub read_list-returns-in_err-tail : goal.read_list-returns-in_err-tail
 read_list-returns-in_err-tail g t c =
     let p = err_from_is_err_and c.from_residual-in_err-tail.result c.from_residual-in_err-tail.ensures.1 in
-    rw (p.1, p.2) (tail_stop (c.args.room - 1) c.args.room c.args.bytes.now c.args.rest.now c.in_ok-count.count c.in_ok-count.behind.now c.in_ok-elements.elements.items c.in_ok-elements.behind.now _ (omega arith) c.requires.tag c.in_ok-count.ensures c.in_ok-elements.ensures c.in_err-tail.ensures)
+    rw (p.1, p.2) (tail_stop (c.args.room - 1) c.args.room c.args.bytes.now c.args.rest.now c.in_ok-count.count c.in_ok-count.behind.now c.in_ok-elements.elements.items c.in_ok-elements.behind.now _ (omega arith) c.requires.tag c.in_ok-count.ensures c.in_ok-elements.ensures (not_so {P = BeginsWith (6 ∷ []) c.in_ok-elements.behind.now} c.if-begins_list.ensures.1) c.in_err-tail.ensures)
 
 pub read_list-returns-in-Ok : goal.read_list-returns-in-Ok
 read_list-returns-in-Ok g t c =

@@ -1,6 +1,11 @@
 use Rattle.std.proofs.lemmas.Result.{err_from_is_err_and}
-use Rattle.code_file.proofs.FrameLemmas.{frame_rest_places, frame_rest_slots}
+use Rattle.code_file.proofs.FrameLemmas.{depth_short, frame_rest_places, frame_rest_slots}
 use Rattle.code_file.proofs.frame.read_frame_at.Goals as goal
+
+pub returns-in_err-depth-clause-rest : goal.returns-in_err-depth-clause-rest
+returns-in_err-depth-clause-rest g c =
+    let p = err_from_is_err_and c.from_residual.result c.from_residual.ensures.1 in
+    rw (p.1, p.2) (depth_short c.args.bytes.now _ c.in_err-depth.ensures)
 
 pub returns-in_err-places-clause-rest : goal.returns-in_err-places-clause-rest
 returns-in_err-places-clause-rest g c =

@@ -1,6 +1,11 @@
 use Rattle.std.proofs.lemmas.Result.{err_from_is_err_and}
-use Rattle.code_file.proofs.FrameLemmas.{slots_row_stop, slots_begins}
+use Rattle.code_file.proofs.FrameLemmas.{slots_short, slots_row_stop, slots_begins}
 use Rattle.code_file.proofs.frame.read_slots.Goals as goal
+
+pub returns-in_err-count : goal.returns-in_err-count
+returns-in_err-count g c =
+    let p = err_from_is_err_and c.from_residual.result c.from_residual.ensures.1 in
+    rw (p.1, p.2) (slots_short c.args.bytes.now _ c.in_err-count.ensures)
 
 pub returns-in_err-slots : goal.returns-in_err-slots
 returns-in_err-slots g c =

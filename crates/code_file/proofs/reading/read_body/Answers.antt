@@ -1,26 +1,21 @@
 use Rattle.std.proofs.lemmas.Result.{err_from_is_err_and}
-use Rattle.code_format.specs.Format.{both}
-use Rattle.code_file.specs.Reads.{Blames}
-use Rattle.code_format.specs.Formats.{constants_format, instructions_format, frames_format}
-use Rattle.code_file.proofs.StopLemmas.{both_stop_first, both_stop_second}
-use Rattle.code_format.proofs.FileLemmas.{constants_free, instructions_free}
-use Rattle.code_file.proofs.BodyLemmas.{body_begins}
+use Rattle.code_file.proofs.BodyLemmas.{body_begins, first_stop, second_stop, third_stop}
 use Rattle.code_file.proofs.reading.read_body.Goals as goal
 
 pub returns-in_err-rest-clause-body : goal.returns-in_err-rest-clause-body
 returns-in_err-rest-clause-body g c =
     let p = err_from_is_err_and c.from_residual.result c.from_residual.ensures.1 in
-    rw (p.1, p.2) (both_stop_first constants_format (both instructions_format frames_format) c.args.bytes.now (Blames c.args.bytes.now) _ c.in_err-rest.ensures.refused)
+    rw (p.1, p.2) (first_stop c.args.bytes.now _ c.in_err-rest.ensures.refused)
 
 pub returns-in_err-rest-2-clause-body : goal.returns-in_err-rest-2-clause-body
 returns-in_err-rest-2-clause-body g c =
     let p = err_from_is_err_and c.from_residual-in_err-rest-2.result c.from_residual-in_err-rest-2.ensures.1 in
-    rw (p.1, p.2) (both_stop_second constants_format (both instructions_format frames_format) constants_free c.args.bytes.now c.read_constants.new.builder.constants c.in_ok-rest.rest.now _ c.in_ok-rest.ensures.ok (both_stop_first instructions_format frames_format c.in_ok-rest.rest.now (Blames c.in_ok-rest.rest.now) _ c.in_err-rest-2.ensures.refused))
+    rw (p.1, p.2) (second_stop c.args.bytes.now c.read_constants.new.builder.constants c.in_ok-rest.rest.now _ c.in_ok-rest.ensures.ok c.in_err-rest-2.ensures.refused)
 
 pub returns-in_err-rest-3-clause-body : goal.returns-in_err-rest-3-clause-body
 returns-in_err-rest-3-clause-body g c =
     let p = err_from_is_err_and c.from_residual-in_err-rest-3.result c.from_residual-in_err-rest-3.ensures.1 in
-    rw (p.1, p.2) (both_stop_second constants_format (both instructions_format frames_format) constants_free c.args.bytes.now c.read_constants.new.builder.constants c.in_ok-rest.rest.now _ c.in_ok-rest.ensures.ok (both_stop_second instructions_format frames_format instructions_free c.in_ok-rest.rest.now c.read_instrs.new.builder.instructions c.in_ok-rest-2.rest.now _ c.in_ok-rest-2.ensures.ok c.in_err-rest-3.ensures.refused))
+    rw (p.1, p.2) (third_stop c.args.bytes.now c.read_constants.new.builder.constants c.in_ok-rest.rest.now c.read_instrs.new.builder.instructions c.in_ok-rest-2.rest.now _ c.in_ok-rest.ensures.ok c.in_ok-rest-2.ensures.ok c.in_err-rest-3.ensures.refused)
 
 pub returns-clause-body : goal.returns-clause-body
 returns-clause-body g c =

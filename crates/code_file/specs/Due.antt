@@ -1,0 +1,153 @@
+-- What is due at a place of a code file, given what stands before it.
+use Rattle.std.specs.Prelude.{ℕ, suc, ◌≡◌, ◌<◌, ◌≤◌, List, [], ◌∷◌, ◌++◌, take}
+use Rattle.term_core.specs.Datum.{Datum}
+use Rattle.term_core.specs.Sizes.{depth_limit}
+use Rattle.term_order.specs.Keys.{IsAboveKeys}
+use Rattle.prims_table.specs.declared.prim.Function.{Function}
+use Rattle.prims_table.specs.declared.prim.Arithmetic.{Arithmetic}
+use Rattle.mcode.specs.Program.{Frame, Rise, place_number, frame_number, most_slots}
+use Rattle.mcode.specs.declared.kind.Kind.{Kind}
+use Rattle.mcode.specs.declared.instr.Instr.{Instr}
+use Rattle.code_format.specs.declared.opcode.Opcode.TheVariants as opcode
+use Rattle.code_format.specs.declared.opcode.Slotted.{Slotted}
+use Rattle.code_format.specs.declared.opcode.Single.{Single}
+use Rattle.code_format.specs.declared.opcode.Double.{Double}
+use Rattle.code_format.specs.File.{magic, version}
+use Rattle.code_format.specs.Format.{Begins, rows, counted, such}
+use Rattle.code_format.specs.Formats.{u8_format, u16_format, opcode_format, function_format, arithmetic_format, instruction_format, instructions_format, constant_format, constants_format, place_format, places_format, frame_format, pair_format, length_format, size_format, RisingPairs}
+
+-- these bytes begin so
+abbrev pub BeginsWith : List ℕ → List ℕ → Type 0
+BeginsWith front bytes = (more : List ℕ) × (bytes ≡ front ++ more)
+
+-- a number is above that of the last of these
+abbrev pub IsAbove : {X : Type 0} → (X → ℕ) → List X → ℕ → Type 0
+IsAbove number [] n = Unit {0}
+IsAbove number (x ∷ []) n = number x < n
+IsAbove number (x ∷ y ∷ xs) n = IsAbove number (y ∷ xs) n
+
+-- what stands behind a number that says how many there are; terms and pairs with so many levels left
+pub data Row : Type 0 where
+  constants : Row
+  instructions : Row
+  frames : Row
+  places : Row
+  slots : Row
+  terms : ℕ → Row
+  pairs : ℕ → Row
+
+-- what may be due
+pub data Item : Type 0 where
+  a_magic : Item
+  a_version : Item
+  a_slot_count : Item
+  -- the number of a row, and so many items of it
+  a_count : Row → Item
+  many : Row → ℕ → Item
+  -- a term with so many levels left, which as a list's tail is no list, and a pair behind these
+  a_term : ℕ → Item
+  a_tail : ℕ → Item
+  a_pair : ℕ → List (Datum × Datum) → Item
+  -- the number of an atom's bytes, so many of these, the number of a list's elements and of a binary's bytes
+  a_text_size : Item
+  a_text : ℕ → Item
+  a_list_length : Item
+  a_binary_size : Item
+  an_instruction : Item
+  a_function : Item
+  an_arithmetic : Item
+  -- a frame behind these, its depth, a place behind these, its kind, and a slot behind these
+  a_frame : List Frame → Item
+  a_depth : Item
+  a_place : List (ℕ × Kind) → Item
+  a_kind : Item
+  a_slot : List ℕ → Item
+  -- so many bytes, whatever they are
+  so_many : ℕ → Item
+
+-- Reading the file from its beginning, without fault so far, the item is due where the last argument is what is left of
+-- it.
+pub data Due (file : List ℕ) : Item → List ℕ → Type 0 where
+  start : BeginsWith (take 4 file) magic → Due file a_magic file
+  behind_magic : {t : List ℕ} → file ≡ magic ++ t → Due file a_version t
+  behind_version : {t u : List ℕ} → Due file a_version t → Begins u16_format t version u
+      → Due file a_slot_count u
+  behind_slot_count : {n : ℕ} {t u : List ℕ} → Due file a_slot_count t → Begins u16_format t n u
+      → n ≤ most_slots → Due file (a_count constants) u
+  behind_constants : {ds : List Datum} {t u : List ℕ} → Due file (a_count constants) t
+      → Begins constants_format t ds u → Due file (a_count instructions) u
+  behind_instructions : {is : List Instr} {t u : List ℕ} → Due file (a_count instructions) t
+      → Begins instructions_format t is u → Due file (a_count frames) u
+  behind_count : {row : Row} {n : ℕ} {t u : List ℕ} → Due file (a_count row) t
+      → Begins u16_format t n u → Due file (many row n) u
+  -- constants, and terms in terms
+  constant : {n k : ℕ} {ds : List Datum} {t u : List ℕ} → Due file (many constants n) t
+      → Begins (rows (constant_format depth_limit) k) t ds u → k < n
+      → Due file (a_term depth_limit) u
+  integer : {levels : ℕ} {t : List ℕ} → Due file (a_term (suc levels)) (1 ∷ t) → Due file (so_many 8) t
+  text_size : {levels : ℕ} {t : List ℕ} → Due file (a_term (suc levels)) (2 ∷ t)
+      → Due file a_text_size t
+  text : {n : ℕ} {t u : List ℕ} → Due file a_text_size t → Begins u16_format t n u
+      → Due file (a_text n) u
+  tuple : {levels : ℕ} {t : List ℕ} → Due file (a_term (suc levels)) (3 ∷ t)
+      → Due file (a_count (terms levels)) t
+  map : {levels : ℕ} {t : List ℕ} → Due file (a_term (suc levels)) (4 ∷ t)
+      → Due file (a_count (pairs levels)) t
+  list_length : {levels : ℕ} {t : List ℕ} → Due file (a_term (suc levels)) (6 ∷ t)
+      → Due file a_list_length t
+  elements : {levels n : ℕ} {t u : List ℕ} → Due file (a_term (suc levels)) (6 ∷ t)
+      → Begins length_format t n u → Due file (many (terms levels) n) u
+  tail : {levels : ℕ} {ds : List Datum} {t u : List ℕ} → Due file (a_term (suc levels)) (6 ∷ t)
+      → Begins (counted length_format (constant_format levels)) t ds u → Due file (a_tail levels) u
+  tail_term : {levels : ℕ} {t : List ℕ} → Due file (a_tail levels) t → ¬ BeginsWith (6 ∷ []) t
+      → Due file (a_term levels) t
+  binary_size : {levels : ℕ} {t : List ℕ} → Due file (a_term (suc levels)) (7 ∷ t)
+      → Due file a_binary_size t
+  content : {n : ℕ} {t u : List ℕ} → Due file a_binary_size t → Begins size_format t n u
+      → Due file (so_many n) u
+  term : {levels n k : ℕ} {ds : List Datum} {t u : List ℕ} → Due file (many (terms levels) n) t
+      → Begins (rows (constant_format levels) k) t ds u → k < n → Due file (a_term levels) u
+  pair : {levels n k : ℕ} {ps : List (Datum × Datum)} {t u : List ℕ}
+      → Due file (many (pairs levels) n) t
+      → Begins (such (rows (pair_format levels) k) RisingPairs) t ps u → k < n
+      → Due file (a_pair levels ps) u
+  key : {levels : ℕ} {ps : List (Datum × Datum)} {t : List ℕ} → Due file (a_pair levels ps) t
+      → Due file (a_term levels) t
+  value : {levels : ℕ} {ps : List (Datum × Datum)} {k : Datum} {t u : List ℕ}
+      → Due file (a_pair levels ps) t → Begins (constant_format levels) t k u → IsAboveKeys ps k
+      → Due file (a_term levels) u
+  -- instructions
+  instruction : {n k : ℕ} {is : List Instr} {t u : List ℕ} → Due file (many instructions n) t
+      → Begins (rows instruction_format k) t is u → k < n → Due file an_instruction u
+  argument_slot : {o : Slotted} {t u : List ℕ} → Due file an_instruction t
+      → Begins opcode_format t (opcode.Slotted o) u → Due file (so_many 1) u
+  argument : {o : Single} {t u : List ℕ} → Due file an_instruction t
+      → Begins opcode_format t (opcode.Single o) u → Due file (so_many 2) u
+  arguments : {o : Double} {t u : List ℕ} → Due file an_instruction t
+      → Begins opcode_format t (opcode.Double o) u → Due file (so_many 4) u
+  function : {t u : List ℕ} → Due file an_instruction t → Begins opcode_format t opcode.Call u
+      → Due file a_function u
+  behind_function : {f : Function} {t u : List ℕ} → Due file a_function t
+      → Begins function_format t f u → Due file (so_many 4) u
+  arithmetic : {t u : List ℕ} → Due file an_instruction t → Begins opcode_format t opcode.Arith u
+      → Due file an_arithmetic u
+  behind_arithmetic : {a : Arithmetic} {t u : List ℕ} → Due file an_arithmetic t
+      → Begins arithmetic_format t a u → Due file (so_many 2) u
+  -- frames
+  frame : {n k : ℕ} {fs : List Frame} {t u : List ℕ} → Due file (many frames n) t
+      → Begins (such (rows frame_format k) (Rise frame_number)) t fs u → k < n
+      → Due file (a_frame fs) u
+  depth : {pc : ℕ} {fs : List Frame} {t u : List ℕ} → Due file (a_frame fs) t
+      → Begins u16_format t pc u → IsAbove frame_number fs pc → Due file a_depth u
+  behind_depth : {n : ℕ} {t u : List ℕ} → Due file a_depth t → Begins u16_format t n u
+      → Due file (a_count places) u
+  place : {n k : ℕ} {ps : List (ℕ × Kind)} {t u : List ℕ} → Due file (many places n) t
+      → Begins (such (rows place_format k) (Rise place_number)) t ps u → k < n
+      → Due file (a_place ps) u
+  kind : {n : ℕ} {ps : List (ℕ × Kind)} {t u : List ℕ} → Due file (a_place ps) t
+      → Begins u16_format t n u → IsAbove place_number ps n → Due file a_kind u
+  tuple_size : {t : List ℕ} → Due file a_kind (5 ∷ t) → Due file (so_many 2) t
+  behind_places : {ps : List (ℕ × Kind)} {t u : List ℕ} → Due file (a_count places) t
+      → Begins places_format t ps u → Due file (a_count slots) u
+  slot : {n k : ℕ} {vs : List ℕ} {t u : List ℕ} → Due file (many slots n) t
+      → Begins (such (rows u8_format k) (Rise (λ v. v))) t vs u → k < n → Due file (a_slot vs) u
