@@ -1,3 +1,4 @@
+mod WorkedRows
 pub mod NumberLemmas
 pub mod StopLemmas
 pub mod RowLemmas
