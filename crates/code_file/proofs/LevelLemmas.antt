@@ -205,24 +205,6 @@ tuple_begins room level bytes r n t ds s next h k l =
 pub row_of_one : (room : ℕ) (bytes : List ℕ) (d : Datum) (s : List ℕ) → Begins (constant_format room) bytes d s → IsRowSoFar (constant_format room) (λ _. Unit {0}) bytes (d ∷ []) s 1
 row_of_one room bytes d s h = plain_step (constant_format room) bytes [] bytes 0 d s (row_start (constant_format room) (λ _. Unit {0}) bytes tt) h
 
--- rows of two, three and four terms
-pub row_of_two : (room : ℕ) (bytes : List ℕ) (d : Datum) (u : List ℕ) (e : Datum) (s : List ℕ) → Begins (constant_format room) bytes d u → Begins (constant_format room) u e s
-    → IsRowSoFar (constant_format room) (λ _. Unit {0}) bytes (d ∷ e ∷ []) s 2
-row_of_two room bytes d u e s h k = plain_step (constant_format room) bytes (d ∷ []) u 1 e s (row_of_one room bytes d u h) k
-
-pub row_of_three : (room : ℕ) (bytes : List ℕ) (d : Datum) (u : List ℕ) (e : Datum) (v : List ℕ) (f : Datum) (s : List ℕ) → Begins (constant_format room) bytes d u → Begins (constant_format room) u e v → Begins (constant_format room) v f s
-    → IsRowSoFar (constant_format room) (λ _. Unit {0}) bytes (d ∷ e ∷ f ∷ []) s 3
-row_of_three room bytes d u e v f s h k l = plain_step (constant_format room) bytes (d ∷ e ∷ []) v 2 f s (row_of_two room bytes d u e v h k) l
-
-pub row_of_four : (room : ℕ) (bytes : List ℕ) (d : Datum) (u : List ℕ) (e : Datum) (v : List ℕ) (f : Datum) (w : List ℕ) (g : Datum) (s : List ℕ) → Begins (constant_format room) bytes d u → Begins (constant_format room) u e v
-    → Begins (constant_format room) v f w → Begins (constant_format room) w g s → IsRowSoFar (constant_format room) (λ _. Unit {0}) bytes (d ∷ e ∷ f ∷ g ∷ []) s 4
-row_of_four room bytes d u e v f w g s h k l m = plain_step (constant_format room) bytes (d ∷ e ∷ f ∷ []) w 3 g s (row_of_three room bytes d u e v f w h k l) m
-
--- a tuple whose elements are a row that was read
-pub tuple_of_row : (room level n : ℕ) (bytes r t : List ℕ) (ds : List Datum) (s : List ℕ) → suc room ≡ level → Begins u8_format bytes 3 r → Begins u16_format r n t → IsRowSoFar (constant_format room) (λ _. Unit {0}) t ds s n
-    → Begins (constant_format level) bytes (tuple (items_of ds)) s
-tuple_of_row room level n bytes r t ds s next h k row = tuple_begins room level bytes r n t ds s next h k (plain_end (constant_format room) t ds s n row)
-
 -- ---- pairs and maps
 
 abbrev AbovePairs : List (Datum × Datum) → Datum × Datum → Type 0

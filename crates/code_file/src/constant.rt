@@ -1,6 +1,7 @@
 //! Constants at the front of a file's rest.
 ghost use Rattle.std.specs.Prelude.{◌≡◌, ◌≢◌, ◌<◌, ◌≤◌, ◌↔◌, ◌++◌, ◌∷◌, [], IsTrue, ◌*◌, max, vec_len, vec_capacity};
 ghost use Rattle.term_core.specs.declared.fault.Fault.TheVariants as Refusal;
+ghost use Rattle.term_core.specs.ShortRow.{row_items};
 ghost use Rattle.code_format.specs.Format.{Begins, rows, such};
 ghost use Rattle.code_format.specs.Formats.{u8_format, u16_format, length_format, constant_format, utf8_format, binary_format, pair_format, RisingPairs};
 ghost use Rattle.code_file.specs.Due.{BeginsWith};
@@ -14,22 +15,11 @@ use crate::stop::{FileCause, FileStop};
 use std::alloc::{AllocError, Allocator};
 use std::str::from_utf8;
 use term_build::{atom_of_text, map_of_pairs};
-use term_core::{Fault, MAX_BINARY, MAX_LIST, Term};
+use term_core::{Fault, MAX_BINARY, MAX_LIST, ShortRow, Term};
 use term_order::is_key_above;
 
 /// The tag of a list.
 const LIST: u8 = 6;
-
-/// Why a term wasn't made whose parts are within the limits.
-fn memory_alone(fault: Fault) -> FileStop
-    requires { fault ≡ Refusal.Memory }
-    ensures { result ≡ OutOfMemory }
-{
-    match fault {
-        Fault::Memory => FileStop::Memory,
-        Fault::TooDeep | Fault::TooLong | Fault::DuplicateKey => unreachable!(),
-    }
-}
 
 /// Why an atom wasn't made whose characters stand where so many bytes are left.
 fn atom_stop(fault: Fault, left: usize) -> FileStop
@@ -143,7 +133,7 @@ fn read_binary<'a, A: Allocator + Copy>(
             let _depth = binary.depth();
             Ok((binary, behind))
         }
-        Err(refused) => Err(memory_alone(refused.fault)),
+        Err(refused) => Err(FileStop::from(refused.fault.alloc_error())),
     }
 }
 
@@ -229,97 +219,52 @@ fn read_elements<A: Allocator + Copy>(
     Ok((elements, rest))
 }
 
-/// The tuple of one element, behind its tag and its count: without a row.
+/// One to four terms, one after the other: without a row of their own.
 #[cycle(constant)]
-fn read_tuple_of_one<'a, A: Allocator + Copy>(
+fn read_short_row<A: Allocator + Copy>(
     alloc: A,
+    count: u16,
     bytes: &[u8],
-    rest: &[u8],
-    behind: &'a [u8],
     room: u8,
-) -> Result<(Term<A>, &'a [u8]), FileStop>
-    requires tag { Begins u8_format bytes.now 3 rest.now }
-    requires count { Begins u16_format rest.now 1 behind.now }
-    requires room { 0 < room }
-    ensures { Reads (constant_format room) (Blames (a_term room) bytes.now) (λ r. (r.0, r.1.now))
-        bytes.now result }
+) -> Result<(ShortRow<A>, &[u8]), FileStop>
+    requires some { 0 < count }
+    requires few { count ≤ 4 }
+    ensures { Reads (rows (constant_format room) count) (Blames (many (terms room) count) bytes.now)
+        (λ r. (row_items r.0, r.1.now)) bytes.now result }
 {
-    let (element, behind) = read_constant(alloc, behind, room - 1)?;
-    match Term::tuple_of_one(alloc, element) {
-        Ok(tuple) => Ok((tuple, behind)),
-        Err(refused) => Err(memory_alone(refused.fault)),
+    let (first, behind) = read_constant(alloc, bytes, room)?;
+    let mut row = ShortRow::One([first]);
+    let mut rest = behind;
+    for _read in 1..count {
+        let (term, after) = read_constant(alloc, rest, room)?;
+        row = row.with(term);
+        rest = after;
     }
+    Ok((row, rest))
 }
 
-/// The tuple of two elements, behind its tag and its count: without a row.
+/// The tuple of one to four elements, behind its tag and its count.
 #[cycle(constant)]
-fn read_tuple_of_two<'a, A: Allocator + Copy>(
+fn read_short_tuple<'a, A: Allocator + Copy>(
     alloc: A,
     bytes: &[u8],
     rest: &[u8],
+    count: u16,
     behind: &'a [u8],
     room: u8,
 ) -> Result<(Term<A>, &'a [u8]), FileStop>
     requires tag { Begins u8_format bytes.now 3 rest.now }
-    requires count { Begins u16_format rest.now 2 behind.now }
+    requires count { Begins u16_format rest.now count behind.now }
+    requires some { 0 < count }
+    requires few { count ≤ 4 }
     requires room { 0 < room }
     ensures { Reads (constant_format room) (Blames (a_term room) bytes.now) (λ r. (r.0, r.1.now))
         bytes.now result }
 {
-    let (first, after_first) = read_constant(alloc, behind, room - 1)?;
-    let (second, behind) = read_constant(alloc, after_first, room - 1)?;
-    match Term::tuple_of_two(alloc, [first, second]) {
+    let (elements, behind) = read_short_row(alloc, count, behind, room - 1)?;
+    match Term::short_tuple(alloc, elements) {
         Ok(tuple) => Ok((tuple, behind)),
-        Err(refused) => Err(memory_alone(refused.fault)),
-    }
-}
-
-/// The tuple of three elements, behind its tag and its count: without a row.
-#[cycle(constant)]
-fn read_tuple_of_three<'a, A: Allocator + Copy>(
-    alloc: A,
-    bytes: &[u8],
-    rest: &[u8],
-    behind: &'a [u8],
-    room: u8,
-) -> Result<(Term<A>, &'a [u8]), FileStop>
-    requires tag { Begins u8_format bytes.now 3 rest.now }
-    requires count { Begins u16_format rest.now 3 behind.now }
-    requires room { 0 < room }
-    ensures { Reads (constant_format room) (Blames (a_term room) bytes.now) (λ r. (r.0, r.1.now))
-        bytes.now result }
-{
-    let (first, after_first) = read_constant(alloc, behind, room - 1)?;
-    let (second, after_second) = read_constant(alloc, after_first, room - 1)?;
-    let (third, behind) = read_constant(alloc, after_second, room - 1)?;
-    match Term::tuple_of_three(alloc, [first, second, third]) {
-        Ok(tuple) => Ok((tuple, behind)),
-        Err(refused) => Err(memory_alone(refused.fault)),
-    }
-}
-
-/// The tuple of four elements, behind its tag and its count: without a row.
-#[cycle(constant)]
-fn read_tuple_of_four<'a, A: Allocator + Copy>(
-    alloc: A,
-    bytes: &[u8],
-    rest: &[u8],
-    behind: &'a [u8],
-    room: u8,
-) -> Result<(Term<A>, &'a [u8]), FileStop>
-    requires tag { Begins u8_format bytes.now 3 rest.now }
-    requires count { Begins u16_format rest.now 4 behind.now }
-    requires room { 0 < room }
-    ensures { Reads (constant_format room) (Blames (a_term room) bytes.now) (λ r. (r.0, r.1.now))
-        bytes.now result }
-{
-    let (first, after_first) = read_constant(alloc, behind, room - 1)?;
-    let (second, after_second) = read_constant(alloc, after_first, room - 1)?;
-    let (third, after_third) = read_constant(alloc, after_second, room - 1)?;
-    let (fourth, behind) = read_constant(alloc, after_third, room - 1)?;
-    match Term::tuple_of_four(alloc, [first, second, third, fourth]) {
-        Ok(tuple) => Ok((tuple, behind)),
-        Err(refused) => Err(memory_alone(refused.fault)),
+        Err(refused) => Err(FileStop::from(refused.fault.alloc_error())),
     }
 }
 
@@ -337,17 +282,13 @@ fn read_tuple<'a, A: Allocator + Copy>(
         bytes.now result }
 {
     let (count, behind) = read_u16(rest)?;
-    match count {
-        1 => return read_tuple_of_one(alloc, bytes, rest, behind, room),
-        2 => return read_tuple_of_two(alloc, bytes, rest, behind, room),
-        3 => return read_tuple_of_three(alloc, bytes, rest, behind, room),
-        4 => return read_tuple_of_four(alloc, bytes, rest, behind, room),
-        _ => {}
+    if let 1..=4 = count {
+        return read_short_tuple(alloc, bytes, rest, count, behind, room);
     }
     let (elements, behind) = read_elements(alloc, u32::from(count), behind, room - 1)?;
     match Term::tuple(alloc, elements) {
         Ok(tuple) => Ok((tuple, behind)),
-        Err(refused) => Err(memory_alone(refused.fault)),
+        Err(refused) => Err(FileStop::from(refused.fault.alloc_error())),
     }
 }
 
@@ -413,7 +354,7 @@ fn read_map_of_one<'a, A: Allocator + Copy>(
     let ((key, value), behind) = read_pair(alloc, before.as_slice(), behind, room - 1)?;
     match Term::map_of_one(alloc, key, value) {
         Ok(map) => Ok((map, behind)),
-        Err(refused) => Err(memory_alone(refused.fault)),
+        Err(refused) => Err(FileStop::from(refused.fault.alloc_error())),
     }
 }
 
@@ -437,7 +378,7 @@ fn read_map<'a, A: Allocator + Copy>(
     let (pairs, behind) = read_pairs(alloc, count, behind, room - 1)?;
     match map_of_pairs(alloc, pairs) {
         Ok(map) => Ok((map, behind)),
-        Err(refused) => Err(memory_alone(refused.fault)),
+        Err(refused) => Err(FileStop::from(refused.fault.alloc_error())),
     }
 }
 
@@ -462,6 +403,6 @@ fn read_list<'a, A: Allocator + Copy>(
     let (tail, behind) = read_constant(alloc, behind, room - 1)?;
     match Term::list(alloc, elements, Some(tail)) {
         Ok(list) => Ok((list, behind)),
-        Err(refused) => Err(memory_alone(refused.fault)),
+        Err(refused) => Err(FileStop::from(refused.fault.alloc_error())),
     }
 }

@@ -2,10 +2,11 @@ use Rattle.std.proofs.Common.{◌-◌, [], ◌∷◌, ◌∙◌, arith, refl}
 use Rattle.std.proofs.lemmas.Result.{err_from_is_err_and}
 use Rattle.term_core.specs.Datum.Datum.{tuple, map}
 use Rattle.term_core.specs.Datum.{items_of, entries_of, cells}
+use Rattle.term_core.specs.ShortRow.{row_items}
 use Rattle.code_format.specs.Formats.{constant_format, pair_format, RisingPairs}
 use Rattle.code_file.specs.Due.{BeginsWith}
 use Rattle.code_file.proofs.RowLemmas.{row_start, row_step, plain_step, not_so}
-use Rattle.code_file.proofs.LevelLemmas.{tag_short, level_past, nil_begins, tag_unnamed, elements_stop, tuple_short, tuple_stop, tuple_begins, row_of_one, row_of_two, row_of_three, row_of_four, tuple_of_row, made, pair_key_stop, pair_value_stop, key_unordered, pair_begins, pairs_stop, map_short, map_stop, map_begins, map_of_one, map_made, map_term, list_short, list_stop, tail_stop, tail_joined, tail_no_cell, list_begins}
+use Rattle.code_file.proofs.LevelLemmas.{tag_short, level_past, nil_begins, tag_unnamed, elements_stop, tuple_short, tuple_stop, tuple_begins, row_of_one, made, pair_key_stop, pair_value_stop, key_unordered, pair_begins, pairs_stop, map_short, map_stop, map_begins, map_of_one, map_made, map_term, list_short, list_stop, tail_stop, tail_joined, tail_no_cell, list_begins}
 use Rattle.code_file.proofs.constant.+constant.Goals as goal
 
 pub read_constant-returns-in_err-tag : goal.read_constant-returns-in_err-tag
@@ -46,142 +47,44 @@ read_tuple-returns-in_err-elements g t c =
 pub read_tuple-returns-in-Ok : goal.read_tuple-returns-in-Ok
 read_tuple-returns-in-Ok g t c = rw c.in-Ok.ensures.ok (tuple_begins (c.args.room - 1) c.args.room c.args.bytes.now c.args.rest.now c.in_ok-count.count c.in_ok-count.behind.now c.in_ok-elements.elements.items c.in_ok-elements.behind.now (omega arith) c.requires.tag c.in_ok-count.ensures (rw c.from.ensures at c.in_ok-elements.ensures))
 
-pub read_tuple-memory_alone-requires : goal.read_tuple-memory_alone-requires
-read_tuple-memory_alone-requires g t c =
+pub read_tuple-alloc_error-requires : goal.read_tuple-alloc_error-requires
+read_tuple-alloc_error-requires g t c =
     let begun = tuple_begins (c.args.room - 1) c.args.room c.args.bytes.now c.args.rest.now c.in_ok-count.count c.in_ok-count.behind.now c.in_ok-elements.elements.items c.in_ok-elements.behind.now (omega arith) c.requires.tag c.in_ok-count.ensures (rw c.from.ensures at c.in_ok-elements.ensures) in
     made c.args.room c.args.bytes.now (tuple (items_of c.in_ok-elements.elements.items)) c.in_ok-elements.behind.now c.in-Err.refused.fault (omega arith) begun c.in-Err.ensures.refused.1
 
-pub read_tuple_of_one-returns-in_err-element : goal.read_tuple_of_one-returns-in_err-element
-read_tuple_of_one-returns-in_err-element g t c =
-    let room = c.args.room - 1 in
-    let row = row_start (constant_format room) (λ _. Unit {0}) c.args.behind.now tt in
+pub read_short_row-returns-in_err-first : goal.read_short_row-returns-in_err-first
+read_short_row-returns-in_err-first g t c =
+    let row = row_start (constant_format c.args.room) (λ _. Unit {0}) c.args.bytes.now tt in
     let p = err_from_is_err_and c.from_residual.result c.from_residual.ensures.1 in
-    rw (p.1, p.2) (tuple_stop room c.args.room c.args.bytes.now c.args.rest.now 1 c.args.behind.now _ (omega arith) c.requires.tag c.requires.count
-    (elements_stop room 1 c.args.behind.now [] c.args.behind.now 0 _ row (omega arith) c.in_err-element.ensures))
+    rw (p.1, p.2) (elements_stop c.args.room c.args.count c.args.bytes.now [] c.args.bytes.now 0 _ row c.requires.some c.in_err-first.ensures)
 
-pub read_tuple_of_one-returns-in-Ok : goal.read_tuple_of_one-returns-in-Ok
-read_tuple_of_one-returns-in-Ok g t c =
-    let room = c.args.room - 1 in
-    let row = row_of_one room c.args.behind.now c.in_ok-element.element c.in_ok-element.behind.now c.in_ok-element.ensures in
-    rw c.in-Ok.ensures.ok (tuple_of_row room c.args.room 1 c.args.bytes.now c.args.rest.now c.args.behind.now (c.in_ok-element.element ∷ []) c.in_ok-element.behind.now (omega arith) c.requires.tag c.requires.count row)
+pub read_short_row-loop-read-starts : goal.read_short_row-loop-read-starts
+read_short_row-loop-read-starts g t c =
+    row_of_one c.args.room c.args.bytes.now c.in_ok-first.first c.in_ok-first.behind.now c.in_ok-first.ensures
 
-pub read_tuple_of_one-memory_alone-requires : goal.read_tuple_of_one-memory_alone-requires
-read_tuple_of_one-memory_alone-requires g t c =
-    let room = c.args.room - 1 in
-    let row = row_of_one room c.args.behind.now c.in_ok-element.element c.in_ok-element.behind.now c.in_ok-element.ensures in
-    let begun = tuple_of_row room c.args.room 1 c.args.bytes.now c.args.rest.now c.args.behind.now (c.in_ok-element.element ∷ []) c.in_ok-element.behind.now (omega arith) c.requires.tag c.requires.count row in
-    made c.args.room c.args.bytes.now (tuple (items_of (c.in_ok-element.element ∷ []))) c.in_ok-element.behind.now c.in-Err.refused.fault (omega arith) begun c.in-Err.ensures.refused.1
+pub read_short_row-returns-in_err-term : goal.read_short_row-returns-in_err-term
+read_short_row-returns-in_err-term g t c =
+    let p = err_from_is_err_and c.from_residual-in_err-term.result c.from_residual-in_err-term.ensures.1 in
+    rw (p.1, p.2) (elements_stop c.args.room c.args.count c.args.bytes.now (row_items c.loop-read.row) c.loop-read.rest.now c.loop-read.read _ c.loop-read.invariant c.loop-read-test.true c.in_err-term.ensures)
 
-pub read_tuple_of_two-returns-in_err-first : goal.read_tuple_of_two-returns-in_err-first
-read_tuple_of_two-returns-in_err-first g t c =
-    let room = c.args.room - 1 in
-    let row = row_start (constant_format room) (λ _. Unit {0}) c.args.behind.now tt in
+pub read_short_row-loop-read-preserved : goal.read_short_row-loop-read-preserved
+read_short_row-loop-read-preserved g t c =
+    rw c.with.ensures
+    (plain_step (constant_format c.args.room) c.args.bytes.now (row_items c.loop-read.row) c.loop-read.rest.now c.loop-read.read c.in_ok-term.term c.in_ok-term.after.now c.loop-read.invariant c.in_ok-term.ensures)
+
+pub read_short_tuple-returns-in_err-elements : goal.read_short_tuple-returns-in_err-elements
+read_short_tuple-returns-in_err-elements g t c =
     let p = err_from_is_err_and c.from_residual.result c.from_residual.ensures.1 in
-    rw (p.1, p.2) (tuple_stop room c.args.room c.args.bytes.now c.args.rest.now 2 c.args.behind.now _ (omega arith) c.requires.tag c.requires.count
-    (elements_stop room 2 c.args.behind.now [] c.args.behind.now 0 _ row (omega arith) c.in_err-first.ensures))
+    rw (p.1, p.2) (tuple_stop (c.args.room - 1) c.args.room c.args.bytes.now c.args.rest.now c.args.count c.args.behind.now _ (omega arith) c.requires.tag c.requires.count c.in_err-elements.ensures)
 
-pub read_tuple_of_two-returns-in_err-second : goal.read_tuple_of_two-returns-in_err-second
-read_tuple_of_two-returns-in_err-second g t c =
-    let room = c.args.room - 1 in
-    let row = row_of_one room c.args.behind.now c.in_ok-first.first c.in_ok-first.after_first.now c.in_ok-first.ensures in
-    let p = err_from_is_err_and c.from_residual-in_err-second.result c.from_residual-in_err-second.ensures.1 in
-    rw (p.1, p.2) (tuple_stop room c.args.room c.args.bytes.now c.args.rest.now 2 c.args.behind.now _ (omega arith) c.requires.tag c.requires.count
-    (elements_stop room 2 c.args.behind.now (c.in_ok-first.first ∷ []) c.in_ok-first.after_first.now 1 _ row (omega arith) c.in_err-second.ensures))
+pub read_short_tuple-returns-in-Ok : goal.read_short_tuple-returns-in-Ok
+read_short_tuple-returns-in-Ok g t c =
+    rw c.in-Ok.ensures.ok (tuple_begins (c.args.room - 1) c.args.room c.args.bytes.now c.args.rest.now c.args.count c.args.behind.now (row_items c.in_ok-elements.elements) c.in_ok-elements.behind.now (omega arith) c.requires.tag c.requires.count c.in_ok-elements.ensures)
 
-pub read_tuple_of_two-returns-in-Ok : goal.read_tuple_of_two-returns-in-Ok
-read_tuple_of_two-returns-in-Ok g t c =
-    let room = c.args.room - 1 in
-    let row = row_of_two room c.args.behind.now c.in_ok-first.first c.in_ok-first.after_first.now c.in_ok-second.second c.in_ok-second.behind.now c.in_ok-first.ensures c.in_ok-second.ensures in
-    rw c.in-Ok.ensures.ok (tuple_of_row room c.args.room 2 c.args.bytes.now c.args.rest.now c.args.behind.now (c.in_ok-first.first ∷ c.in_ok-second.second ∷ []) c.in_ok-second.behind.now (omega arith) c.requires.tag c.requires.count row)
-
-pub read_tuple_of_two-memory_alone-requires : goal.read_tuple_of_two-memory_alone-requires
-read_tuple_of_two-memory_alone-requires g t c =
-    let room = c.args.room - 1 in
-    let row = row_of_two room c.args.behind.now c.in_ok-first.first c.in_ok-first.after_first.now c.in_ok-second.second c.in_ok-second.behind.now c.in_ok-first.ensures c.in_ok-second.ensures in
-    let begun = tuple_of_row room c.args.room 2 c.args.bytes.now c.args.rest.now c.args.behind.now (c.in_ok-first.first ∷ c.in_ok-second.second ∷ []) c.in_ok-second.behind.now (omega arith) c.requires.tag c.requires.count row in
-    made c.args.room c.args.bytes.now (tuple (items_of (c.in_ok-first.first ∷ c.in_ok-second.second ∷ []))) c.in_ok-second.behind.now c.in-Err.refused.fault (omega arith) begun c.in-Err.ensures.refused.1
-
-pub read_tuple_of_three-returns-in_err-first : goal.read_tuple_of_three-returns-in_err-first
-read_tuple_of_three-returns-in_err-first g t c =
-    let room = c.args.room - 1 in
-    let row = row_start (constant_format room) (λ _. Unit {0}) c.args.behind.now tt in
-    let p = err_from_is_err_and c.from_residual.result c.from_residual.ensures.1 in
-    rw (p.1, p.2) (tuple_stop room c.args.room c.args.bytes.now c.args.rest.now 3 c.args.behind.now _ (omega arith) c.requires.tag c.requires.count
-    (elements_stop room 3 c.args.behind.now [] c.args.behind.now 0 _ row (omega arith) c.in_err-first.ensures))
-
-pub read_tuple_of_three-returns-in_err-second : goal.read_tuple_of_three-returns-in_err-second
-read_tuple_of_three-returns-in_err-second g t c =
-    let room = c.args.room - 1 in
-    let row = row_of_one room c.args.behind.now c.in_ok-first.first c.in_ok-first.after_first.now c.in_ok-first.ensures in
-    let p = err_from_is_err_and c.from_residual-in_err-second.result c.from_residual-in_err-second.ensures.1 in
-    rw (p.1, p.2) (tuple_stop room c.args.room c.args.bytes.now c.args.rest.now 3 c.args.behind.now _ (omega arith) c.requires.tag c.requires.count
-    (elements_stop room 3 c.args.behind.now (c.in_ok-first.first ∷ []) c.in_ok-first.after_first.now 1 _ row (omega arith) c.in_err-second.ensures))
-
-pub read_tuple_of_three-returns-in_err-third : goal.read_tuple_of_three-returns-in_err-third
-read_tuple_of_three-returns-in_err-third g t c =
-    let room = c.args.room - 1 in
-    let row = row_of_two room c.args.behind.now c.in_ok-first.first c.in_ok-first.after_first.now c.in_ok-second.second c.in_ok-second.after_second.now c.in_ok-first.ensures c.in_ok-second.ensures in
-    let p = err_from_is_err_and c.from_residual-in_err-third.result c.from_residual-in_err-third.ensures.1 in
-    rw (p.1, p.2) (tuple_stop room c.args.room c.args.bytes.now c.args.rest.now 3 c.args.behind.now _ (omega arith) c.requires.tag c.requires.count
-    (elements_stop room 3 c.args.behind.now (c.in_ok-first.first ∷ c.in_ok-second.second ∷ []) c.in_ok-second.after_second.now 2 _ row (omega arith) c.in_err-third.ensures))
-
-pub read_tuple_of_three-returns-in-Ok : goal.read_tuple_of_three-returns-in-Ok
-read_tuple_of_three-returns-in-Ok g t c =
-    let room = c.args.room - 1 in
-    let row = row_of_three room c.args.behind.now c.in_ok-first.first c.in_ok-first.after_first.now c.in_ok-second.second c.in_ok-second.after_second.now c.in_ok-third.third c.in_ok-third.behind.now c.in_ok-first.ensures c.in_ok-second.ensures c.in_ok-third.ensures in
-    rw c.in-Ok.ensures.ok (tuple_of_row room c.args.room 3 c.args.bytes.now c.args.rest.now c.args.behind.now (c.in_ok-first.first ∷ c.in_ok-second.second ∷ c.in_ok-third.third ∷ []) c.in_ok-third.behind.now (omega arith) c.requires.tag c.requires.count row)
-
-pub read_tuple_of_three-memory_alone-requires : goal.read_tuple_of_three-memory_alone-requires
-read_tuple_of_three-memory_alone-requires g t c =
-    let room = c.args.room - 1 in
-    let row = row_of_three room c.args.behind.now c.in_ok-first.first c.in_ok-first.after_first.now c.in_ok-second.second c.in_ok-second.after_second.now c.in_ok-third.third c.in_ok-third.behind.now c.in_ok-first.ensures c.in_ok-second.ensures c.in_ok-third.ensures in
-    let begun = tuple_of_row room c.args.room 3 c.args.bytes.now c.args.rest.now c.args.behind.now (c.in_ok-first.first ∷ c.in_ok-second.second ∷ c.in_ok-third.third ∷ []) c.in_ok-third.behind.now (omega arith) c.requires.tag c.requires.count row in
-    made c.args.room c.args.bytes.now (tuple (items_of (c.in_ok-first.first ∷ c.in_ok-second.second ∷ c.in_ok-third.third ∷ []))) c.in_ok-third.behind.now c.in-Err.refused.fault (omega arith) begun c.in-Err.ensures.refused.1
-
-pub read_tuple_of_four-returns-in_err-first : goal.read_tuple_of_four-returns-in_err-first
-read_tuple_of_four-returns-in_err-first g t c =
-    let room = c.args.room - 1 in
-    let row = row_start (constant_format room) (λ _. Unit {0}) c.args.behind.now tt in
-    let p = err_from_is_err_and c.from_residual.result c.from_residual.ensures.1 in
-    rw (p.1, p.2) (tuple_stop room c.args.room c.args.bytes.now c.args.rest.now 4 c.args.behind.now _ (omega arith) c.requires.tag c.requires.count
-    (elements_stop room 4 c.args.behind.now [] c.args.behind.now 0 _ row (omega arith) c.in_err-first.ensures))
-
-pub read_tuple_of_four-returns-in_err-second : goal.read_tuple_of_four-returns-in_err-second
-read_tuple_of_four-returns-in_err-second g t c =
-    let room = c.args.room - 1 in
-    let row = row_of_one room c.args.behind.now c.in_ok-first.first c.in_ok-first.after_first.now c.in_ok-first.ensures in
-    let p = err_from_is_err_and c.from_residual-in_err-second.result c.from_residual-in_err-second.ensures.1 in
-    rw (p.1, p.2) (tuple_stop room c.args.room c.args.bytes.now c.args.rest.now 4 c.args.behind.now _ (omega arith) c.requires.tag c.requires.count
-    (elements_stop room 4 c.args.behind.now (c.in_ok-first.first ∷ []) c.in_ok-first.after_first.now 1 _ row (omega arith) c.in_err-second.ensures))
-
-pub read_tuple_of_four-returns-in_err-third : goal.read_tuple_of_four-returns-in_err-third
-read_tuple_of_four-returns-in_err-third g t c =
-    let room = c.args.room - 1 in
-    let row = row_of_two room c.args.behind.now c.in_ok-first.first c.in_ok-first.after_first.now c.in_ok-second.second c.in_ok-second.after_second.now c.in_ok-first.ensures c.in_ok-second.ensures in
-    let p = err_from_is_err_and c.from_residual-in_err-third.result c.from_residual-in_err-third.ensures.1 in
-    rw (p.1, p.2) (tuple_stop room c.args.room c.args.bytes.now c.args.rest.now 4 c.args.behind.now _ (omega arith) c.requires.tag c.requires.count
-    (elements_stop room 4 c.args.behind.now (c.in_ok-first.first ∷ c.in_ok-second.second ∷ []) c.in_ok-second.after_second.now 2 _ row (omega arith) c.in_err-third.ensures))
-
-pub read_tuple_of_four-returns-in_err-fourth : goal.read_tuple_of_four-returns-in_err-fourth
-read_tuple_of_four-returns-in_err-fourth g t c =
-    let room = c.args.room - 1 in
-    let row = row_of_three room c.args.behind.now c.in_ok-first.first c.in_ok-first.after_first.now c.in_ok-second.second c.in_ok-second.after_second.now c.in_ok-third.third c.in_ok-third.after_third.now c.in_ok-first.ensures c.in_ok-second.ensures c.in_ok-third.ensures in
-    let p = err_from_is_err_and c.from_residual-in_err-fourth.result c.from_residual-in_err-fourth.ensures.1 in
-    rw (p.1, p.2) (tuple_stop room c.args.room c.args.bytes.now c.args.rest.now 4 c.args.behind.now _ (omega arith) c.requires.tag c.requires.count
-    (elements_stop room 4 c.args.behind.now (c.in_ok-first.first ∷ c.in_ok-second.second ∷ c.in_ok-third.third ∷ []) c.in_ok-third.after_third.now 3 _ row (omega arith) c.in_err-fourth.ensures))
-
-pub read_tuple_of_four-returns-in-Ok : goal.read_tuple_of_four-returns-in-Ok
-read_tuple_of_four-returns-in-Ok g t c =
-    let room = c.args.room - 1 in
-    let row = row_of_four room c.args.behind.now c.in_ok-first.first c.in_ok-first.after_first.now c.in_ok-second.second c.in_ok-second.after_second.now c.in_ok-third.third c.in_ok-third.after_third.now c.in_ok-fourth.fourth c.in_ok-fourth.behind.now c.in_ok-first.ensures c.in_ok-second.ensures c.in_ok-third.ensures c.in_ok-fourth.ensures in
-    rw c.in-Ok.ensures.ok (tuple_of_row room c.args.room 4 c.args.bytes.now c.args.rest.now c.args.behind.now (c.in_ok-first.first ∷ c.in_ok-second.second ∷ c.in_ok-third.third ∷ c.in_ok-fourth.fourth ∷ []) c.in_ok-fourth.behind.now (omega arith) c.requires.tag c.requires.count row)
-
-pub read_tuple_of_four-memory_alone-requires : goal.read_tuple_of_four-memory_alone-requires
-read_tuple_of_four-memory_alone-requires g t c =
-    let room = c.args.room - 1 in
-    let row = row_of_four room c.args.behind.now c.in_ok-first.first c.in_ok-first.after_first.now c.in_ok-second.second c.in_ok-second.after_second.now c.in_ok-third.third c.in_ok-third.after_third.now c.in_ok-fourth.fourth c.in_ok-fourth.behind.now c.in_ok-first.ensures c.in_ok-second.ensures c.in_ok-third.ensures c.in_ok-fourth.ensures in
-    let begun = tuple_of_row room c.args.room 4 c.args.bytes.now c.args.rest.now c.args.behind.now (c.in_ok-first.first ∷ c.in_ok-second.second ∷ c.in_ok-third.third ∷ c.in_ok-fourth.fourth ∷ []) c.in_ok-fourth.behind.now (omega arith) c.requires.tag c.requires.count row in
-    made c.args.room c.args.bytes.now (tuple (items_of (c.in_ok-first.first ∷ c.in_ok-second.second ∷ c.in_ok-third.third ∷ c.in_ok-fourth.fourth ∷ []))) c.in_ok-fourth.behind.now c.in-Err.refused.fault (omega arith) begun c.in-Err.ensures.refused.1
+pub read_short_tuple-alloc_error-requires : goal.read_short_tuple-alloc_error-requires
+read_short_tuple-alloc_error-requires g t c =
+    let begun = tuple_begins (c.args.room - 1) c.args.room c.args.bytes.now c.args.rest.now c.args.count c.args.behind.now (row_items c.in_ok-elements.elements) c.in_ok-elements.behind.now (omega arith) c.requires.tag c.requires.count c.in_ok-elements.ensures in
+    made c.args.room c.args.bytes.now (tuple (items_of (row_items c.in_ok-elements.elements))) c.in_ok-elements.behind.now c.in-Err.refused.fault (omega arith) begun c.in-Err.ensures.refused.1
 
 pub read_pair-returns-in_err-key : goal.read_pair-returns-in_err-key
 read_pair-returns-in_err-key g t c =
@@ -221,8 +124,8 @@ pub read_map_of_one-returns-in-Ok : goal.read_map_of_one-returns-in-Ok
 read_map_of_one-returns-in-Ok g t c =
     rw c.in-Ok.ensures.ok (map_of_one (c.args.room - 1) c.args.room c.args.bytes.now c.args.rest.now c.args.behind.now (c.in_ok-key.key, c.in_ok-key.value) c.in_ok-key.behind.now (omega arith) c.requires.tag c.requires.count (rw (c.as_slice.ensures.value ∙ c.new-before.ensures.items) at c.in_ok-key.ensures))
 
-pub read_map_of_one-memory_alone-requires : goal.read_map_of_one-memory_alone-requires
-read_map_of_one-memory_alone-requires g t c =
+pub read_map_of_one-alloc_error-requires : goal.read_map_of_one-alloc_error-requires
+read_map_of_one-alloc_error-requires g t c =
     let begun = map_of_one (c.args.room - 1) c.args.room c.args.bytes.now c.args.rest.now c.args.behind.now (c.in_ok-key.key, c.in_ok-key.value) c.in_ok-key.behind.now (omega arith) c.requires.tag c.requires.count (rw (c.as_slice.ensures.value ∙ c.new-before.ensures.items) at c.in_ok-key.ensures) in
     made c.args.room c.args.bytes.now (map (entries_of ((c.in_ok-key.key, c.in_ok-key.value) ∷ []))) c.in_ok-key.behind.now c.in-Err.refused.fault (omega arith) begun c.in-Err.ensures.refused.1
 
@@ -240,8 +143,8 @@ pub read_map-returns-in-Ok : goal.read_map-returns-in-Ok
 read_map-returns-in-Ok g t c =
     rw (← map_term c.in_ok-pairs.pairs.items c.in-Ok.map c.in_ok-pairs.ensures.fits.1 c.in-Ok.ensures.only) (map_begins (c.args.room - 1) c.args.room c.args.bytes.now c.args.rest.now c.in_ok-count.count c.in_ok-count.behind.now c.in_ok-pairs.pairs.items c.in_ok-pairs.behind.now (omega arith) c.requires.tag c.in_ok-count.ensures c.in_ok-pairs.ensures)
 
-pub read_map-memory_alone-requires : goal.read_map-memory_alone-requires
-read_map-memory_alone-requires g t c =
+pub read_map-alloc_error-requires : goal.read_map-alloc_error-requires
+read_map-alloc_error-requires g t c =
     let begun = map_begins (c.args.room - 1) c.args.room c.args.bytes.now c.args.rest.now c.in_ok-count.count c.in_ok-count.behind.now c.in_ok-pairs.pairs.items c.in_ok-pairs.behind.now (omega arith) c.requires.tag c.in_ok-count.ensures c.in_ok-pairs.ensures in
     map_made c.args.room c.args.bytes.now c.in_ok-pairs.pairs.items c.in_ok-pairs.behind.now c.in-Err.refused.fault (omega arith) c.in_ok-pairs.ensures.fits.1 begun c.in-Err.ensures.refused.1
 
@@ -268,8 +171,8 @@ read_list-returns-in-Ok g t c =
     let no_cell = tail_no_cell (c.args.room - 1) c.in_ok-elements.behind.now c.in_ok-tail.tail c.in_ok-tail.behind.now c.in_ok-tail.ensures (not_so c.if-begins_list.ensures.1) in
     rw c.in-Ok.ensures.ok (list_begins (c.args.room - 1) c.args.room c.args.bytes.now c.args.rest.now c.in_ok-count.count c.in_ok-count.behind.now c.in_ok-elements.elements.items c.in_ok-elements.behind.now c.in_ok-tail.tail c.in_ok-tail.behind.now (omega arith) c.requires.tag c.in_ok-count.ensures c.in_ok-elements.ensures c.in_ok-tail.ensures no_cell)
 
-pub read_list-memory_alone-requires : goal.read_list-memory_alone-requires
-read_list-memory_alone-requires g t c =
+pub read_list-alloc_error-requires : goal.read_list-alloc_error-requires
+read_list-alloc_error-requires g t c =
     let no_cell = tail_no_cell (c.args.room - 1) c.in_ok-elements.behind.now c.in_ok-tail.tail c.in_ok-tail.behind.now c.in_ok-tail.ensures (not_so c.if-begins_list.ensures.1) in
     let begun = list_begins (c.args.room - 1) c.args.room c.args.bytes.now c.args.rest.now c.in_ok-count.count c.in_ok-count.behind.now c.in_ok-elements.elements.items c.in_ok-elements.behind.now c.in_ok-tail.tail c.in_ok-tail.behind.now (omega arith) c.requires.tag c.in_ok-count.ensures c.in_ok-elements.ensures c.in_ok-tail.ensures no_cell in
     made c.args.room c.args.bytes.now (cells c.in_ok-elements.elements.items c.in_ok-tail.tail) c.in_ok-tail.behind.now c.in-Err.refused.fault (omega arith) begun c.in-Err.ensures.refused.1

@@ -1,5 +1,6 @@
 -- The recursion goes down by the levels that are left.
 use Rattle.std.proofs.Common.{◌+◌, ◌*◌, ◌-◌}
+use Rattle.term_core.specs.ShortRow.{row_items}
 use Rattle.code_format.specs.Formats.{constant_format, pair_format, RisingPairs}
 use Rattle.code_file.proofs.RowLemmas.{IsRowSoFar}
 use Rattle.code_file.proofs.constant.+constant.Given as goal
@@ -19,17 +20,11 @@ decreases-read_pairs g l = 4 * l.room + 2
 abbrev pub decreases-read_tuple : goal.decreases-read_tuple
 decreases-read_tuple g l = 4 * l.room - 1
 
-abbrev pub decreases-read_tuple_of_one : goal.decreases-read_tuple_of_one
-decreases-read_tuple_of_one g l = 4 * l.room - 2
+abbrev pub decreases-read_short_row : goal.decreases-read_short_row
+decreases-read_short_row g l = 4 * l.room + 1
 
-abbrev pub decreases-read_tuple_of_two : goal.decreases-read_tuple_of_two
-decreases-read_tuple_of_two g l = 4 * l.room - 2
-
-abbrev pub decreases-read_tuple_of_three : goal.decreases-read_tuple_of_three
-decreases-read_tuple_of_three g l = 4 * l.room - 2
-
-abbrev pub decreases-read_tuple_of_four : goal.decreases-read_tuple_of_four
-decreases-read_tuple_of_four g l = 4 * l.room - 2
+abbrev pub decreases-read_short_tuple : goal.decreases-read_short_tuple
+decreases-read_short_tuple g l = 4 * l.room - 2
 
 abbrev pub decreases-read_map_of_one : goal.decreases-read_map_of_one
 decreases-read_map_of_one g l = 4 * l.room - 2
@@ -42,6 +37,9 @@ decreases-read_list g l = 4 * l.room - 1
 
 abbrev pub invariant-read_elements-loop-read : goal.invariant-read_elements-loop-read
 invariant-read_elements-loop-read g l = IsRowSoFar (constant_format l.room) (λ _. Unit {0}) l.bytes l.elements.items l.rest l.read
+
+abbrev pub invariant-read_short_row-loop-read : goal.invariant-read_short_row-loop-read
+invariant-read_short_row-loop-read g l = IsRowSoFar (constant_format l.room) (λ _. Unit {0}) l.bytes (row_items l.row) l.rest l.read
 
 abbrev pub invariant-read_pairs-loop-read : goal.invariant-read_pairs-loop-read
 invariant-read_pairs-loop-read g l = IsRowSoFar (pair_format l.room) RisingPairs l.bytes l.pairs.items l.rest l.read
