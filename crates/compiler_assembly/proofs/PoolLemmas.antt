@@ -1,5 +1,5 @@
 -- Constants, each once: where a term stands among them, and what others behind them leave as it was.
-use Rattle.std.specs.Prelude.{ℕ, suc, ◌≡◌, ◌+◌, ◌≤◌, cond, Bool, true, false, Option, Some, None, option_map, List, [], ◌∷◌, ◌++◌, length, slice_get, ◌-◌, take}
+use Rattle.std.specs.Prelude.{ℕ, suc, ◌≡◌, ◌+◌, ◌≤◌, cond, Bool, true, false, Option, Some, None, option_map, Result, Ok, Err, OnOk, IfOk, List, [], ◌∷◌, ◌++◌, length, slice_get, ◌-◌, take}
 use Rattle.std.proofs.Common.{arith, get_or, refl, sym, ap, subst, ◌∙◌}
 use Rattle.std.proofs.lemmas.List.{length-append}
 use Rattle.std.specs.Ordering.{is_eq}
@@ -9,6 +9,7 @@ use Rattle.term_operand.specs.Order.{is_same}
 use Rattle.term_core.specs.Datum.{Datum}
 use Rattle.term_core.specs.Order.{datum_cmp}
 use Rattle.term_core.specs.OrderLaws.{datum_cmp-equal, datum_cmp-same}
+use Rattle.mcode.specs.declared.fault.Fault.{Fault}
 use Rattle.compiler_assembly.specs.Assembled.{number_of, with_term}
 use Rattle.compiler_assembly.specs.Pool.{place_of, IsFront, IsPool}
 
@@ -142,6 +143,15 @@ last_of cs cs' d n new all is = record {
   terms = all ∙ sym (with_none cs d new);
   place = ap (λ es. place_of es d) all ∙ place_last cs d new ∙ ap Some (sym is);
 }
+
+-- so it is where it was added
+pub added : (cs cs' : List Datum) (d : Datum) (r : Result ℕ Fault) → place_of cs d ≡ None → OnOk r (cs' ≡ cs ++ d ∷ []) → IfOk r (λ n. n ≡ length cs) → IfOk r (λ n. IsLast cs cs' d n)
+added cs cs' d (Ok n) new all is = last_of cs cs' d n new all is
+added cs cs' d (Err fault) new all is = tt
+
+pub added_terms : (cs cs' : List Datum) (d : Datum) (r : Result ℕ Fault) → IfOk r (λ n. IsLast cs cs' d n) → OnOk r (cs' ≡ with_term cs d)
+added_terms cs cs' d (Ok n) last = last.terms
+added_terms cs cs' d (Err fault) last = tt
 
 -- the constants before the last one
 pub before_last : (cs : List Datum) (d : Datum) → take (length (cs ++ d ∷ []) - 1) (cs ++ d ∷ []) ≡ cs

@@ -58,19 +58,15 @@ read_short_row-returns-in_err-first g t c =
     let p = err_from_is_err_and c.from_residual.result c.from_residual.ensures.1 in
     rw (p.1, p.2) (elements_stop c.args.room c.args.count c.args.bytes.now [] c.args.bytes.now 0 _ row c.requires.some c.in_err-first.ensures)
 
-pub read_short_row-loop-read-starts : goal.read_short_row-loop-read-starts
-read_short_row-loop-read-starts g t c =
-    row_of_one c.args.room c.args.bytes.now c.in_ok-first.first c.in_ok-first.behind.now c.in_ok-first.ensures
-
 pub read_short_row-returns-in_err-term : goal.read_short_row-returns-in_err-term
 read_short_row-returns-in_err-term g t c =
     let p = err_from_is_err_and c.from_residual-in_err-term.result c.from_residual-in_err-term.ensures.1 in
-    rw (p.1, p.2) (elements_stop c.args.room c.args.count c.args.bytes.now (row_items c.loop-read.row) c.loop-read.rest.now c.loop-read.read _ c.loop-read.invariant c.loop-read-test.true c.in_err-term.ensures)
+    rw (p.1, p.2) (elements_stop c.args.room c.args.count c.args.bytes.now (row_items c.loop-read.row) c.loop-read.rest.now c.loop-read._read _ c.loop-read.invariant c.loop-read-test.true c.in_err-term.ensures)
 
 pub read_short_row-loop-read-preserved : goal.read_short_row-loop-read-preserved
 read_short_row-loop-read-preserved g t c =
-    rw c.with.ensures
-    (plain_step (constant_format c.args.room) c.args.bytes.now (row_items c.loop-read.row) c.loop-read.rest.now c.loop-read.read c.in_ok-term.term c.in_ok-term.after.now c.loop-read.invariant c.in_ok-term.ensures)
+    rw c.with-row.ensures
+    (plain_step (constant_format c.args.room) c.args.bytes.now (row_items c.loop-read.row) c.loop-read.rest.now c.loop-read._read c.in_ok-term.term c.in_ok-term.after.now c.loop-read.invariant c.in_ok-term.ensures)
 
 pub read_short_tuple-returns-in_err-elements : goal.read_short_tuple-returns-in_err-elements
 read_short_tuple-returns-in_err-elements g t c =

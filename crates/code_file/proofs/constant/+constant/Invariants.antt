@@ -39,7 +39,7 @@ abbrev pub invariant-read_elements-loop-read : goal.invariant-read_elements-loop
 invariant-read_elements-loop-read g l = IsRowSoFar (constant_format l.room) (λ _. Unit {0}) l.bytes l.elements.items l.rest l.read
 
 abbrev pub invariant-read_short_row-loop-read : goal.invariant-read_short_row-loop-read
-invariant-read_short_row-loop-read g l = IsRowSoFar (constant_format l.room) (λ _. Unit {0}) l.bytes (row_items l.row) l.rest l.read
+invariant-read_short_row-loop-read g l = IsRowSoFar (constant_format l.room) (λ _. Unit {0}) l.bytes (row_items l.row) l.rest l._read
 
 abbrev pub invariant-read_pairs-loop-read : goal.invariant-read_pairs-loop-read
 invariant-read_pairs-loop-read g l = IsRowSoFar (pair_format l.room) RisingPairs l.bytes l.pairs.items l.rest l.read

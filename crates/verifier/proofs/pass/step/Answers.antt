@@ -7,12 +7,12 @@ use Rattle.verifier.proofs.pass.step.Goals as goal
 pub returns-in_err-begin-clause-fault : goal.returns-in_err-begin-clause-fault
 returns-in_err-begin-clause-fault g c =
     let p = err_from_is_err_and c.from_residual.result c.from_residual.ensures.1 in
-    rw (p.1, p.2) (unbegun c.args.code.now c.args.pc c.args.walk.now.falls c.args.walk.now.shape c.args.walk.now.depths.items c.args.walk.now.depth c.in_err-begin.error c.requires.frames c.requires.inside c.requires.walked c.in_err-begin.ensures.fault)
+    rw (p.1, p.2) (unbegun c.args.code.now c.args.pc c.args.walk.now.falls c.args.walk.now.shape c.args.walk.now.depths.items c.args.walk.now.depth c.in_err-begin.field-0.0 c.requires.frames c.requires.inside c.requires.walked c.in_err-begin.ensures.fault)
 
 pub returns-in_err-check-clause-fault : goal.returns-in_err-check-clause-fault
 returns-in_err-check-clause-fault g c =
     let p = err_from_is_err_and c.from_residual-in_err-check.result c.from_residual-in_err-check.ensures.1 in
-    rw (p.1, p.2) (inr (untyped c.args.code.now c.args.pc c.args.walk.now.falls c.args.walk.now.shape c.begin.new.shape c.args.walk.now.depths.items c.args.walk.now.depth _ c.in_err-check.error c.requires.frames c.requires.walked c.instr_at-instr.ensures c.in_ok-begin.ensures.begins c.in_err-check.ensures.fault))
+    rw (p.1, p.2) (inr (untyped c.args.code.now c.args.pc c.args.walk.now.falls c.args.walk.now.shape c.begin.new.shape c.args.walk.now.depths.items c.args.walk.now.depth _ c.in_err-check.field-0.0 c.requires.frames c.requires.walked c.instr_at-instr.ensures c.in_ok-begin.ensures.begins c.in_err-check.ensures.fault))
 
 pub leave-requires-clause-slots : goal.leave-requires-clause-slots
 leave-requires-clause-slots g c =

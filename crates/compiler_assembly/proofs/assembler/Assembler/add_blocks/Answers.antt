@@ -10,18 +10,18 @@ loop-block-preserved g c =
     let builder = c.loop-block.self.builder in
     let front = last_first c.loop-block.left.items c.pop.new.self.items c.in-Some.block c.in-Some.ensures.items in
     record {
-      count = c.in_ok-add_block.ensures.count;
-      whole = c.in_ok-add_block.ensures.ok (reverse c.pop.new.self.items) ∙ ap (λ bs. with_blocks pool builder c.loop-block.pc bs) (sym front) ∙ c.loop-block.invariant.whole;
+      count = c.in_ok-pc.ensures.count;
+      whole = c.in_ok-pc.ensures.ok (reverse c.pop.new.self.items) ∙ ap (λ bs. with_blocks pool builder c.loop-block.pc bs) (sym front) ∙ c.loop-block.invariant.whole;
     }
 
-pub returns-in_err-add_block-clause-refused : goal.returns-in_err-add_block-clause-refused
-returns-in_err-add_block-clause-refused g c =
+pub returns-in_err-pc-clause-refused : goal.returns-in_err-pc-clause-refused
+returns-in_err-pc-clause-refused g c =
     let p = err_from_is_err_and c.from_residual.result c.from_residual.ensures.1 in
     let pool = c.loop-block.self.pool in
     let builder = c.loop-block.self.builder in
     let front = last_first c.loop-block.left.items c.pop.new.self.items c.in-Some.block c.in-Some.ensures.items in
     let whole = ap (λ bs. with_blocks pool builder c.loop-block.pc bs) (sym front) ∙ c.loop-block.invariant.whole in
-    rw (p.1, p.2) (elim c.in_err-add_block.ensures.refused [
+    rw (p.1, p.2) (elim c.in_err-pc.ensures.refused [
       | inl memory ↦ inl memory
       | inr out ↦ inr (no_code whole (out (reverse c.pop.new.self.items)))
     ])

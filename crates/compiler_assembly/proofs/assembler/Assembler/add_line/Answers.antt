@@ -6,10 +6,10 @@ use Rattle.compiler_assembly.proofs.assembler.Assembler.add_line.Goals as goal
 
 pub returns-in_err-instr-clause-refused : goal.returns-in_err-instr-clause-refused
 returns-in_err-instr-clause-refused g c =
-    let p = err_from_is_err_and c.from_residual.result c.from_residual.ensures.1 in
+    let back = err_from_is_err_and c.from_residual.result c.from_residual.ensures.1 in
     let cs = c.args.self.now.pool in
     let p = c.args.self.now.builder in
-    rw (p.1, p.2) (elim c.in_err-instr.ensures.refused [
+    rw (back.1, back.2) (elim c.in_err-instr.ensures.refused [
       | inl memory ↦ inl memory
       | inr out ↦
           elim out [
@@ -18,12 +18,12 @@ returns-in_err-instr-clause-refused g c =
           ]
     ])
 
-pub returns-in_err-pc-clause-refused : goal.returns-in_err-pc-clause-refused
-returns-in_err-pc-clause-refused g c =
-    let p = err_from_is_err_and c.from_residual-in_err-pc.result c.from_residual-in_err-pc.ensures.1 in
+pub returns-in_err-_pc-clause-refused : goal.returns-in_err-_pc-clause-refused
+returns-in_err-_pc-clause-refused g c =
+    let back = err_from_is_err_and c.from_residual-in_err-_pc.result c.from_residual-in_err-_pc.ensures.1 in
     let cs = c.args.self.now.pool in
     let p = c.args.self.now.builder in
-    rw (p.1, p.2) (elim (part_refused _ _ c.in_err-pc.ensures.refused) [
+    rw (back.1, back.2) (elim (part_refused _ _ c.in_err-_pc.ensures.refused) [
       | inl memory ↦ inl memory
       | inr many ↦ inr (line_instruction cs p c.args.slots.now c.args.place.behind c.args.place.pc c.args.line many)
     ])
@@ -35,7 +35,7 @@ returns-clause-ok g c =
     let next : c.args.place.pc + 1 ≡ suc c.args.place.pc = omega arith in
     on_ok_weaker c.add_label.result
     (λ made.
-    let grown = made ∙ ap (λ q. with_labelled q c.args.slots.now (c.args.place.pc + 1) c.args.line.label) c.in_ok-pc.ensures.ok.0 in
+    let grown = made ∙ ap (λ q. with_labelled q c.args.slots.now (c.args.place.pc + 1) c.args.line.label) c.in_ok-_pc.ensures.ok.0 in
     line_added cs p c.instruction.new.pool c.add_label.new.builder c.args.slots.now c.args.place.behind c.args.place.pc c.args.line c.in_ok-instr.instr c.in_ok-instr.ensures.pool c.in_ok-instr.ensures.instr (rw next at grown))
     c.add_label.ensures.ok
 
@@ -48,7 +48,7 @@ returns-clause-refused g c =
     (λ fault refused. elim refused [
       | inl memory ↦ inl memory
       | inr out ↦
-          let here = rw (next, c.in_ok-pc.ensures.ok.0) at out in
+          let here = rw (next, c.in_ok-_pc.ensures.ok.0) at out in
           inr (line_label cs p c.args.slots.now c.args.place.behind c.args.place.pc c.args.line c.in_ok-instr.instr here)
     ])
     c.add_label.ensures.refused

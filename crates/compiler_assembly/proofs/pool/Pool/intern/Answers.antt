@@ -1,5 +1,6 @@
 use Rattle.std.proofs.Common.{refl, sym, ◌∙◌, inl, inr, arith}
-use Rattle.compiler_assembly.proofs.PoolLemmas.{found_terms, place_number, place_there, number_later, last_of, with_longer}
+use Rattle.std.proofs.lemmas.Result.{IfOk-weaker, IfErr-weaker}
+use Rattle.compiler_assembly.proofs.PoolLemmas.{found_terms, place_number, place_there, number_later, added, added_terms, with_longer}
 use Rattle.compiler_assembly.proofs.pool.Pool.intern.Goals as goal
 
 pub same-term : goal.same-term
@@ -24,26 +25,29 @@ pub returns-in-Some-clause-later : goal.returns-in-Some-clause-later
 returns-in-Some-clause-later g c =
     λ all. number_later c.args.self.now all c.args.term c.in-Some.number (sym c.number.ensures ∙ c.in-Some.is)
 
-pub returns-in-Ok-clause-terms : goal.returns-in-Ok-clause-terms
-returns-in-Ok-clause-terms g c =
-    (last_of c.args.self.now c.add.new.self c.args.term c.in-Ok.number (sym c.number.ensures ∙ c.in_default.is) c.in-Ok.ensures.terms c.in-Ok.ensures.number).terms
+pub returns-clause-terms : goal.returns-clause-terms
+returns-clause-terms g c =
+    added_terms c.args.self.now c.add.new.self c.args.term c.add.result
+    (added c.args.self.now c.add.new.self c.args.term c.add.result (sym c.number.ensures ∙ c.in_default.is) c.add.ensures.terms c.add.ensures.number)
 
-pub returns-in-Ok-clause-number : goal.returns-in-Ok-clause-number
-returns-in-Ok-clause-number g c =
-    let last = last_of c.args.self.now c.add.new.self c.args.term c.in-Ok.number (sym c.number.ensures ∙ c.in_default.is) c.in-Ok.ensures.terms c.in-Ok.ensures.number in
-    sym (place_number c.add.new.self c.args.term c.in-Ok.number last.place)
+pub returns-clause-number : goal.returns-clause-number
+returns-clause-number g c =
+    IfOk-weaker c.add.result _ _ (λ number last. sym (place_number c.add.new.self c.args.term number last.place))
+    (added c.args.self.now c.add.new.self c.args.term c.add.result (sym c.number.ensures ∙ c.in_default.is) c.add.ensures.terms c.add.ensures.number)
 
-pub returns-in-Ok-clause-there : goal.returns-in-Ok-clause-there
-returns-in-Ok-clause-there g c =
-    let last = last_of c.args.self.now c.add.new.self c.args.term c.in-Ok.number (sym c.number.ensures ∙ c.in_default.is) c.in-Ok.ensures.terms c.in-Ok.ensures.number in
-    place_there c.add.new.self c.args.term c.in-Ok.number last.place
+pub returns-clause-there : goal.returns-clause-there
+returns-clause-there g c =
+    IfOk-weaker c.add.result _ _ (λ number last. place_there c.add.new.self c.args.term number last.place)
+    (added c.args.self.now c.add.new.self c.args.term c.add.result (sym c.number.ensures ∙ c.in_default.is) c.add.ensures.terms c.add.ensures.number)
 
-pub returns-in-Ok-clause-later : goal.returns-in-Ok-clause-later
-returns-in-Ok-clause-later g c =
-    let last = last_of c.args.self.now c.add.new.self c.args.term c.in-Ok.number (sym c.number.ensures ∙ c.in_default.is) c.in-Ok.ensures.terms c.in-Ok.ensures.number in
-    λ all. number_later c.add.new.self all c.args.term c.in-Ok.number last.place
+pub returns-clause-later : goal.returns-clause-later
+returns-clause-later g c =
+    IfOk-weaker c.add.result _ _ (λ number last all. number_later c.add.new.self all c.args.term number last.place)
+    (added c.args.self.now c.add.new.self c.args.term c.add.result (sym c.number.ensures ∙ c.in_default.is) c.add.ensures.terms c.add.ensures.number)
 
-pub returns-in-Err-clause-refused : goal.returns-in-Err-clause-refused
-returns-in-Err-clause-refused g c =
+pub returns-clause-refused : goal.returns-clause-refused
+returns-clause-refused g c =
     let longer = with_longer c.args.self.now c.args.term (sym c.number.ensures ∙ c.in_default.is) in
-    elim c.in-Err.ensures.refused [ inl memory ↦ inl memory | inr limit ↦ inr (limit.0, omega (arith, longer, limit.1)) ]
+    IfErr-weaker c.add.result _ _
+    (λ fault refused. elim refused [ inl memory ↦ inl memory | inr limit ↦ inr (limit.0, omega (arith, longer, limit.1)) ])
+    c.add.ensures.refused
