@@ -37,7 +37,8 @@ fn add_frame<A: Allocator>(
     ensures kept { OnErr result (frames.new.items ≡ frames.old.items) }
     ensures back { IfErr result (λ failed. frame_of failed.value ≡ frame_of frame) }
 {
-    frames.push(frame)
+    frames.push(frame)?;
+    Ok(())
 }
 
 /// Instructions for the machine, with the constants and frames that they name.
