@@ -48,6 +48,17 @@ pub enum ToolFault {
     WriteFailed,
 }
 
+impl From<AllocError> for ToolFault {
+    ghost use Rattle.std.specs.Prelude.{◌≡◌};
+    ghost use Rattle.tool_io.specs.declared.fault.ToolFault.TheVariants.{Memory};
+
+    ghost from_gives = { λ _ fault. fault ≡ Memory };
+
+    fn from(_: AllocError) -> Self {
+        ToolFault::Memory
+    }
+}
+
 impl ToolFault {
     /// The number of the refusal.
     fn number(self) -> u8

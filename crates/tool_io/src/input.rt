@@ -5,7 +5,7 @@ ghost use Rattle.std.specs.IoError.{error_kind};
 ghost use Rattle.tool_io.specs.Input.{Continues, IsReadFault};
 
 use crate::fault::ToolFault;
-use std::alloc::{AllocError, Allocator};
+use std::alloc::Allocator;
 use std::io::{self, ErrorKind, Read};
 
 /// How many bytes one read asks for.
@@ -64,10 +64,7 @@ fn read_buffer<A: Allocator + Copy>(alloc: A) -> Result<Vec<u8, A>, ToolFault>
     ensures failed { IfErr result (λ fault. fault ≡ ToolFault.Memory) }
 {
     let size = READ_SIZE;
-    match vec![in alloc; 0u8; size] {
-        Ok(buffer) => Ok(buffer),
-        Err(AllocError) => Err(ToolFault::Memory),
-    }
+    Ok(vec![in alloc; 0u8; size]?)
 }
 
 /// Reads once, and puts what was given at the end of the input.
@@ -87,10 +84,10 @@ fn read_part<A: Allocator, R: Read>(
 {
     match reader.read(buffer) {
         Ok(0) => Ok(Progress::End),
-        Ok(count) => match input.extend_from_slice(&buffer[..count]) {
-            Ok(()) => Ok(Progress::More),
-            Err(AllocError) => Err(ToolFault::Memory),
-        },
+        Ok(count) => {
+            input.extend_from_slice(&buffer[..count])?;
+            Ok(Progress::More)
+        }
         Err(error) => progress_after(&error),
     }
 }
