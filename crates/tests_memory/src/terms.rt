@@ -1,7 +1,7 @@
 //! Terms: what takes no memory, and that a limit is told without it.
 use std::alloc::Global;
 use term_core::Fault::{self, TooLong};
-use term_core::Term;
+use term_core::{ShortRow, Term};
 use term_text::{read_terms, write_term};
 use test_alloc::Failing;
 
@@ -80,17 +80,17 @@ fn a_copy_takes_no_memory(rt: HostRuntime) {
 /// one pair.
 fn requests_of_the_shortest(alloc: Global) -> Option<[u64; 5]> {
     let counting = Failing::counting(alloc);
-    let _one = Term::tuple_of_one(&counting, Term::int(1)).ok()?;
+    let one = ShortRow::One([Term::int(1)]);
+    let _one = Term::short_tuple(&counting, one).ok()?;
     let with_one = counting.requests();
-    let _two = Term::tuple_of_two(&counting, [Term::int(1), Term::int(2)]).ok()?;
+    let two = ShortRow::Two([Term::int(1), Term::int(2)]);
+    let _two = Term::short_tuple(&counting, two).ok()?;
     let with_two = counting.requests();
-    let _three = Term::tuple_of_three(&counting, [Term::int(1), Term::int(2), Term::int(3)]).ok()?;
+    let three = ShortRow::Three([Term::int(1), Term::int(2), Term::int(3)]);
+    let _three = Term::short_tuple(&counting, three).ok()?;
     let with_three = counting.requests();
-    let _four = Term::tuple_of_four(
-        &counting,
-        [Term::int(1), Term::int(2), Term::int(3), Term::int(4)],
-    )
-    .ok()?;
+    let four = ShortRow::Four([Term::int(1), Term::int(2), Term::int(3), Term::int(4)]);
+    let _four = Term::short_tuple(&counting, four).ok()?;
     let with_four = counting.requests();
     let _map = Term::map_of_one(&counting, Term::int(1), Term::int(2)).ok()?;
     Some([
