@@ -5,7 +5,6 @@ pub mod CommandLaws
 pub mod Script
 pub mod Replies
 pub mod State
-pub mod Tables
 pub mod Opened
 pub mod Scripts
 pub mod Run

@@ -4,12 +4,12 @@ use Rattle.term_core.specs.Datum.{Datum, cells}
 use Rattle.term_core.specs.Datum.Datum.{nil}
 use Rattle.term_operand.specs.Operand.{boolean}
 use Rattle.tool_io.specs.Lines.{text_of}
-use Rattle.tool_script.specs.declared.reply.Reply as reply_type
-use Rattle.tool_script.specs.declared.reply.Reply.TheVariants as reply
+use Rattle.tool_script.specs.declared.reply.CommandReply as reply_type
+use Rattle.tool_script.specs.declared.reply.CommandReply.TheVariants as reply
 use Rattle.tool_script.specs.Script.{error, key_or_end}
 
 -- the term of a reply
-abbrev pub reply_term : {A : Type 0} → reply_type.Reply A → Datum
+abbrev pub reply_term : {A : Type 0} → reply_type.CommandReply A → Datum
 reply_term (reply.Flag b) = boolean b
 reply_term (reply.Objects os) = cells os.items nil
 reply_term (reply.Key k) = key_or_end k

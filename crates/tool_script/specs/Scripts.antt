@@ -2,16 +2,18 @@
 use Rattle.std.specs.Prelude.{◌≡◌, Option, Some, None}
 use Rattle.term_core.specs.Datum.{Datum}
 use Rattle.part_core.specs.declared.part.Part.{Ghosts}
-use Rattle.tool_script.specs.declared.open.OpenTable as open_type
+use Rattle.tool_script.specs.declared.script.Current.{Current}
+use Rattle.tool_script.specs.declared.script.Current.TheVariants as current
 use Rattle.tool_script.specs.declared.script.Script as script_type
 use Rattle.tool_script.specs.Command.{Command}
 use Rattle.tool_script.specs.Script.{OpenTable, ScriptState, step, IsReply}
 use Rattle.tool_script.specs.Opened.{IsOpen}
 
 -- the table that is open is in its state, if one is
-abbrev pub HasTable : {S O A : Type 0} {s : Ghosts S A} {o : Ghosts O A} → Option (open_type.OpenTable S O A s o) → Option OpenTable → Type 0
-HasTable None None = Unit {0}
-HasTable (Some t) (Some state) = IsOpen t state
+abbrev pub HasTable : {S O A : Type 0} {s : Ghosts S A} {o : Ghosts O A} → Current S O A s o → Option OpenTable → Type 0
+HasTable current.NoTable None = Unit {0}
+HasTable (current.Set t) (Some state) = IsOpen t state
+HasTable (current.Ordered t) (Some state) = IsOpen t state
 HasTable t state = ⊥
 
 pub record HasState {S O A : Type 0} {s : Ghosts S A} {o : Ghosts O A} (script : script_type.Script S O A s o) (st : ScriptState) : Type 0

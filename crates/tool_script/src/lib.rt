@@ -6,8 +6,9 @@
 //!
 //! - `command`: the commands that stand in memory (`specs/Commands.antt`), and how they are read from terms
 //!   (`specs/Reading.antt`); `command_laws`: terms tell commands (`command_term` of `specs/Command.antt`).
-//! - `session`: what a session is replied over any turns; `table`, `open`: the same at the table that is open, and opening one;
-//!   `script`: one step of a script. `specs/State.antt`, `Tables.antt`, `Opened.antt` and `Scripts.antt` say which state each is in.
+//! - What a session asks goes this way: `script` interprets a term, obeys its command and forwards what is asked to the table that is
+//!   open; `open` admits the session; `table` has it attend; `session` performs the call. `specs/Scripts.antt`, `Opened.antt` and
+//!   `State.antt` say which state each is in.
 //! - `reply`: replies and their lines, `specs/Replies.antt`; `run`: from a reader to a writer, `specs/Input.antt`.
 //! - `laws`: replies are one, `specs/Laws.antt`.
 #![tactic(auto)]
@@ -25,5 +26,5 @@ mod table;
 pub use command::{Ask, Command, read_command};
 pub use command_laws::terms_tell_commands;
 pub use laws::replies_are_one;
-pub use reply::{Reply, put_reply};
+pub use reply::{CommandReply, put_reply};
 pub use run::run_script;

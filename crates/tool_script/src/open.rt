@@ -1,15 +1,15 @@
 //! The table that is open in a script, and which sessions have left it.
-ghost use Rattle.std.specs.Prelude.{◌≡◌, IfSome};
+ghost use Rattle.std.specs.Prelude.{◌≡◌};
 ghost use Rattle.tool_script.specs.Commands.{ask_of};
 ghost use Rattle.tool_script.specs.Opened.{IsNoted};
 ghost use Rattle.tool_script.specs.Script.{number_within, options_with, is_leaving};
 
 use crate::command::Ask;
-use crate::reply::Reply;
-use crate::table::Table;
+use crate::reply::CommandReply;
+use crate::table::{attend, open_at};
 use part_core::{MAX_KEYPOS, MAX_PARTS, MAX_SESSIONS, Part, TableKind};
 use std::alloc::{AllocError, Allocator, Global};
-use tables::Options;
+use tables::{LocalTable, Options};
 use term_core::Term;
 
 /// The number of a session that isn't there, or has left.
@@ -93,29 +93,38 @@ fn note_leaving<A: Allocator>(left: &mut Vec<bool, A>, number: u8, leaves: bool)
     }
 }
 
-/// The table that is open, and of each session whether it has left.
+/// A table that is open, and of each session whether it has left.
 #[derive(Drop)]
-pub(crate) struct OpenTable<S: Part<A> + Drop, O: Part<A> + Drop, A: Allocator = Global> {
-    table: Table<S, O, A>,
+pub(crate) struct OpenTable<P: Part<A> + Drop, A: Allocator = Global> {
+    table: LocalTable<P, A>,
     left: Vec<bool, A>,
 }
 
-impl<S: Part<A> + Drop, O: Part<A> + Drop, A: Allocator + Copy> OpenTable<S, O, A> {
-    ghost use Rattle.std.specs.Prelude.{◌≡◌, ◌≢◌, ◌<◌, IfSome, IfOk};
+impl<P: Part<A> + Drop, A: Allocator + Copy> OpenTable<P, A> {
+    ghost use Rattle.std.specs.Prelude.{◌≡◌, ◌<◌, IfSome, IfOk};
     ghost use Rattle.tables.specs.Options.{IsOpenable};
     ghost use Rattle.walks.specs.OneThread.{table_objects};
     ghost use Rattle.tool_script.specs.Commands.{ask_of};
     ghost use Rattle.tool_script.specs.Replies.{reply_term};
     ghost use Rattle.tool_script.specs.Script.{OpenTable as OpenState, session_number, newly_opened};
-    ghost use Rattle.tool_script.specs.Tables.{options_of};
     ghost use Rattle.tool_script.specs.Opened.{IsOpen, IsSessionAnswered};
+
+    /// A table that is opened, which no session has left.
+    pub(crate) fn new(alloc: A, options: Options) -> Result<Self, AllocError>
+        requires { IsOpenable P.serves options }
+        ensures { IfOk result (λ table. IsOpen table (newly_opened options)) }
+    {
+        let table = open_at(alloc, options)?;
+        let left = vec![in alloc; false; usize::from(options.sessions)]?;
+        Ok(OpenTable { table, left })
+    }
 
     /// The session of a number, where it is there and hasn't left.
     fn session(&self, number: i64) -> Option<u8>
-        ensures inside { IfSome result (λ n. n < (options_of self.now.table).sessions) }
+        ensures inside { IfSome result (λ n. n < self.now.table.options.sessions) }
         ensures found { (o : OpenState) → IsOpen self.now o → result ≡ session_number o number }
     {
-        let sessions = self.table.options().sessions;
+        let sessions = self.table.options.sessions;
         if number < 0 || i64::from(sessions) <= number {
             return None;
         }
@@ -126,29 +135,22 @@ impl<S: Part<A> + Drop, O: Part<A> + Drop, A: Allocator + Copy> OpenTable<S, O, 
         }
     }
 
-    /// What a session is replied, by its number.
-    pub(crate) fn answer(&mut self, number: i64, ask: Ask<'_, A>) -> Result<Reply<A>, AllocError>
+    /// Admits a session by its number, where it is there and hasn't left, and notes whether it leaves.
+    pub(crate) fn admit(
+        &mut self,
+        number: i64,
+        ask: Ask<'_, A>,
+    ) -> Result<CommandReply<A>, AllocError>
         ensures { IfOk result (λ reply.
             IsSessionAnswered self.old self.new number (ask_of ask.entry) (reply_term reply)) }
     {
         let Some(number) = self.session(number) else {
-            return Ok(Reply::Error(STRANGER_SESSION));
+            return Ok(CommandReply::Error(STRANGER_SESSION));
         };
         let leaves = is_leaving(&ask);
-        let reply = self.table.answer(number, ask)?;
+        let reply = attend(&mut self.table, number, ask)?;
         note_leaving(&mut self.left, number, leaves);
         Ok(reply)
-    }
-
-    /// A table that is opened, which no session has left.
-    pub(crate) fn new(alloc: A, options: Options) -> Result<Self, AllocError>
-        requires set { options.kind ≡ TableKind.Set → IsOpenable S.serves options }
-        requires ordered { options.kind ≢ TableKind.Set → IsOpenable O.serves options }
-        ensures { IfOk result (λ table. IsOpen table (newly_opened options)) }
-    {
-        let table = Table::open(alloc, options)?;
-        let left = vec![in alloc; false; usize::from(options.sessions)]?;
-        Ok(OpenTable { table, left })
     }
 
     /// The objects, in the order of a walk; the table is given up.

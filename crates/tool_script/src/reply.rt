@@ -14,7 +14,7 @@ use tool_io::put_line;
 
 /// What a command is replied.
 #[derive(Drop)]
-pub enum Reply<A: Allocator = Global> {
+pub enum CommandReply<A: Allocator = Global> {
     /// `true` or `false`.
     Flag(bool),
     /// Objects, in a list.
@@ -27,17 +27,17 @@ pub enum Reply<A: Allocator = Global> {
 
 /// Puts the line of a reply at the end. After an `Err` the lines are as before.
 pub fn put_reply<A: Allocator + Copy>(
-    reply: &Reply<A>,
+    reply: &CommandReply<A>,
     lines: &mut Vec<u8, A>,
 ) -> Result<(), AllocError>
     ensures ok { OnOk result (lines.new.items ≡ lines.old.items ++ line (reply_term reply.now)) }
     ensures err { OnErr result (lines.new.items ≡ lines.old.items) }
 {
     match reply {
-        Reply::Flag(flag) => put_flag(*flag, lines),
-        Reply::Objects(objects) => put_objects(objects.as_slice(), lines),
-        Reply::Key(key) => put_key(key.as_ref(), lines),
-        Reply::Error(number) => put_error(*number, lines),
+        CommandReply::Flag(flag) => put_flag(*flag, lines),
+        CommandReply::Objects(objects) => put_objects(objects.as_slice(), lines),
+        CommandReply::Key(key) => put_key(key.as_ref(), lines),
+        CommandReply::Error(number) => put_error(*number, lines),
     }
 }
 

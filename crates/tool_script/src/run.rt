@@ -28,7 +28,7 @@ fn put_next<S: Part<A> + Drop, O: Part<A> + Drop, A: Allocator + Copy>(
         (IsPut script.old script.new term.now lines.old.items lines.new.items) }
     ensures err { OnErr result (lines.new.items ≡ lines.old.items) }
 {
-    let reply = script.execute(term)?;
+    let reply = script.interpret(term)?;
     put_reply(&reply, lines)
 }
 

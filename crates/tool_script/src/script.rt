@@ -1,10 +1,11 @@
 //! A script between two commands.
 use crate::command::{Ask, Command, read_command};
 use crate::open::{OpenTable, options_in};
-use crate::reply::Reply;
+use crate::reply::CommandReply;
 use part_core::{Part, TableKind};
 use std::alloc::{AllocError, Allocator, Global};
 use std::mem;
+use tables::Options;
 use term_core::Term;
 
 /// The number of what is no command here.
@@ -12,16 +13,57 @@ const BAD_INPUT: u8 = 65;
 /// The number of options with which no table is opened.
 const BAD_OPTIONS: u8 = 60;
 
+/// The table that is open, by its kind, if one is.
+#[derive(Drop)]
+pub(crate) enum Current<S: Part<A> + Drop, O: Part<A> + Drop, A: Allocator = Global> {
+    /// No table is open.
+    NoTable,
+    /// A set.
+    Set(OpenTable<S, A>),
+    /// An ordered set.
+    Ordered(OpenTable<O, A>),
+}
+
+impl<S: Part<A> + Drop, O: Part<A> + Drop, A: Allocator + Copy> Current<S, O, A> {
+    ghost use Rattle.std.specs.Prelude.{◌≡◌, ◌≢◌, IfOk, Option, Some, is_some};
+    ghost use Rattle.tables.specs.Options.{IsOpenable};
+    ghost use Rattle.tool_script.specs.Script.{OpenTable as OpenState, newly_opened};
+    ghost use Rattle.tool_script.specs.Scripts.{HasTable};
+
+    /// A table that is opened.
+    fn open(alloc: A, options: Options) -> Result<Self, AllocError>
+        requires set { options.kind ≡ TableKind.Set → IsOpenable S.serves options }
+        requires ordered { options.kind ≢ TableKind.Set → IsOpenable O.serves options }
+        ensures { IfOk result (λ current. HasTable current (Some (newly_opened options))) }
+    {
+        match options.kind {
+            TableKind::Set => Ok(Current::Set(OpenTable::new(alloc, options)?)),
+            _ => Ok(Current::Ordered(OpenTable::new(alloc, options)?)),
+        }
+    }
+
+    /// Whether a table is open.
+    fn is_open(&self) -> bool
+        ensures { (state : Option OpenState) → HasTable self.now state → result ≡ is_some state }
+    {
+        match self {
+            Current::NoTable => false,
+            Current::Set(_) => true,
+            Current::Ordered(_) => true,
+        }
+    }
+
+    /// Lets a table go.
+    fn let_go(self) {}
+}
+
 /// The table that is open, if one is, and how many were opened so far.
 #[derive(Drop)]
 pub(crate) struct Script<S: Part<A> + Drop, O: Part<A> + Drop, A: Allocator = Global> {
     alloc: A,
-    current: Option<OpenTable<S, O, A>>,
+    current: Current<S, O, A>,
     count: u64,
 }
-
-/// Lets a table go.
-fn let_go<S: Part<A> + Drop, O: Part<A> + Drop, A: Allocator>(_table: Option<OpenTable<S, O, A>>) {}
 
 impl<S: Part<A> + Drop, O: Part<A> + Drop, A: Allocator + Copy> Script<S, O, A> {
     ghost use Rattle.std.specs.Prelude.{◌≡◌, ◌≤◌, ◌<◌, ◌+◌, IfOk, IsTrue};
@@ -39,7 +81,7 @@ impl<S: Part<A> + Drop, O: Part<A> + Drop, A: Allocator + Copy> Script<S, O, A> 
     {
         Script {
             alloc,
-            current: None,
+            current: Current::NoTable,
             count: 0,
         }
     }
@@ -51,7 +93,7 @@ impl<S: Part<A> + Drop, O: Part<A> + Drop, A: Allocator + Copy> Script<S, O, A> 
         keypos: i64,
         parts: i64,
         sessions: i64,
-    ) -> Result<Reply<A>, AllocError>
+    ) -> Result<CommandReply<A>, AllocError>
         requires set { IsTrue (S.serves Set) }
         requires ordered { IsTrue (O.serves OrderedSet) }
         requires count { self.old.count < 18446744073709551615 }
@@ -59,44 +101,46 @@ impl<S: Part<A> + Drop, O: Part<A> + Drop, A: Allocator + Copy> Script<S, O, A> 
         ensures answered { IfOk result (λ reply.
             IsStep self.old self.new (Open kind keypos parts sessions) (reply_term reply)) }
     {
-        if self.current.is_some() {
-            return Ok(Reply::Error(BAD_INPUT));
+        if self.current.is_open() {
+            return Ok(CommandReply::Error(BAD_INPUT));
         }
         let Some(options) = options_in(self.count, kind, keypos, parts, sessions) else {
-            return Ok(Reply::Error(BAD_OPTIONS));
+            return Ok(CommandReply::Error(BAD_OPTIONS));
         };
-        let table = OpenTable::new(self.alloc, options)?;
-        let_go(mem::replace(&mut self.current, Some(table)));
+        let table = Current::open(self.alloc, options)?;
+        mem::replace(&mut self.current, table).let_go();
         self.count += 1;
-        Ok(Reply::Flag(true))
+        Ok(CommandReply::Flag(true))
     }
 
     /// Closes the table.
-    fn close(&mut self) -> Result<Reply<A>, AllocError>
+    fn close(&mut self) -> Result<CommandReply<A>, AllocError>
         ensures count { self.new.count ≡ self.old.count }
         ensures answered { IfOk result (λ reply.
             IsStep self.old self.new Close (reply_term reply)) }
     {
-        match self.current.take() {
-            Some(table) => Ok(Reply::Objects(table.close(self.alloc)?)),
-            None => Ok(Reply::Error(BAD_INPUT)),
+        match mem::replace(&mut self.current, Current::NoTable) {
+            Current::Set(table) => Ok(CommandReply::Objects(table.close(self.alloc)?)),
+            Current::Ordered(table) => Ok(CommandReply::Objects(table.close(self.alloc)?)),
+            Current::NoTable => Ok(CommandReply::Error(BAD_INPUT)),
         }
     }
 
-    /// Asks something of the table.
-    fn ask(&mut self, number: i64, ask: Ask<'_, A>) -> Result<Reply<A>, AllocError>
+    /// Hands what a session asks to the table.
+    fn forward(&mut self, number: i64, ask: Ask<'_, A>) -> Result<CommandReply<A>, AllocError>
         ensures count { self.new.count ≡ self.old.count }
         ensures answered { IfOk result (λ reply.
             IsStep self.old self.new (Session number (ask_of ask.entry)) (reply_term reply)) }
     {
         match &mut self.current {
-            Some(table) => table.answer(number, ask),
-            None => Ok(Reply::Error(BAD_INPUT)),
+            Current::Set(table) => table.admit(number, ask),
+            Current::Ordered(table) => table.admit(number, ask),
+            Current::NoTable => Ok(CommandReply::Error(BAD_INPUT)),
         }
     }
 
     /// Does what a command says.
-    fn obey(&mut self, command: Command<'_, A>) -> Result<Reply<A>, AllocError>
+    fn obey(&mut self, command: Command<'_, A>) -> Result<CommandReply<A>, AllocError>
         requires set { IsTrue (S.serves Set) }
         requires ordered { IsTrue (O.serves OrderedSet) }
         requires count { self.old.count < 18446744073709551615 }
@@ -108,13 +152,13 @@ impl<S: Part<A> + Drop, O: Part<A> + Drop, A: Allocator + Copy> Script<S, O, A> 
             Command::Open(kind, keypos, parts, sessions) => {
                 self.open(kind, keypos, parts, sessions)
             }
-            Command::Session(number, ask) => self.ask(number, ask),
+            Command::Session(number, ask) => self.forward(number, ask),
             Command::Close => self.close(),
         }
     }
 
-    /// What a term is replied.
-    pub(crate) fn execute(&mut self, term: &Term<A>) -> Result<Reply<A>, AllocError>
+    /// Obeys the command that a term says, and refuses a term that says none.
+    pub(crate) fn interpret(&mut self, term: &Term<A>) -> Result<CommandReply<A>, AllocError>
         requires set { IsTrue (S.serves Set) }
         requires ordered { IsTrue (O.serves OrderedSet) }
         requires count { self.old.count < 18446744073709551615 }
@@ -124,7 +168,7 @@ impl<S: Part<A> + Drop, O: Part<A> + Drop, A: Allocator + Copy> Script<S, O, A> 
     {
         match read_command(term) {
             Some(command) => self.obey(command),
-            None => Ok(Reply::Error(BAD_INPUT)),
+            None => Ok(CommandReply::Error(BAD_INPUT)),
         }
     }
 }

@@ -5,7 +5,7 @@ ghost use Rattle.tool_script.specs.Replies.{reply_term};
 ghost use Rattle.tool_script.specs.State.{IsAnswered, IsReplied};
 
 use crate::command::Ask;
-use crate::reply::Reply;
+use crate::reply::CommandReply;
 use part_core::Fault;
 use std::alloc::{AllocError, Allocator};
 use tables::{
@@ -22,21 +22,21 @@ fn fault_of<A: Allocator>(refused: Refused<Term<A>, Fault>) -> Fault
 }
 
 /// The reply to what was done, or refused.
-fn reply_to<A: Allocator>(outcome: Result<(), Fault>) -> Result<Reply<A>, AllocError>
+fn reply_to<A: Allocator>(outcome: Result<(), Fault>) -> Result<CommandReply<A>, AllocError>
     ensures { IfOk result (λ reply. IsReplied outcome (reply_term reply)) }
 {
     match outcome {
-        Ok(()) => Ok(Reply::Flag(true)),
+        Ok(()) => Ok(CommandReply::Flag(true)),
         Err(Fault::Memory) => Err(AllocError),
-        Err(fault) => Ok(Reply::Error(fault.number())),
+        Err(fault) => Ok(CommandReply::Error(fault.number())),
     }
 }
 
-/// What a session is replied.
-pub(crate) fn answer<A: Allocator + Copy, T: Turns<A>>(
+/// Makes the call that a session asks for, and says what it is replied.
+pub(crate) fn perform<A: Allocator + Copy, T: Turns<A>>(
     turns: &mut T,
     ask: Ask<'_, A>,
-) -> Result<Reply<A>, AllocError>
+) -> Result<CommandReply<A>, AllocError>
     requires ready { T.is_ready turns.old }
     requires alone { IsTrue (T.home turns.old).alone }
     ensures same { T.home turns.new ≡ T.home turns.old }
@@ -48,34 +48,34 @@ pub(crate) fn answer<A: Allocator + Copy, T: Turns<A>>(
         Ask::Insert(object) => {
             let object = object.copy()?;
             match insert(turns, object) {
-                Ok(()) => Ok(Reply::Flag(true)),
+                Ok(()) => Ok(CommandReply::Flag(true)),
                 Err(refused) => reply_to(Err(fault_of(refused))),
             }
         }
         Ask::InsertNew(object) => {
             let object = object.copy()?;
             match insert_new(turns, object) {
-                Ok(fresh) => Ok(Reply::Flag(fresh)),
+                Ok(fresh) => Ok(CommandReply::Flag(fresh)),
                 Err(refused) => reply_to(Err(fault_of(refused))),
             }
         }
-        Ask::Lookup(key) => Ok(Reply::Objects(lookup(turns, key)?)),
-        Ask::Member(key) => Ok(Reply::Flag(member(turns, key))),
+        Ask::Lookup(key) => Ok(CommandReply::Objects(lookup(turns, key)?)),
+        Ask::Member(key) => Ok(CommandReply::Flag(member(turns, key))),
         Ask::Delete(key) => {
             delete(turns, key);
-            Ok(Reply::Flag(true))
+            Ok(CommandReply::Flag(true))
         }
         Ask::DeleteObject(object) => reply_to(delete_object(turns, object)),
-        Ask::Take(key) => Ok(Reply::Objects(take(turns, key)?)),
+        Ask::Take(key) => Ok(CommandReply::Objects(take(turns, key)?)),
         Ask::Fix => reply_to(fix(turns)),
         Ask::Unfix => reply_to(unfix(turns)),
         Ask::Leave => {
             release(turns);
-            Ok(Reply::Flag(true))
+            Ok(CommandReply::Flag(true))
         }
-        Ask::First => Ok(Reply::Key(first(turns)?)),
+        Ask::First => Ok(CommandReply::Key(first(turns)?)),
         Ask::Next(key) => match next(turns, key) {
-            Ok(next) => Ok(Reply::Key(next)),
+            Ok(next) => Ok(CommandReply::Key(next)),
             Err(fault) => reply_to(Err(fault)),
         },
     }

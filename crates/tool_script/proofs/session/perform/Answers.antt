@@ -9,7 +9,7 @@ use Rattle.tables.specs.Calls.{TurnedByObject}
 use Rattle.tool_script.specs.Replies.{reply_term}
 use Rattle.tool_script.proofs.AskLemmas.{key_answered, object_answered, deletion_answered, fix_outcome, unfix_outcome, leave_answered}
 use Rattle.tool_script.proofs.WalkLemmas.{first_answered, next_answered, next_refused}
-use Rattle.tool_script.proofs.session.answer.Goals as goal
+use Rattle.tool_script.proofs.session.perform.Goals as goal
 
 pub returns-in-Ok-clause-answered : goal.returns-in-Ok-clause-answered
 returns-in-Ok-clause-answered g c = λ t at.
