@@ -80,7 +80,9 @@ fn passed_on_of_a_refusal(alloc: Global) -> (Vec<u8>, bool) {
         passed: Vec::new(alloc),
     });
     let _status = run_request(alloc, Request::Run, &mut reader, &mut out, &mut err);
-    (err.writer.passed, err.has_failed)
+    let has_failed = err.has_failed;
+    let writer = err.writer;
+    (writer.passed, has_failed)
 }
 
 #[test]
