@@ -1,8 +1,8 @@
 use Rattle.std.proofs.Common.{arith}
 use Rattle.tests_memory.proofs.terms.requests_of_the_shortest.Goals as goal
 
-pub tuple_of_three-requires : goal.tuple_of_three-requires
-tuple_of_three-requires c = omega arith
+pub short_tuple-requires-3 : goal.short_tuple-requires-3
+short_tuple-requires-3 c = omega arith
 
-pub tuple_of_four-requires : goal.tuple_of_four-requires
-tuple_of_four-requires c = omega arith
+pub short_tuple-requires-4 : goal.short_tuple-requires-4
+short_tuple-requires-4 c = omega arith
