@@ -107,10 +107,7 @@ fn verify_terms<A: Allocator + Copy, W: Write>(
     let View::Binary(bytes) = only(terms)?.view() else {
         return Err(ToolFault::BadInput);
     };
-    let code = match load(alloc, bytes) {
-        Ok(code) => code,
-        Err(fault) => return Err(fault),
-    };
+    let code = load(alloc, bytes)?;
     let mut lines = Vec::new(alloc);
     match put_verdict(code.budget(), code.depth(), &mut lines) {
         Ok(()) => write_lines(writer, &mut lines),

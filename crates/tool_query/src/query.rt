@@ -95,10 +95,8 @@ pub(crate) fn code_of_query<A: Allocator + Copy>(
     if let View::Binary(bytes) = term.view() {
         return load(alloc, bytes);
     }
-    match specification_of(alloc, term) {
-        Ok(specification) => code_from_file(alloc, &specification),
-        Err(fault) => Err(fault),
-    }
+    let specification = specification_of(alloc, term)?;
+    code_from_file(alloc, &specification)
 }
 
 /// A fault of the specification as one of the program.

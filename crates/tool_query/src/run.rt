@@ -62,10 +62,8 @@ fn run_terms<A: Allocator + Copy, W: Write>(
     let [first, objects @ ..] = terms else {
         unreachable!();
     };
-    match code_of_query(alloc, first) {
-        Ok(code) => write_runs(alloc, &code, objects, writer),
-        Err(fault) => Err(fault),
-    }
+    let code = code_of_query(alloc, first)?;
+    write_runs(alloc, &code, objects, writer)
 }
 
 /// Writes how the terms behind the first come out by it.

@@ -68,10 +68,8 @@ fn first_from<A: Allocator, T: Turns<A>>(
         (Stopped (T.home turns.old) from None)) }
 {
     for part in from..turns.options().parts {
-        match first_at(turns, part) {
-            Ok(Some(key)) => return Ok(Some(key)),
-            Ok(None) => {}
-            Err(AllocError) => return Err(AllocError),
+        if let Some(key) = first_at(turns, part)? {
+            return Ok(Some(key));
         }
     }
     Ok(None)
@@ -92,10 +90,8 @@ fn next_at<A: Allocator, T: Turns<A>>(
     ensures refused { IfErr result (λ fault. Follows (T.sees turns.old) (T.sees turns.new)
         (RefusedAt (T.home turns.old) part key.now fault)) }
 {
-    match turn_at(turns, part, PartOp::Next(key)) {
-        Ok(reply) => Ok(key_in(reply)),
-        Err(fault) => Err(fault),
-    }
+    let reply = turn_at(turns, part, PartOp::Next(key))?;
+    Ok(key_in(reply))
 }
 
 /// The first key in the order of a walk, none of a table without objects (ets:first/1).
@@ -126,12 +122,8 @@ pub fn next<A: Allocator, T: Turns<A>>(
         (RefusedNext (T.home turns.old) key.now fault)) }
 {
     let part = part_of_key(key, turns.options().parts);
-    match next_at(turns, part, key) {
-        Ok(Some(next)) => Ok(Some(next)),
-        Ok(None) => match first_from(turns, part + 1) {
-            Ok(next) => Ok(next),
-            Err(AllocError) => Err(Fault::Memory),
-        },
-        Err(fault) => Err(fault),
+    if let Some(next) = next_at(turns, part, key)? {
+        return Ok(Some(next));
     }
+    Ok(first_from(turns, part + 1)?)
 }

@@ -1,5 +1,5 @@
 use Rattle.std.proofs.Common.{sym}
-use Rattle.std.proofs.lemmas.Result.{MatchResult-weaker}
+use Rattle.std.proofs.lemmas.Result.{err_from_is_err_and, MatchResult-weaker}
 use Rattle.tool_query.proofs.QueryLemmas.{coded_query, meant_query, asks_nothing, for_memory, no_binary_at}
 use Rattle.tool_query.proofs.query.code_of_query.Goals as goal
 
@@ -7,15 +7,16 @@ pub returns-in-Binary-clause-ok : goal.returns-in-Binary-clause-ok
 returns-in-Binary-clause-ok g c =
     MatchResult-weaker c.load.result c.load.ensures.ok (λ code loaded. coded_query c.args.term.now c.in-Binary.bytes.now code (sym c.in-Binary.ensures.value) loaded) (λ e h. h)
 
-pub returns-in-Err : goal.returns-in-Err
-returns-in-Err g c =
+pub returns-in_err-specification-clause-refused : goal.returns-in_err-specification-clause-refused
+returns-in_err-specification-clause-refused g c =
     let other = no_binary_at c.args.term.now c.view.result c.view.ensures.value c.view.ensures.split c.in_default.not-Binary in
-    record { ok = tt; refused = asks_nothing c.args.term.now c.in-Err.fault other c.in-Err.ensures.refused }
+    let back = err_from_is_err_and c.from_residual.result c.from_residual.ensures.1 in
+    rw (back.1, back.2) (asks_nothing c.args.term.now _ other c.in_err-specification.ensures.refused)
 
-pub returns-in-Ok : goal.returns-in-Ok
-returns-in-Ok g c =
+pub returns-in_default : goal.returns-in_default
+returns-in_default g c =
     let other = no_binary_at c.args.term.now c.view.result c.view.ensures.value c.view.ensures.split c.in_default.not-Binary in
     record {
-      ok = MatchResult-weaker c.code_from_file.result c.code_from_file.ensures.ok (λ code answers. meant_query c.args.term.now c.in-Ok.specification code other c.in-Ok.ensures.ok answers) (λ e h. h);
+      ok = MatchResult-weaker c.code_from_file.result c.code_from_file.ensures.ok (λ code answers. meant_query c.args.term.now c.in_ok-specification.specification code other c.in_ok-specification.ensures.ok answers) (λ e h. h);
       refused = MatchResult-weaker c.code_from_file.result c.code_from_file.ensures.refused (λ x h. h) (λ f is. for_memory c.args.term.now f is);
     }
