@@ -7,8 +7,8 @@ pub mod StepLemmas
 pub mod HistoryLemmas
 pub mod CoverLemmas
 pub mod StayLemmas
-pub mod LeadLemmas
-pub mod ActLemmas
+pub mod KeyedLemmas
+pub mod AfterLemmas
 pub mod FieldLemmas
 pub mod ChosenLemmas
 pub mod LiveLemmas

@@ -1,14 +1,15 @@
 -- Each operation leaves a state.
-use Rattle.std.proofs.Common.{◌≡◌, ℕ, ◌≤◌, ◌*◌, List, [], ◌∷◌, refl, sym, subst, ◌∙◌, arith, length}
-use Rattle.std.specs.Prelude.{Bool, true, false, not, ◌&&◌, ◌||◌, if◌then◌else◌, nat_lt, IsTrue, filter, All}
-use Rattle.std.specs.List.{IsDistinct, list_any}
+use Rattle.std.proofs.Common.{◌≡◌, ℕ, ◌≤◌, ◌<◌, ◌+◌, ◌*◌, List, [], ◌∷◌, refl, sym, subst, ◌∙◌, arith, length, lt-ltb}
+use Rattle.std.specs.Prelude.{Bool, true, false, not, ◌&&◌, ◌||◌, if◌then◌else◌, nat_eq, nat_lt, IsTrue, IsFalse, filter, All}
+use Rattle.std.specs.List.{IsDistinct, list_all, list_any}
+use Rattle.std.specs.Map.{keys_of}
 use Rattle.std.specs.List.Sorted.{IsStrictlySortedBy}
 use Rattle.std.specs.BTreeMap.{insert_entry}
 use Rattle.std.specs.Ordering.{match_ordering, is_eq}
 use Rattle.std.specs.declared.cmp.Ordering.{Ordering}
 use Rattle.std.specs.declared.cmp.Ordering.TheVariants.{Less, Equal, Greater}
-use Rattle.std.proofs.lemmas.Bool.{true≢false, and_parts, or_parts, not-false, ltb-true}
-use Rattle.std.proofs.lemmas.List.{length-set, length-replicate}
+use Rattle.std.proofs.lemmas.Bool.{true≢false, false≢true, and_parts, or_parts, not-false, eqb-true, ltb-true, ltb-false}
+use Rattle.std.proofs.lemmas.List.{length-map, length-append, length-set, length-replicate}
 use Rattle.std.proofs.lemmas.List.Elements.{All-nil, All-cons, All-head, All-tail, All-append, All-filter, All-map, All-weaker, filter_passes}
 use Rattle.std.proofs.lemmas.List.Sums.{length-filter, count_by-le-length}
 use Rattle.term_core.specs.Datum.{Datum}
@@ -24,9 +25,9 @@ use Rattle.part_core.specs.Acts.Act.{Insert, InsertNew, Delete, DeleteObject, Ta
 use Rattle.part_core.specs.Acts.Answer.{Replied, Refused}
 use Rattle.part_core.specs.Acts.Refusal.{TooSmall}
 use Rattle.part_core.specs.Rows.{Row, PartState, opening, is_empty, is_live, is_fixed, objects_at, has_row, objects_with, objects_without, with_object}
-use Rattle.part_core.specs.Visits.{is_true}
+use Rattle.part_core.specs.Visits.{bases, is_true, visited_rows}
 use Rattle.part_core.specs.Replies.{reply_of, said_of_object}
-use Rattle.part_core.specs.After.{after, rows_after, counts_after, slots_after, state_with}
+use Rattle.part_core.specs.After.{most_slots, after, rows_after, counts_after, slots_after, state_with}
 use Rattle.part_core.specs.States.{AreRows, IsRow, IsObjectOf, IsState, IsBase}
 use Rattle.part_core.proofs.KeyLemmas.{by_test, same_is}
 use Rattle.part_core.proofs.RowLemmas.{rows_by}
@@ -41,6 +42,7 @@ opening_state o = record {
   sessions = length-replicate o.sessions 0;
   slots = refl;
   base = (refl, omega arith);
+  settled = λ _. refl;
   room = λ _ _. omega arith;
 }
 
@@ -131,16 +133,68 @@ counts_length fixes n Unfix = length-set fixes n _
 counts_length fixes n Release = length-set fixes n 0
 counts_length fixes n act = refl
 
+-- each number of slots that isn't the most has its double among them
+doubled : (xs : List ℕ) (n : ℕ) → list_all (λ x. not (nat_lt x most_slots) || list_any (nat_eq (2 * x)) bases) xs ≡ true → list_any (nat_eq n) xs ≡ true → n < most_slots → IsBase (2 * n)
+doubled [] n all there small = cc
+doubled (x ∷ xs) n all there small =
+    let parts = and_parts (not (nat_lt x most_slots) || list_any (nat_eq (2 * x)) bases) _ all in
+    by_test (nat_eq n x) _
+    (λ holds. let is : n ≡ x = eqb-true n x holds in
+    let below : nat_lt x most_slots ≡ true = lt-ltb x most_slots (subst (λ (m : ℕ). m < most_slots) is small) in
+    subst (λ (m : ℕ). IsBase (2 * m)) (sym is) (rw below at parts.0))
+    (λ fails. doubled xs n parts.1 (rw fails at there) small)
+
+-- a set that doubles its slots has got a row more than four a slot, and hadn't the most slots
+abbrev IsGrown : ℕ → ℕ → ℕ → Type 0
+IsGrown before now slots = (before < now) × (4 * slots < now) × (slots < most_slots)
+
+grown_so : (kind : TableKind) (before now slots : ℕ) → (is_ordered kind || not (nat_lt before now && (nat_lt (4 * slots) now && nat_lt slots most_slots))) ≡ false → IsGrown before now slots
+grown_so kind before now slots grows =
+    let all = and_parts (nat_lt before now) _ (not-false _ (or_parts (is_ordered kind) _ grows).1) in
+    let few = and_parts (nat_lt (4 * slots) now) _ all.1 in
+    (ltb-true before now all.0, ltb-true (4 * slots) now few.0, ltb-true slots most_slots few.1)
+
 pub slots_grow : (kind : TableKind) (before now slots : ℕ) → IsBase slots → IsBase (slots_after kind before now slots) × (slots ≤ slots_after kind before now slots)
 slots_grow kind before now slots is =
-    by_test (is_ordered kind || not (nat_lt before now && (nat_lt (4 * slots) now && nat_lt slots 8))) _
+    by_test (is_ordered kind || not (nat_lt before now && (nat_lt (4 * slots) now && nat_lt slots most_slots))) _
     (λ stays. rw stays (is, omega arith))
-    (λ grows. let all = and_parts (nat_lt before now) _ (not-false _ (or_parts (is_ordered kind) _ grows).1) in
-    let few = and_parts (nat_lt (4 * slots) now) _ all.1 in
-    absurd (omega (arith, ltb-true slots 8 few.1, base_least slots is)))
+    (λ grows. rw grows (doubled bases slots refl is (grown_so kind before now slots grows).2, omega arith))
 
-kept_state : (o : Settings) (s : PartState) (rows : List Row) (fixes : List ℕ) → IsState o s → AreRows o rows → All (IsRow o) rows → length fixes ≡ length s.fixes → IsState o (state_with o s rows fixes)
-kept_state o s rows fixes state a each long =
+-- where at most one row was added, a set that still grows has at most four rows a slot
+room_after : (kind : TableKind) (before now slots : ℕ) → IsFalse (is_ordered kind) → IsBase slots → (slots < most_slots → before ≤ 4 * slots) → now ≤ before + 1 → slots_after kind before now slots < most_slots → now ≤ 4 * slots_after kind before now slots
+room_after kind before now slots plain is room one =
+    by_test (is_ordered kind || not (nat_lt before now && (nat_lt (4 * slots) now && nat_lt slots most_slots))) _
+    (λ stays. rw stays (λ small. by_test (nat_lt (4 * slots) now) _
+    (λ many. let over : 4 * slots < now = ltb-true (4 * slots) now many in
+    let more : nat_lt before now ≡ true = lt-ltb before now (omega (arith, over, room small)) in
+    let few : nat_lt slots most_slots ≡ true = lt-ltb slots most_slots small in
+    absurd (false≢true (rw (plain, more, many, few) at stays)))
+    (λ fits. ltb-false (4 * slots) now fits)))
+    (λ grows. rw grows (λ small. omega (arith, one, room (grown_so kind before now slots grows).2, base_least slots is)))
+
+-- an operation adds one row to a set at most
+put_length : (o : Settings) (t : Datum) (rows : List Row) → IsFalse (is_ordered o.kind) → length (with_object o t rows) ≤ length rows + 1
+put_length o t rows plain =
+    by_test (has_row rows (key_of o t)) _
+    (λ there. rw there (omega (arith, length-map (λ (r : Row). (r.0, if is_same (key_of o t) r.0 then objects_with o.kind r.1 t else r.1)) rows)))
+    (λ none. rw (none, plain) (omega (arith, length-append rows ((key_of o t, objects_with o.kind [] t) ∷ []))))
+
+written_length : (o : Settings) (s : PartState) (act : Act) → IsFalse (is_ordered o.kind) → length (rows_after o s act) ≤ length s.rows + 1
+written_length o s (Insert t) plain = put_length o t s.rows plain
+written_length o s (InsertNew t) plain =
+    by_test (is_empty (objects_at s.rows (key_of o t))) _ (λ holds. rw holds (put_length o t s.rows plain)) (λ fails. rw fails (omega arith))
+written_length o s (Delete k) plain =
+    omega (arith, length-map (λ (r : Row). (r.0, if is_same k r.0 then [] else r.1)) s.rows)
+written_length o s (DeleteObject t) plain =
+    omega (arith, length-map (λ (r : Row). (r.0, if is_same (key_of o t) r.0 then objects_without t r.1 else r.1)) s.rows)
+written_length o s (Take k) plain =
+    omega (arith, length-map (λ (r : Row). (r.0, if is_same k r.0 then [] else r.1)) s.rows)
+written_length o s (Visit Deletes p scope wanted) plain =
+    omega (arith, length-map (λ (r : Row). (r.0, if list_any (is_same r.0) (keys_of (visited_rows o s Deletes p scope wanted)) then filter (λ t. not (is_true p t)) r.1 else r.1)) s.rows)
+written_length o s act plain = omega arith
+
+kept_state : (o : Settings) (s : PartState) (rows : List Row) (fixes : List ℕ) → IsState o s → AreRows o rows → All (IsRow o) rows → (IsFalse (is_ordered o.kind) → length rows ≤ length s.rows + 1) → length fixes ≡ length s.fixes → IsState o (state_with o s rows fixes)
+kept_state o s rows fixes state a each one long =
     by_test (is_fixed fixes) _
     (λ holds. let grown = slots_grow o.kind (length s.rows) (length rows) s.slots state.slots in rw holds (record {
       rows = a;
@@ -149,7 +203,8 @@ kept_state o s rows fixes state a each long =
       sessions = long ∙ state.sessions;
       slots = grown.0;
       base = (state.base.0, omega (arith, state.base.1, grown.1));
-      room = λ _ small. absurd (omega (arith, small, base_least (slots_after o.kind (length s.rows) (length rows) s.slots) grown.0));
+      settled = λ free. absurd (true≢false (sym holds ∙ free));
+      room = λ plain. room_after o.kind (length s.rows) (length rows) s.slots plain state.slots (state.room plain) (one plain);
     }))
     (λ fails. let grown = slots_grow o.kind (length s.rows) (length (filter is_live rows)) s.slots state.slots in rw fails (record {
       rows = live_rows o rows a;
@@ -158,7 +213,8 @@ kept_state o s rows fixes state a each long =
       sessions = long ∙ state.sessions;
       slots = grown.0;
       base = (grown.0, omega arith);
-      room = λ _ small. absurd (omega (arith, small, base_least (slots_after o.kind (length s.rows) (length (filter is_live rows)) s.slots) grown.0));
+      settled = λ _. refl;
+      room = λ plain. room_after o.kind (length s.rows) (length (filter is_live rows)) s.slots plain state.slots (state.room plain) (omega (arith, one plain, length-filter is_live rows, count_by-le-length is_live rows));
     }))
 
 pub state_step : (o : Settings) (s : PartState) (n : ℕ) (act : Act) (answer : Answer) → reply_of o s n act ≡ answer → IsState o s → IsState o (after o s n act)
@@ -166,4 +222,4 @@ state_step o s n act (Refused refusal) is state =
     subst (IsState o) (sym (after_refused o s n act refusal is)) state
 state_step o s n act (Replied said) is state =
     subst (IsState o) (sym (after_replied o s n act said is))
-    (kept_state o s (rows_after o s act) (counts_after s.fixes n act) state (written_rows o s act state.rows) (written_each o s n act said is state.each) (counts_length s.fixes n act))
+    (kept_state o s (rows_after o s act) (counts_after s.fixes n act) state (written_rows o s act state.rows) (written_each o s n act said is state.each) (written_length o s act) (counts_length s.fixes n act))

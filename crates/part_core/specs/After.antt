@@ -49,10 +49,14 @@ slots_after kind before now slots =
     if is_ordered kind || not (nat_lt before now && (nat_lt (4 * slots) now && nat_lt slots most_slots))
     then slots else 2 * slots
 
+-- dead rows stay only while some session fixes the part
+abbrev pub kept_rows : List ℕ → List Row → List Row
+kept_rows fixes rows = if is_fixed fixes then rows else filter is_live rows
+
 -- Dead rows stay while some session fixes the part, and so does the base of walks that begin.
 abbrev pub state_with : Settings → PartState → List Row → List ℕ → PartState
 state_with o s rows fixes =
-    let kept = if is_fixed fixes then rows else filter is_live rows in
+    let kept = kept_rows fixes rows in
     let slots = slots_after o.kind (length s.rows) (length kept) s.slots in
     record { rows = kept; fixes = fixes; slots = slots; base = if is_fixed fixes then s.base else slots }
 

@@ -14,4 +14,3 @@ pub mod Laws
 pub mod FaultNumbers
 pub mod Ops
 pub mod Served
-pub mod Plain

@@ -1,5 +1,7 @@
 -- What operations, replies and refusals of a part stand for in its history.
-use Rattle.std.specs.Prelude.{ℕ, Bool, true, false, Option, Some, None, option_map, Result, Ok, Err, List, [], ◌∷◌}
+use Rattle.std.specs.Prelude.{ℕ, Bool, true, false, Option, Some, None, option_map, unwrap_or, Result, Ok, Err, List, [], ◌∷◌}
+use Rattle.term_core.specs.Datum.{Datum}
+use Rattle.term_core.specs.Datum.Datum.{nil}
 use Rattle.part_core.specs.declared.op.Cursor as cursor_type
 use Rattle.part_core.specs.declared.op.Cursor.TheVariants as cursor
 use Rattle.part_core.specs.declared.op.Scope as scope_type
@@ -30,10 +32,16 @@ scope_of scope.Begin = Begin
 scope_of (scope.After c) = After (cursor_of c.now)
 scope_of (scope.Named k) = Named k.now
 
--- what an operation does
+-- the object that is still in an operation
+abbrev pub object_in : {A : Type 0} → PartOp A → Option Datum
+object_in (op.Insert object) = object
+object_in (op.InsertNew object) = object
+object_in other = None
+
+-- what an operation does; one that puts in no object puts in nil, which is none
 abbrev pub act_of : {A : Type 0} → PartOp A → Act
-act_of (op.Insert t) = Insert t
-act_of (op.InsertNew t) = InsertNew t
+act_of (op.Insert object) = Insert (unwrap_or object nil)
+act_of (op.InsertNew object) = InsertNew (unwrap_or object nil)
 act_of (op.Lookup k) = Lookup k.now
 act_of (op.Member k) = Member k.now
 act_of (op.Delete k) = Delete k.now
@@ -42,9 +50,9 @@ act_of (op.Take k) = Take k.now
 act_of op.Fix = Fix
 act_of op.Unfix = Unfix
 act_of op.Release = Release
-act_of (op.Visit code scope wanted) = Visit Answers code.now (scope_of scope) wanted
-act_of (op.VisitCount code scope wanted) = Visit Counts code.now (scope_of scope) wanted
-act_of (op.VisitDelete code scope wanted) = Visit Deletes code.now (scope_of scope) wanted
+act_of (op.Visit look) = Visit Answers look.code.now (scope_of look.scope) look.wanted
+act_of (op.VisitCount look) = Visit Counts look.code.now (scope_of look.scope) look.wanted
+act_of (op.VisitDelete look) = Visit Deletes look.code.now (scope_of look.scope) look.wanted
 act_of op.First = First
 act_of (op.Next k) = Next k.now
 

@@ -31,7 +31,8 @@ abbrev pub IsBase : ℕ → Type 0
 IsBase n = IsTrue (list_any (nat_eq n) bases)
 
 -- Every state of a part: its rows, and that dead ones stay only while it is fixed; a count of fixes for each session; and
--- the base, which is one that the slots have been. A set that still grows has at most four rows a slot.
+-- the base, which is one that the slots have been, and their number while nothing is fixed. A set that still grows has at most four
+-- rows a slot.
 pub record IsState (o : Settings) (s : PartState) : Type 0 where
   pub rows : AreRows o s.rows
   pub each : All (IsRow o) s.rows
@@ -39,4 +40,5 @@ pub record IsState (o : Settings) (s : PartState) : Type 0 where
   pub sessions : length s.fixes ≡ o.sessions
   pub slots : IsBase s.slots
   pub base : IsBase s.base × (s.base ≤ s.slots)
+  pub settled : is_fixed s.fixes ≡ false → s.base ≡ s.slots
   pub room : IsFalse (is_ordered o.kind) → s.slots < most_slots → length s.rows ≤ 4 * s.slots

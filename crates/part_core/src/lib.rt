@@ -7,7 +7,7 @@
 //! - `kind`, `settings`: what a table holds of a key, and what all its parts have in common.
 //! - `op`, `reply`, `fault`: what a session asks of a part, and what it is answered; `specs/Ops.antt` says what these stand
 //!   for in a history. `entry`: an entry, as contracts see it.
-//! - `part`: the trait. `specs/Plain.antt`, `fixes`, `held`, `key`, `room`: what the parts that keep it have in common.
+//! - `part`: the trait. `fixes`, `held`, `key`, `room`, `slots`: what the parts that keep it have in common.
 //! - `laws`: that the content of a history is that of the rows, that a visit answers for the keys that it covers, what
 //!   holds of every state and what stays while a part is fixed.
 #![tactic(auto)]
@@ -24,6 +24,7 @@ mod part;
 mod reply;
 mod room;
 mod settings;
+mod slots;
 
 pub use entry::Entry;
 pub use fault::{Fault, OpenFault};
@@ -35,8 +36,9 @@ pub use laws::{
     base_never_falls, content_is_that_of_the_rows, fixed_rows_stay, fixes_are_counted, legal_front,
     legal_goes_on, legal_last, states_are_kept, visits_answer_their_cover, visits_move_on,
 };
-pub use op::{Cursor, PartOp, Scope};
+pub use op::{Cursor, Look, PartOp, Scope};
 pub use part::Part;
 pub use reply::{Reply, is_counted};
 pub use room::push_within;
 pub use settings::{MAX_KEYPOS, MAX_PARTS, MAX_SESSIONS, Settings};
+pub use slots::{FIRST_SLOTS, MOST_SLOTS, is_base, slots_with_row};

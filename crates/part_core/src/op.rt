@@ -1,6 +1,5 @@
 //! What a session asks of a part.
 use std::alloc::{Allocator, Global};
-use std::mem;
 use term_core::Term;
 use verifier::Verified;
 
@@ -29,13 +28,25 @@ pub enum Scope<'a, A: Allocator = Global> {
     Named(&'a Term<A>),
 }
 
-/// An operation at a part. A visit has the query's code, where to look, and how many answers are wanted, at least 1.
+/// What a visit is asked.
+#[derive(Clone, Copy)]
+pub struct Look<'a, A: Allocator = Global> {
+    /// The query's code.
+    pub code: &'a Verified<A>,
+    /// Where it looks.
+    pub scope: Scope<'a, A>,
+    /// How many answers are wanted, at least 1.
+    pub wanted: u64,
+}
+
+/// An operation at a part. An object that is put in is taken out of the operation; one that holds none is refused as a term that is
+/// no object.
 #[derive(Drop)]
 pub enum PartOp<'a, A: Allocator = Global> {
     /// Puts an object in, in a set in the place of the one with its key.
-    Insert(Term<A>),
+    Insert(Option<Term<A>>),
     /// Puts an object in if its key has none.
-    InsertNew(Term<A>),
+    InsertNew(Option<Term<A>>),
     /// The objects of a key.
     Lookup(&'a Term<A>),
     /// Whether a key has an object.
@@ -53,34 +64,41 @@ pub enum PartOp<'a, A: Allocator = Global> {
     /// Releases all fixes of the session.
     Release,
     /// The query's answers.
-    Visit(&'a Verified<A>, Scope<'a, A>, u64),
+    Visit(Look<'a, A>),
     /// How many objects answer true.
-    VisitCount(&'a Verified<A>, Scope<'a, A>, u64),
+    VisitCount(Look<'a, A>),
     /// Deletes the objects that answer true, and counts them.
-    VisitDelete(&'a Verified<A>, Scope<'a, A>, u64),
+    VisitDelete(Look<'a, A>),
     /// The first key in the order of a walk.
     First,
     /// The key behind one.
     Next(&'a Term<A>),
 }
 
-/// Lets an operation go.
-fn let_go<A: Allocator>(_op: PartOp<'_, A>) {}
-
 impl<'a, A: Allocator> PartOp<'a, A> {
     ghost use Rattle.std.specs.Prelude.{◌≡◌};
+    ghost use Rattle.part_core.specs.Ops.{object_in};
 
-    /// Takes the operation out of its place, which then holds one that owns nothing.
-    pub fn take(&mut self) -> Self
-        ensures { result ≡ self.old }
+    /// The object that is still in the operation.
+    pub fn into_object(self) -> Option<Term<A>>
+        ensures { result ≡ object_in self }
     {
-        mem::replace(self, PartOp::First)
-    }
-
-    /// Puts an operation into the place from which it was taken.
-    pub fn put_back(&mut self, op: Self)
-        ensures { self.new ≡ op.entry }
-    {
-        let_go(mem::replace(self, op));
+        match self {
+            PartOp::Insert(object) => object,
+            PartOp::InsertNew(object) => object,
+            PartOp::Lookup(_)
+            | PartOp::Member(_)
+            | PartOp::Delete(_)
+            | PartOp::DeleteObject(_)
+            | PartOp::Take(_)
+            | PartOp::Fix
+            | PartOp::Unfix
+            | PartOp::Release
+            | PartOp::Visit(_)
+            | PartOp::VisitCount(_)
+            | PartOp::VisitDelete(_)
+            | PartOp::First
+            | PartOp::Next(_) => None,
+        }
     }
 }

@@ -1,8 +1,8 @@
 //! The contract that every part of a table keeps.
-ghost use Rattle.std.specs.Prelude.{ℕ, ◌≡◌, ◌≢◌, ◌<◌, ◌++◌, Bool, IsTrue, IfOk, IfErr, IsErrOf, List, []};
+ghost use Rattle.std.specs.Prelude.{ℕ, ◌≡◌, ◌≢◌, ◌<◌, ◌++◌, Bool, IsTrue, None, IfOk, IfErr, OnOk, IsErrOf, List, []};
 ghost use Rattle.part_core.specs.Acts.{Entry as PastEntry, IsAsked};
 ghost use Rattle.part_core.specs.Legal.{IsLegal, fix_count, state_after};
-ghost use Rattle.part_core.specs.Ops.{act_of, entries_made, takes_no_memory};
+ghost use Rattle.part_core.specs.Ops.{act_of, entries_made, object_in, takes_no_memory};
 ghost use Rattle.part_core.specs.declared.kind.TableKind.{TableKind};
 ghost use Rattle.part_core.specs.declared.settings.Settings.{Settings};
 ghost use Rattle.part_core.specs.Served.{settings_with, IsServed};
@@ -42,15 +42,16 @@ pub trait Part<A: Allocator>: Sized {
         ensures scarce { IsErrOf result OpenFault.Memory
             → IsServed serves (settings_with kind keypos parts sessions) };
 
-    /// Does an operation for a session. What is done is spent: it is taken out of its place. What is refused stays there, and all
-    /// stands as before; want of memory leaves no entry.
+    /// Does an operation for a session. What is done is spent: nothing of its object is left in it. What is refused stays as it
+    /// was, and so does the part; want of memory leaves no entry.
     fn apply<'a>(&mut self, session: u8, op: &mut PartOp<'a, A>) -> Result<Reply<A>, Fault>
         requires session { session < (settings self.old).sessions }
         requires asked { IsAsked (act_of op.old) }
         ensures settings { settings self.new ≡ settings self.old }
         ensures entry { (log : List PastEntry) → is_after self.old log
             → is_after self.new (log ++ entries_made session (act_of op.old) result) }
-        ensures back { IfErr result (λ fault. act_of op.new ≡ act_of op.old) }
+        ensures back { IfErr result (λ fault. op.new ≡ op.old) }
+        ensures spent { OnOk result (object_in op.new ≡ None) }
         ensures sure { IsTrue (takes_no_memory (act_of op.old))
             → IfErr result (λ fault. fault ≢ Fault.Memory) };
 

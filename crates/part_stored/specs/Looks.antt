@@ -1,0 +1,37 @@
+-- What a visit may look at, and how far it goes.
+use Rattle.std.specs.Prelude.{ℕ, ◌-◌, ◌==◌, ◌&&◌, Bool, true, false, if◌then◌else◌, nat_lt, filter, take, List, [], ◌∷◌}
+use Rattle.term_core.specs.Datum.{Datum}
+use Rattle.term_operand.specs.Order.{is_same}
+use Rattle.part_core.specs.declared.settings.Settings.{Settings}
+use Rattle.part_core.specs.Settings.{is_ordered}
+use Rattle.part_core.specs.Acts.{Scope}
+use Rattle.part_core.specs.Acts.Cursor.{Class, Behind}
+use Rattle.part_core.specs.Acts.Scope.{Begin, After, Named}
+use Rattle.part_core.specs.Rows.{Row}
+use Rattle.part_core.specs.Visits.{in_class, most_rows, rows_behind}
+
+-- a class is below its base
+abbrev pub is_class : Scope → Bool
+is_class (After (Class base class)) = nat_lt class base
+is_class scope = true
+
+-- the rows that a visit may look at
+abbrev pub looked_at : Settings → ℕ → Scope → List Row → List Row
+looked_at o base (Named k) rows = filter (λ r. is_same k r.0) rows
+looked_at o base (After (Class other class)) rows = in_class o other class rows
+looked_at o base (After (Behind k)) rows = take most_rows (rows_behind k rows)
+looked_at o base Begin rows =
+    if is_ordered o.kind then take most_rows rows else in_class o base 0 rows
+
+-- a visit stops once it has the answers that are wanted: one of an ordered set, but for a named key
+abbrev pub stops : Settings → Scope → Bool
+stops o (Named k) = false
+stops o (After (Class base class)) = false
+stops o (After (Behind k)) = true
+stops o Begin = is_ordered o.kind
+
+-- the rows until there are the answers that are wanted, where it stops, else all
+unfoldable pub rows_until : Bool → (Row → ℕ) → ℕ → List Row → List Row
+rows_until stops answers wanted [] = []
+rows_until stops answers wanted (r ∷ rs) =
+    r ∷ (if stops && (wanted - answers r == 0) then [] else rows_until stops answers (wanted - answers r) rs)

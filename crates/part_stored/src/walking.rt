@@ -1,0 +1,45 @@
+//! The order of a walk.
+ghost use Rattle.std.specs.Prelude.{ℕ, ◌≡◌, IfOk};
+ghost use Rattle.std.specs.Option.{option_copied};
+ghost use Rattle.part_core.specs.Acts.Act.{First, Next};
+ghost use Rattle.part_core.specs.Ops.{answer_in};
+ghost use Rattle.part_stored.specs.Stored.{Leads};
+
+use crate::part::StoredPart;
+use crate::rows::Rows;
+use part_core::{Fault, Reply};
+use std::alloc::{AllocError, Allocator};
+use term_core::Term;
+
+/// A copy of a key, none where there is none.
+fn copied<A: Allocator + Copy>(key: Option<&Term<A>>) -> Result<Option<Term<A>>, AllocError>
+    ensures { IfOk result (λ copy. copy ≡ option_copied key.entry) }
+{
+    match key {
+        Some(key) => Ok(Some(key.copy()?)),
+        None => Ok(None),
+    }
+}
+
+impl<R: Rows<A> + Drop, A: Allocator + Copy> StoredPart<R, A> {
+    /// The first key in the order of a walk.
+    pub(crate) fn first(&self) -> Result<Reply<A>, Fault>
+        ensures { (n : ℕ) → Leads R.shows self.now n First (answer_in result) self.now }
+    {
+        let key = copied(self.rows.first_key(self.settings, self.base))?;
+        Ok(Reply::AtKey(key))
+    }
+
+    /// The key behind one: in a set of one that has a row, dead or live.
+    pub(crate) fn next(&self, key: &Term<A>) -> Result<Reply<A>, Fault>
+        ensures { (n : ℕ) → Leads R.shows self.now n (Next key.now) (answer_in result) self.now }
+    {
+        let is_placed =
+            self.settings.kind.is_ordered() || self.rows.held(self.settings, key).is_some();
+        if !is_placed {
+            return Err(Fault::BadKey);
+        }
+        let next = copied(self.rows.key_behind(self.settings, self.base, key))?;
+        Ok(Reply::AtKey(next))
+    }
+}
