@@ -23,6 +23,7 @@ use Rattle.part_core.specs.Replies.{said_by_visit, yield_of}
 use Rattle.part_core.specs.Covers.{covers}
 use Rattle.part_core.specs.Content.{content}
 use Rattle.part_core.specs.Yields.{Yields}
+use Rattle.part_core.specs.Laws.{IsSaidByVisit}
 use Rattle.part_core.specs.Legal.{state_after, IsLegal}
 use Rattle.part_core.proofs.KeyLemmas.{by_test, same_keys, same_from, same_decides}
 use Rattle.part_core.proofs.RowLemmas.{no_objects, among_passing}
@@ -78,23 +79,21 @@ next_is Answers found next = refl
 next_is Counts found next = refl
 next_is Deletes found next = refl
 
-pub visit_yields : (o : Settings) (past : History) (n : ℕ) (purpose : Purpose) (p : Program) (scope : Scope) (wanted : ℕ) (said : Said) → IsLegal o (past ++ (record { session = n; act = Visit purpose p scope wanted; answer = Replied said }) ∷ []) → (found : List Datum) × (said ≡ said_by_visit purpose found (next_in said)) × Yields o past purpose p (covers o scope (next_in said)) found
+pub visit_yields : (o : Settings) (past : History) (n : ℕ) (purpose : Purpose) (p : Program) (scope : Scope) (wanted : ℕ) (said : Said) → IsLegal o (past ++ (record { session = n; act = Visit purpose p scope wanted; answer = Replied said }) ∷ []) → IsSaidByVisit o past purpose p scope wanted said
 visit_yields o past n purpose p scope wanted said legal =
     let front : IsLegal o past = legal_front_from o (opening o) past _ legal in
     let right = (legal_rest_from o (opening o) past _ legal).0 in
     let is = visit_said o (state_after o past) n purpose p scope wanted said (sym right.answer) in
-    subst (λ (q : Said). (found : List Datum) × (q ≡ said_by_visit purpose found (next_in q)) × Yields o past purpose p (covers o scope (next_in q)) found) is.1 (answered front is.0)
-  where
-    answered : IsLegal o past → IsTrue (is_inside o (state_after o past) scope) → (found : List Datum) × (said_by_visit purpose (yield_of o (state_after o past) purpose p scope wanted) (next_of o (state_after o past) purpose p scope wanted) ≡ said_by_visit purpose found (next_in (said_by_visit purpose (yield_of o (state_after o past) purpose p scope wanted) (next_of o (state_after o past) purpose p scope wanted)))) × Yields o past purpose p (covers o scope (next_in (said_by_visit purpose (yield_of o (state_after o past) purpose p scope wanted) (next_of o (state_after o past) purpose p scope wanted)))) found
-    answered front inside =
-        let next = next_is purpose (yield_of o (state_after o past) purpose p scope wanted) (next_of o (state_after o past) purpose p scope wanted) in
-        let looked = visited_is_covered o (state_after o past) purpose p scope wanted (state_of o past front) inside in (
-          yield_of o (state_after o past) purpose p scope wanted,
-          ap (said_by_visit purpose (yield_of o (state_after o past) purpose p scope wanted)) (sym next),
-          subst (λ (at : Option Cursor). Yields o past purpose p (covers o scope at) (yield_of o (state_after o past) purpose p scope wanted)) (sym next)
-              (subst (λ (vs : List Row). Yields o past purpose p (covers o scope (next_of o (state_after o past) purpose p scope wanted)) (yield_of_rows purpose p vs)) (sym looked)
-              (yields_of o past purpose p (covers o scope (next_of o (state_after o past) purpose p scope wanted)) front)),
-        )
+    let next : next_in said ≡ next_of o (state_after o past) purpose p scope wanted = ap next_in (sym is.1) ∙ next_is purpose (yield_of o (state_after o past) purpose p scope wanted) (next_of o (state_after o past) purpose p scope wanted) in
+    let looked = visited_is_covered o (state_after o past) purpose p scope wanted (state_of o past front) is.0 in
+    record {
+      inside = is.0;
+      next = next;
+      says = sym is.1 ∙ ap (said_by_visit purpose (yield_of o (state_after o past) purpose p scope wanted)) (sym next);
+      yields = subst (λ (at : Option Cursor). Yields o past purpose p (covers o scope at) (yield_of o (state_after o past) purpose p scope wanted)) (sym next)
+          (subst (λ (vs : List Row). Yields o past purpose p (covers o scope (next_of o (state_after o past) purpose p scope wanted)) (yield_of_rows purpose p vs)) (sym looked)
+          (yields_of o past purpose p (covers o scope (next_of o (state_after o past) purpose p scope wanted)) front));
+    }
 
 -- what holds of all rows holds of the last
 of_last : (P : Row → Type 0) (before : Option Row) (vs : List Row) (r : Row) → (before ≡ Some r → P r) → All P vs → last_or before vs ≡ Some r → P r

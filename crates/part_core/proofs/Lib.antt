@@ -12,3 +12,4 @@ pub mod AfterLemmas
 pub mod FieldLemmas
 pub mod ChosenLemmas
 pub mod LiveLemmas
+pub mod LawLemmas

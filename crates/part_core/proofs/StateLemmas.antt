@@ -50,11 +50,14 @@ keys-filter p [] s = tt
 keys-filter p (r ∷ rows) s =
     by_test (p r) _ (λ holds. rw holds (below-filter (λ l. datum_cmp r.0 l ≡ Less) p rows s.0, keys-filter p rows s.1)) (λ fails. rw fails (keys-filter p rows s.1))
 
-pub live_rows : (o : Settings) (rows : List Row) → AreRows o rows → AreRows o (filter is_live rows)
-live_rows o rows a = record {
-  distinct = IsDistinct-keys_filter is_same is_live rows a.distinct;
-  rising = λ h. keys-filter is_live rows (a.rising h);
+pub filtered_rows : (o : Settings) (p : Row → Bool) (rows : List Row) → AreRows o rows → AreRows o (filter p rows)
+filtered_rows o p rows a = record {
+  distinct = IsDistinct-keys_filter is_same p rows a.distinct;
+  rising = λ h. keys-filter p rows (a.rising h);
 }
+
+pub live_rows : (o : Settings) (rows : List Row) → AreRows o rows → AreRows o (filter is_live rows)
+live_rows o rows a = filtered_rows o is_live rows a
 
 -- a number of slots is at least eight
 least : (xs : List ℕ) (n : ℕ) → list_all (nat_le 8) xs ≡ true → list_any (nat_eq n) xs ≡ true → 8 ≤ n

@@ -65,21 +65,21 @@ row_with o k os t p row = record {
   single = single_with o.kind os t;
 }
 
-empty_row : (o : Settings) (k : Datum) → IsRow o (k, [])
+pub empty_row : (o : Settings) (k : Datum) → IsRow o (k, [])
 empty_row o k = record { objects = All-nil (IsObjectOf o k); single = λ _. omega arith }
 
-filtered_row : (o : Settings) (q : Datum → Bool) (r : Row) → IsRow o r → IsRow o (r.0, filter q r.1)
+pub filtered_row : (o : Settings) (q : Datum → Bool) (r : Row) → IsRow o r → IsRow o (r.0, filter q r.1)
 filtered_row o q r row = record {
   objects = All-filter q (IsObjectOf o r.0) r.1 row.objects;
   single = λ h. omega (arith, row.single h, length-filter q r.1, count_by-le-length q r.1);
 }
 
-each_by : (o : Settings) (g : Datum → List Datum → List Datum) (rows : List Row) → ((r : Row) → IsRow o r → IsRow o (r.0, g r.0 r.1)) → All (IsRow o) rows → All (IsRow o) (rows_by g rows)
+pub each_by : (o : Settings) (g : Datum → List Datum → List Datum) (rows : List Row) → ((r : Row) → IsRow o r → IsRow o (r.0, g r.0 r.1)) → All (IsRow o) rows → All (IsRow o) (rows_by g rows)
 each_by o g rows f a =
     All-map (IsRow o) (λ (r : Row). (r.0, g r.0 r.1)) rows (All-weaker (IsRow o) (λ r. IsRow o (r.0, g r.0 r.1)) f rows a)
 
 -- a row that keeps its objects where a test fails
-row_where : (o : Settings) (b : Bool) (f : List Datum → List Datum) (r : Row) → (b ≡ true → IsRow o (r.0, f r.1)) → IsRow o r → IsRow o (r.0, if b then f r.1 else r.1)
+pub row_where : (o : Settings) (b : Bool) (f : List Datum → List Datum) (r : Row) → (b ≡ true → IsRow o (r.0, f r.1)) → IsRow o r → IsRow o (r.0, if b then f r.1 else r.1)
 row_where o true f r changed row = changed refl
 row_where o false f r changed row = row
 

@@ -1,16 +1,18 @@
 -- What holds of every legal history.
-use Rattle.std.specs.Prelude.{Some, ℕ, ◌≡◌, ◌≤◌, ◌<◌, ◌++◌, IsTrue, IsFalse, List, [], ◌∷◌}
+use Rattle.std.specs.Prelude.{ℕ, ◌≡◌, ◌≢◌, ◌≤◌, ◌<◌, ◌++◌, ◌⊎◌, IsTrue, IsFalse, Option, Some, None, All, List, [], ◌∷◌}
 use Rattle.std.specs.Map.{keys_of}
 use Rattle.term_core.specs.Datum.{Datum}
 use Rattle.mcode.specs.Program.{Program}
 use Rattle.part_core.specs.declared.settings.Settings.{Settings}
-use Rattle.part_core.specs.Settings.{is_ordered}
-use Rattle.part_core.specs.Acts.{Purpose, Scope, Said, Entry, History, next_in}
-use Rattle.part_core.specs.Acts.Act.{Visit}
-use Rattle.part_core.specs.Acts.Cursor.{Behind}
+use Rattle.part_core.specs.Settings.{is_ordered, key_of, part_of}
+use Rattle.part_core.specs.Acts.{Purpose, Cursor, Scope, Act, Said, Entry, History, next_in}
+use Rattle.part_core.specs.Acts.Act.{Insert, InsertNew, Visit}
+use Rattle.part_core.specs.Acts.Cursor.{Class, Behind}
+use Rattle.part_core.specs.Acts.Scope.{Begin, After, Named}
 use Rattle.part_core.specs.Acts.Answer.{Replied}
-use Rattle.part_core.specs.Rows.{PartState, objects_at, has_row}
-use Rattle.part_core.specs.Replies.{fixes_of, said_by_visit}
+use Rattle.part_core.specs.Rows.{PartState, is_fixed, objects_at, has_row}
+use Rattle.part_core.specs.Replies.{fixes_of, said_by_visit, yield_of}
+use Rattle.part_core.specs.Visits.{is_behind, is_inside, next_class, next_of}
 use Rattle.part_core.specs.States.{IsState, IsBase}
 use Rattle.part_core.specs.Legal.{state_after, IsRight, IsLegal, IsFixedFrom, fix_count}
 use Rattle.part_core.specs.Content.{content}
@@ -23,13 +25,67 @@ ContentIsThatOfTheRows =
     (o : Settings) (log : History) (k : Datum) → IsLegal o log
     → objects_at (state_after o log).rows k ≡ content o k log
 
--- a visit that was answered says what its query answers for the keys that it covers, on their content before it
+-- A visit that was answered could look there, and says what its query answers for the keys that it covers, on their content before it,
+-- and where the walk goes on.
+pub record IsSaidByVisit (o : Settings) (past : History) (purpose : Purpose) (p : Program) (scope : Scope) (wanted : ℕ) (said : Said) : Type 0 where
+  pub inside : IsTrue (is_inside o (state_after o past) scope)
+  pub next : next_in said ≡ next_of o (state_after o past) purpose p scope wanted
+  pub says : said ≡ said_by_visit purpose (yield_of o (state_after o past) purpose p scope wanted) (next_in said)
+  pub yields : Yields o past purpose p (covers o scope (next_in said)) (yield_of o (state_after o past) purpose p scope wanted)
+
 abbrev pub VisitsAnswerTheirCover : Type 0
 VisitsAnswerTheirCover =
     (o : Settings) (past : History) (n : ℕ) (purpose : Purpose) (p : Program) (scope : Scope) (wanted : ℕ) (said : Said)
     → IsLegal o (past ++ (record { session = n; act = Visit purpose p scope wanted; answer = Replied said }) ∷ [])
-    → (found : List Datum) × (said ≡ said_by_visit purpose found (next_in said))
-    × Yields o past purpose p (covers o scope (next_in said)) found
+    → IsSaidByVisit o past purpose p scope wanted said
+
+-- Where a walk goes on behind an answered visit: nowhere behind a named key; at the next class; behind a further key; and where it began,
+-- in a set at class 1 by the base of the part.
+abbrev pub LeadsTo : Settings → ℕ → Scope → Option Cursor → Type 0
+LeadsTo o base (Named k) next = next ≡ None
+LeadsTo o base (After (Class other class)) next = (class < other) × (next ≡ next_class other class)
+LeadsTo o base (After (Behind j)) next =
+    (next ≡ None) ⊎ ((k : Datum) × (next ≡ Some (Behind k)) × IsTrue (is_behind j k))
+LeadsTo o base Begin next =
+    (IsFalse (is_ordered o.kind) → next ≡ Some (Class base 1))
+    × (IsTrue (is_ordered o.kind) → (next ≡ None) ⊎ ((k : Datum) × (next ≡ Some (Behind k))))
+
+abbrev pub VisitsLead : Type 0
+VisitsLead =
+    (o : Settings) (past : History) (n : ℕ) (purpose : Purpose) (p : Program) (scope : Scope) (wanted : ℕ) (said : Said)
+    → IsLegal o (past ++ (record { session = n; act = Visit purpose p scope wanted; answer = Replied said }) ∷ [])
+    → LeadsTo o (state_after o past).base scope (next_in said)
+
+-- where a walk can go on, it can go on later too
+abbrev pub CursorsStayInside : Type 0
+CursorsStayInside =
+    (o : Settings) (past more : History) (scope : Scope) → IsLegal o (past ++ more)
+    → IsTrue (is_inside o (state_after o past) scope) → IsTrue (is_inside o (state_after o (past ++ more)) scope)
+
+-- a walk can go on where a visit says that it does
+abbrev pub VisitsLeadInside : Type 0
+VisitsLeadInside =
+    (o : Settings) (past : History) (n : ℕ) (purpose : Purpose) (p : Program) (scope : Scope) (wanted : ℕ) (said : Said) (at : Cursor)
+    → IsLegal o (past ++ (record { session = n; act = Visit purpose p scope wanted; answer = Replied said }) ∷ [])
+    → next_in said ≡ Some at → IsTrue (is_inside o (state_after o past) (After at))
+
+-- an object that is put in is put in at its key's part
+abbrev pub IsPlacedAt : Settings → ℕ → Act → Type 0
+IsPlacedAt o part (Insert t) = part_of o (key_of o t) ≡ part
+IsPlacedAt o part (InsertNew t) = part_of o (key_of o t) ≡ part
+IsPlacedAt o part act = Unit {0}
+
+-- a part at which only objects of its keys are put in has none of another key
+abbrev pub NoneElsewhere : Type 0
+NoneElsewhere =
+    (o : Settings) (part : ℕ) (log : History) (k : Datum) → All (λ e. IsPlacedAt o part e.act) log → part_of o k ≢ part
+    → content o k log ≡ []
+
+-- a part that a session fixes is fixed
+abbrev pub FixesShow : Type 0
+FixesShow =
+    (o : Settings) (log : History) (n : ℕ) → IsLegal o log → n < o.sessions → 0 < fix_count n log
+    → IsTrue (is_fixed (state_after o log).fixes)
 
 -- A visit of an ordered set that stops before the end covers the key at which it stops, which has a row, live or dead.
 abbrev pub VisitsMoveOn : Type 0

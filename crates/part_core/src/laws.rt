@@ -1,12 +1,17 @@
 //! Laws of legal histories, each the contract of a function that does nothing.
-ghost use Rattle.part_core.specs.Laws.{ContentIsThatOfTheRows, VisitsAnswerTheirCover, VisitsMoveOn, StatesAreKept, FixesAreCounted, BaseNeverFalls, FixedRowsStay, LegalGoesOn, LegalLast, LegalFront};
+ghost use Rattle.part_core.specs.Laws.{ContentIsThatOfTheRows, NoneElsewhere, VisitsAnswerTheirCover, VisitsMoveOn, VisitsLead, VisitsLeadInside, CursorsStayInside, StatesAreKept, FixesAreCounted, FixesShow, BaseNeverFalls, FixedRowsStay, LegalGoesOn, LegalLast, LegalFront};
 
 /// The objects of each key in a part's rows are those that its history wrote.
 pub fn content_is_that_of_the_rows()
     ensures { ContentIsThatOfTheRows }
 {}
 
-/// A visit that was answered says what its query answers for the keys that it covers, on their content before it.
+/// A part at which only objects of its keys are put in has none of another key.
+pub fn none_elsewhere()
+    ensures { NoneElsewhere }
+{}
+
+/// A visit that was answered could look there, and says what its query answers for the keys that it covers, on their content before it.
 pub fn visits_answer_their_cover()
     ensures { VisitsAnswerTheirCover }
 {}
@@ -16,7 +21,23 @@ pub fn visits_move_on()
     ensures { VisitsMoveOn }
 {}
 
-/// No key has two rows, those of an ordered set rise, each object stands at its key, and dead rows stay only under a fix.
+/// Where a walk goes on behind an answered visit.
+pub fn visits_lead()
+    ensures { VisitsLead }
+{}
+
+/// A walk can go on where a visit says that it does.
+pub fn visits_lead_inside()
+    ensures { VisitsLeadInside }
+{}
+
+/// Where a walk can go on, it can go on later too.
+pub fn cursors_stay_inside()
+    ensures { CursorsStayInside }
+{}
+
+/// No key has two rows, those of an ordered set rise, each object stands at its key, dead rows stay only under a fix, and without one
+/// the base is the number of slots.
 pub fn states_are_kept()
     ensures { StatesAreKept }
 {}
@@ -24,6 +45,11 @@ pub fn states_are_kept()
 /// The counts of fixes are those of the history.
 pub fn fixes_are_counted()
     ensures { FixesAreCounted }
+{}
+
+/// A part that a session fixes is fixed.
+pub fn fixes_show()
+    ensures { FixesShow }
 {}
 
 /// The base of walks never falls.

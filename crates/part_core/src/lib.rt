@@ -33,10 +33,11 @@ pub use held::Held;
 pub use key::key_in;
 pub use kind::TableKind;
 pub use laws::{
-    base_never_falls, content_is_that_of_the_rows, fixed_rows_stay, fixes_are_counted, legal_front,
-    legal_goes_on, legal_last, states_are_kept, visits_answer_their_cover, visits_move_on,
+    base_never_falls, content_is_that_of_the_rows, cursors_stay_inside, fixed_rows_stay, fixes_are_counted,
+    fixes_show, legal_front, legal_goes_on, legal_last, none_elsewhere, states_are_kept, visits_answer_their_cover,
+    visits_lead, visits_lead_inside, visits_move_on,
 };
-pub use op::{Cursor, Look, PartOp, Scope};
+pub use op::{Cursor, Look, MOST_ROWS, PartOp, Scope};
 pub use part::Part;
 pub use reply::{Reply, is_counted};
 pub use room::push_within;

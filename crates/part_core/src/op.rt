@@ -3,6 +3,9 @@ use std::alloc::{Allocator, Global};
 use term_core::Term;
 use verifier::Verified;
 
+/// The most rows that a visit of an ordered set looks at.
+pub const MOST_ROWS: usize = 64;
+
 /// Where a walk goes on.
 #[derive(Drop)]
 pub enum Cursor<A: Allocator = Global> {

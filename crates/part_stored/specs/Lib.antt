@@ -1,3 +1,4 @@
 pub mod Shown
 pub mod Looks
+pub mod Deletions
 pub mod Stored

@@ -12,7 +12,7 @@ ghost use Rattle.part_core.specs.Visits.{rows_behind, walk_order};
 ghost use Rattle.part_core.specs.Replies.{first_live, rows_past};
 ghost use Rattle.part_core.specs.Ops.{scope_of};
 ghost use Rattle.part_stored.specs.Shown.{Shown, AreSound, no_rows, shown_with, shown_exchanged, shown_live};
-ghost use Rattle.part_stored.specs.Looks.{is_class, looked_at};
+ghost use Rattle.part_stored.specs.Looks.{is_placed, looked_at};
 
 use crate::seen::SeenRow;
 use part_core::{Held, Scope, Settings, TableKind};
@@ -92,7 +92,7 @@ pub trait Rows<A: Allocator>: Sized {
     ) -> Result<(), AllocError>
         requires parts { 0 < settings.parts }
         requires base { 0 < base }
-        requires class { IsTrue (is_class (scope_of scope.now)) }
+        requires placed { IsTrue (is_placed settings (scope_of scope.now)) }
         ensures { IfOk result (λ _. (w : Shown) → shows settings self.now w → AreSound settings w
             → into.new.items ≡ into.old.items ++ looked_at settings base (scope_of scope.now) w.rows) };
 

@@ -1,11 +1,11 @@
 -- What the calls of a session make of what it sees of a table.
-use Rattle.std.specs.Prelude.{ℕ, ◌≡◌, ◌<◌, nat_lt, Bool, true, false, Option, Some, None, IsTrue, IsFalse}
+use Rattle.std.specs.Prelude.{ℕ, ◌≡◌, ◌<◌, nat_lt, Bool, true, false, Option, None, IsTrue, IsFalse}
 use Rattle.term_core.specs.Datum.{Datum}
 use Rattle.part_core.specs.declared.fault.Fault.{Fault}
 use Rattle.part_core.specs.declared.fault.Fault.TheVariants as fault
 use Rattle.part_core.specs.Settings.{is_object, key_of}
 use Rattle.part_core.specs.Acts.{Act, Answer}
-use Rattle.part_core.specs.Acts.Act.{Insert, InsertNew, Fix, Unfix}
+use Rattle.part_core.specs.Acts.Act.{Fix, Unfix}
 use Rattle.part_core.specs.Acts.Said.{Flag, Objects}
 use Rattle.part_core.specs.Acts.Answer.{Replied}
 use Rattle.part_core.specs.Replies.{most_fixes}
@@ -43,12 +43,6 @@ IsNotGranted h act v =
 -- so there is no turn
 abbrev pub RefusedEach : Home → Act → Views → Views → Type 0
 RefusedEach h act v w = IsNotGranted h act v × (w ≡ v)
-
--- the object that an operation puts in
-abbrev pub object_put : Act → Option Datum
-object_put (Insert t) = Some t
-object_put (InsertNew t) = Some t
-object_put act = None
 
 -- which replies an operation can have
 abbrev pub is_flag : Answer → Bool

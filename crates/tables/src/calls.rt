@@ -81,7 +81,7 @@ pub fn insert<A: Allocator, T: Turns<A>>(
             fault: Fault::TooSmall,
         });
     };
-    let mut op = PartOp::Insert(object);
+    let mut op = PartOp::Insert(Some(object));
     match turns.turn(part, &mut op) {
         Ok(reply) => {
             let_go(op);
@@ -117,7 +117,7 @@ pub fn insert_new<A: Allocator, T: Turns<A>>(
             fault: Fault::TooSmall,
         });
     };
-    let mut op = PartOp::InsertNew(object);
+    let mut op = PartOp::InsertNew(Some(object));
     match turns.turn(part, &mut op) {
         Ok(reply) => {
             let_go(op);

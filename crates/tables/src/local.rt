@@ -1,11 +1,11 @@
 //! Tables on one thread.
-ghost use Rattle.std.specs.Prelude.{ℕ, not, ◌&&◌, ◌==◌, ◌≡◌, ◌≢◌, ◌<◌, IsTrue, IfErr, All, IfOk, IsErrOf, MatchOption, Some, [], ◌∷◌, ◌++◌, length, slice_get};
+ghost use Rattle.std.specs.Prelude.{ℕ, not, ◌&&◌, ◌==◌, ◌≡◌, ◌≢◌, ◌<◌, None, IsTrue, IfErr, OnOk, All, IfOk, IsErrOf, MatchOption, Some, [], ◌∷◌, ◌++◌, length, slice_get};
 ghost use Rattle.part_core.specs.Acts.{IsAsked};
 ghost use Rattle.part_core.specs.Acts.Act.{Release};
 ghost use Rattle.part_core.specs.Acts.Answer.{Replied};
 ghost use Rattle.part_core.specs.Acts.Said.{Nothing};
 ghost use Rattle.part_core.specs.Legal.{fix_count};
-ghost use Rattle.part_core.specs.Ops.{act_of, answer_in, takes_no_memory};
+ghost use Rattle.part_core.specs.Ops.{act_of, answer_in, object_in, takes_no_memory};
 ghost use Rattle.part_core.specs.Served.{IsServed};
 ghost use Rattle.part_core.specs.Settings.{is_ordered};
 ghost use Rattle.tables.specs.Local.{AreAfter, local_home, objects_seen};
@@ -109,7 +109,8 @@ impl<P: Part<A> + Drop, A: Allocator> LocalTable<P, A> {
         ensures options { self.new.options ≡ self.old.options }
         ensures entry { (table : ℕ) → Follows (AreAfter P.is_after self.old.parts.items) (AreAfter P.is_after self.new.parts.items)
             (Turned (local_home self.old.options number table) part (act_of op.old) (answer_in result)) }
-        ensures back { IfErr result (λ fault. act_of op.new ≡ act_of op.old) }
+        ensures back { IfErr result (λ fault. op.new ≡ op.old) }
+        ensures spent { OnOk result (object_in op.new ≡ None) }
         ensures sure { IsTrue (takes_no_memory (act_of op.old))
             → IfErr result (λ fault. fault ≢ Fault.Memory) }
     {
@@ -204,7 +205,8 @@ impl<'t, A: Allocator, P: Part<A> + Drop> Turns<A> for LocalAt<'t, P, A> {
             → (w : Views) × AreAfter P.is_after self.new.table.now.parts.items w
             × Turned (local_home self.old.table.now.options self.old.number self.old.table.ghost_name) part
             (act_of op.old) (answer_in result) v w }
-        ensures back { IfErr result (λ fault. act_of op.new ≡ act_of op.old) }
+        ensures back { IfErr result (λ fault. op.new ≡ op.old) }
+        ensures spent { OnOk result (object_in op.new ≡ None) }
         ensures sure { IsTrue (takes_no_memory (act_of op.old))
             → IfErr result (λ fault. fault ≢ Fault.Memory) }
     {

@@ -3,8 +3,8 @@ ghost use Rattle.std.specs.Prelude.{◌≡◌, IsTrue, Some, is_some, Ok};
 ghost use Rattle.std.specs.Result.{is_ok};
 ghost use Rattle.part_core.specs.Acts.Answer.{Replied};
 ghost use Rattle.part_core.specs.Acts.Said.{Flag, Objects};
-ghost use Rattle.part_core.specs.Ops.{act_of, said_of};
-ghost use Rattle.tables.specs.Calls.{object_put, is_flag, is_objects};
+ghost use Rattle.part_core.specs.Ops.{object_in, said_of};
+ghost use Rattle.tables.specs.Calls.{is_flag, is_objects};
 
 use part_core::{Fault, PartOp, Reply};
 use std::alloc::Allocator;
@@ -12,24 +12,12 @@ use term_core::Term;
 
 /// The object that an operation was to put in.
 pub(crate) fn object_put<A: Allocator>(op: PartOp<'_, A>) -> Term<A>
-    requires { IsTrue (is_some (object_put (act_of op))) }
-    ensures { object_put (act_of op.entry) ≡ Some result }
+    requires { IsTrue (is_some (object_in op)) }
+    ensures { object_in op.entry ≡ Some result }
 {
-    match op {
-        PartOp::Insert(object) | PartOp::InsertNew(object) => object,
-        PartOp::Lookup(_)
-        | PartOp::Member(_)
-        | PartOp::Delete(_)
-        | PartOp::DeleteObject(_)
-        | PartOp::Take(_)
-        | PartOp::Fix
-        | PartOp::Unfix
-        | PartOp::Release
-        | PartOp::Visit(..)
-        | PartOp::VisitCount(..)
-        | PartOp::VisitDelete(..)
-        | PartOp::First
-        | PartOp::Next(_) => unreachable!(),
+    match op.into_object() {
+        Some(object) => object,
+        None => unreachable!(),
     }
 }
 

@@ -1,8 +1,8 @@
 //! The turns of a session at the parts of a table.
-ghost use Rattle.std.specs.Prelude.{ℕ, ◌≡◌, ◌≢◌, ◌<◌, IsTrue, IfErr};
+ghost use Rattle.std.specs.Prelude.{ℕ, ◌≡◌, ◌≢◌, ◌<◌, None, IsTrue, IfErr, OnOk};
 ghost use Rattle.part_core.specs.Acts.{IsAsked};
 ghost use Rattle.part_core.specs.Legal.{IsLegal, fix_count};
-ghost use Rattle.part_core.specs.Ops.{act_of, answer_in, takes_no_memory};
+ghost use Rattle.part_core.specs.Ops.{act_of, answer_in, object_in, takes_no_memory};
 ghost use Rattle.tables.specs.Options.{settings_of};
 ghost use Rattle.tables.specs.Turns.{Home, Views, Turned, Follows};
 
@@ -35,7 +35,8 @@ pub trait Turns<A: Allocator> {
         requires part { part < (home self.now).options.parts }
         ensures { (v : Views) → sees self.now v → result ≡ fix_count (home self.now).number (v part) };
 
-    /// Does an operation at a part. What is done is spent; what is refused stays in its place, and want of memory leaves no entry.
+    /// Does an operation at a part. What is done is spent: nothing of its object is left in it.
+    /// What is refused stays as it was, and want of memory leaves no entry.
     fn turn<'a>(&mut self, part: u8, op: &mut PartOp<'a, A>) -> Result<Reply<A>, Fault>
         requires ready { is_ready self.old }
         requires part { part < (home self.old).options.parts }
@@ -44,7 +45,8 @@ pub trait Turns<A: Allocator> {
         ensures same { home self.new ≡ home self.old }
         ensures entry { (v : Views) → sees self.old v → (w : Views) × sees self.new w
             × Turned (home self.old) part (act_of op.old) (answer_in result) v w }
-        ensures back { IfErr result (λ fault. act_of op.new ≡ act_of op.old) }
+        ensures back { IfErr result (λ fault. op.new ≡ op.old) }
+        ensures spent { OnOk result (object_in op.new ≡ None) }
         ensures sure { IsTrue (takes_no_memory (act_of op.old))
             → IfErr result (λ fault. fault ≢ Fault.Memory) };
 

@@ -5,7 +5,7 @@ ghost use Rattle.part_core.specs.Ops.{act_of};
 
 use compiler::compile;
 use mspec_reader::read_spec;
-use part_core::{Cursor, PartOp, Scope, TableKind};
+use part_core::{Cursor, Look, PartOp, Scope, TableKind};
 use std::alloc::Allocator;
 use term_core::{Term, View};
 use test_rows::{fields, is_atom, number};
@@ -132,8 +132,8 @@ pub(crate) fn keyed<'a, A: Allocator + Copy>(
     ensures { IfSome result (λ op. IsAsked (act_of op)) }
 {
     match name {
-        "insert" => Some(PartOp::Insert(operand.copy().ok()?)),
-        "insert_new" => Some(PartOp::InsertNew(operand.copy().ok()?)),
+        "insert" => Some(PartOp::Insert(Some(operand.copy().ok()?))),
+        "insert_new" => Some(PartOp::InsertNew(Some(operand.copy().ok()?))),
         "lookup" => Some(PartOp::Lookup(operand)),
         "member" => Some(PartOp::Member(operand)),
         "delete" => Some(PartOp::Delete(operand)),
@@ -154,10 +154,15 @@ pub(crate) fn visit<'a, A: Allocator>(
     requires { 0 < wanted }
     ensures { IfSome result (λ op. IsAsked (act_of op)) }
 {
+    let look = Look {
+        code,
+        scope,
+        wanted,
+    };
     match name {
-        "visit" => Some(PartOp::Visit(code, scope, wanted)),
-        "visit_count" => Some(PartOp::VisitCount(code, scope, wanted)),
-        "visit_delete" => Some(PartOp::VisitDelete(code, scope, wanted)),
+        "visit" => Some(PartOp::Visit(look)),
+        "visit_count" => Some(PartOp::VisitCount(look)),
+        "visit_delete" => Some(PartOp::VisitDelete(look)),
         _ => None,
     }
 }

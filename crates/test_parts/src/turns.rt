@@ -79,7 +79,7 @@ fn done<'a, A: Allocator, P: Part<A>>(
     requires session { turn.session < (P.settings part.old).sessions }
     requires asked { IsAsked (act_of op.old) }
     ensures settings { P.settings part.new ≡ P.settings part.old }
-    ensures back { IfErr result (λ fault. act_of op.new ≡ act_of op.old) }
+    ensures back { IfErr result (λ fault. op.new ≡ op.old) }
 {
     let may_want = turn.is_scarce && !takes_no_memory(op);
     match part.apply(turn.session, op) {

@@ -22,8 +22,7 @@ use Rattle.part_core.specs.After.{after, state_with, slots_after, rows_after, co
 use Rattle.part_core.specs.States.{IsState}
 use Rattle.part_core.specs.Legal.{state_from, state_after, IsLegal}
 use Rattle.part_core.proofs.KeyLemmas.{by_test}
-use Rattle.part_core.proofs.StateLemmas.{after_replied, after_refused}
-use Rattle.part_core.proofs.LeadLemmas.{all_kept}
+use Rattle.part_core.proofs.AfterLemmas.{read_after}
 use Rattle.part_core.proofs.HistoryLemmas.{state_of}
 use Rattle.tables.specs.declared.options.Options.{Options}
 use Rattle.tables.specs.Options.{settings_of}
@@ -33,48 +32,6 @@ use Rattle.tables.proofs.TurnLemmas.{turned_front, turned_alone}
 use Rattle.part_core.proofs.LiveLemmas.{live_first, live_later}
 use Rattle.walks.specs.Keys.{Passed, FoundFirst, FoundNext}
 use Rattle.walks.specs.OneThread.{rows_from_part, key_or_later, key_after}
-
--- ---- reading leaves the state
-
--- while nothing is fixed the base is the number of slots
-abbrev IsSettled : PartState → Type 0
-IsSettled s = is_fixed s.fixes ≡ false → s.base ≡ s.slots
-
-settled_step : (o : Settings) (s : PartState) (n : ℕ) (act : Act) (answer : Answer) → reply_of o s n act ≡ answer → IsSettled s → IsSettled (after o s n act)
-settled_step o s n act (Replied said) is settled = subst IsSettled (sym (after_replied o s n act said is)) (λ unfixed. rw unfixed refl)
-settled_step o s n act (Refused refusal) is settled = subst IsSettled (sym (after_refused o s n act refusal is)) settled
-
-settled_from : (o : Settings) (s : PartState) (es : History) → IsSettled s → IsSettled (state_from o s es)
-settled_from o s [] settled = settled
-settled_from o s (e ∷ es) settled = settled_from o (after o s e.session e.act) es (settled_step o s e.session e.act (reply_of o s e.session e.act) refl settled)
-
-lt_itself : (n : ℕ) → nat_lt n n ≡ false
-lt_itself n = le-ltb n n (omega arith)
-
-same_slots : (kind : TableKind) (n slots : ℕ) → slots_after kind n n slots ≡ slots
-same_slots kind n slots =
-    by_test (is_ordered kind) (slots_after kind n n slots ≡ slots) (λ ordered. rw ordered refl) (λ plain. rw (plain, lt_itself n) refl)
-
--- a state that is written with what it has
-same_state : (o : Settings) (s : PartState) → IsState o s → IsSettled s → state_with o s s.rows s.fixes ≡ s
-same_state o s state settled =
-    by_test (is_fixed s.fixes) (state_with o s s.rows s.fixes ≡ s)
-    (λ fixed. rw fixed (ap (λ (slots : ℕ). record { rows = s.rows; fixes = s.fixes; slots = slots; base = s.base }) (same_slots o.kind (length s.rows) s.slots)))
-    (λ unfixed.
-    let kept : filter is_live s.rows ≡ s.rows = all_kept is_live s.rows (state.live unfixed) in
-    rw (unfixed, kept) (ap (λ (slots : ℕ). record { rows = s.rows; fixes = s.fixes; slots = slots; base = slots }) (same_slots o.kind (length s.rows) s.slots)
-    ∙ ap (λ (base : ℕ). record { rows = s.rows; fixes = s.fixes; slots = s.slots; base = base }) (sym (settled unfixed))))
-
--- an operation that writes nothing leaves the state after a legal history
-read_stays : (o : Settings) (log : History) (n : ℕ) (act : Act) (answer : Answer) → IsLegal o log → reply_of o (state_after o log) n act ≡ answer
-    → rows_after o (state_after o log) act ≡ (state_after o log).rows → counts_after (state_after o log).fixes n act ≡ (state_after o log).fixes
-    → after o (state_after o log) n act ≡ state_after o log
-read_stays o log n act (Refused refusal) legal is rows counts = after_refused o (state_after o log) n act refusal is
-read_stays o log n act (Replied said) legal is rows counts =
-    after_replied o (state_after o log) n act said is
-    ∙ ap (λ (x : List Row). state_with o (state_after o log) x (counts_after (state_after o log).fixes n act)) rows
-    ∙ ap (state_with o (state_after o log) (state_after o log).rows) counts
-    ∙ same_state o (state_after o log) (state_of o log legal) (settled_from o (opening o) log (λ unfixed. refl))
 
 -- ---- a turn for a key
 
@@ -89,7 +46,7 @@ pub first_turn : (h : Home) (old new : History) (key : Option Datum) → IsTrue 
 unfolding reply_of
 first_turn h old new key alone t =
     let turned = turned_alone h old new First (Replied (AtKey key)) alone t in
-    (ap key_said turned.0, sym turned.1 ∙ read_stays (settings_of h.options) old h.number First _ (legal_before h old new First _ alone t) refl refl refl)
+    (ap key_said turned.0, sym turned.1 ∙ read_after (settings_of h.options) (state_after (settings_of h.options) old) h.number First _ (state_of (settings_of h.options) old (legal_before h old new First _ alone t)) refl refl refl)
   where
     key_said : Answer → Option Datum
     key_said (Replied (AtKey k)) = k
@@ -100,7 +57,7 @@ pub next_turn : (h : Home) (old new : History) (k : Datum) (answer : Answer) →
     × (state_after (settings_of h.options) new ≡ state_after (settings_of h.options) old)
 next_turn h old new k answer alone t =
     let turned = turned_alone h old new (Next k) answer alone t in
-    (turned.0, sym turned.1 ∙ read_stays (settings_of h.options) old h.number (Next k) _ (legal_before h old new (Next k) _ alone t) refl refl refl)
+    (turned.0, sym turned.1 ∙ read_after (settings_of h.options) (state_after (settings_of h.options) old) h.number (Next k) _ (state_of (settings_of h.options) old (legal_before h old new (Next k) _ alone t)) refl refl refl)
 
 -- ---- the parts from one on
 

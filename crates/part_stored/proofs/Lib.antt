@@ -1,0 +1,4 @@
+pub mod SeenLemmas
+pub mod LeadLemmas
+pub mod SweepLemmas
+pub mod VisitLemmas
