@@ -173,10 +173,10 @@ room_after kind before now slots plain is room one =
     (λ grows. rw grows (λ small. omega (arith, one, room (grown_so kind before now slots grows).2, base_least slots is)))
 
 -- an operation adds one row to a set at most
-put_length : (o : Settings) (t : Datum) (rows : List Row) → IsFalse (is_ordered o.kind) → length (with_object o t rows) ≤ length rows + 1
+pub put_length : (o : Settings) (t : Datum) (rows : List Row) → IsFalse (is_ordered o.kind) → length (with_object o t rows) ≤ length rows + 1
 put_length o t rows plain =
     by_test (has_row rows (key_of o t)) _
-    (λ there. rw there (omega (arith, length-map (λ (r : Row). (r.0, if is_same (key_of o t) r.0 then objects_with o.kind r.1 t else r.1)) rows)))
+    (λ there. rw there (omega (arith, length-map {B = Row} rows (λ (r : Row). (r.0, if is_same (key_of o t) r.0 then objects_with o.kind r.1 t else r.1)))))
     (λ none. rw (none, plain) (omega (arith, length-append rows ((key_of o t, objects_with o.kind [] t) ∷ []))))
 
 written_length : (o : Settings) (s : PartState) (act : Act) → IsFalse (is_ordered o.kind) → length (rows_after o s act) ≤ length s.rows + 1
@@ -184,13 +184,13 @@ written_length o s (Insert t) plain = put_length o t s.rows plain
 written_length o s (InsertNew t) plain =
     by_test (is_empty (objects_at s.rows (key_of o t))) _ (λ holds. rw holds (put_length o t s.rows plain)) (λ fails. rw fails (omega arith))
 written_length o s (Delete k) plain =
-    omega (arith, length-map (λ (r : Row). (r.0, if is_same k r.0 then [] else r.1)) s.rows)
+    omega (arith, length-map {B = Row} s.rows (λ (r : Row). (r.0, if is_same k r.0 then [] else r.1)))
 written_length o s (DeleteObject t) plain =
-    omega (arith, length-map (λ (r : Row). (r.0, if is_same (key_of o t) r.0 then objects_without t r.1 else r.1)) s.rows)
+    omega (arith, length-map {B = Row} s.rows (λ (r : Row). (r.0, if is_same (key_of o t) r.0 then objects_without t r.1 else r.1)))
 written_length o s (Take k) plain =
-    omega (arith, length-map (λ (r : Row). (r.0, if is_same k r.0 then [] else r.1)) s.rows)
+    omega (arith, length-map {B = Row} s.rows (λ (r : Row). (r.0, if is_same k r.0 then [] else r.1)))
 written_length o s (Visit Deletes p scope wanted) plain =
-    omega (arith, length-map (λ (r : Row). (r.0, if list_any (is_same r.0) (keys_of (visited_rows o s Deletes p scope wanted)) then filter (λ t. not (is_true p t)) r.1 else r.1)) s.rows)
+    omega (arith, length-map {B = Row} s.rows (λ (r : Row). (r.0, if list_any (is_same r.0) (keys_of (visited_rows o s Deletes p scope wanted)) then filter (λ t. not (is_true p t)) r.1 else r.1)))
 written_length o s act plain = omega arith
 
 kept_state : (o : Settings) (s : PartState) (rows : List Row) (fixes : List ℕ) → IsState o s → AreRows o rows → All (IsRow o) rows → (IsFalse (is_ordered o.kind) → length rows ≤ length s.rows + 1) → length fixes ≡ length s.fixes → IsState o (state_with o s rows fixes)

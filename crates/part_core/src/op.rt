@@ -84,7 +84,7 @@ impl<'a, A: Allocator> PartOp<'a, A> {
 
     /// The object that is still in the operation.
     pub fn into_object(self) -> Option<Term<A>>
-        ensures { result ≡ object_in self }
+        ensures { result ≡ object_in self.entry }
     {
         match self {
             PartOp::Insert(object) => object,
