@@ -1,5 +1,5 @@
 -- What an operation leaves of a state, by what it writes.
-use Rattle.std.proofs.Common.{◌≡◌, ℕ, ◌≤◌, List, [], ◌∷◌, ◌++◌, refl, ap, sym, ◌∙◌, length, arith}
+use Rattle.std.proofs.Common.{◌≡◌, ℕ, ◌≤◌, List, [], ◌∷◌, refl, ap, sym, ◌∙◌, length, arith}
 use Rattle.std.specs.Prelude.{Bool, true, false, if◌then◌else◌, nat_lt, IsTrue, filter, All}
 use Rattle.std.specs.List.{list_any}
 use Rattle.std.specs.BTreeMap.{insert_entry}

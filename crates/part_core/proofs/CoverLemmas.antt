@@ -18,7 +18,7 @@ use Rattle.part_core.specs.Rows.{Row, PartState, opening, objects_at, has_row}
 use Rattle.part_core.specs.Settings.{is_ordered}
 use Rattle.part_core.specs.Acts.Cursor.{Class, Behind}
 use Rattle.part_core.specs.Acts.Scope.{Begin, After, Named}
-use Rattle.part_core.specs.Visits.{yields, yield_of_rows, visited_rows, answers_of, next_class, next_key, next_of, is_inside}
+use Rattle.part_core.specs.Visits.{yields, yield_of_rows, visited_rows, answers_of, next_class, next_key, next_of}
 use Rattle.part_core.specs.Replies.{said_by_visit, yield_of}
 use Rattle.part_core.specs.Covers.{covers}
 use Rattle.part_core.specs.Content.{content}

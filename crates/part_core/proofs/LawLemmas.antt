@@ -1,8 +1,8 @@
 -- Where visits lead, and which cursors stay the part's; that no object stands at another part than its key's.
 use Rattle.std.proofs.Common.{◌≡◌, ◌≢◌, ℕ, ◌<◌, ◌≤◌, ◌+◌, List, [], ◌∷◌, ◌++◌, refl, ap, sym, subst, ◌∙◌, inl, inr, arith, lt-ltb}
-use Rattle.std.specs.Prelude.{Bool, true, false, not, ◌&&◌, ◌||◌, ◌⊎◌, if◌then◌else◌, nat_eq, nat_le, nat_lt, IsTrue, Option, Some, None, option_map, filter, fold, sum_by, All, length}
+use Rattle.std.specs.Prelude.{Bool, true, false, not, ◌||◌, ◌⊎◌, if◌then◌else◌, nat_eq, nat_le, nat_lt, IsTrue, Option, Some, None, option_map, fold, sum_by, All, length}
 use Rattle.std.specs.List.{list_any, last_or}
-use Rattle.std.proofs.lemmas.Bool.{true≢false, and_parts, leb-true, le-leb, ltb-true}
+use Rattle.std.proofs.lemmas.Bool.{and_parts, leb-true, le-leb, ltb-true}
 use Rattle.std.proofs.lemmas.List.Elements.{All-head, All-tail}
 use Rattle.std.proofs.lemmas.List.Folds.{list_any_at}
 use Rattle.term_core.specs.Datum.{Datum}
@@ -22,9 +22,9 @@ use Rattle.part_core.specs.Covers.{covers, is_up_to}
 use Rattle.part_core.specs.Laws.{IsPlacedAt, LeadsTo}
 use Rattle.part_core.specs.Legal.{state_after, IsLegal, fix_count}
 use Rattle.part_core.specs.Replies.{fixes_of}
-use Rattle.part_core.specs.Rows.{Row, PartState, opening, is_fixed, objects_with, objects_without}
+use Rattle.part_core.specs.Rows.{Row, PartState, opening, is_fixed, objects_with}
 use Rattle.part_core.specs.States.{IsState}
-use Rattle.part_core.specs.Visits.{answers_of, bases, is_behind, is_inside, is_true, most_rows, next_class, next_key, next_of, visited_rows}
+use Rattle.part_core.specs.Visits.{answers_of, bases, is_behind, is_inside, most_rows, next_class, next_key, next_of, visited_rows}
 use Rattle.part_core.proofs.CoverLemmas.{visit_yields, visit_moves}
 use Rattle.part_core.proofs.HistoryLemmas.{base_over, counts_of, legal_front_from, state_of}
 use Rattle.part_core.proofs.KeyLemmas.{by_test, same_is}
@@ -54,7 +54,7 @@ inside_class o s base class inside =
     let kind = and_parts (not (is_ordered o.kind)) _ inside in
     let some = and_parts (list_any (nat_eq base) bases) _ kind.1 in
     let low = and_parts (nat_le base s.base) (nat_lt class base) some.1 in
-    (kind.0, (some.0, (leb-true base s.base low.0, ltb-true class base low.1)))
+    (kind.0, some.0, leb-true base s.base low.0, ltb-true class base low.1)
 
 is_inside_class : (o : Settings) (s : PartState) (base class : ℕ) → not (is_ordered o.kind) ≡ true → list_any (nat_eq base) bases ≡ true → base ≤ s.base → class < base → IsTrue (is_inside o s (After (Class base class)))
 is_inside_class o s base class kind some low below =
@@ -65,17 +65,21 @@ is_inside_class o s base class kind some low below =
 first_class : (base : ℕ) → 8 ≤ base → next_class base 0 ≡ Some (Class base 1)
 first_class base most = let further : nat_lt 1 base ≡ true = lt-ltb 1 base (omega (arith, most)) in rw further refl
 
+picked : (b : Bool) → b ≡ true → (x y : Option Cursor) → (if b then x else y) ≡ x
+picked true h x y = refl
+picked false h x y = cc
+
 -- where a walk goes on from a scope, by the state
 led : (o : Settings) (s : PartState) (purpose : Purpose) (p : Program) (scope : Scope) (wanted : ℕ) (next : Option Cursor) → IsState o s → IsTrue (is_inside o s scope) → next ≡ next_of o s purpose p scope wanted → ((k : Datum) → next ≡ Some (Behind k) → IsTrue (covers o scope next k)) → LeadsTo o s.base scope next
 led o s purpose p (Named j) wanted next state inside is moves = is
 led o s purpose p (After (Class base class)) wanted next state inside is moves =
-    let parts = inside_class o s base class inside in (parts.1.1.1, is)
+    let parts = inside_class o s base class inside in (parts.3, is)
 led o s purpose p (After (Behind j)) wanted next state inside is moves =
     of (key_next (answers_of purpose p) wanted (visited_rows o s purpose p (After (Behind j)) wanted))
   where
     of : (next_key (answers_of purpose p) wanted (visited_rows o s purpose p (After (Behind j)) wanted) ≡ None) ⊎ ((k : Datum) × (next_key (answers_of purpose p) wanted (visited_rows o s purpose p (After (Behind j)) wanted) ≡ Some (Behind k))) → LeadsTo o s.base (After (Behind j)) next
     of (inl none) = inl (is ∙ none)
-    of (inr (k, some)) = inr (k, (is ∙ some, (and_parts (is_behind j k) (is_up_to o next k) (moves k (is ∙ some))).0))
+    of (inr (k, some)) = inr (k, is ∙ some, (and_parts (is_behind j k) (is_up_to o next k) (moves k (is ∙ some))).0)
 led o s purpose p Begin wanted next state inside is moves = (
   (λ plain. is ∙ rw plain (first_class s.base (base_least s.base state.base.0))),
   (λ ordered. of ordered (key_next (answers_of purpose p) wanted (visited_rows o s purpose p Begin wanted))),
@@ -91,10 +95,6 @@ led o s purpose p Begin wanted next state inside is moves = (
         chosen : next_of o s purpose p Begin wanted ≡ next_key (answers_of purpose p) wanted (visited_rows o s purpose p Begin wanted)
         chosen = picked (is_ordered o.kind) ordered _ _
 
-    picked : (b : Bool) → b ≡ true → (x y : Option Cursor) → (if b then x else y) ≡ x
-    picked true h x y = refl
-    picked false h x y = cc
-
 pub visits_led : (o : Settings) (past : History) (n : ℕ) (purpose : Purpose) (p : Program) (scope : Scope) (wanted : ℕ) (said : Said) → IsLegal o (past ++ (record { session = n; act = Visit purpose p scope wanted; answer = Replied said }) ∷ []) → LeadsTo o (state_after o past).base scope (next_in said)
 visits_led o past n purpose p scope wanted said legal =
     let says = visit_yields o past n purpose p scope wanted said legal in
@@ -109,7 +109,7 @@ inside_higher o s t (Named k) up inside = refl
 inside_higher o s t (After (Behind k)) up inside = inside
 inside_higher o s t (After (Class base class)) up inside =
     let parts = inside_class o s base class inside in
-    is_inside_class o t base class parts.0 parts.1.0 (omega (arith, parts.1.1.0, up)) parts.1.1.1
+    is_inside_class o t base class parts.0 parts.1 (omega (arith, parts.2, up)) parts.3
 
 pub inside_stays : (o : Settings) (past more : History) (scope : Scope) → IsLegal o (past ++ more) → IsTrue (is_inside o (state_after o past) scope) → IsTrue (is_inside o (state_after o (past ++ more)) scope)
 inside_stays o past more scope legal inside =
@@ -123,10 +123,10 @@ next_inside o s (After (Class base class)) at state inside leads = of (nat_lt (c
     of true below is =
         let same : at ≡ Class base (class + 1) = cc in
         let parts = inside_class o s base class inside in
-        subst (λ (c : Cursor). IsTrue (is_inside o s (After c))) (sym same) (is_inside_class o s base (class + 1) parts.0 parts.1.0 parts.1.1.0 (ltb-true (class + 1) base below))
+        subst (λ (c : Cursor). IsTrue (is_inside o s (After c))) (sym same) (is_inside_class o s base (class + 1) parts.0 parts.1 parts.2 (ltb-true (class + 1) base below))
     of false end is = cc
 next_inside o s (After (Behind j)) at state inside (inl none) = cc
-next_inside o s (After (Behind j)) at state inside (inr (k, (is, further))) =
+next_inside o s (After (Behind j)) at state inside (inr (k, is, further)) =
     let same : at ≡ Behind k = cc in subst (λ (c : Cursor). IsTrue (is_inside o s (After c))) (sym same) inside
 next_inside o s Begin at state inside leads = of (is_ordered o.kind) refl
   where
