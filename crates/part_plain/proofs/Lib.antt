@@ -1,1 +1,6 @@
-pub mod ServedLemmas
+pub mod ShownLemmas
+pub mod PlaceLemmas
+pub mod PutLemmas
+pub mod ExchangeLemmas
+pub mod WalkLemmas
+pub mod GatherLemmas

@@ -1,1 +1,3 @@
 pub mod Served
+pub mod Places
+pub mod Classes

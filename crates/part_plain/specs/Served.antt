@@ -1,9 +1,18 @@
--- Which tables a part whose rows stand in one list is made for.
-use Rattle.std.specs.Prelude.{Bool, true, false}
+-- Which tables rows in one list are for, and what they show.
+use Rattle.std.specs.Prelude.{ℕ, ◌≡◌, Bool, true, false, IsTrue, List}
 use Rattle.part_core.specs.declared.kind.TableKind.{TableKind}
 use Rattle.part_core.specs.declared.kind.TableKind.TheVariants.{Set}
+use Rattle.part_core.specs.declared.settings.Settings.{Settings}
+use Rattle.part_core.specs.Rows.{Row}
+use Rattle.part_stored.specs.Shown.{Shown}
 
 -- the kind that is served
 abbrev pub serves : TableKind → Bool
 serves Set = true
 serves kind = false
+
+-- these rows, in so many slots, are those of a table that is served
+pub record IsShown (o : Settings) (list : List Row) (count : ℕ) (w : Shown) : Type 0 where
+  pub served : IsTrue (serves o.kind)
+  pub rows : w.rows ≡ list
+  pub slots : w.slots ≡ count

@@ -1,13 +1,22 @@
-//! A part of a table whose rows stand in one list, for sets.
+//! The rows of a set in one list.
 //!
-//! The one contract: `PlainPart` keeps the trait `Part` of `part_core`. The state that a part is in is that of its rows and counts
-//! (`plain_state` of `part_core/specs/Plain.antt`).
+//! The one contract: `PlainRows` keeps the trait `Rows` of `part_stored`, for sets alone. What the rows show is their list
+//! and the number that is kept as that of their slots (`IsShown` of `specs/Served.antt`). That no key has two rows isn't
+//! kept: it is a premise of `Rows`.
 //!
-//! - `part`: the type; `answering`: which function answers an operation, each of which is answered as the state does (`IsAnswered`): those
-//!   of `plain_rows` at one key, on counts of fixes and along a walk, those of `plain_visits` on visits.
+//! - `rows`: the type. It hands each operation to a function whose contract is one over lists.
+//! - `row`: a key with what is held of it; `places`: rows found by their keys (`specs/Places.antt`); `putting`,
+//!   `exchanging`: what is written.
+//! - `walking`, `gathering`: the order of a walk, class by class (`specs/Classes.antt`); `looking`: what visits look at.
 #![tactic(auto)]
 
-mod answering;
-mod part;
+mod exchanging;
+mod gathering;
+mod looking;
+mod places;
+mod putting;
+mod row;
+mod rows;
+mod walking;
 
-pub use part::PlainPart;
+pub use rows::PlainRows;

@@ -1,7 +1,6 @@
 -- What each operation is answered and leaves, by what its rows show; and that it goes on the part's history.
-use Rattle.std.proofs.Common.{◌≡◌, ℕ, ◌<◌, ◌≤◌, ◌+◌, ◌-◌, List, [], ◌∷◌, ◌++◌, refl, ap, sym, subst, ◌∙◌, set, get_or, length, arith, lt-ltb, set-get_or}
-use Rattle.std.specs.Prelude.{Bool, true, false, ◌||◌, nat_lt, if◌then◌else◌, IsTrue, Option, Some, None, is_some, unwrap_or, Result, Ok, Err, filter, option_map}
-use Rattle.std.specs.Map.{lookup}
+use Rattle.std.proofs.Common.{◌≡◌, ℕ, ◌<◌, ◌≤◌, ◌+◌, ◌-◌, List, [], ◌∷◌, ◌++◌, refl, ap, sym, subst, ◌∙◌, set, get_or, length, arith, lt-ltb}
+use Rattle.std.specs.Prelude.{Bool, true, false, not, ◌||◌, nat_lt, if◌then◌else◌, Option, Some, None, is_some, Result, Ok, Err, filter}
 use Rattle.std.proofs.lemmas.Bool.{le-ltb}
 use Rattle.std.proofs.lemmas.List.{append-nil, get_or-set_same, length-map, length-set}
 use Rattle.std.proofs.lemmas.List.Folds.{list_any_at}
@@ -32,9 +31,9 @@ use Rattle.part_core.proofs.KeyLemmas.{by_test}
 use Rattle.part_core.proofs.KeyedLemmas.{object_key, written_of, rewritten}
 use Rattle.part_core.proofs.RowLemmas.{unwritten}
 use Rattle.part_core.proofs.StateLemmas.{after_replied, after_refused}
-use Rattle.part_stored.specs.Shown.{Shown, AreSound, no_rows, rows_exchanged, shown_exchanged, shown_live, shown_with, state_of}
+use Rattle.part_stored.specs.Shown.{Shown, AreSound, shown_exchanged, shown_live, shown_with, state_of}
 use Rattle.part_stored.specs.Stored.{IsAfter, Leads}
-use Rattle.part_stored.specs.declared.part.StoredPart.{StoredPart}
+use Rattle.part_stored.specs.declared.stored.StoredPart.{StoredPart}
 use Rattle.part_stored.proofs.SweepLemmas.{exchanged}
 
 -- an operation is answered so, and leaves such a state
@@ -87,7 +86,7 @@ next_refused o w fixes base n k missing =
 -- ---- operations that write at one key
 
 few_at : (k : Datum) (f : List Datum → List Datum) (rows : List Row) → length (rows_at_key k f rows) ≤ length rows
-few_at k f rows = omega (arith, length-map (λ (r : Row). (r.0, if is_same k r.0 then f r.1 else r.1)) rows)
+few_at k f rows = omega (arith, length-map {B = Row} rows (λ (r : Row). (r.0, if is_same k r.0 then f r.1 else r.1)))
 
 -- what is left where a key's objects become others
 exchanged_state : (o : Settings) (w : Shown) (fixes : List ℕ) (base : ℕ) (k : Datum) (f : List Datum → List Datum) → IsState o (state_of w fixes base) → state_of (shown_exchanged k (f (objects_at w.rows k)) (is_fixed fixes) w) fixes base ≡ record { rows = kept_rows fixes (rows_at_key k f w.rows); fixes = fixes; slots = w.slots; base = base }
@@ -128,7 +127,7 @@ pub delete_object_says : (o : Settings) (w : Shown) (fixes : List ℕ) (base n :
 delete_object_says o w fixes base n t k state is =
     (
       sym (object_reply o (state_of w fixes base) n t k is),
-      ap (λ (rows : List Row). record { rows = if is_fixed fixes then rows else filter _ rows; fixes = fixes; slots = w.slots; base = base }) (rewritten k (λ _. []) (objects_without t (objects_at w.rows k)) w.rows)
+      ap (λ (rows : List Row). record { rows = if is_fixed fixes then rows else filter (λ r. not (is_same k r.0) || is_live r) rows; fixes = fixes; slots = w.slots; base = base }) (rewritten k (λ _. []) (objects_without t (objects_at w.rows k)) w.rows)
           ∙ exchanged_state o w fixes base k (objects_without t) state ∙ sym (object_after o w fixes base n t k state is),
     )
 
@@ -158,8 +157,8 @@ insert_says o w fixes base n t state object =
 
 pub insert_refused : (o : Settings) (s : PartState) (n : ℕ) (t : Datum) → is_object o t ≡ false → Says o s n (Insert t) (Refused TooSmall) s
 unfolding reply_of
-insert_refused o s n t no =
-    let refused : reply_of o s n (Insert t) ≡ Refused TooSmall = rw no refl in
+insert_refused o s n t wrong =
+    let refused : reply_of o s n (Insert t) ≡ Refused TooSmall = rw wrong refl in
     (sym refused, sym (after_refused o s n (Insert t) TooSmall refused))
 
 -- while nothing is fixed the base is the number of slots
@@ -187,8 +186,8 @@ insert_new_says o w fixes base n t false state object is =
 
 pub insert_new_refused : (o : Settings) (s : PartState) (n : ℕ) (t : Datum) → is_object o t ≡ false → Says o s n (InsertNew t) (Refused TooSmall) s
 unfolding reply_of
-insert_new_refused o s n t no =
-    let refused : reply_of o s n (InsertNew t) ≡ Refused TooSmall = rw no refl in
+insert_new_refused o s n t wrong =
+    let refused : reply_of o s n (InsertNew t) ≡ Refused TooSmall = rw wrong refl in
     (sym refused, sym (after_refused o s n (InsertNew t) TooSmall refused))
 
 -- ---- fixes
@@ -258,10 +257,10 @@ step shows p q n act answer log kept goes settings session asked leads now =
     let led = leads now.shown now.there state in
     let e : Entry = record { session = n; act = act; answer = answer } in
     let legal : IsLegal p.settings (log ++ e ∷ []) = goes p.settings log e now.legal (record { session = session; asked = asked; answer = led.0 ∙ ap (λ s. reply_of p.settings s n act) (sym was) }) in
-    let more : state_after p.settings (log ++ e ∷ []) ≡ state_of led.1.0 q.fixes.items q.base = state_more p.settings (opening p.settings) log (e ∷ []) ∙ ap (λ s. after p.settings s n act) was ∙ sym led.1.1.1 in
+    let more : state_after p.settings (log ++ e ∷ []) ≡ state_of led.1.0 q.fixes.items q.base = state_more p.settings (opening p.settings) log (e ∷ []) ∙ ap (λ s. after p.settings s n act) was ∙ sym led.1.2 in
     record {
       shown = led.1.0;
-      there = subst (λ (o : Settings). shows o q.rows led.1.0) (sym settings) led.1.1.0;
+      there = subst (λ (o : Settings). shows o q.rows led.1.0) (sym settings) led.1.1;
       state = subst (λ (o : Settings). state_after o (log ++ e ∷ []) ≡ state_of led.1.0 q.fixes.items q.base) (sym settings) more;
       legal = subst (λ (o : Settings). IsLegal o (log ++ e ∷ [])) (sym settings) legal;
     }
@@ -271,8 +270,8 @@ unmoved shows p q n act log settings leads now =
     let led = leads now.shown now.there in
     subst (IsAfter shows q) (sym (append-nil log)) (record {
       shown = led.0;
-      there = subst (λ (o : Settings). shows o q.rows led.0) (sym settings) led.1.0;
-      state = ap (λ o. state_after o log) settings ∙ now.state ∙ sym led.1.1;
+      there = subst (λ (o : Settings). shows o q.rows led.0) (sym settings) led.1;
+      state = ap (λ o. state_after o log) settings ∙ now.state ∙ sym led.2;
       legal = subst (λ (o : Settings). IsLegal o log) (sym settings) now.legal;
     })
 

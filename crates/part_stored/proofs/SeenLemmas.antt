@@ -1,8 +1,9 @@
 -- How far a visit comes, and which rows it sees.
-use Rattle.std.proofs.Common.{◌≡◌, ℕ, zero, suc, ◌≤◌, ◌<◌, ◌+◌, ◌-◌, List, [], ◌∷◌, ◌++◌, refl, ap, sym, ◌∙◌, length, take, drop, get_or, sum_by, arith, append_assoc, eq-eqb}
-use Rattle.std.specs.Prelude.{Bool, true, false, ◌&&◌, ◌||◌, ◌==◌, nat_le, if◌then◌else◌}
-use Rattle.std.proofs.lemmas.Bool.{and_parts, eqb-true, eqb-false, le-leb, lt-leb, leb-true, leb-false}
-use Rattle.std.proofs.lemmas.List.{append-nil, take_more, take_all, drop_more, drop_all}
+use Rattle.std.proofs.Common.{◌≡◌, ℕ, zero, suc, ◌≤◌, ◌<◌, ◌+◌, ◌-◌, List, [], ◌∷◌, ◌++◌, refl, ap, sym, ◌∙◌, length, take, drop, get_or, sum_by, arith, append_assoc}
+use Rattle.std.specs.Prelude.{Bool, true, false, ◌&&◌, ◌||◌, ◌==◌, nat_le, if◌then◌else◌, Option, Some, None, option_map, slice_get}
+use Rattle.std.specs.List.{last_or}
+use Rattle.std.proofs.lemmas.Bool.{eqb-true, eqb-false, le-leb, lt-leb}
+use Rattle.std.proofs.lemmas.List.{append-nil, length-take-le, take_more, take_all, drop_more, drop_all}
 use Rattle.std.proofs.lemmas.List.Sums.{sum_by_push}
 use Rattle.mcode.specs.Program.{Program}
 use Rattle.part_core.specs.declared.settings.Settings.{Settings}
@@ -11,19 +12,19 @@ use Rattle.part_core.specs.Acts.{Purpose, Scope}
 use Rattle.part_core.specs.Acts.Cursor.{Class, Behind}
 use Rattle.part_core.specs.Acts.Scope.{Begin, After, Named}
 use Rattle.part_core.specs.Rows.{Row, PartState}
-use Rattle.part_core.specs.Visits.{rows_up_to, rows_behind, visited_rows, next_of, answers_of}
+use Rattle.part_core.specs.Visits.{most_rows, next_key, rows_up_to, rows_behind, visited_rows, next_of, answers_of}
 use Rattle.part_core.proofs.KeyLemmas.{by_test}
 use Rattle.part_stored.specs.Looks.{looked_at, next_after, rows_until, stops}
 
 -- at a place a visit has seen the rows before, and goes on with those from there, so many answers being still wanted
-pub record Sees (stops : Bool) (answers : Row → ℕ) (wanted : ℕ) (rows : List Row) (place left : ℕ) : Type 0 where
-  pub whole : rows_until stops answers wanted rows ≡ take place rows ++ rows_until stops answers left (drop place rows)
-  pub left : left ≡ wanted - sum_by answers (take place rows)
+pub record Sees (stops : Bool) (answers : Row → ℕ) (wanted : ℕ) (rows : List Row) (place wanting : ℕ) : Type 0 where
+  pub whole : rows_until stops answers wanted rows ≡ take place rows ++ rows_until stops answers wanting (drop place rows)
+  pub left : wanting ≡ wanted - sum_by answers (take place rows)
 
 -- a visit has seen the rows before a place, and stops there
-pub record Saw (stops : Bool) (answers : Row → ℕ) (wanted : ℕ) (rows : List Row) (place left : ℕ) : Type 0 where
+pub record Saw (stops : Bool) (answers : Row → ℕ) (wanted : ℕ) (rows : List Row) (place wanting : ℕ) : Type 0 where
   pub whole : take place rows ≡ rows_until stops answers wanted rows
-  pub left : left ≡ wanted - sum_by answers (take place rows)
+  pub left : wanting ≡ wanted - sum_by answers (take place rows)
 
 pub sees_none : (stops : Bool) (answers : Row → ℕ) (wanted : ℕ) (rows : List Row) → Sees stops answers wanted rows 0 wanted
 sees_none stops answers wanted rows = record { whole = refl; left = omega arith }
@@ -105,7 +106,10 @@ until_up_to answers wanted zero (r ∷ rows) =
 until_up_to answers wanted (suc more) (r ∷ rows) =
     by_test (wanted - answers r == 0) _
     (λ done. let enough : nat_le wanted (answers r) ≡ true = le-leb wanted (answers r) (omega (arith, eqb-true (wanted - answers r) 0 done)) in rw (done, enough) refl)
-    (λ going. let few : nat_le wanted (answers r) ≡ false = lt-leb wanted (answers r) (omega (arith, eqb-false (wanted - answers r) 0 going)) in rw (going, few) (ap (λ rs. r ∷ rs) (until_up_to answers (wanted - answers r) more rows)))
+    (λ going. let few : nat_le wanted (answers r) ≡ false = lt-leb wanted (answers r) (omega (arith, eqb-false (wanted - answers r) 0 going)) in
+    let roomy : nat_le (suc (suc more)) 1 ≡ false = lt-leb (suc (suc more)) 1 (omega arith) in
+    let less : suc (suc more) - 1 ≡ suc more = omega arith in
+    rw (going, few, roomy, less) (ap (λ rs. r ∷ rs) (until_up_to answers (wanted - answers r) more rows)))
 
 pub visited : (o : Settings) (s : PartState) (purpose : Purpose) (p : Program) (scope : Scope) (wanted : ℕ) → visited_rows o s purpose p scope wanted ≡ rows_until (stops o scope) (answers_of purpose p) wanted (looked_at o s.base scope s.rows)
 visited o s purpose p (Named k) wanted =
@@ -124,3 +128,36 @@ goes_on o s purpose p (Named k) wanted = refl
 goes_on o s purpose p (After (Class base class)) wanted = refl
 goes_on o s purpose p (After (Behind k)) wanted = refl
 goes_on o s purpose p Begin wanted = refl
+
+-- ---- where a visit of an ordered set stops
+
+le_zero : (wanted sum wanting : ℕ) → wanting ≡ wanted - sum → nat_le wanted sum ≡ (wanting == 0)
+le_zero wanted sum wanting is =
+    by_test (wanting == 0) _
+    (λ none. rw none (le-leb wanted sum (omega (arith, is, eqb-true wanting 0 none))))
+    (λ some. rw some (lt-leb wanted sum (omega (arith, is, eqb-false wanting 0 some))))
+
+key_stops : (answers : Row → ℕ) (wanted : ℕ) (rows : List Row) (reach wanting : ℕ) → reach ≤ length rows → wanting ≡ wanted - sum_by answers (take reach rows) → next_key answers wanted (take reach rows) ≡ (if (wanting == 0) || (reach == most_rows) then option_map (λ r. Behind r.0) (last_or None (take reach rows)) else None)
+key_stops answers wanted rows reach wanting within is =
+    ap (λ b. if b || (length (take reach rows) == most_rows) then option_map (λ (r : Row). Behind r.0) (last_or None (take reach rows)) else None) (le_zero wanted (sum_by answers (take reach rows)) wanting is)
+    ∙ ap (λ n. if (wanting == 0) || (n == most_rows) then option_map (λ (r : Row). Behind r.0) (last_or None (take reach rows)) else None) (length-take-le reach rows within)
+
+pub key_none : (answers : Row → ℕ) (wanted : ℕ) (rows : List Row) (reach wanting : ℕ) (stopped : Bool) → reach ≤ length rows → wanting ≡ wanted - sum_by answers (take reach rows) → stopped ≡ ((wanting == 0) || (reach == most_rows)) → stopped ≡ false → None ≡ next_key answers wanted (take reach rows)
+key_none answers wanted rows reach wanting stopped within is test none =
+    sym (key_stops answers wanted rows reach wanting within is ∙ ap (λ b. if b then option_map (λ (r : Row). Behind r.0) (last_or None (take reach rows)) else None) (sym test ∙ none))
+
+pub key_next : (answers : Row → ℕ) (wanted : ℕ) (rows : List Row) (reach wanting : ℕ) (stopped : Bool) (last : Option Row) → reach ≤ length rows → wanting ≡ wanted - sum_by answers (take reach rows) → stopped ≡ ((wanting == 0) || (reach == most_rows)) → stopped ≡ true → last ≡ last_or None (take reach rows) → option_map (λ r. Behind r.0) last ≡ next_key answers wanted (take reach rows)
+key_next answers wanted rows reach wanting stopped last within is test some found =
+    ap (option_map (λ (r : Row). Behind r.0)) found
+    ∙ sym (key_stops answers wanted rows reach wanting within is ∙ ap (λ b. if b then option_map (λ (r : Row). Behind r.0) (last_or None (take reach rows)) else None) (sym test ∙ some))
+
+last_get : (before : Option Row) (r : Row) (rows : List Row) → slice_get (r ∷ rows) (length rows) ≡ last_or before (r ∷ rows)
+last_get before r [] = refl
+last_get before r (v ∷ rows) = last_get (Some r) v rows
+
+-- what stands at the last place is the last
+pub last_is : (rows : List Row) (r : Row) → Some r ≡ slice_get rows (length rows - 1) → Some r ≡ last_or None rows
+last_is [] r is = is
+last_is (v ∷ rows) r is =
+    let place : length (v ∷ rows) - 1 ≡ length rows = omega arith in
+    is ∙ ap (slice_get (v ∷ rows)) place ∙ last_get None v rows

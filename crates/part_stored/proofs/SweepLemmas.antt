@@ -1,10 +1,10 @@
 -- What exchanging what is held of keys makes of rows.
-use Rattle.std.proofs.Common.{◌≡◌, ℕ, List, [], ◌∷◌, refl, ap, sym, ◌∙◌, map}
+use Rattle.std.proofs.Common.{◌≡◌, ℕ, List, [], ◌∷◌, refl, ap, sym, ◌∙◌}
 use Rattle.std.specs.Prelude.{Bool, true, false, not, ◌||◌, if◌then◌else◌, Option, Some, None, option_map, unwrap_or, is_some, IsTrue, filter, All}
 use Rattle.std.specs.List.{IsDistinct, list_any}
 use Rattle.std.specs.Map.{keys_of, lookup}
 use Rattle.std.proofs.lemmas.Bool.{true≢false}
-use Rattle.std.proofs.lemmas.List.Elements.{All-nil, All-cons, All-head, All-tail, All-filter, All-weaker, filter_passes}
+use Rattle.std.proofs.lemmas.List.Elements.{All-head, All-tail, All-filter, filter_passes}
 use Rattle.std.proofs.lemmas.Map.Entries.{lookup-filter-values, lookup-filter-keys, option_filter}
 use Rattle.std.proofs.lemmas.Map.Keys.{IsDistinct-head, IsDistinct-tail}
 use Rattle.std.proofs.lemmas.Map.Made.{IsDistinct-keys_filter}
@@ -23,7 +23,7 @@ use Rattle.part_core.proofs.RowLemmas.{rows_by, lookup_by, keys_by, among_passin
 use Rattle.part_core.proofs.StateLemmas.{same_keys_rows, filtered_rows}
 use Rattle.part_core.proofs.StepLemmas.{each_by, row_where, filtered_row}
 use Rattle.part_stored.specs.Shown.{Shown, AreSound, rows_exchanged, shown_exchanged}
-use Rattle.part_stored.specs.Deletions.{rows_left, rows_swept, shown_swept}
+use Rattle.part_stored.specs.Deletions.{rows_left, rows_swept}
 
 -- ---- one key
 
@@ -97,17 +97,24 @@ swept_kept (v ∷ left) rows d =
     swept_kept left (rows_at_key v.0 (λ _. v.1) rows) (IsDistinct-tail is_same v.0 (keys_of left) d)
     ∙ over_more v left rows (apart v.0 left (IsDistinct-head is_same v.0 (keys_of left) d))
 
+live_here : (k : Datum) (os us : List Datum) (left now later : List Row) → over left k os ≡ os → us ≡ os → filter is_live (rows_by (over left) now) ≡ filter is_live later → filter is_live (rows_by (over left) (if is_live (k, os) then (k, os) ∷ now else now)) ≡ filter is_live ((k, us) ∷ later)
+live_here k [] us left now later own same rest =
+    rest ∙ ap (λ (ws : List Datum). filter is_live ((k, ws) ∷ later)) (sym same)
+live_here k (t ∷ os) us left now later own same rest =
+    ap (λ (ws : List Datum). filter is_live ((k, ws) ∷ rows_by (over left) now)) own
+    ∙ ap (λ rs. (k, t ∷ os) ∷ rs) rest
+    ∙ ap (λ (ws : List Datum). filter is_live ((k, ws) ∷ later)) (sym same)
+
 live_more : (v : Row) (left rows : List Row) → has_row left v.0 ≡ false → All (λ r. IsTrue (is_live r)) rows → filter is_live (rows_by (over left) (filter is_live (rows_at_key v.0 (λ _. v.1) rows))) ≡ filter is_live (rows_by (over (v ∷ left)) rows)
 live_more v left [] none live = refl
 live_more v left (r ∷ rows) none live =
     let rest = live_more v left rows none (All-tail (λ (w : Row). IsTrue (is_live w)) r rows live) in
     by_test (is_same v.0 r.0) _
     (λ here. let at = over_here v left r.0 r.1 none here in
-    rw (here, at.1) (by_test (is_live (r.0, v.1)) _
-    (λ full. rw (full, at.0, full) (ap (λ rs. (r.0, v.1) ∷ rs) rest))
-    (λ empty. rw (empty, empty) rest)))
+    rw here (live_here r.0 v.1 (over (v ∷ left) r.0 r.1) left (filter is_live (rows_at_key v.0 (λ _. v.1) rows)) (rows_by (over (v ∷ left)) rows) at.0 at.1 rest))
     (λ other. let own : is_live r ≡ true = All-head (λ (w : Row). IsTrue (is_live w)) r rows live in
-    rw (other, own, over_other v left r.0 r.1 other) (ap (λ rs. if is_live (r.0, over left r.0 r.1) then (r.0, over left r.0 r.1) ∷ rs else rs) rest))
+    rw (other, own) (ap (λ (os : List Datum). filter is_live ((r.0, os) ∷ rows_by (over left) (filter is_live (rows_at_key v.0 (λ _. v.1) rows)))) (sym (over_other v left r.0 r.1 other))
+    ∙ ap (λ rs. if is_live (r.0, over (v ∷ left) r.0 r.1) then (r.0, over (v ∷ left) r.0 r.1) ∷ rs else rs) rest))
 
 swept_live : (left rows : List Row) → IsDistinct is_same (keys_of left) → All (λ r. IsTrue (is_live r)) rows → rows_swept false left rows ≡ filter is_live (rows_by (over left) rows)
 swept_live [] rows d live = sym (ap (filter is_live) (over_none rows) ∙ all_kept is_live rows live)

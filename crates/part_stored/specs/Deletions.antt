@@ -1,7 +1,6 @@
 -- What a visit deletes, and what writing what is left makes of rows.
 use Rattle.std.specs.Prelude.{ℕ, ◌≡◌, Bool, not, Option, filter, map, length, min, List, [], ◌∷◌}
 use Rattle.std.specs.List.{list_any}
-use Rattle.term_core.specs.Datum.{Datum}
 use Rattle.mcode.specs.Program.{Program}
 use Rattle.part_core.specs.declared.settings.Settings.{Settings}
 use Rattle.part_core.specs.Acts.{Cursor, Scope}
@@ -31,7 +30,7 @@ deleted_from o base p scope wanted rows =
     rows_until (stops o scope) (answers_of Deletes p) wanted (looked_at o base scope rows)
 
 -- what a visit that deletes has found: what is left of the rows that it sees, how many objects go, and where the walk goes on
-pub record IsChosen (o : Settings) (base : ℕ) (p : Program) (scope : Scope) (wanted : ℕ) (rows left : List Row) (total : ℕ) (next : Option Cursor) : Type 0 where
-  pub left : left ≡ rows_left p (deleted_from o base p scope wanted rows)
-  pub total : total ≡ min (length (yield_of_rows Deletes p (deleted_from o base p scope wanted rows))) most_counted
-  pub next : next ≡ next_after o base scope (answers_of Deletes p) wanted (deleted_from o base p scope wanted rows)
+pub record IsChosen (o : Settings) (base : ℕ) (p : Program) (scope : Scope) (wanted : ℕ) (rows remaining : List Row) (count : ℕ) (at : Option Cursor) : Type 0 where
+  pub left : remaining ≡ rows_left p (deleted_from o base p scope wanted rows)
+  pub total : count ≡ min (length (yield_of_rows Deletes p (deleted_from o base p scope wanted rows))) most_counted
+  pub next : at ≡ next_after o base scope (answers_of Deletes p) wanted (deleted_from o base p scope wanted rows)

@@ -1,5 +1,5 @@
 -- What it means that a part with such rows is in a state, and what an operation leads to.
-use Rattle.std.specs.Prelude.{ℕ, ◌≡◌, Option, Some, None, List}
+use Rattle.std.specs.Prelude.{ℕ, ◌≡◌, Option, Some, None}
 use Rattle.part_core.specs.declared.settings.Settings.{Settings}
 use Rattle.part_core.specs.Acts.{Act, Answer, History}
 use Rattle.part_core.specs.Replies.{reply_of}
@@ -7,7 +7,7 @@ use Rattle.part_core.specs.After.{after}
 use Rattle.part_core.specs.States.{IsState}
 use Rattle.part_core.specs.Legal.{state_after, IsLegal}
 use Rattle.part_stored.specs.Shown.{Shown, state_of}
-use Rattle.part_stored.specs.declared.part.StoredPart.{StoredPart}
+use Rattle.part_stored.specs.declared.stored.StoredPart.{StoredPart}
 
 -- a part is in a state after a history, which is legal
 pub record IsAfter {R A : Type 0} (shows : Settings → R → Shown → Type 0) (p : StoredPart R A) (log : History) : Type 0 where

@@ -8,10 +8,10 @@ ghost use Rattle.part_core.specs.Visits.{answers_of, yields, yield_of_rows};
 ghost use Rattle.part_stored.specs.Looks.{rows_until};
 ghost use Rattle.part_stored.specs.Stored.{Leads};
 
-use crate::looking::Reach;
-use crate::part::StoredPart;
+use crate::looking::{Reach, is_over};
 use crate::rows::Rows;
 use crate::seen::SeenRow;
+use crate::stored::StoredPart;
 use machine::Machine;
 use part_core::{Fault, Held, Look, Reply};
 use std::alloc::{AllocError, Allocator};
@@ -75,7 +75,7 @@ fn gather_until<'r, A: Allocator + Copy>(
     for place in 0..rows.len() {
         let count = gather(machine, rows[place].held(), found)?;
         left = left.saturating_sub(count);
-        if stops && left == 0 {
+        if is_over(stops, left) {
             return Ok(Reach {
                 rows: place + 1,
                 left,

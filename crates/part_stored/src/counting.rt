@@ -8,10 +8,10 @@ ghost use Rattle.part_core.specs.Visits.{answers_of, is_true, yield_of_rows};
 ghost use Rattle.part_stored.specs.Looks.{rows_until};
 ghost use Rattle.part_stored.specs.Stored.{Leads};
 
-use crate::looking::Reach;
-use crate::part::StoredPart;
+use crate::looking::{Reach, is_over};
 use crate::rows::Rows;
 use crate::seen::SeenRow;
+use crate::stored::StoredPart;
 use machine::Machine;
 use part_core::{Fault, Held, Look, Reply};
 use std::alloc::{AllocError, Allocator};
@@ -56,7 +56,7 @@ fn count_until<'r, A: Allocator + Copy>(
         let count = count_true(machine, rows[place].held())?;
         left = left.saturating_sub(count);
         *total = total.saturating_add(count);
-        if stops && left == 0 {
+        if is_over(stops, left) {
             return Ok(Reach {
                 rows: place + 1,
                 left,

@@ -13,10 +13,10 @@ ghost use Rattle.part_stored.specs.Looks.{is_placed, rows_until};
 ghost use Rattle.part_stored.specs.Shown.{Shown, AreSound, shown_exchanged};
 ghost use Rattle.part_stored.specs.Stored.{Leads};
 
-use crate::looking::Reach;
-use crate::part::StoredPart;
+use crate::looking::{Reach, is_over};
 use crate::rows::Rows;
 use crate::seen::SeenRow;
+use crate::stored::StoredPart;
 use machine::Machine;
 use part_core::{Cursor, Fault, Held, Look, Reply, Settings, is_fixed};
 use std::alloc::{AllocError, Allocator};
@@ -45,6 +45,7 @@ impl<A: Allocator> Model for Left<A> {
 }
 
 /// What a visit that deletes has found.
+#[derive(Drop)]
 struct Chosen<A: Allocator> {
     /// What is left at the keys of which objects go.
     left: Vec<Left<A>, A>,
@@ -117,7 +118,7 @@ fn sort_until<'r, A: Allocator + Copy>(
         let count = sort_out(machine, &rows[place], left)?;
         wanting = wanting.saturating_sub(count);
         *total = total.saturating_add(count);
-        if stops && wanting == 0 {
+        if is_over(stops, wanting) {
             return Ok(Reach {
                 rows: place + 1,
                 left: wanting,
@@ -196,8 +197,8 @@ impl<R: Rows<A> + Drop, A: Allocator + Copy> StoredPart<R, A> {
         if !self.is_inside(&look.scope) {
             return Err(Fault::CursorOutside);
         }
-        let chosen = self.choose(look)?;
-        self.sweep(chosen.left);
-        Ok(Reply::Counted(chosen.total, chosen.next))
+        let Chosen { left, total, next } = self.choose(look)?;
+        self.sweep(left);
+        Ok(Reply::Counted(total, next))
     }
 }

@@ -1,5 +1,5 @@
 //! Operations on the counts of fixes.
-ghost use Rattle.std.specs.Prelude.{ℕ, ◌≡◌, ◌<◌, ◌×◌, Some, IfErr, if◌then◌else◌};
+ghost use Rattle.std.specs.Prelude.{ℕ, ◌≡◌, ◌<◌, Some, IfErr, if◌then◌else◌};
 ghost use Rattle.part_core.specs.Acts.Act.{Fix, Unfix, Release};
 ghost use Rattle.part_core.specs.Acts.Answer.{Replied};
 ghost use Rattle.part_core.specs.Ops.{answer_in, said_of};
@@ -7,9 +7,9 @@ ghost use Rattle.part_core.specs.Rows.{is_fixed};
 ghost use Rattle.part_stored.specs.Shown.{Shown, shown_live};
 ghost use Rattle.part_stored.specs.Stored.{Leads};
 
-use crate::part::StoredPart;
 use crate::rows::Rows;
-use part_core::{Fault, Reply, is_fixed};
+use crate::stored::StoredPart;
+use part_core::{Fault, Reply, fixes_at, is_fixed};
 use std::alloc::Allocator;
 
 impl<R: Rows<A> + Drop, A: Allocator> StoredPart<R, A> {
@@ -36,11 +36,10 @@ impl<R: Rows<A> + Drop, A: Allocator> StoredPart<R, A> {
         ensures leads { Leads R.shows self.old session Fix (answer_in result) self.new }
         ensures refused { IfErr result (λ fault. fault ≡ Fault.FixLimit) }
     {
-        let session = usize::from(session);
-        let Some(count) = self.fixes[session].checked_add(1) else {
+        let Some(count) = fixes_at(self.fixes.as_slice(), session).checked_add(1) else {
             return Err(Fault::FixLimit);
         };
-        self.fixes[session] = count;
+        self.fixes[usize::from(session)] = count;
         Ok(Reply::Done)
     }
 
@@ -51,11 +50,10 @@ impl<R: Rows<A> + Drop, A: Allocator> StoredPart<R, A> {
         ensures leads { Leads R.shows self.old session Unfix (answer_in result) self.new }
         ensures refused { IfErr result (λ fault. fault ≡ Fault.NotFixed) }
     {
-        let session = usize::from(session);
-        let Some(count) = self.fixes[session].checked_sub(1) else {
+        let Some(count) = fixes_at(self.fixes.as_slice(), session).checked_sub(1) else {
             return Err(Fault::NotFixed);
         };
-        self.fixes[session] = count;
+        self.fixes[usize::from(session)] = count;
         self.settle();
         Ok(Reply::Done)
     }

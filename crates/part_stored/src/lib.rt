@@ -5,7 +5,7 @@
 //! sessions, fixes, histories, refusals and queries, which all stand here.
 //!
 //! - `rows`: the trait. `seen`: a row, as a visit sees it.
-//! - `part`: the part. `specs/Stored.antt` says when it is in a state, and what an operation leads to.
+//! - `stored`, `part`: the part, and that it keeps the contract of parts. `specs/Stored.antt` says when it is in a state, and what an operation leads to.
 //! - `reading`, `writing`, `fixing`, `walking`: its operations at one key, on its counts of fixes, and by the order of a walk.
 //! - `looking`, `answering`, `counting`, `deleting`: visits. `specs/Looks.antt` says which rows a visit sees.
 #![tactic(auto)]
@@ -19,9 +19,10 @@ mod part;
 mod reading;
 mod rows;
 mod seen;
+mod stored;
 mod walking;
 mod writing;
 
-pub use part::StoredPart;
 pub use rows::Rows;
 pub use seen::SeenRow;
+pub use stored::StoredPart;

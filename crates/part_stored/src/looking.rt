@@ -1,15 +1,15 @@
 //! Where a visit looks, how far it comes, and where the walk goes on.
-ghost use Rattle.std.specs.Prelude.{ℕ, ◌≡◌, ◌≤◌, ◌<◌, ◌+◌, ◌-◌, IsTrue, IfOk, sum_by, take, length};
+ghost use Rattle.std.specs.Prelude.{ℕ, ◌≡◌, ◌≤◌, ◌<◌, ◌+◌, ◌-◌, ◌&&◌, ◌||◌, ◌==◌, IsTrue, IfOk, sum_by, take, length, List};
 ghost use Rattle.std.specs.Option.{option_map};
 ghost use Rattle.part_core.specs.Ops.{cursor_of, scope_of};
 ghost use Rattle.part_core.specs.Rows.{Row};
-ghost use Rattle.part_core.specs.Visits.{is_inside, next_class, next_key};
+ghost use Rattle.part_core.specs.Visits.{is_inside, most_rows, next_class, next_key};
 ghost use Rattle.part_stored.specs.Shown.{Shown, AreSound, state_of};
 ghost use Rattle.part_stored.specs.Looks.{is_placed, looked_at, next_after, stops};
 
-use crate::part::StoredPart;
 use crate::rows::Rows;
 use crate::seen::SeenRow;
+use crate::stored::StoredPart;
 use part_core::{Cursor, MOST_ROWS, Scope, is_base};
 use std::alloc::{AllocError, Allocator};
 
@@ -20,6 +20,13 @@ pub(crate) struct Reach {
     pub(crate) rows: usize,
     /// How many answers are still wanted.
     pub(crate) left: u64,
+}
+
+/// Whether a visit is over where so many answers are still wanted.
+pub(crate) fn is_over(stops: bool, left: u64) -> bool
+    ensures { result ≡ (stops && (left == 0)) }
+{
+    stops && left == 0
 }
 
 /// The next class.
@@ -37,6 +44,13 @@ fn class_behind<A: Allocator>(base: u32, class: u32) -> Option<Cursor<A>>
     }
 }
 
+/// Whether a visit of an ordered set stopped before its end.
+fn is_stopped(reach: Reach) -> bool
+    ensures { result ≡ ((reach.left == 0) || (reach.rows == most_rows)) }
+{
+    reach.left == 0 || reach.rows == MOST_ROWS
+}
+
 /// Behind the last row that a visit of an ordered set saw, unless there was none further.
 fn key_behind<A: Allocator + Copy>(
     rows: &[SeenRow<'_, A>],
@@ -47,7 +61,7 @@ fn key_behind<A: Allocator + Copy>(
         → reach.left ≡ wanted - sum_by answers (take reach.rows rows.now)
         → option_map cursor_of next ≡ next_key answers wanted (take reach.rows rows.now)) }
 {
-    if reach.left != 0 && reach.rows != MOST_ROWS {
+    if !is_stopped(reach) {
         return Ok(None);
     }
     match rows[..reach.rows].last() {

@@ -1,4 +1,4 @@
-//! The part.
+//! The part keeps the contract of parts.
 ghost use Rattle.std.specs.Prelude.{◌≡◌, ◌≢◌, ◌<◌, ◌↔◌, None, IsTrue, IfErr, OnOk, OnErr, length};
 ghost use Rattle.part_core.specs.Acts.{IsAsked};
 ghost use Rattle.part_core.specs.Ops.{act_of, answer_in, object_in, takes_no_memory};
@@ -6,27 +6,13 @@ ghost use Rattle.part_core.specs.Served.{IsServed};
 ghost use Rattle.part_stored.specs.Stored.{Leads};
 
 use crate::rows::Rows;
+use crate::stored::StoredPart;
 use part_core::{
     FIRST_SLOTS, Fault, OpenFault, Part, PartOp, Reply, Settings, TableKind, fixes_are_counted, fixes_at,
     legal_goes_on, no_fixes, states_are_kept,
 };
-use std::alloc::{AllocError, Allocator, Global};
+use std::alloc::{AllocError, Allocator};
 use term_core::Term;
-
-/// A part whose rows are of some sort.
-#[derive(Drop)]
-pub struct StoredPart<R: Drop, A: Allocator = Global> {
-    pub(crate) alloc: A,
-    pub(crate) settings: Settings,
-    pub(crate) rows: R,
-    /// How often each session fixes the part.
-    pub(crate) fixes: Vec<u16, A>,
-    /// By how many classes a walk that begins goes over the part.
-    pub(crate) base: u32,
-    ghost parts: { 0 < settings.parts },
-    ghost sessions: { length fixes.items ≡ settings.sessions },
-    ghost classes: { 0 < base },
-}
 
 /// Whether such rows are made for these settings.
 fn is_served<R: Rows<A>, A: Allocator>(settings: Settings) -> bool

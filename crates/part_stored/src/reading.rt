@@ -7,8 +7,8 @@ ghost use Rattle.part_core.specs.Rows.{is_live, objects_at};
 ghost use Rattle.part_stored.specs.Shown.{Shown, AreSound};
 ghost use Rattle.part_stored.specs.Stored.{Leads};
 
-use crate::part::StoredPart;
 use crate::rows::Rows;
+use crate::stored::StoredPart;
 use part_core::{Fault, Reply};
 use std::alloc::{AllocError, Allocator};
 use term_core::Term;

@@ -1,5 +1,5 @@
 //! What every sort of rows keeps.
-ghost use Rattle.std.specs.Prelude.{◌≡◌, ◌<◌, ◌||◌, ◌×◌, ◌++◌, Bool, IsTrue, None, IfOk, OnOk, OnErr, if◌then◌else◌, unwrap_or, is_some, flat_map};
+ghost use Rattle.std.specs.Prelude.{◌≡◌, ◌<◌, ◌||◌, ◌++◌, Bool, IsTrue, None, IfOk, OnOk, OnErr, if◌then◌else◌, unwrap_or, is_some, flat_map};
 ghost use Rattle.std.specs.Map.{lookup};
 ghost use Rattle.std.specs.Option.{option_copied};
 ghost use Rattle.term_core.specs.Datum.Datum.{nil};

@@ -5,6 +5,7 @@ use std::marker::Model;
 use term_core::Term;
 
 /// A key and what is held of it.
+#[derive(Drop)]
 pub struct SeenRow<'r, A: Allocator = Global> {
     key: &'r Term<A>,
     held: &'r Held<A>,

@@ -1,12 +1,15 @@
 //! The order of a walk.
-ghost use Rattle.std.specs.Prelude.{ℕ, ◌≡◌, IfOk};
+ghost use Rattle.std.specs.Prelude.{ℕ, ◌≡◌, ◌||◌, IfOk};
 ghost use Rattle.std.specs.Option.{option_copied};
 ghost use Rattle.part_core.specs.Acts.Act.{First, Next};
 ghost use Rattle.part_core.specs.Ops.{answer_in};
+ghost use Rattle.part_core.specs.Rows.{has_row};
+ghost use Rattle.part_core.specs.Settings.{is_ordered};
+ghost use Rattle.part_stored.specs.Shown.{Shown, AreSound};
 ghost use Rattle.part_stored.specs.Stored.{Leads};
 
-use crate::part::StoredPart;
 use crate::rows::Rows;
+use crate::stored::StoredPart;
 use part_core::{Fault, Reply};
 use std::alloc::{AllocError, Allocator};
 use term_core::Term;
@@ -18,6 +21,19 @@ fn copied<A: Allocator + Copy>(key: Option<&Term<A>>) -> Result<Option<Term<A>>,
     match key {
         Some(key) => Ok(Some(key.copy()?)),
         None => Ok(None),
+    }
+}
+
+impl<R: Rows<A> + Drop, A: Allocator> StoredPart<R, A> {
+    /// Whether a key has a place in the order of a walk: in a set where it has a row.
+    fn has_place(&self, key: &Term<A>) -> bool
+        ensures { (w : Shown) → R.shows self.now.settings self.now.rows w → AreSound self.now.settings w
+            → result ≡ (is_ordered self.now.settings.kind || has_row w.rows key.now) }
+    {
+        if self.settings.kind.is_ordered() {
+            return true;
+        }
+        self.rows.held(self.settings, key).is_some()
     }
 }
 
@@ -34,9 +50,7 @@ impl<R: Rows<A> + Drop, A: Allocator + Copy> StoredPart<R, A> {
     pub(crate) fn next(&self, key: &Term<A>) -> Result<Reply<A>, Fault>
         ensures { (n : ℕ) → Leads R.shows self.now n (Next key.now) (answer_in result) self.now }
     {
-        let is_placed =
-            self.settings.kind.is_ordered() || self.rows.held(self.settings, key).is_some();
-        if !is_placed {
+        if !self.has_place(key) {
             return Err(Fault::BadKey);
         }
         let next = copied(self.rows.key_behind(self.settings, self.base, key))?;

@@ -1,5 +1,5 @@
 //! Operations that write at one key.
-ghost use Rattle.std.specs.Prelude.{ℕ, ◌≡◌, Some, None, IfErr, OnOk, OnErr, unwrap_or, if◌then◌else◌};
+ghost use Rattle.std.specs.Prelude.{ℕ, ◌≡◌, ◌<◌, Some, None, IfErr, OnOk, OnErr, unwrap_or, if◌then◌else◌};
 ghost use Rattle.term_core.specs.Datum.Datum.{nil};
 ghost use Rattle.part_core.specs.Settings.{is_object};
 ghost use Rattle.part_core.specs.Acts.Act.{Insert, InsertNew, Delete, DeleteObject, Take};
@@ -9,8 +9,8 @@ ghost use Rattle.part_core.specs.Rows.{is_fixed};
 ghost use Rattle.part_stored.specs.Shown.{Shown};
 ghost use Rattle.part_stored.specs.Stored.{Leads};
 
-use crate::part::StoredPart;
 use crate::rows::Rows;
+use crate::stored::StoredPart;
 use part_core::{Fault, Held, Reply, Settings, is_fixed, key_in};
 use std::alloc::Allocator;
 use term_core::Term;
@@ -95,10 +95,12 @@ impl<R: Rows<A> + Drop, A: Allocator> StoredPart<R, A> {
         };
         let keeps = is_fixed(self.fixes.as_slice());
         let mut held = Held::none();
-        if self.rows.exchange(self.settings, key, &mut held, true) {
-            held.remove(object);
-            self.rows.exchange(self.settings, key, &mut held, keeps);
+        if !self.rows.exchange(self.settings, key, &mut held, true) {
+            let_go(held);
+            return Ok(Reply::Done);
         }
+        held.remove(object);
+        self.rows.exchange(self.settings, key, &mut held, keeps);
         let_go(held);
         Ok(Reply::Done)
     }

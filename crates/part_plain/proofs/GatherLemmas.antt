@@ -1,0 +1,55 @@
+-- The objects of rows, class by class.
+use Rattle.std.proofs.Common.{◌≡◌, ℕ, ◌<◌, ◌≤◌, ◌+◌, List, [], ◌∷◌, ◌++◌, refl, ap, sym, ◌∙◌, length, take, get_or, append_assoc}
+use Rattle.std.specs.Prelude.{Bool, true, false, ◌==◌, if◌then◌else◌, flat_map}
+use Rattle.std.proofs.lemmas.List.{append-nil, take_more, take_all}
+use Rattle.std.proofs.lemmas.List.Concat.{flat_map-append}
+use Rattle.std.proofs.lemmas.List.Elements.{filter-append}
+use Rattle.term_core.specs.Datum.{Datum}
+use Rattle.part_core.specs.declared.settings.Settings.{Settings}
+use Rattle.part_core.specs.Settings.{class_at}
+use Rattle.part_core.specs.Rows.{Row}
+use Rattle.part_core.specs.Visits.{in_class}
+use Rattle.part_plain.specs.Classes.{rows_from}
+use Rattle.part_plain.proofs.WalkLemmas.{rows_step, rows_none}
+
+abbrev all_objects : List Row → List Datum
+all_objects rows = flat_map (λ r. r.1) rows
+
+-- ---- the rows of a class
+
+class_more : (o : Settings) (base class : ℕ) (rows : List Row) (r : Row) → all_objects (in_class o base class (rows ++ r ∷ [])) ≡ all_objects (in_class o base class rows) ++ (if class_at o base r.0 == class then r.1 else [])
+class_more o base class rows r =
+    ap all_objects (filter-append (λ (v : Row). class_at o base v.0 == class) rows (r ∷ []))
+    ∙ flat_map-append (λ (v : Row). v.1) (in_class o base class rows) (in_class o base class (r ∷ []))
+    ∙ ap (λ xs. all_objects (in_class o base class rows) ++ xs) (of (class_at o base r.0 == class))
+  where
+    of : (b : Bool) → all_objects (if b then r ∷ [] else []) ≡ (if b then r.1 else [])
+    of true = append-nil r.1
+    of false = refl
+
+pub gathered_next : (o : Settings) (base class : ℕ) (rows : List Row) (i : ℕ) (row : Row) (initial before after : List Datum) → i < length rows → row ≡ get_or rows i row → before ≡ initial ++ all_objects (in_class o base class (take i rows)) → after ≡ before ++ (if class_at o base row.0 == class then row.1 else []) → after ≡ initial ++ all_objects (in_class o base class (take (i + 1) rows))
+gathered_next o base class rows i row initial before after within is so_far more =
+    let own : List Datum = if class_at o base row.0 == class then row.1 else [] in
+    more ∙ ap (λ xs. xs ++ own) so_far
+    ∙ append_assoc initial (all_objects (in_class o base class (take i rows))) own
+    ∙ ap (λ xs. initial ++ xs) (sym (class_more o base class (take i rows) row))
+    ∙ ap (λ r. initial ++ all_objects (in_class o base class (take i rows ++ r ∷ []))) is
+    ∙ ap (λ rs. initial ++ all_objects (in_class o base class rs)) (sym (take_more rows i row within))
+
+pub gathered_all : (o : Settings) (base class : ℕ) (rows : List Row) (i : ℕ) (initial found : List Datum) → length rows ≤ i → found ≡ initial ++ all_objects (in_class o base class (take i rows)) → found ≡ initial ++ all_objects (in_class o base class rows)
+gathered_all o base class rows i initial found over is =
+    is ∙ ap (λ rs. initial ++ all_objects (in_class o base class rs)) (take_all i rows over)
+
+-- ---- one class after the other
+
+pub class_next : (o : Settings) (base class : ℕ) (rows : List Row) (before after whole : List Datum) → class < base → before ++ all_objects (rows_from o base class rows) ≡ whole → after ≡ before ++ all_objects (in_class o base class rows) → after ++ all_objects (rows_from o base (class + 1) rows) ≡ whole
+class_next o base class rows before after whole below is more =
+    ap (λ xs. xs ++ all_objects (rows_from o base (class + 1) rows)) more
+    ∙ append_assoc before (all_objects (in_class o base class rows)) (all_objects (rows_from o base (class + 1) rows))
+    ∙ ap (λ xs. before ++ xs) (sym (flat_map-append (λ (v : Row). v.1) (in_class o base class rows) (rows_from o base (class + 1) rows)))
+    ∙ ap (λ rs. before ++ all_objects rs) (sym (rows_step o base class rows below))
+    ∙ is
+
+pub classes_all : (o : Settings) (base class : ℕ) (rows : List Row) (found whole : List Datum) → base ≤ class → found ++ all_objects (rows_from o base class rows) ≡ whole → found ≡ whole
+classes_all o base class rows found whole past is =
+    sym (append-nil found) ∙ ap (λ rs. found ++ all_objects rs) (sym (rows_none o base class rows past)) ∙ is

@@ -1,0 +1,58 @@
+//! Rows whose objects are exchanged or let go.
+ghost use Rattle.std.specs.Prelude.{vec_len, ◌≡◌, ◌<◌, ◌∷◌, ◌++◌, if◌then◌else◌, filter, length, List};
+ghost use Rattle.std.specs.List.{IsDistinct};
+ghost use Rattle.std.specs.Map.{keys_of};
+ghost use Rattle.term_operand.specs.Order.{is_same};
+ghost use Rattle.part_core.specs.Rows.{Row as AnyRow, has_row, is_live, objects_at};
+ghost use Rattle.part_stored.specs.Shown.{rows_exchanged};
+
+use crate::places::place_of;
+use crate::row::Row;
+use part_core::Held;
+use std::alloc::Allocator;
+use term_core::Term;
+
+/// Lets a row go.
+fn let_go<A: Allocator>(_row: Row<A>) {}
+
+/// Lets the row at a place go if it is dead.
+fn settle<A: Allocator>(rows: &mut Vec<Row<A>, A>, place: usize)
+    requires { place < vec_len rows.old }
+    ensures { (before after : List AnyRow) (row : AnyRow) → length before ≡ place
+        → rows.old.items ≡ before ++ row ∷ after
+        → rows.new.items ≡ before ++ (if is_live row then row ∷ after else after) }
+{
+    if !rows[place].is_live() {
+        let_go(rows.remove(place));
+    }
+}
+
+/// What is held of a key and `held` change places, where the key has a row; that goes, unless `keeps`, if it is dead
+/// then.
+pub(crate) fn exchange<A: Allocator>(
+    rows: &mut Vec<Row<A>, A>,
+    key: &Term<A>,
+    held: &mut Held<A>,
+    keeps: bool,
+) -> bool
+    ensures found { result ≡ has_row rows.old.items key.now }
+    ensures held { held.new ≡ (if result then objects_at rows.old.items key.now else held.old) }
+    ensures rows { IsDistinct is_same (keys_of rows.old.items)
+        → rows.new.items ≡ rows_exchanged key.now held.old keeps rows.old.items }
+{
+    let Some(place) = place_of(rows, key, key.key_hash()) else {
+        return false;
+    };
+    rows[place].exchange(held);
+    if !keeps {
+        settle(rows, place);
+    }
+    true
+}
+
+/// Lets all dead rows go.
+pub(crate) fn keep_live<A: Allocator>(rows: &mut Vec<Row<A>, A>)
+    ensures { rows.new.items ≡ filter is_live rows.old.items }
+{
+    rows.retain(|row| row.is_live());
+}

@@ -1,0 +1,68 @@
+//! The objects of all rows, in the order of a walk.
+ghost use Rattle.std.specs.Prelude.{◌≡◌, ◌<◌, ◌++◌, ◌==◌, if◌then◌else◌, flat_map, [], IfOk};
+ghost use Rattle.part_core.specs.declared.kind.TableKind.TheVariants.{Set};
+ghost use Rattle.part_core.specs.Settings.{class_at};
+ghost use Rattle.part_core.specs.Visits.{in_class, walk_order};
+
+use crate::row::Row;
+use part_core::Settings;
+use std::alloc::{AllocError, Allocator};
+use term_core::Term;
+
+/// Puts a copy of a row's object behind others, where its key is of a class.
+fn gather_row<A: Allocator + Copy>(
+    row: &Row<A>,
+    settings: Settings,
+    base: u64,
+    class: u64,
+    into: &mut Vec<Term<A>, A>,
+) -> Result<(), AllocError>
+    requires parts { 0 < settings.parts }
+    requires base { 0 < base }
+    ensures { IfOk result (λ _. into.new.items ≡ into.old.items
+        ++ (if class_at settings base row.now.0 == class then row.now.1 else [])) }
+{
+    if row.is_in(settings, base, class) {
+        if let Some(object) = row.held().object() {
+            into.push(object.copy()?)?;
+        }
+    }
+    Ok(())
+}
+
+/// Puts copies of the objects of a class behind others.
+fn gather_class<A: Allocator + Copy>(
+    rows: &[Row<A>],
+    settings: Settings,
+    base: u64,
+    class: u64,
+    into: &mut Vec<Term<A>, A>,
+) -> Result<(), AllocError>
+    requires parts { 0 < settings.parts }
+    requires base { 0 < base }
+    ensures { IfOk result (λ _. into.new.items ≡ into.old.items
+        ++ flat_map (λ r. r.1) (in_class settings base class rows.now)) }
+{
+    for row in rows {
+        gather_row(row, settings, base, class, into)?;
+    }
+    Ok(())
+}
+
+/// Puts copies of the objects of all classes behind others.
+pub(crate) fn gather<A: Allocator + Copy>(
+    rows: &[Row<A>],
+    settings: Settings,
+    base: u64,
+    into: &mut Vec<Term<A>, A>,
+) -> Result<(), AllocError>
+    requires parts { 0 < settings.parts }
+    requires base { 0 < base }
+    ensures { IfOk result (λ _. settings.kind ≡ Set → into.new.items ≡ into.old.items
+        ++ flat_map (λ r. r.1) (walk_order settings base rows.now)) }
+{
+    for class in 0..base {
+        gather_class(rows, settings, base, class, into)?;
+    }
+    Ok(())
+}

@@ -1,0 +1,106 @@
+//! The order of a walk: class by class, in each as the rows were made.
+ghost use Rattle.std.specs.Prelude.{◌≡◌, ◌<◌, ◌+◌, ◌++◌, drop, length, IsTrue};
+ghost use Rattle.std.specs.Option.{option_copied};
+ghost use Rattle.part_core.specs.declared.kind.TableKind.TheVariants.{Set};
+ghost use Rattle.part_core.specs.Replies.{first_live, rows_past};
+ghost use Rattle.part_core.specs.Rows.{has_row};
+ghost use Rattle.part_core.specs.Visits.{in_class, walk_order};
+ghost use Rattle.part_plain.specs.Classes.{rows_from};
+
+use crate::places::place_of;
+use crate::row::{Row, class_of};
+use part_core::Settings;
+use std::alloc::Allocator;
+use term_core::Term;
+
+/// The key of the first live row of a class.
+fn live_in<A: Allocator>(
+    rows: &[Row<A>],
+    settings: Settings,
+    base: u64,
+    class: u64,
+) -> Option<&Term<A>>
+    requires parts { 0 < settings.parts }
+    requires base { 0 < base }
+    ensures { option_copied result ≡ first_live (in_class settings base class rows.now) }
+{
+    for row in rows {
+        if row.is_live() && row.is_in(settings, base, class) {
+            return Some(row.key());
+        }
+    }
+    None
+}
+
+/// The key of the first live row of the classes from one on.
+fn live_from<A: Allocator>(
+    rows: &[Row<A>],
+    settings: Settings,
+    base: u64,
+    first: u64,
+) -> Option<&Term<A>>
+    requires parts { 0 < settings.parts }
+    requires base { 0 < base }
+    ensures { option_copied result ≡ first_live (rows_from settings base first rows.now) }
+{
+    for class in first..base {
+        if let Some(key) = live_in(rows, settings, base, class) {
+            return Some(key);
+        }
+    }
+    None
+}
+
+/// The key of the first live row of all classes.
+pub(crate) fn first_live<A: Allocator>(
+    rows: &[Row<A>],
+    settings: Settings,
+    base: u64,
+) -> Option<&Term<A>>
+    requires parts { 0 < settings.parts }
+    requires base { 0 < base }
+    ensures { settings.kind ≡ Set
+        → option_copied result ≡ first_live (walk_order settings base rows.now) }
+{
+    live_from(rows, settings, base, 0)
+}
+
+/// The key of the first live row behind a place of a class, in the order of a walk.
+fn live_behind<A: Allocator>(
+    rows: &[Row<A>],
+    settings: Settings,
+    base: u64,
+    place: usize,
+    class: u64,
+) -> Option<&Term<A>>
+    requires parts { 0 < settings.parts }
+    requires place { place < length rows.now }
+    requires class { class < base }
+    ensures { option_copied result
+        ≡ first_live (in_class settings base class (drop (place + 1) rows.now)
+        ++ rows_from settings base (class + 1) rows.now) }
+{
+    match live_in(&rows[place + 1..], settings, base, class) {
+        Some(key) => Some(key),
+        None => live_from(rows, settings, base, class + 1),
+    }
+}
+
+/// The key of the first live row behind that of a key.
+pub(crate) fn live_past<'r, A: Allocator>(
+    rows: &'r [Row<A>],
+    settings: Settings,
+    base: u64,
+    key: &Term<A>,
+) -> Option<&'r Term<A>>
+    requires parts { 0 < settings.parts }
+    requires base { 0 < base }
+    ensures { settings.kind ≡ Set → IsTrue (has_row rows.now key.now)
+        → option_copied result ≡ first_live (rows_past key.now (walk_order settings base rows.now)) }
+{
+    let hash = key.key_hash();
+    match place_of(rows, key, hash) {
+        Some(place) => live_behind(rows, settings, base, place, class_of(settings, base, hash)),
+        None => None,
+    }
+}

@@ -1,4 +1,0 @@
-pub mod PlaceLemmas
-pub mod PutLemmas
-pub mod WalkLemmas
-pub mod GatherLemmas

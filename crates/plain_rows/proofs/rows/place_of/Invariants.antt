@@ -1,6 +1,0 @@
-use Rattle.std.specs.Prelude.{IsFalse, take}
-use Rattle.part_core.specs.Rows.{has_row}
-use Rattle.plain_rows.proofs.rows.place_of.Given as goal
-
-abbrev pub invariant-loop-place : goal.invariant-loop-place
-invariant-loop-place g l = IsFalse (has_row (take l.place l.rows) l.key)

@@ -1,8 +1,0 @@
-use Rattle.std.proofs.Common.{◌≡◌, drop}
-use Rattle.part_core.specs.Visits.{in_class}
-use Rattle.part_core.specs.Replies.{first_live}
-use Rattle.plain_rows.proofs.walking.live_in.Given as goal
-
-abbrev pub invariant-loop-row : goal.invariant-loop-row
-invariant-loop-row g l =
-    first_live (in_class l.settings 8 l.class (drop l.row-index l.rows)) ≡ first_live (in_class l.settings 8 l.class l.rows)
