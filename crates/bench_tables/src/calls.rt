@@ -8,7 +8,7 @@ use tables::{LocalTable, Options, delete, insert, lookup};
 use term_core::Term;
 
 /// An ordered set on one thread.
-pub(crate) type Ordered = LocalTable<OrderPart>;
+pub(crate) type Ordered = LocalTable<OrderPart<Global>>;
 
 /// An empty ordered set.
 pub(crate) fn opened(alloc: Global) -> Option<Ordered>

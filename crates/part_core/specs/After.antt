@@ -17,7 +17,7 @@ use Rattle.part_core.specs.Replies.{reply_of}
 
 -- slots of a set when it has grown as far as it does
 abbrev pub most_slots : ℕ
-most_slots = 8
+most_slots = 65536
 
 -- the rows without the objects, of these keys, that answer true
 abbrev pub rows_without_true : Program → List Datum → List Row → List Row

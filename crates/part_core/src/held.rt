@@ -74,6 +74,13 @@ impl<A: Allocator> Held<A> {
         self.object.as_ref()
     }
 
+    /// The object, if there is one, handed over.
+    pub fn into_object(self) -> Option<Term<A>>
+        ensures { option_to_list result ≡ self }
+    {
+        self.object
+    }
+
     /// Puts an object in the place of the one that is there.
     pub fn put(&mut self, object: Term<A>)
         ensures { self.new ≡ object ∷ [] }

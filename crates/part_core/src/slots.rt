@@ -9,7 +9,7 @@ ghost use Rattle.part_core.specs.Visits.{bases};
 /// The slots of a set when it is made.
 pub const FIRST_SLOTS: u32 = 8;
 /// The slots of a set that has grown as far as it does.
-pub const MOST_SLOTS: u32 = 8;
+pub const MOST_SLOTS: u32 = 65_536;
 /// The rows of a set above which, for each slot, it gets twice as many slots.
 const ROWS_A_SLOT: usize = 4;
 /// The numbers of slots that a set can have.

@@ -1,1 +1,4 @@
-pub mod ServedLemmas
+pub mod TreeLemmas
+pub mod DeadLemmas
+pub mod LookLemmas
+pub mod ShownLemmas

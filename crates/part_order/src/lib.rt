@@ -1,13 +1,20 @@
-//! A part of a table whose rows stand in a tree by their keys, for ordered sets.
+//! The rows of a part for ordered sets, which stand in a tree by their keys.
 //!
-//! The one contract: `OrderPart` keeps the trait `Part` of `part_core`. The state that a part is in is that of its rows and counts
-//! (`plain_state` of `part_core/specs/Plain.antt`; the tree is seen as its rows by rising key).
+//! The one contract: `OrderRows` keeps the trait `Rows` of `part_stored`, for ordered sets alone. What it shows is the
+//! entries of its tree, the rows by rising key, in 8 slots (`IsShown` of `specs/Served.antt`).
 //!
-//! - `part`: the type; `answering`: which function answers an operation, each of which is answered as the state does (`IsAnswered`): those
-//!   of `ordered_rows` at one key, on counts of fixes and along a walk, those of `ordered_visits` on visits.
+//! - `rows`: the type, which counts its dead rows, so that they are looked for only where there are some.
+//! - `tree`: what is done with the row of a key in the tree.
+//! - `looking`: what a visit looks at, and the order of a walk.
 #![tactic(auto)]
 
-mod answering;
-mod part;
+mod looking;
+mod rows;
+mod tree;
 
-pub use part::OrderPart;
+use part_stored::StoredPart;
+
+pub use rows::OrderRows;
+
+/// A part of an ordered set, whose rows stand in a tree by their keys.
+pub type OrderPart<A> = StoredPart<OrderRows<A>, A>;

@@ -19,4 +19,9 @@ mod row;
 mod rows;
 mod walking;
 
+use part_stored::StoredPart;
+
 pub use rows::PlainRows;
+
+/// A part of a set whose rows stand in one list, as they were made: each operation looks through them for its key, by hashes.
+pub type PlainPart<A> = StoredPart<PlainRows<A>, A>;

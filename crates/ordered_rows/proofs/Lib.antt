@@ -1,3 +1,0 @@
-pub mod TreeLemmas
-pub mod WalkLemmas
-pub mod WriteLemmas

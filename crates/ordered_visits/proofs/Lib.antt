@@ -1,3 +1,0 @@
-pub mod LookLemmas
-pub mod SeenLemmas
-pub mod DeleteLemmas

@@ -1,0 +1,116 @@
+-- What writing in a tree leaves of its rows.
+use Rattle.std.proofs.Common.{◌≡◌, List, [], ◌∷◌, refl, ap, sym, ◌∙◌}
+use Rattle.std.specs.Prelude.{Bool, true, false, not, ◌&&◌, ◌||◌, filter}
+use Rattle.std.specs.List.{IsDistinct, AllByRecursion}
+use Rattle.std.specs.List.Sorted.{IsStrictlySortedBy}
+use Rattle.std.specs.Map.{keys_of, remove_entry, set_value}
+use Rattle.std.specs.BTreeMap.{insert_entry}
+use Rattle.std.specs.declared.cmp.Ordering.{Ordering}
+use Rattle.std.specs.declared.cmp.Ordering.TheVariants.{Less, Equal, Greater}
+use Rattle.std.specs.Ordering.{is_eq, match_ordering}
+use Rattle.std.proofs.lemmas.Bool.{true≢false, false≢true}
+use Rattle.std.proofs.lemmas.Map.Keys.{IsDistinct-tail, IsDistinct-from_sorted}
+use Rattle.std.proofs.lemmas.List.Elements.{All-weaker, All-from_recursion, recursion_from_All}
+use Rattle.term_core.specs.Datum.{Datum}
+use Rattle.term_core.specs.Order.{datum_cmp}
+use Rattle.term_core.specs.OrderLaws.{datum_cmp_total}
+use Rattle.term_operand.specs.Order.{is_same}
+use Rattle.part_core.specs.declared.kind.TableKind.TheVariants.{OrderedSet}
+use Rattle.part_core.specs.declared.settings.Settings.{Settings}
+use Rattle.part_core.specs.Settings.{key_of}
+use Rattle.part_core.specs.Rows.{Row, is_empty, is_live, has_row, rows_at_key, with_object}
+use Rattle.part_core.proofs.KeyLemmas.{by_test}
+use Rattle.part_core.proofs.RowLemmas.{unwritten}
+use Rattle.part_core.proofs.KeyedLemmas.{no_other}
+use Rattle.part_stored.specs.Shown.{rows_exchanged}
+
+-- ---- what is written at a key
+
+-- objects written through what a look-up lent
+pub written : (k : Datum) (os : List Datum) (rows : List Row) → IsDistinct is_same (keys_of rows) → set_value (is_same k) rows os ≡ rows_at_key k (λ _. os) rows
+written k os [] d = refl
+written k os (r ∷ rows) d =
+    by_test (is_same k r.0) _
+    (λ there. rw there (ap (λ rs. (r.0, os) ∷ rs) (sym (unwritten k (λ _. os) rows (no_other k r rows d there)))))
+    (λ other. rw other (ap (λ rs. r ∷ rs) (written k os rows (IsDistinct-tail is_same r.0 (keys_of rows) d))))
+
+-- where the key has no row, nothing is written
+pub set_nowhere : (k : Datum) (os : List Datum) (rows : List Row) → has_row rows k ≡ false → set_value (is_same k) rows os ≡ rows
+set_nowhere k os [] none = refl
+set_nowhere k os (r ∷ rows) none =
+    by_test (is_same k r.0) _
+    (λ here. absurd (true≢false (rw here at none)))
+    (λ other. rw other (ap (λ rs. r ∷ rs) (set_nowhere k os rows (rw other at none))))
+
+others_stay : (k : Datum) (rows : List Row) → has_row rows k ≡ false → filter (λ r. not (is_same k r.0) || is_live r) rows ≡ rows
+others_stay k [] none = refl
+others_stay k (r ∷ rows) none =
+    by_test (is_same k r.0) _
+    (λ here. absurd (true≢false (rw here at none)))
+    (λ other. rw other (ap (λ rs. r ∷ rs) (others_stay k rows (rw other at none))))
+
+-- a row that is taken out, the others stay, dead or live
+removed : (k : Datum) (rows : List Row) → IsDistinct is_same (keys_of rows) → remove_entry (is_same k) rows ≡ filter (λ r. not (is_same k r.0) || is_live r) (rows_at_key k (λ _. []) rows)
+removed k [] d = refl
+removed k (r ∷ rows) d =
+    by_test (is_same k r.0) _
+    (λ there. rw there (sym (ap (filter (λ v. not (is_same k v.0) || is_live v)) (unwritten k (λ _. []) rows (no_other k r rows d there)) ∙ others_stay k rows (no_other k r rows d there))))
+    (λ other. rw other (ap (λ rs. r ∷ rs) (removed k rows (IsDistinct-tail is_same r.0 (keys_of rows) d))))
+
+-- a row that has objects stays
+live_stays : (k : Datum) (os : List Datum) (rows : List Row) → is_empty os ≡ false → filter (λ r. not (is_same k r.0) || is_live r) (rows_at_key k (λ _. os) rows) ≡ rows_at_key k (λ _. os) rows
+live_stays k os [] live = refl
+live_stays k os (r ∷ rows) live =
+    by_test (is_same k r.0) _
+    (λ there. rw (there, live) (ap (λ rs. (r.0, os) ∷ rs) (live_stays k os rows live)))
+    (λ other. rw other (ap (λ rs. r ∷ rs) (live_stays k os rows live)))
+
+pub exchanged_there : (k : Datum) (os : List Datum) (keeps : Bool) (rows : List Row) → (not keeps && is_empty os) ≡ false → rows_at_key k (λ _. os) rows ≡ rows_exchanged k os keeps rows
+exchanged_there k os true rows stays = refl
+exchanged_there k os false rows stays = sym (live_stays k os rows stays)
+
+pub exchanged_out : (k : Datum) (os : List Datum) (keeps : Bool) (rows : List Row) → (not keeps && is_empty os) ≡ true → IsDistinct is_same (keys_of rows) → remove_entry (is_same k) rows ≡ rows_exchanged k os keeps rows
+exchanged_out k os true rows goes d = absurd (false≢true goes)
+exchanged_out k [] false rows goes d = removed k rows d
+exchanged_out k (t ∷ os) false rows goes d = absurd (false≢true goes)
+
+-- ---- putting objects in
+
+-- a key that is below all others has no row
+none_below : (k : Datum) (rows : List Row) → AllByRecursion (λ l. datum_cmp k l ≡ Less) (keys_of rows) → has_row rows k ≡ false
+none_below k [] below = refl
+none_below k (r ∷ rows) below =
+    let other : is_same k r.0 ≡ false = ap is_eq below.0 in rw other (none_below k rows below.1)
+
+-- a key that has a row takes the objects at its place
+put_over : (k : Datum) (os : List Datum) (rows : List Row) → IsStrictlySortedBy datum_cmp (keys_of rows) → IsDistinct is_same (keys_of rows) → has_row rows k ≡ true → insert_entry datum_cmp rows k os ≡ rows_at_key k (λ _. os) rows
+unfolding IsStrictlySortedBy
+put_over k os [] s d there = cc
+put_over k os (r ∷ rows) s d there =
+    placed (put_over k os rows s.1 (IsDistinct-tail is_same r.0 (keys_of rows) d)) (datum_cmp k r.0) refl
+  where
+    further : datum_cmp k r.0 ≡ Less → AllByRecursion (λ l. datum_cmp k l ≡ Less) (keys_of rows)
+    further less = recursion_from_All (λ l. datum_cmp k l ≡ Less) (keys_of rows) (All-weaker (λ l. datum_cmp r.0 l ≡ Less) (λ l. datum_cmp k l ≡ Less) (λ l h. datum_cmp_total.trans k r.0 l less h) (keys_of rows) (All-from_recursion (λ l. datum_cmp r.0 l ≡ Less) (keys_of rows) s.0))
+
+    placed : (has_row rows k ≡ true → insert_entry datum_cmp rows k os ≡ rows_at_key k (λ _. os) rows) → (way : Ordering) → datum_cmp k r.0 ≡ way → match_ordering way ((k, os) ∷ r ∷ rows) ((r.0, os) ∷ rows) (r ∷ insert_entry datum_cmp rows k os) ≡ rows_at_key k (λ _. os) (r ∷ rows)
+    placed more Less is =
+        absurd (true≢false (sym there ∙ none_below k (r ∷ rows) (is, further is)))
+    placed more Equal is =
+        let here : is_same k r.0 ≡ true = ap is_eq is in
+        rw here (ap (λ rs. (r.0, os) ∷ rs) (sym (unwritten k (λ _. os) rows (no_other k r rows d here))))
+    placed more Greater is =
+        let other : is_same k r.0 ≡ false = ap is_eq is in
+        rw other (ap (λ rs. r ∷ rs) (more (rw other at there)))
+
+with_there : (o : Settings) (t : Datum) (rows : List Row) → o.kind ≡ OrderedSet → has_row rows (key_of o t) ≡ true → with_object o t rows ≡ rows_at_key (key_of o t) (λ os. t ∷ []) rows
+with_there o t rows kind there = rw (there, kind) refl
+
+with_new : (o : Settings) (t : Datum) (rows : List Row) → o.kind ≡ OrderedSet → has_row rows (key_of o t) ≡ false → with_object o t rows ≡ insert_entry datum_cmp rows (key_of o t) (t ∷ [])
+with_new o t rows kind none = rw (none, kind) refl
+
+-- what a tree makes of an object that is put in
+pub put_in : (o : Settings) (t : Datum) (rows : List Row) → o.kind ≡ OrderedSet → IsStrictlySortedBy datum_cmp (keys_of rows) → insert_entry datum_cmp rows (key_of o t) (t ∷ []) ≡ with_object o t rows
+put_in o t rows kind s =
+    by_test (has_row rows (key_of o t)) _
+    (λ there. put_over (key_of o t) (t ∷ []) rows s (IsDistinct-from_sorted datum_cmp (keys_of rows) s) there ∙ sym (with_there o t rows kind there))
+    (λ none. sym (with_new o t rows kind none))

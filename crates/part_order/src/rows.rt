@@ -1,0 +1,225 @@
+//! Rows in a tree that counts the dead ones.
+use crate::looking::{first_key, gather, key_behind, look};
+use crate::tree::{
+    Tree, dead_gone, dead_in, goes, is_put, keep_live, key_of, let_go, put_back, put_down,
+    swap_held,
+};
+use part_core::{FIRST_SLOTS, Held, Scope, Settings, TableKind};
+use part_stored::{Rows, SeenRow};
+use std::alloc::{AllocError, Allocator, Global};
+use std::marker::Model;
+use term_core::Term;
+
+/// Rows of an ordered set, which stand in a tree by their keys.
+#[derive(Drop)]
+pub struct OrderRows<A: Allocator = Global> {
+    tree: Tree<A>,
+    dead: usize,
+}
+
+impl<A: Allocator> Model for OrderRows<A> {
+    ghost use Rattle.std.specs.Prelude.{◌≡◌, List};
+    ghost use Rattle.std.specs.Coded.{codes};
+    ghost use Rattle.term_core.specs.Datum.{Datum};
+    ghost use Rattle.term_core.specs.DatumCode.{datum_code};
+    ghost use Rattle.part_order.specs.Served.{dead_rows};
+
+    ghost Value = { List (Datum × List Datum) };
+
+    ghost coded = { Prim.hlevel (codes, datum_code) };
+
+    ghost view = { λ r. r.tree.entries };
+
+    ghost invariant = { λ r. r.dead ≡ dead_rows r.tree.entries };
+}
+
+impl<A: Allocator> OrderRows<A> {
+    ghost use Rattle.std.specs.Prelude.{◌≡◌, [], ◌∷◌, ◌||◌, None, IfOk, OnOk, OnErr, IsSome, IsTrue, if◌then◌else◌, unwrap_or};
+    ghost use Rattle.std.specs.BTreeMap.{insert_entry};
+    ghost use Rattle.std.specs.List.Sorted.{IsStrictlySortedBy};
+    ghost use Rattle.std.specs.Map.{keys_of, remove_entry, set_value};
+    ghost use Rattle.term_core.specs.Datum.Datum.{nil};
+    ghost use Rattle.term_core.specs.Order.{datum_cmp};
+    ghost use Rattle.term_operand.specs.Order.{is_same};
+    ghost use Rattle.part_core.specs.declared.kind.TableKind.TheVariants.{OrderedSet};
+    ghost use Rattle.part_core.specs.Rows.{has_row, is_empty, objects_at, with_object};
+    ghost use Rattle.part_core.specs.Settings.{is_object, key_of};
+
+    /// What is held of a key and `held` change places, where the key has a row, and the answer says whether it has.
+    fn swap(&mut self, key: &Term<A>, held: &mut Held<A>) -> bool
+        ensures there { result ≡ has_row self.old key.now }
+        ensures held { held.new ≡ (if result then objects_at self.old key.now else held.old) }
+        ensures rows { self.new ≡ set_value (is_same key.now) self.old held.old }
+    {
+        prove!(self.dead <= self.tree.len());
+        let coming = dead_in(held);
+        if !swap_held(&mut self.tree, key, held) {
+            return false;
+        }
+        let going = dead_in(held);
+        self.dead = self.dead + coming - going;
+        true
+    }
+
+    /// Takes the row of a key out, where it has one, and says whether it had. What was held of it is in `held` then.
+    fn take_row(&mut self, key: &Term<A>, held: &mut Held<A>) -> bool
+        ensures there { result ≡ has_row self.old key.now }
+        ensures held { held.new ≡ (if result then objects_at self.old key.now else held.old) }
+        ensures rows { self.new ≡ remove_entry (is_same key.now) self.old }
+    {
+        let Some(removed) = self.tree.remove(key) else {
+            return false;
+        };
+        self.dead -= dead_in(&removed);
+        put_down(held, removed);
+        true
+    }
+
+    /// Puts an object in at a key, in the place of what is held of that. For want of memory the object goes back.
+    fn put_row(&mut self, key: Term<A>, object: &mut Option<Term<A>>) -> Result<(), AllocError>
+    where
+        A: Copy,
+        requires { IsSome object.old }
+        ensures ordered { IsStrictlySortedBy datum_cmp (keys_of self.old) }
+        ensures rows { OnOk result (self.new ≡ insert_entry datum_cmp self.old key (unwrap_or object.old nil ∷ [])) }
+        ensures spent { OnOk result (object.new ≡ None) }
+        ensures back { OnErr result (object.new ≡ object.old) }
+        ensures refused { OnErr result (self.new ≡ self.old) }
+    {
+        let Some(taken) = object.take() else {
+            unreachable!();
+        };
+        match self.tree.insert(key, Held::new(taken)) {
+            Ok(replaced) => {
+                self.dead -= dead_gone(replaced);
+                Ok(())
+            }
+            Err(failed) => {
+                put_back(object, failed.value);
+                Err(AllocError)
+            }
+        }
+    }
+
+    /// Puts an object in, unless its key has one that it doesn't replace, and says whether it was put in. It is taken
+    /// either way, but for want of memory.
+    fn put_object(
+        &mut self,
+        settings: Settings,
+        object: &mut Option<Term<A>>,
+        replaces: bool,
+    ) -> Result<bool, AllocError>
+    where
+        A: Copy,
+        requires { IsTrue (is_object settings (unwrap_or object.old nil)) }
+        ensures put { IfOk result (λ put. put
+            ≡ (replaces || is_empty (objects_at self.old (key_of settings (unwrap_or object.old nil))))) }
+        ensures rows { IfOk result (λ put. settings.kind ≡ OrderedSet
+            → self.new ≡ (if put then with_object settings (unwrap_or object.old nil) self.old else self.old)) }
+        ensures spent { OnOk result (object.new ≡ None) }
+        ensures back { OnErr result (object.new ≡ object.old) }
+        ensures refused { OnErr result (self.new ≡ self.old) }
+    {
+        let key = key_of(settings, object);
+        if !is_put(&self.tree, key, replaces) {
+            let_go(object.take());
+            return Ok(false);
+        }
+        let key = key.copy()?;
+        self.put_row(key, object)?;
+        Ok(true)
+    }
+}
+
+impl<A: Allocator + Copy> Rows<A> for OrderRows<A> {
+    ghost use Rattle.std.specs.Prelude.{◌≡◌, ◌<◌, ◌++◌, IsTrue, IfOk};
+    ghost use Rattle.part_core.specs.Ops.{scope_of};
+    ghost use Rattle.part_stored.specs.Shown.{Shown, AreSound};
+    ghost use Rattle.part_stored.specs.Looks.{is_placed, looked_at};
+    ghost use Rattle.part_order.specs.Served.{serves, IsShown};
+
+    ghost serves = { serves };
+
+    ghost shows = { λ o rows w. IsShown o rows w };
+
+    fn is_served(kind: TableKind) -> bool {
+        kind.is_ordered()
+    }
+
+    fn new(alloc: A, _settings: Settings) -> Result<Self, AllocError> {
+        Ok(OrderRows {
+            tree: Tree::new(alloc),
+            dead: 0,
+        })
+    }
+
+    fn slots(&self) -> u32 {
+        FIRST_SLOTS
+    }
+
+    fn held(&self, _settings: Settings, key: &Term<A>) -> Option<&Held<A>> {
+        self.tree.get(key)
+    }
+
+    fn put(
+        &mut self,
+        settings: Settings,
+        object: &mut Option<Term<A>>,
+        replaces: bool,
+    ) -> Result<bool, AllocError> {
+        self.put_object(settings, object, replaces)
+    }
+
+    fn exchange(
+        &mut self,
+        _settings: Settings,
+        key: &Term<A>,
+        held: &mut Held<A>,
+        keeps: bool,
+    ) -> bool {
+        if goes(held, keeps) {
+            return self.take_row(key, held);
+        }
+        self.swap(key, held)
+    }
+
+    fn keep_live(&mut self) {
+        if self.dead > 0 {
+            keep_live(&mut self.tree);
+            self.dead = 0;
+        }
+    }
+
+    fn look<'r>(
+        &'r self,
+        settings: Settings,
+        base: u32,
+        scope: &Scope<'_, A>,
+        into: &mut Vec<SeenRow<'r, A>, A>,
+    ) -> Result<(), AllocError>
+        requires parts { 0 < settings.parts }
+        requires base { 0 < base }
+        requires placed { IsTrue (is_placed settings (scope_of scope.now)) }
+        ensures { IfOk result (λ _. (w : Shown) → IsShown settings self.now w → AreSound settings w
+            → into.new.items ≡ into.old.items ++ looked_at settings base (scope_of scope.now) w.rows) }
+    {
+        look(&self.tree, scope, into)
+    }
+
+    fn first_key(&self, _settings: Settings, _base: u32) -> Option<&Term<A>> {
+        first_key(&self.tree)
+    }
+
+    fn key_behind(&self, _settings: Settings, _base: u32, key: &Term<A>) -> Option<&Term<A>> {
+        key_behind(&self.tree, key)
+    }
+
+    fn gather(
+        &self,
+        _settings: Settings,
+        _base: u32,
+        into: &mut Vec<Term<A>, A>,
+    ) -> Result<(), AllocError> {
+        gather(&self.tree, into)
+    }
+}

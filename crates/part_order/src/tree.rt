@@ -1,0 +1,115 @@
+//! A tree of rows, found by their keys.
+ghost use Rattle.std.specs.Prelude.{◌≡◌, ◌||◌, ◌&&◌, IsTrue, filter, not, if◌then◌else◌, unwrap_or};
+ghost use Rattle.std.specs.Map.{set_value};
+ghost use Rattle.std.specs.Option.{option_map, option_to_list};
+ghost use Rattle.term_core.specs.Datum.Datum.{nil};
+ghost use Rattle.term_operand.specs.Order.{is_same};
+ghost use Rattle.part_core.specs.Settings.{is_object, key_of};
+ghost use Rattle.part_core.specs.Rows.{has_row, is_empty, objects_at};
+
+use part_core::{Held, Settings, key_in};
+use std::alloc::Allocator;
+use std::collections::BTreeMap;
+use std::mem;
+use term_core::Term;
+
+/// Rows by their keys.
+pub(crate) type Tree<A> = BTreeMap<Term<A>, Held<A>, A>;
+
+/// Lets an object go.
+pub(crate) fn let_go<A: Allocator>(_object: Option<Term<A>>) {}
+
+/// Lets what was held of a key go.
+fn let_held_go<A: Allocator>(_held: Held<A>) {}
+
+/// The key of an object.
+pub(crate) fn key_of<A: Allocator>(settings: Settings, object: &Option<Term<A>>) -> &Term<A>
+    requires { IsTrue (is_object settings (unwrap_or object.now nil)) }
+    ensures { result.now ≡ key_of settings (unwrap_or object.now nil) }
+{
+    match object {
+        Some(object) => match key_in(settings.keypos, object) {
+            Some(key) => key,
+            None => unreachable!(),
+        },
+        None => unreachable!(),
+    }
+}
+
+/// Puts what is held of a key in the place of what was.
+pub(crate) fn put_down<A: Allocator>(place: &mut Held<A>, held: Held<A>)
+    ensures { place.new ≡ held }
+{
+    let_held_go(mem::replace(place, held));
+}
+
+/// Puts the object of a row that was made and not put in back where it was taken from.
+pub(crate) fn put_back<A: Allocator>(place: &mut Option<Term<A>>, row: (Term<A>, Held<A>))
+    ensures { option_to_list place.new ≡ row.1 }
+{
+    let_go(mem::replace(place, row.1.into_object()));
+}
+
+/// How many dead rows a row is: one where nothing is held of its key.
+pub(crate) fn dead_in<A: Allocator>(held: &Held<A>) -> usize
+    ensures { result ≡ (if is_empty held.now then 1 else 0) }
+{
+    usize::from(held.is_empty())
+}
+
+/// How many dead rows a row was that is gone, none where there was no row.
+pub(crate) fn dead_gone<A: Allocator>(held: Option<Held<A>>) -> usize
+    ensures { result ≡ unwrap_or (option_map (λ os. if is_empty os then 1 else 0) held) 0 }
+{
+    match held {
+        Some(held) => dead_in(&held),
+        None => 0,
+    }
+}
+
+/// Whether a key has no object.
+fn is_vacant<A: Allocator>(tree: &Tree<A>, key: &Term<A>) -> bool
+    ensures { result ≡ is_empty (objects_at tree.now.entries key.now) }
+{
+    match tree.get(key) {
+        Some(held) => held.is_empty(),
+        None => true,
+    }
+}
+
+/// Whether an object of a key is put in: where it replaces what is there, or nothing is.
+pub(crate) fn is_put<A: Allocator>(tree: &Tree<A>, key: &Term<A>, replaces: bool) -> bool
+    ensures { result ≡ (replaces || is_empty (objects_at tree.now.entries key.now)) }
+{
+    replaces || is_vacant(tree, key)
+}
+
+/// Whether a row goes whose objects become what is held.
+pub(crate) fn goes<A: Allocator>(held: &Held<A>, keeps: bool) -> bool
+    ensures { result ≡ (not keeps && is_empty held.now) }
+{
+    !keeps && held.is_empty()
+}
+
+/// What is held of a key and `held` change places, where the key has a row, and the answer says whether it has.
+pub(crate) fn swap_held<A: Allocator>(tree: &mut Tree<A>, key: &Term<A>, held: &mut Held<A>) -> bool
+    ensures there { result ≡ has_row tree.old.entries key.now }
+    ensures held { held.new ≡ (if result then objects_at tree.old.entries key.now else held.old) }
+    ensures rows { tree.new.entries ≡ set_value (is_same key.now) tree.old.entries held.old }
+{
+    match tree.get_mut(key) {
+        Some(place) => {
+            mem::swap(place, held);
+            true
+        }
+        None => false,
+    }
+}
+
+/// Lets dead rows go.
+// The keys are of any type: the borrow checker covers no call with a closure over two types that name the allocator.
+pub(crate) fn keep_live<K: Ord + Drop, A: Allocator>(tree: &mut BTreeMap<K, Held<A>, A>)
+    ensures { tree.new.entries ≡ filter (λ r. not (is_empty r.1)) tree.old.entries }
+{
+    tree.retain(|_key, held| !held.is_empty());
+}
