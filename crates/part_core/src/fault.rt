@@ -1,4 +1,5 @@
 //! Why a part refuses.
+use std::alloc::AllocError;
 use thiserror::Error;
 
 /// Why an operation is refused.
@@ -33,6 +34,28 @@ pub enum OpenFault {
     /// A number is outside its range, or the part doesn't serve the kind.
     #[error("the options don't fit")]
     BadOptions,
+}
+
+impl From<AllocError> for Fault {
+    ghost use Rattle.std.specs.Prelude.{◌≡◌};
+    ghost use Rattle.part_core.specs.declared.fault.Fault.TheVariants.{Memory};
+
+    ghost from_gives = { λ _ fault. fault ≡ Memory };
+
+    fn from(_: AllocError) -> Self {
+        Fault::Memory
+    }
+}
+
+impl From<AllocError> for OpenFault {
+    ghost use Rattle.std.specs.Prelude.{◌≡◌};
+    ghost use Rattle.part_core.specs.declared.fault.OpenFault.TheVariants.{Memory};
+
+    ghost from_gives = { λ _ fault. fault ≡ Memory };
+
+    fn from(_: AllocError) -> Self {
+        OpenFault::Memory
+    }
 }
 
 impl Fault {
