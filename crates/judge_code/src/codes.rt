@@ -1,12 +1,14 @@
-//! Code that is built, its budget, and what the verifier says of it.
+//! Code that is given by its parts or by its specification: what is built, its budget, and what the verifier says.
 use budget::{all_forward, longest};
+use compiler::compile;
 use mcode::Code;
+use mspec_reader::read_spec;
 use prims_table::Primitive;
 use std::alloc::{Allocator, Global};
 use term_core::Term;
 use test_answers::{CodeTerms, accepted};
 use test_code::{Built, Part, Parts, build, code_of, instruction, is_code, parts_of};
-use test_rows::{Outcome, digits, function, primitive, short, truth_name, word};
+use test_rows::{Outcome, digits, fields, function, is_atom, primitive, short, truth_name, word};
 use verifier::{Fault, Verified, verify};
 
 const fn part_name(part: Part) -> &'static str {
@@ -119,12 +121,28 @@ fn are_depths(verified: &Verified, parts: &Parts<Global>) -> bool {
     true
 }
 
-/// Code that is said by its parts.
-pub(crate) struct BuiltCode;
+/// The specification of a term `{compile,Specification}`.
+fn to_compile<A: Allocator>(term: &Term<A>) -> Option<&Term<A>> {
+    match fields(term)? {
+        [word, specification] if is_atom(word, "compile") => Some(specification),
+        _ => None,
+    }
+}
 
-impl CodeTerms for BuiltCode {
+/// The code of the specification that a term is read as.
+fn compiled_code<A: Allocator + Copy>(heap: A, specification: &Term<A>) -> Option<Verified<A>> {
+    compile(heap, &read_spec(heap, specification).ok()?).ok()
+}
+
+/// Code that is given by its parts, or by its specification in a term `{compile,Specification}`.
+pub(crate) struct GivenCode;
+
+impl CodeTerms for GivenCode {
     fn verified_of<A: Allocator + Copy>(heap: A, term: &Term<A>) -> Option<Verified<A>> {
-        verify(heap, code_of(heap, term)?).ok()
+        match to_compile(term) {
+            Some(specification) => compiled_code(heap, specification),
+            None => verify(heap, code_of(heap, term)?).ok(),
+        }
     }
 }
 
@@ -154,6 +172,16 @@ fn verified(alloc: Global, term: &Term) -> Option<Vec<u8>> {
     verdict(alloc, code_of(alloc, term)?, &parts)
 }
 
+/// Whether the code of a specification has these parts, and what the verifier says of it.
+fn compiled(alloc: Global, specification: &Term, code: &Term) -> Option<Vec<u8>> {
+    let verified = compiled_code(alloc, specification)?;
+    if is_code(verified.code(), &parts_of(alloc, code)?) {
+        accepted(alloc, &verified)
+    } else {
+        word(alloc, "other_code")
+    }
+}
+
 /// What comes of a row of code.
 pub(crate) fn came(alloc: Global, kind: &str, parts: &[Term]) -> Option<Vec<u8>> {
     match (kind, parts) {
@@ -164,6 +192,7 @@ pub(crate) fn came(alloc: Global, kind: &str, parts: &[Term]) -> Option<Vec<u8>>
         ("forward", [code, _]) => forward(alloc, &code_of(alloc, code)?),
         ("budget", [code, _]) => budget(alloc, alloc, &code_of(alloc, code)?),
         ("verify", [code, _]) => verified(alloc, code),
+        ("compiled", [specification, code, _]) => compiled(alloc, specification, code),
         _ => None,
     }
 }

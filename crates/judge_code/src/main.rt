@@ -1,25 +1,29 @@
-//! Rows of code, read from standard input and tried on the public calls of the crates: what comes of each is compared with what it wants,
-//! and each row that fails is printed, with how many rows there were of each kind.
+//! Rows of code and of specifications, read from standard input and tried on the public calls of the crates: what comes
+//! of each is compared with what it wants, and each row that fails is printed, with how many rows there were of each
+//! kind.
 //!
-//! `stdin` has the rows, and at its head the form of each kind. The judge is proved once, and rows cost nothing but their run.
+//! `stdin` has the rows, and at its head the form of each kind. The judge is proved once, and rows cost nothing but
+//! their run.
 //!
-//! - `codes`: code that is built and verified.
+//! - `codes`: code that is built and verified, and the code of specifications.
+//! - `specifications`: terms that are read as specifications, and what these and their code answer.
 //! - `sweeps`: the same, and runs, with each request for memory refused in turn, and what takes no memory.
 //!
-//! What code answers is in `test_answers`; the code of specifications has its rows in `judge_specifications`.
+//! What code and specifications answer is in `test_answers`.
 #![tactic(auto)]
 
 mod codes;
+mod specifications;
 mod sweeps;
 
-use codes::BuiltCode;
+use codes::GivenCode;
 use std::alloc::Global;
 use std::io;
 use std::process::ExitCode;
 use term_core::Term;
 use test_rows::{Kinds, judge_streams};
 
-/// The kinds of rows of code.
+/// The kinds of rows of code and of specifications.
 struct CodeKinds;
 
 impl Kinds for CodeKinds {
@@ -27,7 +31,10 @@ impl Kinds for CodeKinds {
         if let Some(out) = codes::came(alloc, kind, parts) {
             return Some(out);
         }
-        if let Some(out) = test_answers::came::<BuiltCode>(alloc, kind, parts) {
+        if let Some(out) = specifications::came(alloc, kind, parts) {
+            return Some(out);
+        }
+        if let Some(out) = test_answers::came::<GivenCode>(alloc, kind, parts) {
             return Some(out);
         }
         sweeps::came(alloc, kind, parts)

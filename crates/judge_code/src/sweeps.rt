@@ -1,9 +1,12 @@
-//! Calls with each request for memory refused in turn, and calls with each refused from the first one on that they make.
-use crate::codes::{self, BuiltCode};
+//! Calls with each request for memory refused in turn, and calls with each refused from the first one on that they
+//! make.
+use crate::codes::{self, GivenCode};
 use mcode::Code;
+use mspec_reader::read_spec;
+use mspec_syntax::SpecFault;
 use std::alloc::{Allocator, Global};
 use term_core::Term;
-use test_answers::{accepted, is_loaded, run_outcome};
+use test_answers::{accepted, answers_of_text, is_loaded, run_outcome};
 use test_code::{Built, Parts, build, code_of, is_code, parts_of};
 use test_rows::{Calls, Loads, swept_row, term_of, without_row, word};
 use verifier::verify;
@@ -46,6 +49,15 @@ fn verdict<A: Allocator + Copy>(alloc: Global, heap: A, given: &[u8]) -> Option<
     }
 }
 
+/// Whether a text is read as a specification.
+fn read<A: Allocator + Copy>(alloc: Global, heap: A, given: &[u8]) -> Option<Vec<u8>> {
+    match read_spec(heap, &term_of(heap, given)?) {
+        Ok(_) => word(alloc, "ok"),
+        Err(SpecFault::Memory) => None,
+        Err(_) => word(alloc, "refused"),
+    }
+}
+
 /// The calls of rows of refused memory.
 struct CodeCalls;
 
@@ -62,14 +74,16 @@ impl Calls for CodeCalls {
             "swept_built" => built(alloc, heap, given),
             "swept_budget" => budget(alloc, heap, given),
             "swept_verify" => verdict(alloc, heap, given),
-            _ => run_outcome::<BuiltCode, A>(alloc, heap, call, given),
+            "swept_spec" => read(alloc, heap, given),
+            "swept_answers" => answers_of_text(alloc, heap, given),
+            _ => run_outcome::<GivenCode, A>(alloc, heap, call, given),
         }
     }
 }
 
 impl Loads for CodeCalls {
     fn is_loaded<A: Allocator + Copy>(heap: A, given: &[u8]) -> bool {
-        is_loaded::<BuiltCode, A>(heap, given)
+        is_loaded::<GivenCode, A>(heap, given)
     }
 }
 

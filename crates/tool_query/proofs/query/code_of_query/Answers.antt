@@ -13,8 +13,8 @@ returns-in_err-specification-clause-refused g c =
     let back = err_from_is_err_and c.from_residual.result c.from_residual.ensures.1 in
     rw (back.1, back.2) (asks_nothing c.args.term.now _ other c.in_err-specification.ensures.refused)
 
-pub returns-in_default : goal.returns-in_default
-returns-in_default g c =
+pub returns : goal.returns
+returns g c =
     let other = no_binary_at c.args.term.now c.view.result c.view.ensures.value c.view.ensures.split c.in_default.not-Binary in
     record {
       ok = MatchResult-weaker c.code_from_file.result c.code_from_file.ensures.ok (λ code answers. meant_query c.args.term.now c.in_ok-specification.specification code other c.in_ok-specification.ensures.ok answers) (λ e h. h);

@@ -1,12 +1,8 @@
-use Rattle.std.proofs.Common.{subst, Result}
 use Rattle.std.proofs.lemmas.Result.{err_from_is_err_and}
-use Rattle.part_core.specs.declared.fault.Fault.{Fault}
-use Rattle.part_core.specs.declared.reply.Reply.{Reply}
 use Rattle.part_core.specs.Acts.Act.{Next}
 use Rattle.part_core.specs.Acts.Answer.{Replied}
-use Rattle.part_core.specs.Ops.{answer_in, said_of}
+use Rattle.part_core.specs.Ops.{said_of}
 use Rattle.tables.specs.Options.{settings_of}
-use Rattle.tables.specs.Turns.{Turned, Follows}
 use Rattle.tables.proofs.TurnLemmas.{answered_so}
 use Rattle.walks.proofs.KeyLemmas.{is_next, next_said, next_is_key, next_refused}
 use Rattle.walks.proofs.keys.next_at.Goals as goal
@@ -17,12 +13,11 @@ key_in-requires g c =
     next_is_key (said_of c.in_ok-reply.reply)
     (answered_so is_next h c.args.part (Next c.args.key.now) (Replied (said_of c.in_ok-reply.reply)) (g.T.Turns.sees c.args.turns.now) (g.T.Turns.sees c.turn_at.new.turns)
     (g.met.T.Turns.seen c.args.turns.now c.requires.ready)
-    (subst (λ (r : Result (Reply _) Fault). Follows (g.T.Turns.sees c.args.turns.now) (g.T.Turns.sees c.turn_at.new.turns) (Turned h c.args.part (Next c.args.key.now) (answer_in r))) c.in_ok-reply.is c.turn_at.ensures.entry)
+    c.in_ok-reply.ensures.entry
     (λ s. next_said (settings_of h.options) c.args.key.now s h.number))
 
 pub returns-in_err-reply-clause-refused : goal.returns-in_err-reply-clause-refused
 returns-in_err-reply-clause-refused g c =
     let h = g.T.Turns.home c.args.turns.now in
     let back = err_from_is_err_and c.from_residual.result c.from_residual.ensures.1 in
-    rw (back.1, back.2) (next_refused h c.args.part c.args.key.now (g.T.Turns.sees c.args.turns.now) (g.T.Turns.sees c.turn_at.new.turns) _
-    (subst (λ (r : Result (Reply _) Fault). Follows (g.T.Turns.sees c.args.turns.now) (g.T.Turns.sees c.turn_at.new.turns) (Turned h c.args.part (Next c.args.key.now) (answer_in r))) c.in_err-reply.is c.turn_at.ensures.entry))
+    rw (back.1, back.2) (next_refused h c.args.part c.args.key.now (g.T.Turns.sees c.args.turns.now) (g.T.Turns.sees c.turn_at.new.turns) _ c.in_err-reply.ensures.entry)

@@ -1,11 +1,11 @@
-//! Terms that are read as specifications, and what these answer.
+//! Terms that are read as specifications, and what these and their code answer.
 use mspec_reader::read_spec;
 use mspec_syntax::SpecFault;
 use std::alloc::Global;
 use term_core::Term;
 use term_text::read_terms;
-use test_answers::{answers_of, answers_of_text};
-use test_rows::{Outcome, elements, numbered, text};
+use test_answers::{agrees, answers_of, answers_of_text};
+use test_rows::{Outcome, canonical, elements, numbered, text, word};
 
 /// The number of a fault, and the clause and the variable that it names.
 fn fault_text(alloc: Global, fault: SpecFault) -> Option<Vec<u8>> {
@@ -32,6 +32,27 @@ fn read_text(alloc: Global, given: &Term) -> Option<Vec<u8>> {
     read(alloc, terms.first()?)
 }
 
+/// The first of these specifications of which the code answers something else on one of these objects.
+fn all_agree(alloc: Global, specifications: &[Term], objects: &[Term]) -> Option<Vec<u8>> {
+    for specification in specifications {
+        if !agrees(alloc, &read_spec(alloc, specification).ok()?, objects)? {
+            return canonical(alloc, specification);
+        }
+    }
+    word(alloc, "same")
+}
+
+/// Whether the code of the first term of a text answers what that term does as a specification, on those behind it.
+fn agrees_on_text(alloc: Global, given: &[u8]) -> Option<Vec<u8>> {
+    let terms = read_terms(alloc, given).ok()?;
+    let (specification, objects) = terms.as_slice().split_first()?;
+    if agrees(alloc, &read_spec(alloc, specification).ok()?, objects)? {
+        word(alloc, "same")
+    } else {
+        word(alloc, "other")
+    }
+}
+
 /// What comes of a row of specifications.
 pub(crate) fn came(alloc: Global, kind: &str, parts: &[Term]) -> Option<Vec<u8>> {
     match (kind, parts) {
@@ -43,6 +64,10 @@ pub(crate) fn came(alloc: Global, kind: &str, parts: &[Term]) -> Option<Vec<u8>>
             alloc,
             text(alloc, given)?.as_slice(),
         ),
+        ("agree", [specifications, objects, _]) => {
+            all_agree(alloc, elements(specifications)?, elements(objects)?)
+        }
+        ("agree_text", [given, _]) => agrees_on_text(alloc, text(alloc, given)?.as_slice()),
         _ => None,
     }
 }
