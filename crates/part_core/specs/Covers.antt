@@ -9,8 +9,8 @@ use Rattle.part_core.specs.Acts.Cursor.{Class, Behind}
 use Rattle.part_core.specs.Acts.Scope.{Begin, After, Named}
 use Rattle.part_core.specs.Visits.{is_behind}
 
--- How far a visit went: the cursor that it answered names the base by which it took class 0 of a set, or the last key of
--- an ordered set that it looked at; at the end it went over all keys that were left.
+-- How far a visit went: the cursor that it answered names the base by which it took class 0 of a set, or the last key
+-- of an ordered set that it looked at; at the end it went over all keys that were left.
 abbrev pub is_up_to : Settings → Option Cursor → Datum → Bool
 is_up_to o None k = true
 is_up_to o (Some (Class base class)) k = class_at o base k == 0

@@ -25,8 +25,8 @@ ContentIsThatOfTheRows =
     (o : Settings) (log : History) (k : Datum) → IsLegal o log
     → objects_at (state_after o log).rows k ≡ content o k log
 
--- A visit that was answered could look there, and says what its query answers for the keys that it covers, on their content before it,
--- and where the walk goes on.
+-- A visit that was answered could look there, and says what its query answers for the keys that it covers, on their
+-- content before it, and where the walk goes on.
 pub record IsSaidByVisit (o : Settings) (past : History) (purpose : Purpose) (p : Program) (scope : Scope) (wanted : ℕ) (said : Said) : Type 0 where
   pub inside : IsTrue (is_inside o (state_after o past) scope)
   pub next : next_in said ≡ next_of o (state_after o past) purpose p scope wanted
@@ -39,8 +39,8 @@ VisitsAnswerTheirCover =
     → IsLegal o (past ++ (record { session = n; act = Visit purpose p scope wanted; answer = Replied said }) ∷ [])
     → IsSaidByVisit o past purpose p scope wanted said
 
--- Where a walk goes on behind an answered visit: nowhere behind a named key; at the next class; behind a further key; and where it began,
--- in a set at class 1 by the base of the part.
+-- Where a walk goes on behind an answered visit: nowhere behind a named key; at the next class; behind a further key;
+-- and where it began, in a set at class 1 by the base of the part.
 abbrev pub LeadsTo : Settings → ℕ → Scope → Option Cursor → Type 0
 LeadsTo o base (Named k) next = next ≡ None
 LeadsTo o base (After (Class other class)) next = (class < other) × (next ≡ next_class other class)

@@ -30,9 +30,9 @@ pub record IsRow (o : Settings) (row : Row) : Type 0 where
 abbrev pub IsBase : ℕ → Type 0
 IsBase n = IsTrue (list_any (nat_eq n) bases)
 
--- Every state of a part: its rows, and that dead ones stay only while it is fixed; a count of fixes for each session; and
--- the base, which is one that the slots have been, and their number while nothing is fixed. A set that still grows has at most four
--- rows a slot.
+-- Every state of a part: its rows, and that dead ones stay only while it is fixed; a count of fixes for each session;
+-- and the base, which is one that the slots have been, and their number while nothing is fixed. A set that still
+-- grows has at most four rows a slot.
 pub record IsState (o : Settings) (s : PartState) : Type 0 where
   pub rows : AreRows o s.rows
   pub each : All (IsRow o) s.rows

@@ -58,8 +58,8 @@ rows_up_to answers wanted room (r ∷ rs) =
     r ∷ (if nat_le wanted (answers r) || nat_le room 1 then []
     else rows_up_to answers (wanted - answers r) (room - 1) rs)
 
--- the rows that a visit looks at: those of a named key; a class by the base that the walk goes by, at first class 0 by the
--- part's; in an ordered set those behind the cursor, as far as a visit goes
+-- the rows that a visit looks at: those of a named key; a class by the base that the walk goes by, at first class 0
+-- by the part's; in an ordered set those behind the cursor, as far as a visit goes
 abbrev pub visited_rows : Settings → PartState → Purpose → Program → Scope → ℕ → List Row
 visited_rows o s purpose p (Named k) wanted = filter (λ r. is_same k r.0) s.rows
 visited_rows o s purpose p (After (Class base class)) wanted = in_class o base class s.rows

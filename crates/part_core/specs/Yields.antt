@@ -7,8 +7,8 @@ use Rattle.part_core.specs.Acts.{Purpose, History}
 use Rattle.part_core.specs.Visits.{yields}
 use Rattle.part_core.specs.Content.{content}
 
--- There are distinct keys of the cover, in some order, such that the answers are those for their objects after the history,
--- one key after the other; for every other key of the cover nothing is answered.
+-- There are distinct keys of the cover, in some order, such that the answers are those for their objects after the
+-- history, one key after the other; for every other key of the cover nothing is answered.
 pub record Yields (o : Settings) (past : History) (purpose : Purpose) (p : Program) (cover : Datum → Bool) (answers : List Datum) : Type 0 where
   pub keys : List Datum
   pub apart : AllPairs (λ j k. j ≢ k) keys

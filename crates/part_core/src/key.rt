@@ -23,8 +23,8 @@ fn element_at<A: Allocator>(elements: &[Term<A>], place: u16) -> Option<&Term<A>
     Some(&elements[place - 1])
 }
 
-/// The key of an object, the element at `keypos`, which is counted from 1; none of a term that is no object: no tuple, or one of
-/// fewer elements.
+/// The key of an object, the element at `keypos`, which is counted from 1; none of a term that is no object: no
+/// tuple, or one of fewer elements.
 pub fn key_in<A: Allocator>(keypos: u16, object: &Term<A>) -> Option<&Term<A>>
     ensures { MatchOption result (field_of keypos object.now ≡ None)
         (λ key. field_of keypos object.now ≡ Some key.now) }

@@ -11,7 +11,8 @@ pub fn none_elsewhere()
     ensures { NoneElsewhere }
 {}
 
-/// A visit that was answered could look there, and says what its query answers for the keys that it covers, on their content before it.
+/// A visit that was answered could look there, and says what its query answers for the keys that it covers, on their
+/// content before it.
 pub fn visits_answer_their_cover()
     ensures { VisitsAnswerTheirCover }
 {}
@@ -36,8 +37,8 @@ pub fn cursors_stay_inside()
     ensures { CursorsStayInside }
 {}
 
-/// No key has two rows, those of an ordered set rise, each object stands at its key, dead rows stay only under a fix, and without one
-/// the base is the number of slots.
+/// No key has two rows, those of an ordered set rise, each object stands at its key, dead rows stay only under a fix,
+/// and without one the base is the number of slots.
 pub fn states_are_kept()
     ensures { StatesAreKept }
 {}

@@ -1,15 +1,15 @@
 //! One part of a table: its definitions, and the contract that every part keeps.
 //!
 //! The one contract: each `apply` of a `Part` adds an entry to the part's history, and the history stays legal
-//! (`specs/Legal.antt`): each answer is that of the state before it (`reply_of` of `specs/Replies.antt`), and `after` of
-//! `specs/After.antt` says what it leaves. What is refused is handed back, and want of memory leaves no entry.
+//! (`specs/Legal.antt`): each answer is that of the state before it (`reply_of` of `specs/Replies.antt`), and `after`
+//! of `specs/After.antt` says what it leaves. What is refused is handed back, and want of memory leaves no entry.
 //!
 //! - `kind`, `settings`: what a table holds of a key, and what all its parts have in common.
-//! - `op`, `reply`, `fault`: what a session asks of a part, and what it is answered; `specs/Ops.antt` says what these stand
-//!   for in a history. `entry`: an entry, as contracts see it.
+//! - `op`, `reply`, `fault`: what a session asks of a part, and what it is answered; `specs/Ops.antt` says what these
+//!   stand for in a history. `entry`: an entry, as contracts see it.
 //! - `part`: the trait. `fixes`, `held`, `key`, `room`, `slots`: what the parts that keep it have in common.
-//! - `laws`: that the content of a history is that of the rows, that a visit answers for the keys that it covers, what
-//!   holds of every state and what stays while a part is fixed.
+//! - `laws`: that the content of a history is that of the rows, that a visit answers for the keys that it covers,
+//!   what holds of every state and what stays while a part is fixed.
 #![tactic(auto)]
 
 mod entry;
@@ -33,9 +33,9 @@ pub use held::Held;
 pub use key::key_in;
 pub use kind::TableKind;
 pub use laws::{
-    base_never_falls, content_is_that_of_the_rows, cursors_stay_inside, fixed_rows_stay, fixes_are_counted,
-    fixes_show, legal_front, legal_goes_on, legal_last, none_elsewhere, states_are_kept, visits_answer_their_cover,
-    visits_lead, visits_lead_inside, visits_move_on,
+    base_never_falls, content_is_that_of_the_rows, cursors_stay_inside, fixed_rows_stay,
+    fixes_are_counted, fixes_show, legal_front, legal_goes_on, legal_last, none_elsewhere,
+    states_are_kept, visits_answer_their_cover, visits_lead, visits_lead_inside, visits_move_on,
 };
 pub use op::{Cursor, Look, MOST_ROWS, PartOp, Scope};
 pub use part::Part;

@@ -42,8 +42,8 @@ pub struct Look<'a, A: Allocator = Global> {
     pub wanted: u64,
 }
 
-/// An operation at a part. An object that is put in is taken out of the operation; one that holds none is refused as a term that is
-/// no object.
+/// An operation at a part. An object that is put in is taken out of the operation; one that holds none is refused as
+/// a term that is no object.
 #[derive(Drop)]
 pub enum PartOp<'a, A: Allocator = Global> {
     /// Puts an object in, in a set in the place of the one with its key.

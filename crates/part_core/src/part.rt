@@ -26,8 +26,8 @@ pub trait Part<A: Allocator>: Sized {
     /// The part is in the state after this history.
     ghost is_after: { Self → List PastEntry → Type 0 };
 
-    /// A part without rows. Refused where the part doesn't serve the kind or a number is outside its range: keypos from 1
-    /// to 65,535, 1 to 64 parts, 1 to 16 sessions.
+    /// A part without rows. Refused where the part doesn't serve the kind or a number is outside its range: keypos
+    /// from 1 to 65,535, 1 to 64 parts, 1 to 16 sessions.
     fn make(
         alloc: A,
         kind: TableKind,
@@ -42,8 +42,8 @@ pub trait Part<A: Allocator>: Sized {
         ensures scarce { IsErrOf result OpenFault.Memory
             → IsServed serves (settings_with kind keypos parts sessions) };
 
-    /// Does an operation for a session. What is done is spent: nothing of its object is left in it. What is refused stays as it
-    /// was, and so does the part; want of memory leaves no entry.
+    /// Does an operation for a session. What is done is spent: nothing of its object is left in it. What is refused
+    /// stays as it was, and so does the part; want of memory leaves no entry.
     fn apply<'a>(&mut self, session: u8, op: &mut PartOp<'a, A>) -> Result<Reply<A>, Fault>
         requires session { session < (settings self.old).sessions }
         requires asked { IsAsked (act_of op.old) }

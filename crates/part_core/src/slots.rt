@@ -24,8 +24,8 @@ pub fn is_base(slots: u32) -> bool
     BASES.iter().any(|base| slots == *base)
 }
 
-/// The slots of a set that has got one row more, and has so many rows now, dead ones among them: twice as many where there are more than
-/// four rows a slot, unless it has the most.
+/// The slots of a set that has got one row more, and has so many rows now, dead ones among them: twice as many where
+/// there are more than four rows a slot, unless it has the most.
 pub fn slots_with_row(rows: usize, slots: u32) -> u32
     requires { slots ≤ 65536 }
     ensures { (kind : TableKind) (before : ℕ) → IsFalse (is_ordered kind) → before + 1 ≡ rows

@@ -13,7 +13,6 @@ mod rows;
 mod tree;
 
 use part_stored::StoredPart;
-
 pub use rows::OrderRows;
 
 /// A part of an ordered set, whose rows stand in a tree by their keys.

@@ -1,13 +1,14 @@
 //! The rows of a set in one list.
 //!
-//! The one contract: `PlainRows` keeps the trait `Rows` of `part_stored`, for sets alone. What the rows show is their list
-//! and the number that is kept as that of their slots (`IsShown` of `specs/Served.antt`). That no key has two rows isn't
-//! kept: it is a premise of `Rows`.
+//! The one contract: `PlainRows` keeps the trait `Rows` of `part_stored`, for sets alone. What the rows show is their
+//! list and the number that is kept as that of their slots (`IsShown` of `specs/Served.antt`). That no key has two
+//! rows isn't kept: it is a premise of `Rows`.
 //!
 //! - `rows`: the type. It hands each operation to a function whose contract is one over lists.
 //! - `row`: a key with what is held of it; `places`: rows found by their keys (`specs/Places.antt`); `putting`,
 //!   `exchanging`: what is written.
-//! - `walking`, `gathering`: the order of a walk, class by class (`specs/Classes.antt`); `looking`: what visits look at.
+//! - `walking`, `gathering`: the order of a walk, class by class (`specs/Classes.antt`); `looking`: what visits look
+//!   at.
 #![tactic(auto)]
 
 mod exchanging;
@@ -20,8 +21,8 @@ mod rows;
 mod walking;
 
 use part_stored::StoredPart;
-
 pub use rows::PlainRows;
 
-/// A part of a set whose rows stand in one list, as they were made: each operation looks through them for its key, by hashes.
+/// A part of a set whose rows stand in one list, as they were made: each operation looks through them for its key, by
+/// hashes.
 pub type PlainPart<A> = StoredPart<PlainRows<A>, A>;

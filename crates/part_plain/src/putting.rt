@@ -62,8 +62,8 @@ fn place_of_object<A: Allocator + Copy>(
 /// Lets an object go.
 fn let_go<A: Allocator>(_object: Option<Term<A>>) {}
 
-/// Puts an object in, in the place of the one with its key if it replaces that, else if its key has none, and says whether
-/// it did.
+/// Puts an object in, in the place of the one with its key if it replaces that, else if its key has none, and says
+/// whether it did.
 pub(crate) fn put<A: Allocator + Copy>(
     settings: Settings,
     rows: &mut Vec<Row<A>, A>,

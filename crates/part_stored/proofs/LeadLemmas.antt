@@ -63,20 +63,19 @@ first_says o w fixes base n key state is =
 
 pub next_says : (o : Settings) (w : Shown) (fixes : List ℕ) (base n : ℕ) (k : Datum) (key : Option Datum) → IsState o (state_of w fixes base) → (is_ordered o.kind || has_row w.rows k) ≡ true → key ≡ first_live (if is_ordered o.kind then rows_behind k w.rows else rows_past k (walk_order o base w.rows)) → Says o (state_of w fixes base) n (Next k) (Replied (AtKey key)) (state_of w fixes base)
 unfolding reply_of
-next_says o w fixes base n k key state there is =
-    (
-      by_test (is_ordered o.kind) _
-          (λ ordered. rw ordered (ap (λ x. Replied (AtKey x)) (rw ordered at is)))
-          (λ plain. let found : has_row w.rows k ≡ true = rw plain at there in rw (plain, found) (ap (λ x. Replied (AtKey x)) (rw plain at is))),
-      sym (read_after o (state_of w fixes base) n (Next k) _ state refl refl refl),
-    )
+next_says o w fixes base n k key state there is = (
+  by_test (is_ordered o.kind) _
+      (λ ordered. rw ordered (ap (λ x. Replied (AtKey x)) (rw ordered at is)))
+      (λ plain. let found : has_row w.rows k ≡ true = rw plain at there in rw (plain, found) (ap (λ x. Replied (AtKey x)) (rw plain at is))),
+  sym (read_after o (state_of w fixes base) n (Next k) _ state refl refl refl),
+)
 
 pub next_refused : (o : Settings) (w : Shown) (fixes : List ℕ) (base n : ℕ) (k : Datum) → (is_ordered o.kind || has_row w.rows k) ≡ false → Says o (state_of w fixes base) n (Next k) (Refused BadKey) (state_of w fixes base)
 unfolding reply_of
 next_refused o w fixes base n k missing =
     let refused : reply_of o (state_of w fixes base) n (Next k) ≡ Refused BadKey = by_test (is_ordered o.kind) _
-        (λ ordered. absurd (of (is_ordered o.kind) ordered missing))
-        (λ plain. let none : has_row w.rows k ≡ false = rw plain at missing in rw (plain, none) refl) in
+    (λ ordered. absurd (of (is_ordered o.kind) ordered missing))
+    (λ plain. let none : has_row w.rows k ≡ false = rw plain at missing in rw (plain, none) refl) in
     (sym refused, sym (after_refused o (state_of w fixes base) n (Next k) BadKey refused))
   where
     of : (b : Bool) → b ≡ true → (b || has_row w.rows k) ≡ false → ⊥
@@ -96,21 +95,19 @@ exchanged_state o w fixes base k f state =
 
 pub delete_says : (o : Settings) (w : Shown) (fixes : List ℕ) (base n : ℕ) (k : Datum) → IsState o (state_of w fixes base) → Says o (state_of w fixes base) n (Delete k) (Replied Nothing) (state_of (shown_exchanged k [] (is_fixed fixes) w) fixes base)
 unfolding reply_of
-delete_says o w fixes base n k state =
-    (
-      refl,
-      exchanged_state o w fixes base k (λ os. []) state
-          ∙ sym (after_replied o (state_of w fixes base) n (Delete k) Nothing refl ∙ kept_after o (state_of w fixes base) (rows_at_key k (λ os. []) w.rows) state (few_at k (λ os. []) w.rows)),
-    )
+delete_says o w fixes base n k state = (
+  refl,
+  exchanged_state o w fixes base k (λ os. []) state
+      ∙ sym (after_replied o (state_of w fixes base) n (Delete k) Nothing refl ∙ kept_after o (state_of w fixes base) (rows_at_key k (λ os. []) w.rows) state (few_at k (λ os. []) w.rows)),
+)
 
 pub take_says : (o : Settings) (w : Shown) (fixes : List ℕ) (base n : ℕ) (k : Datum) (os : List Datum) → IsState o (state_of w fixes base) → os ≡ objects_at w.rows k → Says o (state_of w fixes base) n (Take k) (Replied (Objects os)) (state_of (shown_exchanged k [] (is_fixed fixes) w) fixes base)
 unfolding reply_of
-take_says o w fixes base n k os state is =
-    (
-      ap (λ xs. Replied (Objects xs)) is,
-      exchanged_state o w fixes base k (λ os. []) state
-          ∙ sym (after_replied o (state_of w fixes base) n (Take k) (Objects (objects_at w.rows k)) refl ∙ kept_after o (state_of w fixes base) (rows_at_key k (λ os. []) w.rows) state (few_at k (λ os. []) w.rows)),
-    )
+take_says o w fixes base n k os state is = (
+  ap (λ xs. Replied (Objects xs)) is,
+  exchanged_state o w fixes base k (λ os. []) state
+      ∙ sym (after_replied o (state_of w fixes base) n (Take k) (Objects (objects_at w.rows k)) refl ∙ kept_after o (state_of w fixes base) (rows_at_key k (λ os. []) w.rows) state (few_at k (λ os. []) w.rows)),
+)
 
 object_reply : (o : Settings) (s : PartState) (n : ℕ) (t k : Datum) → field_of o.keypos t ≡ Some k → reply_of o s n (DeleteObject t) ≡ Replied Nothing
 unfolding reply_of
@@ -124,21 +121,19 @@ object_after o w fixes base n t k state is =
 
 -- what was exchanged for nothing and then written is what was written at once
 pub delete_object_says : (o : Settings) (w : Shown) (fixes : List ℕ) (base n : ℕ) (t k : Datum) → IsState o (state_of w fixes base) → field_of o.keypos t ≡ Some k → Says o (state_of w fixes base) n (DeleteObject t) (Replied Nothing) (state_of (shown_exchanged k (objects_without t (objects_at w.rows k)) (is_fixed fixes) (shown_exchanged k [] true w)) fixes base)
-delete_object_says o w fixes base n t k state is =
-    (
-      sym (object_reply o (state_of w fixes base) n t k is),
-      ap (λ (rows : List Row). record { rows = if is_fixed fixes then rows else filter (λ r. not (is_same k r.0) || is_live r) rows; fixes = fixes; slots = w.slots; base = base }) (rewritten k (λ _. []) (objects_without t (objects_at w.rows k)) w.rows)
-          ∙ exchanged_state o w fixes base k (objects_without t) state ∙ sym (object_after o w fixes base n t k state is),
-    )
+delete_object_says o w fixes base n t k state is = (
+  sym (object_reply o (state_of w fixes base) n t k is),
+  ap (λ (rows : List Row). record { rows = if is_fixed fixes then rows else filter (λ r. not (is_same k r.0) || is_live r) rows; fixes = fixes; slots = w.slots; base = base }) (rewritten k (λ _. []) (objects_without t (objects_at w.rows k)) w.rows)
+      ∙ exchanged_state o w fixes base k (objects_without t) state ∙ sym (object_after o w fixes base n t k state is),
+)
 
 -- a key without a row
 pub no_row_says : (o : Settings) (w : Shown) (fixes : List ℕ) (base n : ℕ) (t k : Datum) → IsState o (state_of w fixes base) → field_of o.keypos t ≡ Some k → has_row w.rows k ≡ false → Says o (state_of w fixes base) n (DeleteObject t) (Replied Nothing) (state_of (shown_exchanged k [] true w) fixes base)
-no_row_says o w fixes base n t k state is none =
-    (
-      sym (object_reply o (state_of w fixes base) n t k is),
-      ap (λ (rows : List Row). record { rows = rows; fixes = fixes; slots = w.slots; base = base }) (unwritten k (λ _. []) w.rows none)
-          ∙ sym (read_after o (state_of w fixes base) n (DeleteObject t) (Replied Nothing) state (object_reply o (state_of w fixes base) n t k is) (ap (λ j. rows_at_key j (objects_without t) w.rows) (object_key o t k is).1 ∙ unwritten k (objects_without t) w.rows none) refl),
-    )
+no_row_says o w fixes base n t k state is none = (
+  sym (object_reply o (state_of w fixes base) n t k is),
+  ap (λ (rows : List Row). record { rows = rows; fixes = fixes; slots = w.slots; base = base }) (unwritten k (λ _. []) w.rows none)
+      ∙ sym (read_after o (state_of w fixes base) n (DeleteObject t) (Replied Nothing) state (object_reply o (state_of w fixes base) n t k is) (ap (λ j. rows_at_key j (objects_without t) w.rows) (object_key o t k is).1 ∙ unwritten k (objects_without t) w.rows none) refl),
+)
 
 pub no_object_says : (o : Settings) (s : PartState) (n : ℕ) (t : Datum) → field_of o.keypos t ≡ None → Says o s n (DeleteObject t) (Refused TooSmall) s
 unfolding reply_of
@@ -170,15 +165,13 @@ pub insert_new_says : (o : Settings) (w : Shown) (fixes : List ℕ) (base n : �
 unfolding reply_of
 insert_new_says o w fixes base n t true state object is =
     let empty : is_empty (objects_at w.rows (key_of o t)) ≡ true = sym is in
-    let reply : reply_of o (state_of w fixes base) n (InsertNew t) ≡ Replied (Flag true) = rw (object, empty) refl in
-    (
+    let reply : reply_of o (state_of w fixes base) n (InsertNew t) ≡ Replied (Flag true) = rw (object, empty) refl in (
       sym reply,
       sym (after_replied o (state_of w fixes base) n (InsertNew t) (Flag true) reply ∙ rw empty (put_after o (state_of w fixes base) t state)),
     )
 insert_new_says o w fixes base n t false state object is =
     let some : is_empty (objects_at w.rows (key_of o t)) ≡ false = sym is in
-    let reply : reply_of o (state_of w fixes base) n (InsertNew t) ≡ Replied (Flag false) = rw (object, some) refl in
-    (
+    let reply : reply_of o (state_of w fixes base) n (InsertNew t) ≡ Replied (Flag false) = rw (object, some) refl in (
       sym reply,
       ap (λ b. state_of w fixes b) (settled_base o w fixes base state)
           ∙ sym (read_after o (state_of w fixes base) n (InsertNew t) (Replied (Flag false)) state reply (rw some refl) refl),
@@ -199,8 +192,7 @@ fix_says o w fixes base n within few =
     let reply : reply_of o (state_of w fixes base) n Fix ≡ Replied Nothing = rw below refl in
     let there : n < length (set fixes n (get_or fixes n 0 + 1)) = omega (arith, within, length-set fixes n (get_or fixes n 0 + 1)) in
     let one : nat_lt 0 (get_or (set fixes n (get_or fixes n 0 + 1)) n 0) ≡ true = rw (get_or-set_same fixes n (get_or fixes n 0 + 1) 0 within) (lt-ltb 0 (get_or fixes n 0 + 1) (omega arith)) in
-    let fixed : is_fixed (set fixes n (get_or fixes n 0 + 1)) ≡ true = list_any_at (nat_lt 0) (set fixes n (get_or fixes n 0 + 1)) n 0 there one in
-    (
+    let fixed : is_fixed (set fixes n (get_or fixes n 0 + 1)) ≡ true = list_any_at (nat_lt 0) (set fixes n (get_or fixes n 0 + 1)) n 0 there one in (
       sym reply,
       sym (after_replied o (state_of w fixes base) n Fix Nothing reply ∙ counted_after o (state_of w fixes base) (set fixes n (get_or fixes n 0 + 1)) ∙ rw fixed refl),
     )
@@ -224,8 +216,7 @@ pub unfix_says : (o : Settings) (w : Shown) (fixes : List ℕ) (base n : ℕ) �
 unfolding reply_of
 unfix_says o w fixes base n some =
     let above : nat_lt 0 (get_or fixes n 0) ≡ true = lt-ltb _ _ some in
-    let reply : reply_of o (state_of w fixes base) n Unfix ≡ Replied Nothing = rw above refl in
-    (
+    let reply : reply_of o (state_of w fixes base) n Unfix ≡ Replied Nothing = rw above refl in (
       sym reply,
       settled_is w (set fixes n (get_or fixes n 0 - 1)) base
           ∙ sym (after_replied o (state_of w fixes base) n Unfix Nothing reply ∙ counted_after o (state_of w fixes base) (set fixes n (get_or fixes n 0 - 1))),
@@ -240,12 +231,11 @@ unfix_refused o w fixes base n none =
 
 pub release_says : (o : Settings) (w : Shown) (fixes : List ℕ) (base n : ℕ) → Says o (state_of w fixes base) n Release (Replied Nothing) (settled_state w (set fixes n 0) base)
 unfolding reply_of
-release_says o w fixes base n =
-    (
-      refl,
-      settled_is w (set fixes n 0) base
-          ∙ sym (after_replied o (state_of w fixes base) n Release Nothing refl ∙ counted_after o (state_of w fixes base) (set fixes n 0)),
-    )
+release_says o w fixes base n = (
+  refl,
+  settled_is w (set fixes n 0) base
+      ∙ sym (after_replied o (state_of w fixes base) n Release Nothing refl ∙ counted_after o (state_of w fixes base) (set fixes n 0)),
+)
 
 -- ---- histories
 

@@ -155,9 +155,9 @@ left_rows p c all (r ∷ rows) d there found =
     let here : IsTrue (has_row all r.0) = All-head (λ (v : Row). IsTrue (has_row all v.0)) r rows there in
     let look : lookup (is_same r.0) all ≡ Some r.1 = found_at all r.0 r.1 here (All-head (λ (v : Row). objects_at all v.0 ≡ v.1) r rows found) in
     let one : over (rows_left p (filter (λ v. c v.0) all)) r.0 r.1 ≡ (if list_any (is_same r.0) (keys_of (filter (λ v. c v.0) all)) then filter (λ t. not (is_true p t)) r.1 else r.1) =
-        ap (λ (found : Option (List Datum)). unwrap_or found r.1) (left_at p c r.0 all d ∙ ap (λ (f : Option (List Datum)). option_map (filter (λ t. not (is_true p t))) (option_filter (list_any (is_true p)) (if c r.0 then f else None))) look)
-        ∙ left_over p (c r.0) r.1
-        ∙ ap (λ b. if b then filter (λ t. not (is_true p t)) r.1 else r.1) (sym (among_passing c all r.0 here)) in
+    ap (λ (found : Option (List Datum)). unwrap_or found r.1) (left_at p c r.0 all d ∙ ap (λ (f : Option (List Datum)). option_map (filter (λ t. not (is_true p t))) (option_filter (list_any (is_true p)) (if c r.0 then f else None))) look)
+    ∙ left_over p (c r.0) r.1
+    ∙ ap (λ b. if b then filter (λ t. not (is_true p t)) r.1 else r.1) (sym (among_passing c all r.0 here)) in
     ap (λ (os : List Datum). (r.0, os) ∷ rows_by (over (rows_left p (filter (λ v. c v.0) all))) rows) one
     ∙ ap (λ rs. (r.0, if list_any (is_same r.0) (keys_of (filter (λ v. c v.0) all)) then filter (λ t. not (is_true p t)) r.1 else r.1) ∷ rs) (left_rows p c all rows d (All-tail (λ (v : Row). IsTrue (has_row all v.0)) r rows there) (All-tail (λ (v : Row). objects_at all v.0 ≡ v.1) r rows found))
 

@@ -96,8 +96,7 @@ visit_refused o s n purpose p scope wanted outside =
 pub visit_says : (o : Settings) (w : Shown) (fixes : List ℕ) (base n : ℕ) (p : Program) (scope : Scope) (wanted : ℕ) (rows : List Row) (reach : ℕ) (found : List Datum) (next : Option Cursor) → IsState o (state_of w fixes base) → is_inside o (state_of w fixes base) scope ≡ true → rows ≡ looked_at o base scope w.rows → take reach rows ≡ rows_until (stops o scope) (answers_of Answers p) wanted rows → found ≡ yield_of_rows Answers p (take reach rows) → next ≡ next_after o base scope (answers_of Answers p) wanted (take reach rows) → Says o (state_of w fixes base) n (Visit Answers p scope wanted) (Replied (Found found next)) (state_of w fixes base)
 visit_says o w fixes base n p scope wanted rows reach found next state inside looked seen is behind =
     let same = seen_rows o w fixes base Answers p scope wanted rows reach looked seen in
-    let reply = visit_reply o (state_of w fixes base) n Answers p scope wanted inside in
-    (
+    let reply = visit_reply o (state_of w fixes base) n Answers p scope wanted inside in (
       ap (λ xs. Replied (Found xs next)) (is ∙ ap (yield_of_rows Answers p) same)
           ∙ ap (λ at. Replied (Found (yield_of o (state_of w fixes base) Answers p scope wanted) at)) (behind ∙ next_is o w fixes base Answers p scope wanted (take reach rows) same)
           ∙ sym reply,
@@ -107,8 +106,7 @@ visit_says o w fixes base n p scope wanted rows reach found next state inside lo
 pub count_says : (o : Settings) (w : Shown) (fixes : List ℕ) (base n : ℕ) (p : Program) (scope : Scope) (wanted : ℕ) (rows : List Row) (reach total : ℕ) (next : Option Cursor) → IsState o (state_of w fixes base) → is_inside o (state_of w fixes base) scope ≡ true → rows ≡ looked_at o base scope w.rows → take reach rows ≡ rows_until (stops o scope) (answers_of Counts p) wanted rows → total ≡ min (length (yield_of_rows Counts p (take reach rows))) most_counted → next ≡ next_after o base scope (answers_of Counts p) wanted (take reach rows) → Says o (state_of w fixes base) n (Visit Counts p scope wanted) (Replied (Counted total next)) (state_of w fixes base)
 count_says o w fixes base n p scope wanted rows reach total next state inside looked seen is behind =
     let same = seen_rows o w fixes base Counts p scope wanted rows reach looked seen in
-    let reply = visit_reply o (state_of w fixes base) n Counts p scope wanted inside in
-    (
+    let reply = visit_reply o (state_of w fixes base) n Counts p scope wanted inside in (
       ap (λ m. Replied (Counted m next)) (is ∙ ap (λ rs. min (length (yield_of_rows Counts p rs)) most_counted) same)
           ∙ ap (λ at. Replied (Counted (min (length (yield_of o (state_of w fixes base) Counts p scope wanted)) most_counted) at)) (behind ∙ next_is o w fixes base Counts p scope wanted (take reach rows) same)
           ∙ sym reply,
@@ -129,10 +127,9 @@ delete_visit_says o w fixes base n p scope wanted left total next state inside c
     let covered = visited_is_covered o s Deletes p scope wanted state inside in
     let reply = visit_reply o s n Deletes p scope wanted inside in
     let rows : rows_swept (is_fixed fixes) left w.rows ≡ kept_rows fixes (rows_without_true p (keys_of (visited_rows o s Deletes p scope wanted)) w.rows) =
-        ap (λ vs. rows_swept (is_fixed fixes) vs w.rows) (chosen.left ∙ ap (rows_left p) (same ∙ covered))
-        ∙ swept p (covers o scope (next_of o s Deletes p scope wanted)) fixes w.rows state.rows.distinct state.live
-        ∙ ap (λ (vs : List Row). kept_rows fixes (rows_without_true p (keys_of vs) w.rows)) (sym covered) in
-    (
+    ap (λ vs. rows_swept (is_fixed fixes) vs w.rows) (chosen.left ∙ ap (rows_left p) (same ∙ covered))
+    ∙ swept p (covers o scope (next_of o s Deletes p scope wanted)) fixes w.rows state.rows.distinct state.live
+    ∙ ap (λ (vs : List Row). kept_rows fixes (rows_without_true p (keys_of vs) w.rows)) (sym covered) in (
       ap (λ m. Replied (Counted m next)) (chosen.total ∙ ap (λ rs. min (length (yield_of_rows Deletes p rs)) most_counted) same)
           ∙ ap (λ at. Replied (Counted (min (length (yield_of o s Deletes p scope wanted)) most_counted) at)) (chosen.next ∙ next_is o w fixes base Deletes p scope wanted (deleted_from o base p scope wanted w.rows) same)
           ∙ sym reply,

@@ -29,7 +29,8 @@ abbrev pub deleted_from : Settings → ℕ → Program → Scope → ℕ → Lis
 deleted_from o base p scope wanted rows =
     rows_until (stops o scope) (answers_of Deletes p) wanted (looked_at o base scope rows)
 
--- what a visit that deletes has found: what is left of the rows that it sees, how many objects go, and where the walk goes on
+-- what a visit that deletes has found: what is left of the rows that it sees, how many objects go, and where the walk
+-- goes on
 pub record IsChosen (o : Settings) (base : ℕ) (p : Program) (scope : Scope) (wanted : ℕ) (rows remaining : List Row) (count : ℕ) (at : Option Cursor) : Type 0 where
   pub left : remaining ≡ rows_left p (deleted_from o base p scope wanted rows)
   pub total : count ≡ min (length (yield_of_rows Deletes p (deleted_from o base p scope wanted rows))) most_counted

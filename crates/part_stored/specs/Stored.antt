@@ -16,8 +16,8 @@ pub record IsAfter {R A : Type 0} (shows : Settings → R → Shown → Type 0) 
   pub state : state_after p.settings log ≡ state_of shown p.fixes.items p.base
   pub legal : IsLegal p.settings log
 
--- A part in such a state is in the state after an operation, and what is answered is that of the state before it; for want of memory
--- nothing is answered, and the state is as before.
+-- A part in such a state is in the state after an operation, and what is answered is that of the state before it; for
+-- want of memory nothing is answered, and the state is as before.
 abbrev pub Leads : {R A : Type 0} → (Settings → R → Shown → Type 0) → StoredPart R A → ℕ → Act → Option Answer → StoredPart R A → Type 0
 Leads shows p n act None q =
     (w : Shown) → shows p.settings p.rows w

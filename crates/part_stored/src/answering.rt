@@ -123,7 +123,14 @@ impl<R: Rows<A> + Drop, A: Allocator + Copy> StoredPart<R, A> {
         let rows = self.look(&look.scope)?;
         let stops = self.stops(&look.scope);
         let mut found = Vec::new(self.alloc);
-        let reach = answers(&self.alloc, look.code, rows.as_slice(), stops, look.wanted, &mut found)?;
+        let reach = answers(
+            &self.alloc,
+            look.code,
+            rows.as_slice(),
+            stops,
+            look.wanted,
+            &mut found,
+        )?;
         let next = self.next_of(&look.scope, rows.as_slice(), reach)?;
         Ok(Reply::Found(found, next))
     }

@@ -168,7 +168,14 @@ impl<R: Rows<A> + Drop, A: Allocator + Copy> StoredPart<R, A> {
         let rows = self.look(&look.scope)?;
         let stops = self.stops(&look.scope);
         let mut left = Vec::new(self.alloc);
-        let (total, reach) = sort(&self.alloc, look.code, rows.as_slice(), stops, look.wanted, &mut left)?;
+        let (total, reach) = sort(
+            &self.alloc,
+            look.code,
+            rows.as_slice(),
+            stops,
+            look.wanted,
+            &mut left,
+        )?;
         let next = self.next_of(&look.scope, rows.as_slice(), reach)?;
         Ok(Chosen { left, total, next })
     }

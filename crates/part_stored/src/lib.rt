@@ -1,12 +1,15 @@
 //! A part over rows: one implementation of `part_core::Part` for every sort of rows.
 //!
-//! The one contract: `StoredPart` is a `Part` whatever its rows are, where these keep the trait `Rows`. Rows show a list, each a key with
-//! its objects, and a number of slots (`specs/Shown.antt`); they say what each of a few operations makes of that, and know nothing of
-//! sessions, fixes, histories, refusals and queries, which all stand here.
+//! The one contract: `StoredPart` is a `Part` whatever its rows are, where these keep the trait `Rows`. Rows show a
+//! list, each a key with its objects, and a number of slots (`specs/Shown.antt`); they say what each of a few
+//! operations makes of that, and know nothing of sessions, fixes, histories, refusals and queries, which all stand
+//! here.
 //!
 //! - `rows`: the trait. `seen`: a row, as a visit sees it.
-//! - `stored`, `part`: the part, and that it keeps the contract of parts. `specs/Stored.antt` says when it is in a state, and what an operation leads to.
-//! - `reading`, `writing`, `fixing`, `walking`: its operations at one key, on its counts of fixes, and by the order of a walk.
+//! - `stored`, `part`: the part, and that it keeps the contract of parts. `specs/Stored.antt` says when it is in a
+//!   state, and what an operation leads to.
+//! - `reading`, `writing`, `fixing`, `walking`: its operations at one key, on its counts of fixes, and by the order
+//!   of a walk.
 //! - `looking`, `answering`, `counting`, `deleting`: visits. `specs/Looks.antt` says which rows a visit sees.
 #![tactic(auto)]
 

@@ -8,8 +8,8 @@ ghost use Rattle.part_stored.specs.Stored.{Leads};
 use crate::rows::Rows;
 use crate::stored::StoredPart;
 use part_core::{
-    FIRST_SLOTS, Fault, OpenFault, Part, PartOp, Reply, Settings, TableKind, fixes_are_counted, fixes_at,
-    legal_goes_on, no_fixes, states_are_kept,
+    FIRST_SLOTS, Fault, OpenFault, Part, PartOp, Reply, Settings, TableKind, fixes_are_counted,
+    fixes_at, legal_goes_on, no_fixes, states_are_kept,
 };
 use std::alloc::{AllocError, Allocator};
 use term_core::Term;

@@ -19,9 +19,9 @@ use part_core::{Held, Scope, Settings, TableKind};
 use std::alloc::{AllocError, Allocator};
 use term_core::Term;
 
-/// Rows of a part, each a key with its objects, found by their keys. What they show is their list, in a set in the order in which they
-/// were made, and in how many slots they stand. Each operation says what it makes of whatever they show; an operation that wants memory
-/// in vain leaves it.
+/// Rows of a part, each a key with its objects, found by their keys. What they show is their list, in a set in the
+/// order in which they were made, and in how many slots they stand. Each operation says what it makes of whatever
+/// they show; an operation that wants memory in vain leaves it.
 pub trait Rows<A: Allocator>: Sized {
     /// The kinds of table that such rows are for.
     ghost serves: { TableKind → Bool };
@@ -47,8 +47,8 @@ pub trait Rows<A: Allocator>: Sized {
         ensures { (w : Shown) → shows settings self.now w → AreSound settings w
             → option_copied result ≡ lookup (is_same key.now) w.rows };
 
-    /// Puts an object in, unless its key has one and it doesn't replace that: the object is taken in either case, and the answer
-    /// says whether it was put in.
+    /// Puts an object in, unless its key has one and it doesn't replace that: the object is taken in either case, and
+    /// the answer says whether it was put in.
     fn put(
         &mut self,
         settings: Settings,
@@ -63,8 +63,8 @@ pub trait Rows<A: Allocator>: Sized {
         ensures back { OnErr result (object.new ≡ object.old) }
         ensures refused { OnErr result ((w : Shown) → shows settings self.old w → shows settings self.new w) };
 
-    /// What is held of a key and `held` change places, where the key has a row, and the answer says whether it has. The row goes
-    /// where none of its objects are left, unless `keeps`. No memory is taken.
+    /// What is held of a key and `held` change places, where the key has a row, and the answer says whether it has.
+    /// The row goes where none of its objects are left, unless `keeps`. No memory is taken.
     fn exchange(
         &mut self,
         settings: Settings,
@@ -81,8 +81,8 @@ pub trait Rows<A: Allocator>: Sized {
     fn keep_live(&mut self)
         ensures { (o : AnySettings) (w : Shown) → shows o self.old w → shows o self.new (shown_live w) };
 
-    /// Puts the rows that a visit may look at behind others: that of a named key; those of a class, of class 0 by the base where a walk
-    /// begins; of an ordered set the first 64 behind the cursor.
+    /// Puts the rows that a visit may look at behind others: that of a named key; those of a class, of class 0 by the
+    /// base where a walk begins; of an ordered set the first 64 behind the cursor.
     fn look<'r>(
         &'r self,
         settings: Settings,

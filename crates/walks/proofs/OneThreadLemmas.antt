@@ -1,26 +1,22 @@
 -- What turns for keys come to where a session is alone with its table.
-use Rattle.std.proofs.Common.{◌≡◌, ℕ, zero, suc, ◌+◌, ◌-◌, ◌<◌, ◌≤◌, ◌==◌, ◌⊎◌, inl, inr, List, [], ◌∷◌, ◌++◌, refl, ap, sym, subst, ◌∙◌, arith, false, Option, Some, None, length, filter, flat_map}
+use Rattle.std.proofs.Common.{◌≡◌, ℕ, zero, suc, ◌+◌, ◌-◌, ◌<◌, ◌≤◌, ◌==◌, ◌⊎◌, inl, inr, [], ◌++◌, refl, ap, sym, subst, ◌∙◌, arith, Option, Some, None, flat_map}
 use Rattle.std.specs.Prelude.{IsTrue, nat_lt}
 use Rattle.std.specs.List.{range_with_len}
-use Rattle.std.proofs.lemmas.Bool.{eqb-true, eqb-false, le-ltb, ltb-true, ltb-false}
+use Rattle.std.proofs.lemmas.Bool.{eqb-true, eqb-false, ltb-true, ltb-false}
 use Rattle.std.proofs.lemmas.List.{append-nil}
 use Rattle.term_core.specs.Datum.{Datum}
-use Rattle.part_core.specs.declared.kind.TableKind.{TableKind}
-use Rattle.part_core.specs.declared.settings.Settings.{Settings}
 use Rattle.term_core.specs.KeyHash.{key_hash}
 use Rattle.std.proofs.lemmas.Nat.{mod_below}
 use Rattle.part_core.specs.Acts.Refusal.{BadKey}
-use Rattle.part_core.specs.Settings.{is_ordered, part_of}
+use Rattle.part_core.specs.Settings.{part_of}
 use Rattle.part_core.specs.Acts.{Act, Answer, History}
 use Rattle.part_core.specs.Acts.Act.{First, Next}
 use Rattle.part_core.specs.Acts.Answer.{Replied, Refused}
 use Rattle.part_core.specs.Acts.Said.{AtKey}
-use Rattle.part_core.specs.Rows.{Row, PartState, opening, is_live, is_fixed}
+use Rattle.part_core.specs.Rows.{PartState}
 use Rattle.part_core.specs.Visits.{walk_order}
 use Rattle.part_core.specs.Replies.{reply_of, first_live}
-use Rattle.part_core.specs.After.{after, state_with, slots_after, rows_after, counts_after}
-use Rattle.part_core.specs.States.{IsState}
-use Rattle.part_core.specs.Legal.{state_from, state_after, IsLegal}
+use Rattle.part_core.specs.Legal.{state_after, IsLegal}
 use Rattle.part_core.proofs.KeyLemmas.{by_test}
 use Rattle.part_core.proofs.AfterLemmas.{read_after}
 use Rattle.part_core.proofs.HistoryLemmas.{state_of}

@@ -27,8 +27,7 @@ loop-place-init g c = (refl, sees_none c.args.stops (answers_of Answers c.args.m
 pub loop-place-preserved : goal.loop-place-preserved
 loop-place-preserved g c =
     let count = rw c.loop-place.invariant.0 at c.in_ok-count.ensures.count in
-    let found = rw c.loop-place.invariant.0 at c.in_ok-count.ensures.found in
-    (
+    let found = rw c.loop-place.invariant.0 at c.in_ok-count.ensures.found in (
       c.gather.ensures.code ∙ c.loop-place.invariant.0,
       sees_next c.args.stops Answers c.args.machine.now.code c.args.wanted c.args.rows.now c.loop-place.place c.loop-place.left c.saturating_sub-left.result c.in_ok-count.count c.index-rows-place.result c.held.result.now c.loop-place-test.true c.index-rows-place.is c.held.ensures count c.saturating_sub-left.ensures c.loop-place.invariant.1 (sym c.is_over.ensures ∙ c.if-is_over.false),
       found_next Answers c.args.machine.now.code c.args.rows.now c.loop-place.place c.index-rows-place.result c.held.result.now c.args.found.now.items c.loop-place.found.items c.gather.new.found.items c.loop-place-test.true c.index-rows-place.is c.held.ensures c.loop-place.invariant.2 found,

@@ -25,8 +25,7 @@ loop-place-init g c = (refl, sees_none c.args.stops (answers_of Counts c.args.ma
 
 pub loop-place-preserved : goal.loop-place-preserved
 loop-place-preserved g c =
-    let count = rw c.loop-place.invariant.0 at c.in_ok-count.ensures.count in
-    (
+    let count = rw c.loop-place.invariant.0 at c.in_ok-count.ensures.count in (
       c.count_true.ensures.code ∙ c.loop-place.invariant.0,
       sees_next c.args.stops Counts c.args.machine.now.code c.args.wanted c.args.rows.now c.loop-place.place c.loop-place.left c.saturating_sub-left.result c.in_ok-count.count c.index-rows-place.result c.held.result.now c.loop-place-test.true c.index-rows-place.is c.held.ensures count c.saturating_sub-left.ensures c.loop-place.invariant.1 (sym c.is_over.ensures ∙ c.if-is_over.false),
       total_next Counts c.args.machine.now.code c.args.rows.now c.loop-place.place c.index-rows-place.result c.held.result.now c.loop-place.total c.in_ok-count.count c.saturating_add.result c.loop-place-test.true c.index-rows-place.is c.held.ensures count c.loop-place.invariant.2 c.saturating_add.ensures,

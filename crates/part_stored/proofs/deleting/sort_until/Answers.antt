@@ -31,8 +31,7 @@ loop-place-init g c = (refl, sees_none c.args.stops (answers_of Deletes c.args.m
 pub loop-place-preserved : goal.loop-place-preserved
 loop-place-preserved g c =
     let count = rw c.loop-place.invariant.0 at c.in_ok-count.ensures.count in
-    let left = rw c.loop-place.invariant.0 at c.in_ok-count.ensures.left in
-    (
+    let left = rw c.loop-place.invariant.0 at c.in_ok-count.ensures.left in (
       c.sort_out.ensures.code ∙ c.loop-place.invariant.0,
       sees_next c.args.stops Deletes c.args.machine.now.code c.args.wanted c.args.rows.now c.loop-place.place c.loop-place.wanting c.saturating_sub-wanting.result c.in_ok-count.count c.index-rows-place.result c.index-rows-place.result.1 c.loop-place-test.true c.index-rows-place.is refl count c.saturating_sub-wanting.ensures c.loop-place.invariant.1 (sym c.is_over.ensures ∙ c.if-is_over.false),
       left_next c.args.machine.now.code c.args.rows.now c.loop-place.place c.index-rows-place.result c.loop-place.left.items c.sort_out.new.left.items c.loop-place-test.true c.index-rows-place.is c.loop-place.invariant.2 left,

@@ -19,8 +19,7 @@ returns-clause-leads g c = λ w there state.
     let counted = rw here at c.in-Some.ensures in
     let same : counts ≡ set c.args.self.now.fixes.items c.args.session (get_or c.args.self.now.fixes.items c.args.session 0 - 1) = ap (λ i. set c.args.self.now.fixes.items i c.in-Some.count) c.from.ensures ∙ ap (set c.args.self.now.fixes.items c.args.session) counted.1 in
     let v : Shown = if is_fixed counts then w else shown_live w in
-    let s = unfix_says c.args.self.now.settings w c.args.self.now.fixes.items c.args.self.now.base c.args.session counted.0 in
-    (
+    let s = unfix_says c.args.self.now.settings w c.args.self.now.fixes.items c.args.self.now.base c.args.session counted.0 in (
       s.0,
       (v, c.settle.ensures.rows w there, ap (λ (fs : List ℕ). state_of v fs c.settle.new.self.base) c.settle.ensures.fixes ∙ ap (λ base. state_of v counts base) (c.settle.ensures.base w there) ∙ ap (λ (fs : List ℕ). settled_state w fs c.args.self.now.base) same ∙ s.1),
     )
