@@ -1,18 +1,40 @@
-//! Times the calls of a session at an ordered set from outside: `bench/tables` runs this program.
+//! Times the calls of a session at a table from outside: `bench/tables` runs this program.
 //!
-//! Standard input is objects with their keys at the first place. They are inserted, looked up and deleted, each by one call.
+//! Standard input is objects with their keys at the first place. They are put into a table of a kind and of so many parts, put in once
+//! more, looked up, asked for, counted by a query, and deleted.
 //!
-//! - `times`: the nanoseconds of a call of each kind, the median of five rounds.
-//! - `found`: how many objects were inserted, found, and left.
+//! - `times`: the nanoseconds of a call of each kind, the median of five rounds; a count is divided by the objects.
+//! - `longest`: the nanoseconds of the longest insert.
+//! - `hold`: nothing; the objects are put into as many tables as the last argument says, which are held until the end.
+//! - `found`: what comes of each kind of call.
 #![tactic(auto)]
 
 mod calls;
 mod times;
 
+use compiler::compile;
+use mspec_reader::read_spec;
+use part_core::{Part, TableKind};
+use part_hash::HashPart;
+use part_order::OrderPart;
+use std::alloc::Global;
 use std::io::{Read, Write};
 use std::process::ExitCode;
 use term_core::Term;
 use term_text::read_terms;
+use verifier::Verified;
+
+/// The query that counts all objects.
+const QUERY: &[u8] = b"[{'_',[],[true]}].";
+
+/// What is done at which table.
+#[derive(Clone, Copy)]
+struct Task<'a> {
+    word: &'a str,
+    kind: TableKind,
+    parts: u8,
+    tables: u8,
+}
 
 /// The terms of standard input.
 fn input(rt: &HostRuntime) -> Option<Vec<Term>> {
@@ -21,31 +43,81 @@ fn input(rt: &HostRuntime) -> Option<Vec<Term>> {
     read_terms(rt.alloc(), input.as_slice()).ok()
 }
 
-/// Writes the lines of a word. There are none where there is no such word or it can't be done.
-fn write_word(rt: &HostRuntime, word: &str, lines: &mut String) -> Option<()> {
-    let objects = input(rt)?;
-    match word {
-        "times" => times::write(rt, objects.as_slice(), lines),
-        "found" => calls::write_found(rt.alloc(), objects.as_slice(), lines),
+/// The code of the query.
+fn query(alloc: Global) -> Option<Verified> {
+    let terms = read_terms(alloc, QUERY).ok()?;
+    compile(alloc, &read_spec(alloc, terms.first()?).ok()?).ok()
+}
+
+/// The kind of a name.
+fn kind_of(name: &str) -> Option<TableKind> {
+    match name {
+        "set" => Some(TableKind::Set),
+        "ordered_set" => Some(TableKind::OrderedSet),
         _ => None,
+    }
+}
+
+/// What the arguments ask for.
+fn task_of(arguments: &[String]) -> Option<Task<'_>> {
+    let [_program, word, kind, parts, tables] = arguments else {
+        return None;
+    };
+    Some(Task {
+        word: word.as_str(),
+        kind: kind_of(kind.as_str())?,
+        parts: parts.as_str().parse().ok()?,
+        tables: tables.as_str().parse().ok()?,
+    })
+}
+
+/// Writes the lines of a task at tables of a kind of part.
+fn write_at<P: Part<Global> + Drop>(
+    rt: &HostRuntime,
+    task: Task<'_>,
+    lines: &mut String,
+) -> Option<()> {
+    let objects = input(rt)?;
+    let objects = objects.as_slice();
+    let code = query(rt.alloc())?;
+    match task.word {
+        "times" => times::write::<P>(rt, task.kind, task.parts, &code, objects, lines),
+        "hold" => calls::hold::<P>(rt.alloc(), task.kind, task.parts, task.tables, objects),
+        "longest" => times::write_longest::<P>(rt, task.kind, task.parts, objects, lines),
+        "found" => calls::write_found::<P>(
+            rt.alloc(),
+            task.kind,
+            task.parts,
+            &code,
+            objects,
+            lines,
+        ),
+        _ => None,
+    }
+}
+
+/// Writes the lines of a task. There are none where there is no such task or it can't be done.
+fn write_task(rt: &HostRuntime, arguments: &[String], lines: &mut String) -> Option<()> {
+    let task = task_of(arguments)?;
+    if task.kind.is_ordered() {
+        write_at::<OrderPart<Global>>(rt, task, lines)
+    } else {
+        write_at::<HashPart<Global>>(rt, task, lines)
     }
 }
 
 fn main(rt: HostRuntime) -> anyhow::Result<ExitCode> {
     let arguments: Vec<String> = std::env::args(&rt)?.collect(rt.alloc())?;
     let mut lines = String::new(rt.alloc());
-    let written = match arguments.get(1) {
-        Some(word) => write_word(&rt, word.as_str(), &mut lines),
-        None => None,
-    };
-    match written {
+    match write_task(&rt, arguments.as_slice(), &mut lines) {
         Some(()) => {
             rt.stdout().write_all(lines.as_bytes())?;
             Ok(ExitCode::SUCCESS)
         }
         None => {
-            rt.stderr()
-                .write_all(b"usage: bench_tables times|found < OBJECTS\n")?;
+            rt.stderr().write_all(
+                b"usage: bench_tables times|longest|hold|found set|ordered_set PARTS TABLES < OBJECTS\n",
+            )?;
             Ok(ExitCode::FAILURE)
         }
     }

@@ -1,39 +1,46 @@
 //! What calls take.
 ghost use Rattle.std.specs.Prelude.{◌≡◌, ◌<◌};
 
-use crate::calls::{Ordered, delete_all, insert_all, lookup_all, opened};
+use crate::calls::{count_all, delete_all, insert_all, lookup_all, member_all, opened, put};
+use part_core::{Part, TableKind};
 use std::alloc::Global;
 use std::time::Instant;
+use tables::LocalTable;
 use term_core::Term;
+use verifier::Verified;
 
 /// How many rounds are timed.
 const ROUNDS: usize = 5;
-
-/// The nanoseconds of all calls of each kind, in each round.
-#[derive(Clone, Copy)]
-struct Times {
-    insert: [u64; ROUNDS],
-    lookup: [u64; ROUNDS],
-    delete: [u64; ROUNDS],
-}
+/// How many kinds of calls are timed.
+const CALLS: usize = 6;
+/// The kinds, in the order in which a round makes them.
+const NAMES: [&str; CALLS] = ["insert", "replace", "lookup", "member", "count", "delete"];
 
 /// Nanoseconds since a moment.
 fn since(rt: &HostRuntime, began: Instant) -> Option<u64> {
     u64::try_from(began.elapsed(rt).ok()?.as_nanos()).ok()
 }
 
-/// What inserting takes.
-fn insert_time(rt: &HostRuntime, table: &mut Ordered, objects: &[Term]) -> Option<u64>
+/// What putting all objects in takes.
+fn insert_time<P: Part<Global> + Drop>(
+    rt: &HostRuntime,
+    table: &mut LocalTable<P>,
+    objects: &[Term],
+) -> Option<u64>
     requires { 0 < table.old.options.sessions }
     ensures { table.new.options ≡ table.old.options }
 {
     let began = Instant::now(rt).ok()?;
-    let _count = insert_all(rt.alloc(), table, objects)?;
+    let _count = insert_all(table, objects)?;
     since(rt, began)
 }
 
-/// What looking up takes.
-fn lookup_time(rt: &HostRuntime, table: &mut Ordered, objects: &[Term]) -> Option<u64>
+/// What looking all keys up takes.
+fn lookup_time<P: Part<Global> + Drop>(
+    rt: &HostRuntime,
+    table: &mut LocalTable<P>,
+    objects: &[Term],
+) -> Option<u64>
     requires { 0 < table.old.options.sessions }
     ensures { table.new.options ≡ table.old.options }
 {
@@ -42,8 +49,41 @@ fn lookup_time(rt: &HostRuntime, table: &mut Ordered, objects: &[Term]) -> Optio
     since(rt, began)
 }
 
-/// What deleting takes.
-fn delete_time(rt: &HostRuntime, table: &mut Ordered, objects: &[Term]) -> Option<u64>
+/// What asking for all keys takes.
+fn member_time<P: Part<Global> + Drop>(
+    rt: &HostRuntime,
+    table: &mut LocalTable<P>,
+    objects: &[Term],
+) -> Option<u64>
+    requires { 0 < table.old.options.sessions }
+    ensures { table.new.options ≡ table.old.options }
+{
+    let began = Instant::now(rt).ok()?;
+    let _count = member_all(table, objects);
+    since(rt, began)
+}
+
+/// What counting by a query takes.
+fn count_time<P: Part<Global> + Drop>(
+    rt: &HostRuntime,
+    table: &mut LocalTable<P>,
+    code: &Verified,
+    objects: &[Term],
+) -> Option<u64>
+    requires { 0 < table.old.options.sessions }
+    ensures { table.new.options ≡ table.old.options }
+{
+    let began = Instant::now(rt).ok()?;
+    let _count = count_all(table, code, objects.len())?;
+    since(rt, began)
+}
+
+/// What deleting all keys takes.
+fn delete_time<P: Part<Global> + Drop>(
+    rt: &HostRuntime,
+    table: &mut LocalTable<P>,
+    objects: &[Term],
+) -> Option<u64>
     requires { 0 < table.old.options.sessions }
     ensures { table.new.options ≡ table.old.options }
 {
@@ -52,13 +92,22 @@ fn delete_time(rt: &HostRuntime, table: &mut Ordered, objects: &[Term]) -> Optio
     since(rt, began)
 }
 
-/// What one round takes: inserting, looking up, deleting.
-fn round(rt: &HostRuntime, objects: &[Term]) -> Option<[u64; 3]> {
-    let mut table = opened(rt.alloc())?;
+/// What one round takes.
+fn round<P: Part<Global> + Drop>(
+    rt: &HostRuntime,
+    kind: TableKind,
+    parts: u8,
+    code: &Verified,
+    objects: &[Term],
+) -> Option<[u64; CALLS]> {
+    let mut table = opened::<P>(rt.alloc(), kind, parts)?;
     let insert = insert_time(rt, &mut table, objects)?;
+    let replace = insert_time(rt, &mut table, objects)?;
     let lookup = lookup_time(rt, &mut table, objects)?;
+    let member = member_time(rt, &mut table, objects)?;
+    let count = count_time(rt, &mut table, code, objects)?;
     let delete = delete_time(rt, &mut table, objects)?;
-    Some([insert, lookup, delete])
+    Some([insert, replace, lookup, member, count, delete])
 }
 
 /// The median of the rounds.
@@ -67,33 +116,70 @@ fn median(mut rounds: [u64; ROUNDS]) -> u64 {
     rounds[ROUNDS / 2]
 }
 
-/// Times the rounds.
-fn timed(rt: &HostRuntime, objects: &[Term]) -> Option<Times> {
-    let mut times = Times {
-        insert: [0; ROUNDS],
-        lookup: [0; ROUNDS],
-        delete: [0; ROUNDS],
-    };
-    for i in 0..ROUNDS {
-        let [insert, lookup, delete] = round(rt, objects)?;
-        times.insert[i] = insert;
-        times.lookup[i] = lookup;
-        times.delete[i] = delete;
+/// Writes the nanoseconds of a call of each kind, the median of the rounds.
+pub(crate) fn write<P: Part<Global> + Drop>(
+    rt: &HostRuntime,
+    kind: TableKind,
+    parts: u8,
+    code: &Verified,
+    objects: &[Term],
+    lines: &mut String,
+) -> Option<()> {
+    let mut times = [[0; ROUNDS]; CALLS];
+    for number in 0..ROUNDS {
+        let taken = round::<P>(rt, kind, parts, code, objects)?;
+        for call in 0..CALLS {
+            times[call][number] = taken[call];
+        }
     }
-    Some(times)
-}
-
-/// Writes the line of a kind of call.
-fn write_line(name: &str, rounds: [u64; ROUNDS], count: u64, lines: &mut String) -> Option<()> {
-    let each = median(rounds).checked_div(count)?;
-    writeln!(lines, "{name} {each} ns").ok()
-}
-
-/// Writes the nanoseconds of a call of each kind.
-pub(crate) fn write(rt: &HostRuntime, objects: &[Term], lines: &mut String) -> Option<()> {
     let count = u64::try_from(objects.len()).ok()?.max(1);
-    let times = timed(rt, objects)?;
-    write_line("insert", times.insert, count, lines)?;
-    write_line("lookup", times.lookup, count, lines)?;
-    write_line("delete", times.delete, count, lines)
+    for call in 0..CALLS {
+        let name = NAMES[call];
+        let each = median(times[call]).checked_div(count)?;
+        writeln!(lines, "{name} {each} ns").ok()?;
+    }
+    Some(())
+}
+
+/// What putting one object in takes.
+fn put_time<P: Part<Global> + Drop>(
+    rt: &HostRuntime,
+    table: &mut LocalTable<P>,
+    object: &Term,
+) -> Option<u64>
+    requires { 0 < table.old.options.sessions }
+    ensures { table.new.options ≡ table.old.options }
+{
+    let began = Instant::now(rt).ok()?;
+    let _is_in = put(table, object.copy().ok()?);
+    since(rt, began)
+}
+
+/// What the longest of all inserts takes.
+fn longest_insert<P: Part<Global> + Drop>(
+    rt: &HostRuntime,
+    table: &mut LocalTable<P>,
+    objects: &[Term],
+) -> Option<u64>
+    requires { 0 < table.old.options.sessions }
+    ensures { table.new.options ≡ table.old.options }
+{
+    let mut longest: u64 = 0;
+    for object in objects {
+        longest = put_time(rt, table, object)?.max(longest);
+    }
+    Some(longest)
+}
+
+/// Writes what the longest insert takes: that which doubles the most slots.
+pub(crate) fn write_longest<P: Part<Global> + Drop>(
+    rt: &HostRuntime,
+    kind: TableKind,
+    parts: u8,
+    objects: &[Term],
+    lines: &mut String,
+) -> Option<()> {
+    let mut table = opened::<P>(rt.alloc(), kind, parts)?;
+    let longest = longest_insert(rt, &mut table, objects)?;
+    writeln!(lines, "longest insert {longest} ns").ok()
 }

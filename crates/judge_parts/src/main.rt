@@ -24,8 +24,8 @@ impl Kinds for PartKinds {
         plays::came(alloc, kind, parts, forms)
     }
 
-    fn forms(_kind: &str) -> usize {
-        plays::FORMS
+    fn forms(kind: &str) -> usize {
+        plays::forms(kind)
     }
 
     fn wants_text(_kind: &str) -> bool {

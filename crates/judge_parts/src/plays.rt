@@ -1,5 +1,6 @@
 //! Rows that are played, once with memory and again with each request for memory refused in turn.
 use part_core::{OpenFault, Part, TableKind};
+use part_hash::HashPart;
 use part_order::OrderPart;
 use part_plain::PlainPart;
 use std::alloc::{Allocator, Global};
@@ -9,7 +10,25 @@ use test_parts::{Options, Setting, byte, kind_of, made, open_fault_text, steps_t
 use test_rows::{Calls, elements, short, swept, word, written};
 
 /// With memory, and with each request refused in turn.
-pub(crate) const FORMS: usize = 2;
+const FORMS: usize = 2;
+
+/// In how many forms a row is played: those of sets at a plain part, and then at a hashed one.
+pub(crate) fn forms(kind: &str) -> usize {
+    if at_hashed(kind) == kind {
+        FORMS
+    } else {
+        2 * FORMS
+    }
+}
+
+/// What a row of a kind is called where it is played at a hashed part.
+fn at_hashed(kind: &str) -> &str {
+    match kind {
+        "set" => "hashed_set",
+        "make_set" => "make_hashed_set",
+        _ => kind,
+    }
+}
 
 /// Lets a part go.
 fn let_go<P: Drop>(_part: P) {}
@@ -91,7 +110,7 @@ fn options_row<A: Allocator + Copy, P: Part<A> + Drop>(
     made_text::<A, P>(alloc, heap, options, is_scarce)
 }
 
-/// What comes of a row of a kind, which names the part that plays it.
+/// What comes of a row by its call, which names the part that plays it.
 fn outcome_of<A: Allocator + Copy>(
     alloc: Global,
     heap: A,
@@ -104,6 +123,8 @@ fn outcome_of<A: Allocator + Copy>(
     match call {
         "set" => steps_row::<A, PlainPart<A>>(alloc, heap, TableKind::Set, row, is_scarce),
         "make_set" => options_row::<A, PlainPart<A>>(alloc, heap, row, is_scarce),
+        "hashed_set" => steps_row::<A, HashPart<A>>(alloc, heap, TableKind::Set, row, is_scarce),
+        "make_hashed_set" => options_row::<A, HashPart<A>>(alloc, heap, row, is_scarce),
         "ordered_set" => {
             steps_row::<A, OrderPart<A>>(alloc, heap, TableKind::OrderedSet, row, is_scarce)
         }
@@ -131,9 +152,14 @@ impl Calls for PartCalls {
 /// What comes of a row in one of the forms.
 pub(crate) fn came(alloc: Global, kind: &str, parts: &[Term], forms: usize) -> Option<Vec<u8>> {
     let given = written(alloc, parts)?;
-    if forms == 0 {
-        outcome_of(alloc, alloc, kind, given.as_slice(), false)
+    let call = if forms < FORMS {
+        kind
     } else {
-        swept::<PartCalls>(alloc, kind, given.as_slice())
+        at_hashed(kind)
+    };
+    if forms % FORMS == 0 {
+        outcome_of(alloc, alloc, call, given.as_slice(), false)
+    } else {
+        swept::<PartCalls>(alloc, call, given.as_slice())
     }
 }

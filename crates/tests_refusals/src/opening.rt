@@ -1,5 +1,6 @@
 //! Tables that are opened: options that can't be are refused as such, also where there is no memory, and none else are.
 use part_core::{OpenFault, Part, TableKind};
+use part_hash::HashPart;
 use part_order::OrderPart;
 use part_plain::PlainPart;
 use std::alloc::Global;
@@ -25,13 +26,23 @@ fn refusal<'a, P: Part<&'a Failing<Global>> + Drop>(
     LocalTable::<P, &'a Failing<Global>>::open(heap, options).err()
 }
 
-/// Why a set can't be opened so, with memory and without.
-fn of_set(alloc: Global, numbers: Numbers) -> (Option<OpenFault>, Option<OpenFault>) {
+/// Why a set of plain parts can't be opened so, with memory and without.
+fn of_plain_set(alloc: Global, numbers: Numbers) -> (Option<OpenFault>, Option<OpenFault>) {
     let ample = Failing::counting(alloc);
     let scarce = Failing::refusing_from(alloc, 1);
     (
         refusal::<PlainPart<_>>(&ample, numbers),
         refusal::<PlainPart<_>>(&scarce, numbers),
+    )
+}
+
+/// Why a set of hashed parts can't be opened so, with memory and without.
+fn of_set(alloc: Global, numbers: Numbers) -> (Option<OpenFault>, Option<OpenFault>) {
+    let ample = Failing::counting(alloc);
+    let scarce = Failing::refusing_from(alloc, 1);
+    (
+        refusal::<HashPart<_>>(&ample, numbers),
+        refusal::<HashPart<_>>(&scarce, numbers),
     )
 }
 
@@ -58,6 +69,7 @@ fn options_that_cannot_be_opened_are_refused_as_such(rt: HostRuntime) {
         (TableKind::Bag, 1, 1, 1),
     ] {
         assert!(rt; of_set(rt.alloc(), numbers) == bad);
+        assert!(rt; of_plain_set(rt.alloc(), numbers) == bad);
     }
     for numbers in [
         (TableKind::OrderedSet, 1, 0, 1),
@@ -74,8 +86,10 @@ fn options_that_cannot_be_opened_are_refused_as_such(rt: HostRuntime) {
 #[test]
 fn options_that_can_be_opened_want_only_memory(rt: HostRuntime) {
     let scarce = (None, Some(OpenFault::Memory));
-    assert!(rt; of_set(rt.alloc(), (TableKind::Set, 1, 1, 1)) == scarce);
-    assert!(rt; of_set(rt.alloc(), (TableKind::Set, 65_535, 64, 16)) == scarce);
+    for numbers in [(TableKind::Set, 1, 1, 1), (TableKind::Set, 65_535, 64, 16)] {
+        assert!(rt; of_set(rt.alloc(), numbers) == scarce);
+        assert!(rt; of_plain_set(rt.alloc(), numbers) == scarce);
+    }
     assert!(rt; of_ordered_set(rt.alloc(), (TableKind::OrderedSet, 1, 1, 1)) == scarce);
     assert!(rt; of_ordered_set(rt.alloc(), (TableKind::OrderedSet, 65_535, 1, 16)) == scarce);
 }

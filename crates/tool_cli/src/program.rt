@@ -11,8 +11,8 @@ ghost use Rattle.tool_cli.specs.Words.{asked};
 use crate::telling::Tell;
 use crate::words::{Request, read_words};
 use clap::error::ErrorKind as WordsErrorKind;
+use part_hash::HashPart;
 use part_order::OrderPart;
-use part_plain::PlainPart;
 use std::alloc::{AllocError, Allocator, Global};
 use std::convert::AsStr;
 use std::env::{self, Env};
@@ -100,7 +100,7 @@ fn command_outcome<A: Allocator + Copy, R: Read, O: Write>(
         Request::Test => tool_test(alloc, reader, out),
         Request::Compile => tool_compile(alloc, reader, out),
         Request::Verify => tool_verify(alloc, reader, out),
-        Request::Script => run_script::<PlainPart<A>, OrderPart<A>, A, R, O>(alloc, reader, out),
+        Request::Script => run_script::<HashPart<A>, OrderPart<A>, A, R, O>(alloc, reader, out),
     }
 }
 
