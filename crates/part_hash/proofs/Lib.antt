@@ -1,0 +1,17 @@
+pub mod StandLemmas
+pub mod ListedLemmas
+pub mod AddLemmas
+pub mod WriteLemmas
+pub mod RemoveLemmas
+pub mod ExchangeLemmas
+pub mod PutLemmas
+pub mod SweepLemmas
+pub mod TurnLemmas
+pub mod NextLemmas
+pub mod WalkLemmas
+pub mod BehindLemmas
+pub mod SortLemmas
+pub mod ClassLemmas
+pub mod GatherLemmas
+pub mod EmptyLemmas
+pub mod ShownLemmas

@@ -1,0 +1,5 @@
+pub mod Served
+pub mod Places
+pub mod Standing
+pub mod Swept
+pub mod Classes

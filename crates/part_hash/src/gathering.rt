@@ -1,0 +1,92 @@
+//! The objects of all rows, in the order of a walk.
+ghost use Rattle.std.specs.Prelude.{◌≡◌, ◌<◌, ◌++◌, List, Option, [], IfOk, flat_map};
+ghost use Rattle.std.specs.Option.{option_map_or};
+ghost use Rattle.slab.specs.Slab.{get};
+ghost use Rattle.part_core.specs.declared.kind.TableKind.TheVariants.{Set};
+ghost use Rattle.part_core.specs.Rows.{Row as AnyRow};
+ghost use Rattle.part_core.specs.Visits.{in_class, walk_order};
+ghost use Rattle.part_hash.specs.Places.{rows_of};
+ghost use Rattle.part_hash.specs.Standing.{Stands};
+
+use crate::looking::places_of_class;
+use crate::places::Place;
+use crate::row::Row;
+use crate::store::Store;
+use part_core::Settings;
+use slab::Slab;
+use std::alloc::{AllocError, Allocator};
+use term_core::Term;
+
+/// Puts a copy of the object of the row at a key of the slab behind others.
+fn gather_row<A: Allocator + Copy>(
+    rows: &Slab<Row<A>, A>,
+    at: usize,
+    into: &mut Vec<Term<A>, A>,
+) -> Result<(), AllocError>
+    ensures { IfOk result (λ _. into.new.items
+        ≡ into.old.items ++ option_map_or (λ r. r.1) (get rows.now at) []) }
+{
+    if let Some(row) = rows.get(at) {
+        if let Some(object) = row.held().object() {
+            into.push(object.copy()?)?;
+        }
+    }
+    Ok(())
+}
+
+/// Puts copies of the objects of the rows at places behind others.
+fn gather_places<A: Allocator + Copy>(
+    rows: &Slab<Row<A>, A>,
+    places: &[Place],
+    into: &mut Vec<Term<A>, A>,
+) -> Result<(), AllocError>
+    ensures { IfOk result (λ _. into.new.items
+        ≡ into.old.items ++ flat_map (λ r. r.1) (rows_of rows.now places.now)) }
+{
+    for place in places {
+        gather_row(rows, place.at, into)?;
+    }
+    Ok(())
+}
+
+/// Puts copies of the objects of a class behind others.
+fn gather_class<A: Allocator + Copy>(
+    store: &Store<A>,
+    settings: Settings,
+    base: u64,
+    class: u64,
+    into: &mut Vec<Term<A>, A>,
+) -> Result<(), AllocError>
+    requires parts { 0 < settings.parts }
+    requires class { class < base }
+    ensures { IfOk result (λ _. (rows : List AnyRow)
+        → Stands settings store.now.rows store.now.index store.now.slots.items store.now.made rows
+        → into.new.items ≡ into.old.items ++ flat_map (λ r. r.1) (in_class settings base class rows)) }
+{
+    if base == store.slots.len() as u64 {
+        gather_places(&store.rows, store.slots[class as usize].places(), into)?;
+        return Ok(());
+    }
+    let places = places_of_class(*into.allocator(), store, settings, base, class)?;
+    gather_places(&store.rows, places.as_slice(), into)?;
+    Ok(())
+}
+
+/// Puts copies of the objects of all classes behind others.
+pub(crate) fn gather<A: Allocator + Copy>(
+    store: &Store<A>,
+    settings: Settings,
+    base: u64,
+    into: &mut Vec<Term<A>, A>,
+) -> Result<(), AllocError>
+    requires parts { 0 < settings.parts }
+    requires base { 0 < base }
+    ensures { IfOk result (λ _. (rows : List AnyRow) → settings.kind ≡ Set
+        → Stands settings store.now.rows store.now.index store.now.slots.items store.now.made rows
+        → into.new.items ≡ into.old.items ++ flat_map (λ r. r.1) (walk_order settings base rows)) }
+{
+    for class in 0..base {
+        gather_class(store, settings, base, class, into)?;
+    }
+    Ok(())
+}

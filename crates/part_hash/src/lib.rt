@@ -1,0 +1,32 @@
+//! The rows of a set, found by their keys in the same time however many there are.
+//!
+//! The one contract: `HashRows` keeps the trait `Rows` of `part_stored`, for sets alone. Its rows lie in a slab; an
+//! index finds the key of the slab at a row's key, and each slot lists the places of its rows in the order in which
+//! they were made. `Stands` of `specs/Standing.antt` says what these have to do with the list of rows that is shown.
+//!
+//! - `rows`: the type. It hands each operation to a function over its store.
+//! - `row`: a key with what is held of it; `places`: where rows are, and slots; `index`: `find`, `put` and `take`,
+//!   through which alone the index is reached; `store`: these together, and what is held of a key.
+//! - `adding`: a row behind the others, with the doubling of the slots; `putting`: objects put in; `removing`: what is
+//!   exchanged, and rows that go.
+//! - `walking`: the next live row of a class, by any base, with no memory (`specs/Classes.antt`); `looking`,
+//!   `gathering`: the rows of a class, which by another base than the number of slots are sorted from several slots.
+#![tactic(auto)]
+
+mod adding;
+mod gathering;
+mod index;
+mod looking;
+mod places;
+mod putting;
+mod removing;
+mod row;
+mod rows;
+mod store;
+mod walking;
+
+use part_stored::StoredPart;
+pub use rows::HashRows;
+
+/// A part of a set whose rows lie in a slab: each operation finds its key in the same time however many rows there are.
+pub type HashPart<A> = StoredPart<HashRows<A>, A>;
