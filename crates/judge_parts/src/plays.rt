@@ -152,11 +152,7 @@ impl Calls for PartCalls {
 /// What comes of a row in one of the forms.
 pub(crate) fn came(alloc: Global, kind: &str, parts: &[Term], forms: usize) -> Option<Vec<u8>> {
     let given = written(alloc, parts)?;
-    let call = if forms < FORMS {
-        kind
-    } else {
-        at_hashed(kind)
-    };
+    let call = if forms < FORMS { kind } else { at_hashed(kind) };
     if forms % FORMS == 0 {
         outcome_of(alloc, alloc, call, given.as_slice(), false)
     } else {
