@@ -22,10 +22,7 @@ fn copy_list<A: Allocator + Copy>(
 {
     let copies = copy_all(alloc, elements)?;
     let tail = copy_tail(tail)?;
-    match Term::list(alloc, copies, tail) {
-        Ok(list) => Ok(list),
-        Err(refused) => Err(refused.fault.alloc_error()),
-    }
+    Term::list(alloc, copies, tail).map_err(|refused| refused.fault.alloc_error())
 }
 
 /// How deep a list's tail is, which is no list.

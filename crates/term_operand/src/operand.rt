@@ -63,10 +63,7 @@ fn boolean_text(value: bool) -> &'static str
 fn boolean_term<A: Allocator + Copy>(alloc: A, value: bool) -> Result<Term<A>, AllocError>
     ensures { IfOk result (λ t. t ≡ boolean_atom value) }
 {
-    match atom_of_text(alloc, boolean_text(value)) {
-        Ok(atom) => Ok(atom),
-        Err(fault) => Err(fault.alloc_error()),
-    }
+    atom_of_text(alloc, boolean_text(value)).map_err(|fault| fault.alloc_error())
 }
 
 /// The first element of what is left of a list and what follows it, none where that is no list with elements.

@@ -66,10 +66,7 @@ fn atom_of<A: Allocator>(alloc: A, characters: Vec<char, A>) -> Result<Term<A>, 
     requires { IsWithin (atom characters.items) }
     ensures { Gives (λ t. t) result (Ok (atom characters.items)) }
 {
-    match Term::from_characters(alloc, characters) {
-        Ok(term) => Ok(term),
-        Err(refused) => Err(Stop::from(refused.fault.alloc_error())),
-    }
+    Ok(Term::from_characters(alloc, characters).map_err(|refused| refused.fault.alloc_error())?)
 }
 
 /// A bare word as a term.
@@ -106,10 +103,7 @@ fn list_of<A: Allocator>(
     requires { IsWithin (cells elements.items (tail_of tail)) }
     ensures { Gives (λ t. t) result (Ok (cells elements.items (tail_of tail))) }
 {
-    match Term::list(alloc, elements, tail) {
-        Ok(term) => Ok(term),
-        Err(refused) => Err(Stop::from(refused.fault.alloc_error())),
-    }
+    Ok(Term::list(alloc, elements, tail).map_err(|refused| refused.fault.alloc_error())?)
 }
 
 /// A list that begins with these elements and goes on with a string, behind its opening mark. Its characters have so
@@ -255,10 +249,7 @@ fn binary_of<A: Allocator>(alloc: A, bytes: Vec<u8, A>) -> Result<Term<A>, Stop>
     requires { IsWithin (binary bytes.items) }
     ensures { Gives (λ t. t) result (Ok (binary bytes.items)) }
 {
-    match Term::binary(alloc, bytes) {
-        Ok(term) => Ok(term),
-        Err(refused) => Err(Stop::from(refused.fault.alloc_error())),
-    }
+    Ok(Term::binary(alloc, bytes).map_err(|refused| refused.fault.alloc_error())?)
 }
 
 /// A binary, behind its opening.
@@ -295,10 +286,7 @@ fn map_of<A: Allocator + Copy>(alloc: A, pairs: Pairs<A>) -> Result<Term<A>, Sto
     ensures { Gives (λ t. t) result (Ok (map (entries_of pairs.entries))) }
 {
     let pairs = in_order(alloc, pairs)?;
-    match map_of_pairs(alloc, pairs) {
-        Ok(map) => Ok(map),
-        Err(refused) => Err(Stop::from(refused.fault.alloc_error())),
-    }
+    Ok(map_of_pairs(alloc, pairs).map_err(|refused| refused.fault.alloc_error())?)
 }
 
 /// A tuple of these elements.
@@ -306,10 +294,7 @@ fn tuple_of<A: Allocator>(alloc: A, elements: Vec<Term<A>, A>) -> Result<Term<A>
     requires { IsWithin (tuple (items_of elements.items)) }
     ensures { Gives (λ t. t) result (Ok (tuple (items_of elements.items))) }
 {
-    match Term::tuple(alloc, elements) {
-        Ok(term) => Ok(term),
-        Err(refused) => Err(Stop::from(refused.fault.alloc_error())),
-    }
+    Ok(Term::tuple(alloc, elements).map_err(|refused| refused.fault.alloc_error())?)
 }
 
 /// A term that begins with this opening, the text behind it, where its parts have so many levels left.
