@@ -1,9 +1,8 @@
 -- The rows of a class, found in several slots.
 use Rattle.std.proofs.Common.{◌≡◌, ℕ, ◌<◌, ◌≤◌, ◌+◌, ◌*◌, ◌/◌, ◌%◌, zero, suc, List, [], ◌∷◌, ◌++◌, refl, ap, sym, subst, ◌∙◌, length, get_or, take, append_assoc, arith, eq-eqb, ◌⊎◌, inl, inr}
 use Rattle.std.specs.Prelude.{Bool, true, false, ◌==◌, ◌&&◌, if◌then◌else◌, Option, Some, None, All, filter, flat_map, map}
-use Rattle.std.specs.List.{range_with_len}
+use Rattle.std.specs.List.{range_with_len, IsDistinct}
 use Rattle.std.specs.List.Sorted.{IsNonDecreasingBy}
-use Rattle.std.specs.List.{IsDistinct}
 use Rattle.std.specs.Map.{keys_of, values_of}
 use Rattle.std.specs.Option.{option_to_list}
 use Rattle.std.proofs.lemmas.List.{append-nil, take_more}
@@ -217,13 +216,3 @@ flat_more f n =
     let one : n + 1 ≡ suc n = omega arith in
     let same : 0 + n ≡ n = omega arith in
     ap (λ m. flat_map f (range_with_len 0 m)) one ∙ flat_next f n 0 ∙ ap (λ m. flat_map f (range_with_len 0 n) ++ f m) same
-
--- ---- a key
-
--- the row of a key is the only one
-pub alone : (k : Datum) (rows : List Row) → IsDistinct is_same (keys_of rows) → has_row rows k ≡ true → filter (λ (r : Row). is_same k r.0) rows ≡ (k, objects_at rows k) ∷ []
-alone k [] apart there = absurd (true≢false (sym there))
-alone k (r ∷ rows) apart there =
-    by_test (is_same k r.0) _
-    (λ here. rw here (ap (λ rs. r ∷ rs) (none_there k rows (no_other k r rows apart here)) ∙ ap (λ (j : Datum). (j, r.1) ∷ []) (sym (same_is k r.0 here))))
-    (λ other. rw other (alone k rows (IsDistinct-tail is_same r.0 (keys_of rows) apart) (rw other at there)))

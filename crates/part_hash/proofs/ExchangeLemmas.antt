@@ -8,22 +8,7 @@ use Rattle.part_core.specs.Rows.{Row, is_live, has_row, rows_at_key}
 use Rattle.part_core.proofs.KeyLemmas.{by_test}
 use Rattle.part_core.proofs.RowLemmas.{unwritten}
 use Rattle.part_stored.specs.Shown.{rows_exchanged}
-
--- a row stays, unless it is a dead one of the key
-abbrev stays : Datum → Row → Bool
-stays k r = not (is_same k r.0) || is_live r
-
--- rows of other keys stay
-others_stay : (k : Datum) (rows : List Row) → has_row rows k ≡ false → filter (stays k) rows ≡ rows
-others_stay k [] none = refl
-others_stay k (r ∷ rows) none =
-    by_test (is_same k r.0) _ (λ here. absurd (true≢false (rw here at none))) (λ other. rw other (ap (λ rs. r ∷ rs) (others_stay k rows (rw other at none))))
-
--- nothing is exchanged where the key has no row
-pub exchanged_none : (k : Datum) (os : List Datum) (keeps : Bool) (rows : List Row) → has_row rows k ≡ false → rows ≡ rows_exchanged k os keeps rows
-exchanged_none k os true rows none = sym (unwritten k (λ _. os) rows none)
-exchanged_none k os false rows none =
-    sym (ap (filter (stays k)) (unwritten k (λ _. os) rows none) ∙ others_stay k rows none)
+use Rattle.part_stored.proofs.SetLemmas.{stays, others_stay}
 
 -- the row of the key stays if it is live
 left_live : (k : Datum) (os : List Datum) (rows : List Row) → is_live (k, os) ≡ true → rows_at_key k (λ _. os) rows ≡ filter (stays k) (rows_at_key k (λ _. os) rows)

@@ -12,11 +12,8 @@ use Rattle.part_core.specs.Rows.{Row}
 use Rattle.part_core.specs.Visits.{in_class}
 use Rattle.part_hash.specs.declared.places.Place.{Place}
 use Rattle.part_hash.specs.Places.{rows_of}
-use Rattle.part_hash.specs.Classes.{rows_from}
-use Rattle.part_hash.proofs.WalkLemmas.{rows_step, rows_none}
-
-abbrev all_objects : List Row → List Datum
-all_objects rows = flat_map (λ r. r.1) rows
+use Rattle.part_stored.specs.Sets.{rows_from}
+use Rattle.part_stored.proofs.WalkLemmas.{rows_step, rows_none, all_objects}
 
 -- ---- the rows at places
 
@@ -35,17 +32,3 @@ objects_more slab ps i p before after initial within is so_far more =
     ∙ ap (λ os. initial ++ os) (ap (λ os. all_objects (rows_of slab (take i ps)) ++ os) (sym (single slab p)) ∙ sym (flat_map-append (λ (r : Row). r.1) (rows_of slab (take i ps)) (rows_of slab (p ∷ []))) ∙ ap all_objects (sym (filter_map-append (λ (q : Place). get slab q.at) (take i ps) (p ∷ []))))
     ∙ ap (λ q. initial ++ all_objects (rows_of slab (take i ps ++ q ∷ []))) is
     ∙ ap (λ qs. initial ++ all_objects (rows_of slab qs)) (sym (take_more ps i p within))
-
--- ---- one class after the other
-
-pub class_next : (o : Settings) (base class : ℕ) (rows : List Row) (before after whole : List Datum) → class < base → before ++ all_objects (rows_from o base class rows) ≡ whole → after ≡ before ++ all_objects (in_class o base class rows) → after ++ all_objects (rows_from o base (class + 1) rows) ≡ whole
-class_next o base class rows before after whole below is more =
-    ap (λ xs. xs ++ all_objects (rows_from o base (class + 1) rows)) more
-    ∙ append_assoc before (all_objects (in_class o base class rows)) (all_objects (rows_from o base (class + 1) rows))
-    ∙ ap (λ xs. before ++ xs) (sym (flat_map-append (λ (v : Row). v.1) (in_class o base class rows) (rows_from o base (class + 1) rows)))
-    ∙ ap (λ rs. before ++ all_objects rs) (sym (rows_step o base class rows below))
-    ∙ is
-
-pub classes_all : (o : Settings) (base class : ℕ) (rows : List Row) (found whole : List Datum) → base ≤ class → found ++ all_objects (rows_from o base class rows) ≡ whole → found ≡ whole
-classes_all o base class rows found whole past is =
-    sym (append-nil found) ∙ ap (λ rs. found ++ all_objects rs) (sym (rows_none o base class rows past)) ∙ is

@@ -8,7 +8,6 @@ pub mod PutLemmas
 pub mod SweepLemmas
 pub mod TurnLemmas
 pub mod NextLemmas
-pub mod WalkLemmas
 pub mod BehindLemmas
 pub mod SortLemmas
 pub mod ClassLemmas

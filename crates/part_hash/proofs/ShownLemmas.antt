@@ -17,13 +17,9 @@ use Rattle.part_core.proofs.AfterLemmas.{all_kept, put_live, slots_same}
 use Rattle.part_stored.specs.Shown.{Shown, shown_with, rows_exchanged}
 use Rattle.part_hash.specs.declared.places.Place.{Place}
 use Rattle.part_hash.specs.Standing.{Stands}
-use Rattle.part_hash.specs.Served.{serves, IsShown}
-
-pub set_served : (kind : TableKind) → IsTrue (serves kind) → kind ≡ Set
-set_served Set h = refl
-set_served OrderedSet h = cc
-set_served Bag h = cc
-set_served DuplicateBag h = cc
+use Rattle.part_hash.specs.Served.{IsShown}
+use Rattle.part_stored.specs.Sets.{serves}
+use Rattle.part_stored.proofs.SetLemmas.{set_served}
 
 -- an object that was put in, or wasn't
 pub shown_either : {S : Type 0} {o : Settings} {slab new : Slab Row} {index next : HashMap Datum ℕ S} {slots lists : List (List Place)} {made later divisor : ℕ} {live : Bool} (t : Datum) (w : Shown) (b : Bool) → IsShown o slab index slots made divisor live w → Stands o new next lists later (if b then with_object o t w.rows else w.rows) → length lists ≡ slots_after Set (length w.rows) (length (if b then with_object o t w.rows else w.rows)) (length slots) → IsShown o new next lists later divisor live (if b then shown_with o t w else w)

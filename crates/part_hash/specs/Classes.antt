@@ -11,11 +11,6 @@ use Rattle.part_core.specs.Visits.{in_class}
 use Rattle.part_hash.specs.declared.places.Place.{Place}
 use Rattle.part_hash.specs.Places.{Standing, passes}
 
--- the rows of the classes from one on, by a base
-abbrev pub rows_from : Settings → ℕ → ℕ → List Row → List Row
-rows_from o base class rows =
-    flat_map (λ c. in_class o base c rows) (range_with_len class (base - class))
-
 -- by how many the slots are apart in which rows of a class may stand: where the base doesn't divide them, in any
 abbrev pub step_of : ℕ → ℕ → ℕ
 step_of count base = if count % base == 0 then base else 1

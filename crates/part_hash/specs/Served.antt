@@ -8,14 +8,10 @@ use Rattle.part_core.specs.declared.kind.TableKind.TheVariants.{Set}
 use Rattle.part_core.specs.declared.settings.Settings.{Settings}
 use Rattle.part_core.specs.Rows.{Row, is_live}
 use Rattle.part_stored.specs.Shown.{Shown}
+use Rattle.part_stored.specs.Sets.{serves}
 use Rattle.part_hash.specs.declared.places.Place.{Place}
 use Rattle.part_hash.specs.Places.{spread as spread_of}
 use Rattle.part_hash.specs.Standing.{Stands}
-
--- the kind that is served
-abbrev pub serves : TableKind → Bool
-serves Set = true
-serves kind = false
 
 -- these rows, in so many slots, are those of a table that is served, and all of them are live where that is known
 pub record IsShown {S : Type 0} (o : Settings) (slab : Slab Row) (index : HashMap Datum ℕ S) (lists : List (List Place)) (made : ℕ) (divisor : ℕ) (all_live : Bool) (w : Shown) : Type 0 where

@@ -35,7 +35,3 @@ pub record Stands {S : Type 0} (o : Settings) (slab : Slab Row) (index : HashMap
   pub listed : AreListed o slots list
   pub rising : IsRising list
   pub below : All (λ e. e.0.made < made) list
-
--- the rows with one of a key, a dead one behind the others where there was none
-abbrev pub with_key : Datum → List Row → List Row
-with_key k rows = if has_row rows k then rows else rows ++ (k, []) ∷ []

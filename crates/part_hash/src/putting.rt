@@ -8,7 +8,8 @@ ghost use Rattle.part_core.specs.declared.kind.TableKind.TheVariants.{Set};
 ghost use Rattle.part_core.specs.After.{slots_after};
 ghost use Rattle.part_core.specs.Settings.{is_object, key_of};
 ghost use Rattle.part_core.specs.Rows.{Row as AnyRow, is_empty, is_live, objects_at, with_object};
-ghost use Rattle.part_hash.specs.Standing.{Stands, with_key};
+ghost use Rattle.part_hash.specs.Standing.{Stands};
+ghost use Rattle.part_stored.specs.Sets.{with_key};
 
 use crate::adding::add;
 use crate::row::Row;

@@ -37,7 +37,8 @@ impl<A: Allocator + Copy> Rows<A> for HashRows<A> {
     ghost use Rattle.part_core.specs.Ops.{scope_of};
     ghost use Rattle.part_stored.specs.Shown.{Shown, AreSound};
     ghost use Rattle.part_stored.specs.Looks.{is_placed, looked_at};
-    ghost use Rattle.part_hash.specs.Served.{serves, IsShown};
+    ghost use Rattle.part_hash.specs.Served.{IsShown};
+    ghost use Rattle.part_stored.specs.Sets.{serves};
 
     ghost serves = { serves };
 

@@ -7,7 +7,8 @@ ghost use Rattle.part_core.specs.Replies.{first_live, rows_past};
 ghost use Rattle.part_core.specs.Rows.{Row as AnyRow, has_row};
 ghost use Rattle.part_core.specs.States.{IsBase};
 ghost use Rattle.part_core.specs.Visits.{in_class, walk_order};
-ghost use Rattle.part_hash.specs.Classes.{earlier as earlier_of, is_next as is_next_of, made_from, next_of_class, rows_from, slot_of_class, step_of as step_between};
+ghost use Rattle.part_hash.specs.Classes.{earlier as earlier_of, is_next as is_next_of, made_from, next_of_class, slot_of_class, step_of as step_between};
+ghost use Rattle.part_stored.specs.Sets.{rows_from};
 ghost use Rattle.part_hash.specs.Places.{spread};
 ghost use Rattle.part_hash.specs.Standing.{Stands};
 

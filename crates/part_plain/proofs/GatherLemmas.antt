@@ -9,11 +9,8 @@ use Rattle.part_core.specs.declared.settings.Settings.{Settings}
 use Rattle.part_core.specs.Settings.{class_at}
 use Rattle.part_core.specs.Rows.{Row}
 use Rattle.part_core.specs.Visits.{in_class}
-use Rattle.part_plain.specs.Classes.{rows_from}
-use Rattle.part_plain.proofs.WalkLemmas.{rows_step, rows_none}
-
-abbrev all_objects : List Row → List Datum
-all_objects rows = flat_map (λ r. r.1) rows
+use Rattle.part_stored.specs.Sets.{rows_from}
+use Rattle.part_stored.proofs.WalkLemmas.{rows_step, rows_none, all_objects}
 
 -- ---- the rows of a class
 
@@ -39,17 +36,3 @@ gathered_next o base class rows i row initial before after within is so_far more
 pub gathered_all : (o : Settings) (base class : ℕ) (rows : List Row) (i : ℕ) (initial found : List Datum) → length rows ≤ i → found ≡ initial ++ all_objects (in_class o base class (take i rows)) → found ≡ initial ++ all_objects (in_class o base class rows)
 gathered_all o base class rows i initial found over is =
     is ∙ ap (λ rs. initial ++ all_objects (in_class o base class rs)) (take_all i rows over)
-
--- ---- one class after the other
-
-pub class_next : (o : Settings) (base class : ℕ) (rows : List Row) (before after whole : List Datum) → class < base → before ++ all_objects (rows_from o base class rows) ≡ whole → after ≡ before ++ all_objects (in_class o base class rows) → after ++ all_objects (rows_from o base (class + 1) rows) ≡ whole
-class_next o base class rows before after whole below is more =
-    ap (λ xs. xs ++ all_objects (rows_from o base (class + 1) rows)) more
-    ∙ append_assoc before (all_objects (in_class o base class rows)) (all_objects (rows_from o base (class + 1) rows))
-    ∙ ap (λ xs. before ++ xs) (sym (flat_map-append (λ (v : Row). v.1) (in_class o base class rows) (rows_from o base (class + 1) rows)))
-    ∙ ap (λ rs. before ++ all_objects rs) (sym (rows_step o base class rows below))
-    ∙ is
-
-pub classes_all : (o : Settings) (base class : ℕ) (rows : List Row) (found whole : List Datum) → base ≤ class → found ++ all_objects (rows_from o base class rows) ≡ whole → found ≡ whole
-classes_all o base class rows found whole past is =
-    sym (append-nil found) ∙ ap (λ rs. found ++ all_objects rs) (sym (rows_none o base class rows past)) ∙ is

@@ -2,5 +2,4 @@ pub mod ShownLemmas
 pub mod PlaceLemmas
 pub mod PutLemmas
 pub mod ExchangeLemmas
-pub mod WalkLemmas
 pub mod GatherLemmas

@@ -12,13 +12,9 @@ use Rattle.part_core.specs.States.{IsBase}
 use Rattle.part_core.proofs.AfterLemmas.{slots_same}
 use Rattle.part_core.proofs.StepLemmas.{slots_grow, put_length}
 use Rattle.part_stored.specs.Shown.{Shown, shown_with}
-use Rattle.part_plain.specs.Served.{serves, IsShown}
-
-pub set_served : (kind : TableKind) → IsTrue (serves kind) → kind ≡ Set
-set_served Set h = refl
-set_served OrderedSet h = cc
-set_served Bag h = cc
-set_served DuplicateBag h = cc
+use Rattle.part_plain.specs.Served.{IsShown}
+use Rattle.part_stored.specs.Sets.{serves}
+use Rattle.part_stored.proofs.SetLemmas.{set_served}
 
 -- ---- slots
 

@@ -1,3 +1,2 @@
 pub mod Served
 pub mod Places
-pub mod Classes

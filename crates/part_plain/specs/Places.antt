@@ -13,7 +13,3 @@ pub record IsPlace (k : Datum) (rows : List Row) (place : ℕ) : Type 0 where
   pub count : length before ≡ place
   pub first : IsFalse (has_row before k)
   pub there : IsTrue (is_same k row.0)
-
--- the rows with one of a key, a dead one behind the others where there was none
-abbrev pub with_key : Datum → List Row → List Row
-with_key k rows = if has_row rows k then rows else rows ++ (k, []) ∷ []

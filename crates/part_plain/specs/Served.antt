@@ -5,11 +5,7 @@ use Rattle.part_core.specs.declared.kind.TableKind.TheVariants.{Set}
 use Rattle.part_core.specs.declared.settings.Settings.{Settings}
 use Rattle.part_core.specs.Rows.{Row}
 use Rattle.part_stored.specs.Shown.{Shown}
-
--- the kind that is served
-abbrev pub serves : TableKind → Bool
-serves Set = true
-serves kind = false
+use Rattle.part_stored.specs.Sets.{serves}
 
 -- these rows, in so many slots, are those of a table that is served
 pub record IsShown (o : Settings) (list : List Row) (count : ℕ) (w : Shown) : Type 0 where

@@ -7,16 +7,16 @@ ghost use Rattle.part_core.specs.Rows.{Row as AnyRow, has_row, is_live, objects_
 ghost use Rattle.part_stored.specs.Shown.{rows_exchanged};
 
 use crate::places::place_of;
-use crate::row::Row;
 use part_core::Held;
+use part_stored::HashedRow;
 use std::alloc::Allocator;
 use term_core::Term;
 
 /// Lets a row go.
-fn let_go<A: Allocator>(_row: Row<A>) {}
+fn let_go<A: Allocator>(_row: HashedRow<A>) {}
 
 /// Lets the row at a place go if it is dead.
-fn settle<A: Allocator>(rows: &mut Vec<Row<A>, A>, place: usize)
+fn settle<A: Allocator>(rows: &mut Vec<HashedRow<A>, A>, place: usize)
     requires { place < vec_len rows.old }
     ensures { (before after : List AnyRow) (row : AnyRow) → length before ≡ place
         → rows.old.items ≡ before ++ row ∷ after
@@ -30,7 +30,7 @@ fn settle<A: Allocator>(rows: &mut Vec<Row<A>, A>, place: usize)
 /// What is held of a key and `held` change places, where the key has a row; that goes, unless `keeps`, if it is dead
 /// then.
 pub(crate) fn exchange<A: Allocator>(
-    rows: &mut Vec<Row<A>, A>,
+    rows: &mut Vec<HashedRow<A>, A>,
     key: &Term<A>,
     held: &mut Held<A>,
     keeps: bool,
@@ -51,7 +51,7 @@ pub(crate) fn exchange<A: Allocator>(
 }
 
 /// Lets all dead rows go.
-pub(crate) fn keep_live<A: Allocator>(rows: &mut Vec<Row<A>, A>)
+pub(crate) fn keep_live<A: Allocator>(rows: &mut Vec<HashedRow<A>, A>)
     ensures { rows.new.items ≡ filter is_live rows.old.items }
 {
     rows.retain(|row| row.is_live());

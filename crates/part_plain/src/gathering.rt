@@ -4,14 +4,14 @@ ghost use Rattle.part_core.specs.declared.kind.TableKind.TheVariants.{Set};
 ghost use Rattle.part_core.specs.Settings.{class_at};
 ghost use Rattle.part_core.specs.Visits.{in_class, walk_order};
 
-use crate::row::Row;
 use part_core::Settings;
+use part_stored::HashedRow;
 use std::alloc::{AllocError, Allocator};
 use term_core::Term;
 
 /// Puts a copy of a row's object behind others, where its key is of a class.
 fn gather_row<A: Allocator + Copy>(
-    row: &Row<A>,
+    row: &HashedRow<A>,
     settings: Settings,
     base: u64,
     class: u64,
@@ -32,7 +32,7 @@ fn gather_row<A: Allocator + Copy>(
 
 /// Puts copies of the objects of a class behind others.
 fn gather_class<A: Allocator + Copy>(
-    rows: &[Row<A>],
+    rows: &[HashedRow<A>],
     settings: Settings,
     base: u64,
     class: u64,
@@ -51,7 +51,7 @@ fn gather_class<A: Allocator + Copy>(
 
 /// Puts copies of the objects of all classes behind others.
 pub(crate) fn gather<A: Allocator + Copy>(
-    rows: &[Row<A>],
+    rows: &[HashedRow<A>],
     settings: Settings,
     base: u64,
     into: &mut Vec<Term<A>, A>,

@@ -5,10 +5,8 @@
 //! rows isn't kept: it is a premise of `Rows`.
 //!
 //! - `rows`: the type. It hands each operation to a function whose contract is one over lists.
-//! - `row`: a key with what is held of it; `places`: rows found by their keys (`specs/Places.antt`); `putting`,
-//!   `exchanging`: what is written.
-//! - `walking`, `gathering`: the order of a walk, class by class (`specs/Classes.antt`); `looking`: what visits look
-//!   at.
+//! - `places`: rows found by their keys (`specs/Places.antt`); `putting`, `exchanging`: what is written.
+//! - `walking`, `gathering`: the order of a walk, class by class; `looking`: what visits look at.
 #![tactic(auto)]
 
 mod exchanging;
@@ -16,7 +14,6 @@ mod gathering;
 mod looking;
 mod places;
 mod putting;
-mod row;
 mod rows;
 mod walking;
 

@@ -9,15 +9,14 @@ ghost use Rattle.part_core.specs.Visits.{in_class};
 ghost use Rattle.part_stored.specs.Looks.{is_placed, looked_at};
 
 use crate::places::place_of;
-use crate::row::Row;
 use part_core::{Cursor, Scope, Settings};
-use part_stored::SeenRow;
+use part_stored::{HashedRow, SeenRow};
 use std::alloc::{AllocError, Allocator};
 use term_core::Term;
 
 /// Puts the rows of a class behind others.
 fn look_in<'r, A: Allocator>(
-    rows: &'r [Row<A>],
+    rows: &'r [HashedRow<A>],
     settings: Settings,
     base: u64,
     class: u64,
@@ -37,7 +36,7 @@ fn look_in<'r, A: Allocator>(
 
 /// Puts the row of a key behind others.
 fn look_at<'r, A: Allocator>(
-    rows: &'r [Row<A>],
+    rows: &'r [HashedRow<A>],
     key: &Term<A>,
     into: &mut Vec<SeenRow<'r, A>, A>,
 ) -> Result<(), AllocError>
@@ -52,7 +51,7 @@ fn look_at<'r, A: Allocator>(
 
 /// Puts the rows that a visit of a set looks at behind others.
 pub(crate) fn look<'r, A: Allocator>(
-    rows: &'r [Row<A>],
+    rows: &'r [HashedRow<A>],
     settings: Settings,
     base: u64,
     scope: &Scope<'_, A>,

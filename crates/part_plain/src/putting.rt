@@ -7,17 +7,18 @@ ghost use Rattle.term_operand.specs.Order.{is_same};
 ghost use Rattle.part_core.specs.declared.kind.TableKind.TheVariants.{Set};
 ghost use Rattle.part_core.specs.Settings.{is_object, key_of};
 ghost use Rattle.part_core.specs.Rows.{is_empty, objects_at, with_object};
-ghost use Rattle.part_plain.specs.Places.{IsPlace, with_key};
+ghost use Rattle.part_plain.specs.Places.{IsPlace};
+ghost use Rattle.part_stored.specs.Sets.{with_key};
 
 use crate::places::place_of;
-use crate::row::Row;
 use part_core::{Settings, key_in};
+use part_stored::HashedRow;
 use std::alloc::{AllocError, Allocator};
 use term_core::Term;
 
 /// The place of a key's row, which is added behind the others, dead, where there is none.
 fn place_for<A: Allocator + Copy>(
-    rows: &mut Vec<Row<A>, A>,
+    rows: &mut Vec<HashedRow<A>, A>,
     key: &Term<A>,
 ) -> Result<usize, AllocError>
     ensures rows { OnOk result (rows.new.items ≡ with_key key.now rows.old.items) }
@@ -30,7 +31,7 @@ fn place_for<A: Allocator + Copy>(
         Some(place) => Ok(place),
         None => {
             let place = rows.len();
-            rows.push(Row::new(key.copy()?, hash))?;
+            rows.push(HashedRow::new(key.copy()?, hash))?;
             Ok(place)
         }
     }
@@ -39,7 +40,7 @@ fn place_for<A: Allocator + Copy>(
 /// The place of the row of an object's key.
 fn place_of_object<A: Allocator + Copy>(
     settings: Settings,
-    rows: &mut Vec<Row<A>, A>,
+    rows: &mut Vec<HashedRow<A>, A>,
     object: &Option<Term<A>>,
 ) -> Result<usize, AllocError>
     requires { IsTrue (is_object settings (unwrap_or object.now nil)) }
@@ -66,7 +67,7 @@ fn let_go<A: Allocator>(_object: Option<Term<A>>) {}
 /// whether it did.
 pub(crate) fn put<A: Allocator + Copy>(
     settings: Settings,
-    rows: &mut Vec<Row<A>, A>,
+    rows: &mut Vec<HashedRow<A>, A>,
     object: &mut Option<Term<A>>,
     replaces: bool,
 ) -> Result<bool, AllocError>

@@ -9,23 +9,22 @@ use crate::gathering::gather;
 use crate::looking::look;
 use crate::places::held_of;
 use crate::putting::put;
-use crate::row::Row;
 use crate::walking::{first_live, live_past};
 use part_core::{FIRST_SLOTS, Held, Scope, Settings, TableKind, slots_with_row};
-use part_stored::{Rows, SeenRow};
+use part_stored::{HashedRow, Rows, SeenRow};
 use std::alloc::{AllocError, Allocator, Global};
 use term_core::Term;
 
 /// The rows of a set in one list, as they were made: each operation looks through them for its key, by hashes.
 #[derive(Drop)]
 pub struct PlainRows<A: Allocator = Global> {
-    rows: Vec<Row<A>, A>,
+    rows: Vec<HashedRow<A>, A>,
     slots: u32,
     ghost is_base: { IsBase slots },
 }
 
 /// The slots of rows that were so many before one was added at most.
-fn slots_after<A: Allocator>(rows: &[Row<A>], before: usize, slots: u32) -> u32
+fn slots_after<A: Allocator>(rows: &[HashedRow<A>], before: usize, slots: u32) -> u32
     requires { IsBase slots }
     ensures base { IsBase result }
     ensures slots { length rows.now ≤ before + 1
@@ -43,7 +42,8 @@ impl<A: Allocator + Copy> Rows<A> for PlainRows<A> {
     ghost use Rattle.part_core.specs.Ops.{scope_of};
     ghost use Rattle.part_stored.specs.Shown.{Shown, AreSound};
     ghost use Rattle.part_stored.specs.Looks.{is_placed, looked_at};
-    ghost use Rattle.part_plain.specs.Served.{serves, IsShown};
+    ghost use Rattle.part_plain.specs.Served.{IsShown};
+    ghost use Rattle.part_stored.specs.Sets.{serves};
 
     ghost serves = { serves };
 

@@ -5,17 +5,17 @@ ghost use Rattle.part_core.specs.declared.kind.TableKind.TheVariants.{Set};
 ghost use Rattle.part_core.specs.Replies.{first_live, rows_past};
 ghost use Rattle.part_core.specs.Rows.{has_row};
 ghost use Rattle.part_core.specs.Visits.{in_class, walk_order};
-ghost use Rattle.part_plain.specs.Classes.{rows_from};
+ghost use Rattle.part_stored.specs.Sets.{rows_from};
 
 use crate::places::place_of;
-use crate::row::{Row, class_of};
 use part_core::Settings;
+use part_stored::{HashedRow, class_of};
 use std::alloc::Allocator;
 use term_core::Term;
 
 /// The key of the first live row of a class.
 fn live_in<A: Allocator>(
-    rows: &[Row<A>],
+    rows: &[HashedRow<A>],
     settings: Settings,
     base: u64,
     class: u64,
@@ -34,7 +34,7 @@ fn live_in<A: Allocator>(
 
 /// The key of the first live row of the classes from one on.
 fn live_from<A: Allocator>(
-    rows: &[Row<A>],
+    rows: &[HashedRow<A>],
     settings: Settings,
     base: u64,
     first: u64,
@@ -53,7 +53,7 @@ fn live_from<A: Allocator>(
 
 /// The key of the first live row of all classes.
 pub(crate) fn first_live<A: Allocator>(
-    rows: &[Row<A>],
+    rows: &[HashedRow<A>],
     settings: Settings,
     base: u64,
 ) -> Option<&Term<A>>
@@ -67,7 +67,7 @@ pub(crate) fn first_live<A: Allocator>(
 
 /// The key of the first live row behind a place of a class, in the order of a walk.
 fn live_behind<A: Allocator>(
-    rows: &[Row<A>],
+    rows: &[HashedRow<A>],
     settings: Settings,
     base: u64,
     place: usize,
@@ -88,7 +88,7 @@ fn live_behind<A: Allocator>(
 
 /// The key of the first live row behind that of a key.
 pub(crate) fn live_past<'r, A: Allocator>(
-    rows: &'r [Row<A>],
+    rows: &'r [HashedRow<A>],
     settings: Settings,
     base: u64,
     key: &Term<A>,

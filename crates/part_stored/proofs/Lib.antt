@@ -2,3 +2,5 @@ pub mod SeenLemmas
 pub mod LeadLemmas
 pub mod SweepLemmas
 pub mod VisitLemmas
+pub mod SetLemmas
+pub mod WalkLemmas

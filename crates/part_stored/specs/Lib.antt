@@ -2,3 +2,4 @@ pub mod Shown
 pub mod Looks
 pub mod Deletions
 pub mod Stored
+pub mod Sets

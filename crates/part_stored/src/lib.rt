@@ -10,6 +10,7 @@
 //!   state, and what an operation leads to.
 //! - `reading`, `writing`, `fixing`, `walking`: its operations at one key, on its counts of fixes, and by the order
 //!   of a walk.
+//! - `hashed`: a row that keeps its key's hash, for rows of sets; `specs/Sets.antt` has what these have in common.
 //! - `looking`, `answering`, `counting`, `deleting`: visits. `specs/Looks.antt` says which rows a visit sees.
 #![tactic(auto)]
 
@@ -17,6 +18,7 @@ mod answering;
 mod counting;
 mod deleting;
 mod fixing;
+mod hashed;
 mod looking;
 mod part;
 mod reading;
@@ -26,6 +28,7 @@ mod stored;
 mod walking;
 mod writing;
 
+pub use hashed::{HashedRow, class_of};
 pub use rows::Rows;
 pub use seen::SeenRow;
 pub use stored::StoredPart;

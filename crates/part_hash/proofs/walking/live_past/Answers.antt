@@ -9,7 +9,8 @@ use Rattle.part_core.specs.Rows.{objects_at}
 use Rattle.part_core.specs.Visits.{in_class}
 use Rattle.part_hash.specs.declared.places.Place.{Place}
 use Rattle.part_hash.specs.Places.{spread}
-use Rattle.part_hash.specs.Classes.{made_from, rows_from}
+use Rattle.part_hash.specs.Classes.{made_from}
+use Rattle.part_stored.specs.Sets.{rows_from}
 use Rattle.part_hash.proofs.AddLemmas.{base_some}
 use Rattle.part_hash.proofs.WriteLemmas.{None≢Some, some_is}
 use Rattle.part_hash.proofs.BehindLemmas.{behind}

@@ -2,8 +2,8 @@ use Rattle.std.proofs.Common.{◌≡◌, ◌<◌, ◌++◌, ◌+◌, ◌/◌, �
 use Rattle.part_core.specs.Replies.{first_live}
 use Rattle.part_core.specs.Settings.{class_at}
 use Rattle.part_core.specs.Visits.{in_class}
-use Rattle.part_plain.specs.Classes.{rows_from}
-use Rattle.part_plain.proofs.WalkLemmas.{walk_behind}
+use Rattle.part_stored.specs.Sets.{rows_from}
+use Rattle.part_plain.proofs.PlaceLemmas.{walk_behind}
 use Rattle.part_plain.proofs.walking.live_past.Goals as goal
 
 pub returns-in-Some : goal.returns-in-Some

@@ -1,9 +1,11 @@
 -- The order of a walk, class by class, and what is behind a key.
-use Rattle.std.proofs.Common.{◌≡◌, ℕ, ◌<◌, ◌≤◌, ◌+◌, ◌-◌, zero, suc, List, [], ◌∷◌, ◌++◌, refl, ap, sym, ◌∙◌, drop, arith, append_assoc, eq-eqb}
+use Rattle.std.proofs.Common.{◌≡◌, ℕ, ◌<◌, ◌≤◌, ◌+◌, ◌-◌, zero, suc, List, [], ◌∷◌, ◌++◌, refl, ap, sym, ◌∙◌, arith, append_assoc, eq-eqb}
 use Rattle.std.specs.Prelude.{Bool, true, false, ◌==◌, if◌then◌else◌, Option, None, is_some, flat_map}
 use Rattle.std.specs.List.{range_with_len}
 use Rattle.std.specs.Map.{lookup}
 use Rattle.std.proofs.lemmas.Bool.{true≢false, eqb-true}
+use Rattle.std.proofs.lemmas.List.{append-nil}
+use Rattle.std.proofs.lemmas.List.Concat.{flat_map-append}
 use Rattle.std.proofs.lemmas.List.Elements.{filter-append}
 use Rattle.std.proofs.lemmas.Map.Entries.{lookup-filter-keys}
 use Rattle.term_core.specs.Datum.{Datum}
@@ -15,9 +17,7 @@ use Rattle.part_core.specs.Rows.{Row, has_row}
 use Rattle.part_core.specs.Visits.{in_class, walk_order}
 use Rattle.part_core.specs.Replies.{rows_past}
 use Rattle.part_core.proofs.KeyLemmas.{by_test, alike}
-use Rattle.part_plain.specs.Classes.{rows_from}
-use Rattle.part_plain.specs.Places.{IsPlace}
-use Rattle.part_plain.proofs.PlaceLemmas.{rest_at}
+use Rattle.part_stored.specs.Sets.{rows_from}
 
 -- ---- one class after the other
 
@@ -76,13 +76,28 @@ past_here o base k before row after more none there =
     ∙ past_skip k (in_class o base (class_at o base k) before) (row ∷ in_class o base (class_at o base k) after ++ more) (none_filtered o base (class_at o base k) k before none)
     ∙ rw there refl
 
--- the rows behind the place of a key's row are those of its class behind there, and those of the classes above
-pub walk_behind : (o : Settings) (base : ℕ) {k : Datum} {rows : List Row} {place : ℕ} → o.kind ≡ Set → class_at o base k < base → IsPlace k rows place → rows_past k (walk_order o base rows) ≡ in_class o base (class_at o base k) (drop (place + 1) rows) ++ rows_from o base (class_at o base k + 1) rows
-walk_behind o base {k} {rows} {place} kind below p =
-    let whole = p.whole in
+-- the rows behind that of a key are those of its class made after it, and those of the classes above
+pub walk_behind : (o : Settings) (base : ℕ) (k : Datum) (rows before : List Row) (row : Row) (after : List Row) → o.kind ≡ Set → class_at o base k < base → rows ≡ before ++ row ∷ after → has_row before k ≡ false → is_same k row.0 ≡ true → rows_past k (walk_order o base rows) ≡ in_class o base (class_at o base k) after ++ rows_from o base (class_at o base k + 1) rows
+walk_behind o base k rows before row after kind below whole first there =
     ap (rows_past k) (sym (walk_unordered o base rows kind))
     ∙ past_classes o base k rows (class_at o base k) 0 (omega arith) below
     ∙ ap (rows_past k) (rows_step o base (class_at o base k) rows below)
     ∙ ap (λ rs. rows_past k (in_class o base (class_at o base k) rs ++ rows_from o base (class_at o base k + 1) rows)) whole
-    ∙ past_here o base k p.before p.row p.after (rows_from o base (class_at o base k + 1) rows) p.first p.there
-    ∙ ap (λ rs. in_class o base (class_at o base k) rs ++ rows_from o base (class_at o base k + 1) rows) (sym (ap (drop (place + 1)) whole ∙ rest_at p.before p.row p.after place p.count))
+    ∙ past_here o base k before row after (rows_from o base (class_at o base k + 1) rows) first there
+
+-- ---- the objects, class by class
+
+abbrev pub all_objects : List Row → List Datum
+all_objects rows = flat_map (λ r. r.1) rows
+
+pub class_next : (o : Settings) (base class : ℕ) (rows : List Row) (before after whole : List Datum) → class < base → before ++ all_objects (rows_from o base class rows) ≡ whole → after ≡ before ++ all_objects (in_class o base class rows) → after ++ all_objects (rows_from o base (class + 1) rows) ≡ whole
+class_next o base class rows before after whole below is more =
+    ap (λ xs. xs ++ all_objects (rows_from o base (class + 1) rows)) more
+    ∙ append_assoc before (all_objects (in_class o base class rows)) (all_objects (rows_from o base (class + 1) rows))
+    ∙ ap (λ xs. before ++ xs) (sym (flat_map-append (λ (v : Row). v.1) (in_class o base class rows) (rows_from o base (class + 1) rows)))
+    ∙ ap (λ rs. before ++ all_objects rs) (sym (rows_step o base class rows below))
+    ∙ is
+
+pub classes_all : (o : Settings) (base class : ℕ) (rows : List Row) (found whole : List Datum) → base ≤ class → found ++ all_objects (rows_from o base class rows) ≡ whole → found ≡ whole
+classes_all o base class rows found whole past is =
+    sym (append-nil found) ∙ ap (λ rs. found ++ all_objects rs) (sym (rows_none o base class rows past)) ∙ is

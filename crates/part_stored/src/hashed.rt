@@ -1,8 +1,8 @@
-//! A row: a key with what is held of it.
+//! A row of a set, which keeps the hash of its key.
 ghost use Rattle.std.specs.Prelude.{◌≡◌, ◌<◌, ◌/◌, ◌%◌};
 
+use crate::seen::SeenRow;
 use part_core::{Held, Settings};
-use part_stored::SeenRow;
 use std::alloc::Allocator;
 use std::marker::Model;
 use std::mem;
@@ -10,13 +10,13 @@ use term_core::Term;
 
 /// A key, its hash, and what is held of it.
 #[derive(Drop)]
-pub struct Row<A: Allocator> {
+pub struct HashedRow<A: Allocator> {
     key: Term<A>,
     hash: u64,
     held: Held<A>,
 }
 
-impl<A: Allocator> Model for Row<A> {
+impl<A: Allocator> Model for HashedRow<A> {
     ghost use Rattle.std.specs.Prelude.{◌≡◌, List};
     ghost use Rattle.std.specs.Coded.{codes};
     ghost use Rattle.term_core.specs.Datum.{Datum};
@@ -33,7 +33,7 @@ impl<A: Allocator> Model for Row<A> {
 }
 
 /// The class of a key by a base, by its hash.
-pub(crate) fn class_of(settings: Settings, base: u64, hash: u64) -> u64
+pub fn class_of(settings: Settings, base: u64, hash: u64) -> u64
     requires parts { 0 < settings.parts }
     requires base { 0 < base }
     ensures value { result ≡ (hash / settings.parts) % base }
@@ -42,7 +42,7 @@ pub(crate) fn class_of(settings: Settings, base: u64, hash: u64) -> u64
     (hash / u64::from(settings.parts)) % base
 }
 
-impl<A: Allocator> Row<A> {
+impl<A: Allocator> HashedRow<A> {
     ghost use Rattle.std.specs.Prelude.{◌≡◌, ◌<◌, ◌==◌, [], ◌∷◌};
     ghost use Rattle.term_core.specs.KeyHash.{key_hash};
     ghost use Rattle.term_operand.specs.Order.{is_same};
@@ -54,7 +54,7 @@ impl<A: Allocator> Row<A> {
         requires { hash ≡ key_hash key }
         ensures { result ≡ (key, []) }
     {
-        Row {
+        HashedRow {
             key,
             hash,
             held: Held::none(),
@@ -80,6 +80,13 @@ impl<A: Allocator> Row<A> {
         ensures { result ≡ self.now }
     {
         SeenRow::new(&self.key, &self.held)
+    }
+
+    /// The hash of the key.
+    pub fn hash(&self) -> u64
+        ensures { result ≡ key_hash self.now.0 }
+    {
+        self.hash
     }
 
     /// Whether this is the row of a key, whose hash is known.
@@ -120,4 +127,7 @@ impl<A: Allocator> Row<A> {
     {
         mem::swap(&mut self.held, held);
     }
+
+    /// Lets the row go.
+    pub fn let_go(self) {}
 }

@@ -4,7 +4,7 @@ use Rattle.std.proofs.lemmas.Bool.{eqb-true}
 use Rattle.term_operand.specs.Order.{is_same}
 use Rattle.term_core.specs.KeyHash.{key_hash}
 use Rattle.part_core.proofs.KeyLemmas.{by_test, same_is}
-use Rattle.part_plain.proofs.row.Row.is_of.Goals as goal
+use Rattle.part_stored.proofs.hashed.HashedRow.is_of.Goals as goal
 
 pub returns-else-self-hash : goal.returns-else-self-hash
 returns-else-self-hash g c =
