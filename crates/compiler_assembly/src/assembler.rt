@@ -62,10 +62,7 @@ fn add_label<A: Allocator + Copy>(
     let Ok(frame) = frame(alloc, slots, pc, label) else {
         return Err(Fault::Memory);
     };
-    match builder.frame(frame) {
-        Ok(()) => Ok(()),
-        Err(refused) => Err(refused.fault),
-    }
+    builder.frame(frame).map_err(|refused| refused.fault)
 }
 
 /// The number of the instruction behind so many that begin at `pc`, where code may have so many.
@@ -190,10 +187,8 @@ fn add_constant<A: Allocator>(builder: &mut Builder<A>, term: Term<A>) -> Result
     ensures ok { OnOk result (builder.new ≡ with_constant builder.old term) }
     ensures refused { IfErr result (λ fault. IsPartRefused (length builder.old.constants) fault) }
 {
-    match builder.constant(term) {
-        Ok(_) => Ok(()),
-        Err(refused) => Err(refused.fault),
-    }
+    let _number = builder.constant(term).map_err(|refused| refused.fault)?;
+    Ok(())
 }
 
 /// The code with these constants behind those that it has.

@@ -1,4 +1,5 @@
 //! Why code can't be built.
+use std::alloc::AllocError;
 use thiserror::Error;
 
 /// Why a part can't be added to code.
@@ -18,6 +19,7 @@ pub enum Fault {
 impl Fault {
     ghost use Rattle.std.specs.Prelude.{◌≡◌};
     ghost use Rattle.mcode.specs.FaultNumbers.{number_of};
+    ghost use Rattle.mcode.specs.declared.fault.Fault.TheVariants.{Memory};
 
     /// The number that the fault has in what programs print.
     pub const fn number(self) -> u8
@@ -27,6 +29,16 @@ impl Fault {
             Fault::Memory => 1,
             Fault::Limit => 36,
             Fault::FrameOrder => 37,
+        }
+    }
+
+    /// The library's error for want of memory, which the fault has to be.
+    pub fn alloc_error(self) -> AllocError
+        requires { self ≡ Memory }
+    {
+        match self {
+            Fault::Memory => AllocError,
+            Fault::Limit | Fault::FrameOrder => unreachable!(),
         }
     }
 }
