@@ -388,8 +388,8 @@ fn read_list<'a, A: Allocator + Copy>(
         return Err(FileStop::At(FileCause::NotCanonical, behind.len()));
     }
     let (tail, behind) = read_constant(alloc, behind, room - 1)?;
-    let list = Term::list(alloc, elements, Some(tail)).map_err(|refused| refused
-        .fault
-        .alloc_error())?;
+    let list = Term::list(alloc, elements, Some(tail)).map_err(|refused| {
+        refused.fault.alloc_error()
+    })?;
     Ok((list, behind))
 }
