@@ -33,7 +33,7 @@ use Rattle.code_file.specs.Causes.{IsWrong}
 use Rattle.code_file.specs.Reads.{Blames, IsCut, IsRefuted, IsStop, limit_stop}
 use Rattle.term_order.specs.Keys.{IsAboveKeys}
 use Rattle.code_file.proofs.StopLemmas.{stop_due, stop_cut}
-use Rattle.code_file.proofs.RowLemmas.{IsRowSoFar, row_start, row_step, row_end, row_stop, plain_step, plain_end, plain_stop, such_counted_none}
+use Rattle.code_file.proofs.RowLemmas.{IsRowSoFar, row_start, row_step, row_end, row_stop, plain_step, plain_stop, such_counted_none}
 
 -- ---- the first byte
 

@@ -1,7 +1,6 @@
 //! The parts of code, read into a builder.
 ghost use Rattle.std.specs.Prelude.{◌≡◌, ◌<◌, length, ◌++◌, ◌∷◌, [], IfOk, IfErr};
 ghost use Rattle.mcode.specs.Program.{Rise, frame_number, most_parts};
-ghost use Rattle.mcode.specs.declared.fault.Fault.TheVariants as Refusal;
 ghost use Rattle.code_format.specs.Format.{Begins, rows, such};
 ghost use Rattle.code_format.specs.Formats.{constant_format, constants_format, instruction_format, instructions_format, frame_format, frames_format};
 ghost use Rattle.term_core.specs.Sizes.{depth_limit};
@@ -10,27 +9,15 @@ ghost use Rattle.code_file.specs.Due.Row.{constants, instructions, frames};
 ghost use Rattle.code_file.specs.Reads.{Blames, IsStop};
 ghost use Rattle.code_file.specs.Parts.{with_constants, with_instructions, with_frames, IsNextRead};
 ghost use Rattle.code_file.specs.Rising.{LastIs};
-ghost use Rattle.code_file.specs.declared.stop.FileStop.TheVariants.{Memory as OutOfMemory};
 
 use crate::constant::read_constant;
 use crate::frame::{is_above, read_frame_at};
 use crate::instr::read_instr;
 use crate::number::read_u16;
 use crate::stop::{FileCause, FileStop};
-use mcode::{Builder, Fault};
+use mcode::Builder;
 use std::alloc::Allocator;
 use term_core::{MAX_DEPTH, Term};
-
-/// Why a part wasn't added that code has room for.
-fn memory_alone(fault: Fault) -> FileStop
-    requires { fault ≡ Refusal.Memory }
-    ensures { result ≡ OutOfMemory }
-{
-    match fault {
-        Fault::Memory => FileStop::Memory,
-        Fault::Limit | Fault::FrameOrder => unreachable!(),
-    }
-}
 
 /// So many constants.
 fn read_constant_rows<'a, A: Allocator + Copy>(
@@ -50,10 +37,9 @@ fn read_constant_rows<'a, A: Allocator + Copy>(
     let mut rest = bytes;
     for _read in 0..count {
         let (constant, behind) = read_constant(alloc, rest, MAX_DEPTH)?;
-        match builder.constant(constant) {
-            Ok(_number) => {}
-            Err(refused) => return Err(memory_alone(refused.fault)),
-        }
+        let _number = builder
+            .constant(constant)
+            .map_err(|refused| refused.fault.alloc_error())?;
         rest = behind;
     }
     Ok(rest)
@@ -94,10 +80,7 @@ fn read_instr_rows<'a, A: Allocator>(
     let mut rest = bytes;
     for _read in 0..count {
         let (instr, behind) = read_instr(rest)?;
-        match builder.instr(instr) {
-            Ok(_number) => {}
-            Err(fault) => return Err(memory_alone(fault)),
-        }
+        let _number = builder.instr(instr).map_err(|fault| fault.alloc_error())?;
         rest = behind;
     }
     Ok(rest)
@@ -139,10 +122,10 @@ fn read_frame<'a, A: Allocator + Copy>(
         return Err(FileStop::At(FileCause::NotCanonical, bytes.len()));
     }
     let (frame, rest) = read_frame_at(alloc, pc, rest)?;
-    match builder.frame(frame) {
-        Ok(()) => Ok((pc, rest)),
-        Err(refused) => Err(memory_alone(refused.fault)),
-    }
+    builder
+        .frame(frame)
+        .map_err(|refused| refused.fault.alloc_error())?;
+    Ok((pc, rest))
 }
 
 /// So many frames, which rise.

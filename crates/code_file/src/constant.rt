@@ -8,7 +8,6 @@ ghost use Rattle.code_file.specs.Due.{BeginsWith};
 ghost use Rattle.code_file.specs.Due.Item.{many, a_term, a_pair, a_text_size, a_list_length, a_binary_size};
 ghost use Rattle.code_file.specs.Due.Row.{terms, pairs};
 ghost use Rattle.code_file.specs.Reads.{Reads, Blames, limit_stop};
-ghost use Rattle.code_file.specs.declared.stop.FileStop.TheVariants.{Memory as OutOfMemory};
 
 use crate::number::{read_i64, read_u8, read_u16, read_u32, take};
 use crate::stop::{FileCause, FileStop};
@@ -41,10 +40,8 @@ fn read_text(bytes: &[u8]) -> Result<(&str, &[u8]), FileStop>
 {
     let (count, behind) = read_u16(bytes)?;
     let (text, rest) = take(behind, usize::from(count))?;
-    match from_utf8(text) {
-        Ok(text) => Ok((text, rest)),
-        Err(_) => Err(FileStop::At(FileCause::NotCanonical, behind.len())),
-    }
+    let text = from_utf8(text).map_err(|_| FileStop::At(FileCause::NotCanonical, behind.len()))?;
+    Ok((text, rest))
 }
 
 /// The bytes of a binary.
@@ -104,14 +101,11 @@ fn read_atom<'a, A: Allocator + Copy>(
         bytes.now result }
 {
     let (text, behind) = read_text(rest)?;
-    match atom_of_text(alloc, text) {
-        Ok(atom) => {
-            // Asked for the proof: a term is within its limits.
-            let _depth = atom.depth();
-            Ok((atom, behind))
-        }
-        Err(fault) => Err(atom_stop(fault, rest.len() - 2)),
-    }
+    let left = rest.len() - 2;
+    let atom = atom_of_text(alloc, text).map_err(|fault| atom_stop(fault, left))?;
+    // Asked for the proof: a term is within its limits.
+    let _depth = atom.depth();
+    Ok((atom, behind))
 }
 
 /// A binary, behind its tag.
@@ -127,14 +121,11 @@ fn read_binary<'a, A: Allocator + Copy>(
         bytes.now result }
 {
     let (content, behind) = read_binary_bytes(rest)?;
-    match Term::binary(alloc, Vec::from_slice(alloc, content)?) {
-        Ok(binary) => {
-            // Asked for the proof: a term is within its limits.
-            let _depth = binary.depth();
-            Ok((binary, behind))
-        }
-        Err(refused) => Err(FileStop::from(refused.fault.alloc_error())),
-    }
+    let content = Vec::from_slice(alloc, content)?;
+    let binary = Term::binary(alloc, content).map_err(|refused| refused.fault.alloc_error())?;
+    // Asked for the proof: a term is within its limits.
+    let _depth = binary.depth();
+    Ok((binary, behind))
 }
 
 /// Whether these bytes begin with the tag of a list.
@@ -262,10 +253,12 @@ fn read_short_tuple<'a, A: Allocator + Copy>(
         bytes.now result }
 {
     let (elements, behind) = read_short_row(alloc, count, behind, room - 1)?;
-    match Term::short_tuple(alloc, elements) {
-        Ok(tuple) => Ok((tuple, behind)),
-        Err(refused) => Err(FileStop::from(refused.fault.alloc_error())),
-    }
+    let tuple = Term::short_tuple(alloc, elements).map_err(
+        |refused| -> AllocError
+            requires { refused.fault ≡ Refusal.Memory }
+        { refused.fault.alloc_error() },
+    )?;
+    Ok((tuple, behind))
 }
 
 /// A tuple, behind its tag.
@@ -286,10 +279,8 @@ fn read_tuple<'a, A: Allocator + Copy>(
         return read_short_tuple(alloc, bytes, rest, count, behind, room);
     }
     let (elements, behind) = read_elements(alloc, u32::from(count), behind, room - 1)?;
-    match Term::tuple(alloc, elements) {
-        Ok(tuple) => Ok((tuple, behind)),
-        Err(refused) => Err(FileStop::from(refused.fault.alloc_error())),
-    }
+    let tuple = Term::tuple(alloc, elements).map_err(|refused| refused.fault.alloc_error())?;
+    Ok((tuple, behind))
 }
 
 /// A pair whose key stands above those before it.
@@ -352,10 +343,8 @@ fn read_map_of_one<'a, A: Allocator + Copy>(
 {
     let before = Vec::new(alloc);
     let ((key, value), behind) = read_pair(alloc, before.as_slice(), behind, room - 1)?;
-    match Term::map_of_one(alloc, key, value) {
-        Ok(map) => Ok((map, behind)),
-        Err(refused) => Err(FileStop::from(refused.fault.alloc_error())),
-    }
+    let map = Term::map_of_one(alloc, key, value).map_err(|refused| refused.fault.alloc_error())?;
+    Ok((map, behind))
 }
 
 /// A map, behind its tag.
@@ -376,10 +365,8 @@ fn read_map<'a, A: Allocator + Copy>(
         return read_map_of_one(alloc, bytes, rest, behind, room);
     }
     let (pairs, behind) = read_pairs(alloc, count, behind, room - 1)?;
-    match map_of_pairs(alloc, pairs) {
-        Ok(map) => Ok((map, behind)),
-        Err(refused) => Err(FileStop::from(refused.fault.alloc_error())),
-    }
+    let map = map_of_pairs(alloc, pairs).map_err(|refused| refused.fault.alloc_error())?;
+    Ok((map, behind))
 }
 
 /// A list, behind its tag.
@@ -401,8 +388,8 @@ fn read_list<'a, A: Allocator + Copy>(
         return Err(FileStop::At(FileCause::NotCanonical, behind.len()));
     }
     let (tail, behind) = read_constant(alloc, behind, room - 1)?;
-    match Term::list(alloc, elements, Some(tail)) {
-        Ok(list) => Ok((list, behind)),
-        Err(refused) => Err(FileStop::from(refused.fault.alloc_error())),
-    }
+    let list = Term::list(alloc, elements, Some(tail)).map_err(|refused| {
+        refused.fault.alloc_error()
+    })?;
+    Ok((list, behind))
 }

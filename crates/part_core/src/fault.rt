@@ -80,6 +80,7 @@ impl Fault {
 impl OpenFault {
     ghost use Rattle.std.specs.Prelude.{◌≡◌};
     ghost use Rattle.part_core.specs.FaultNumbers.{open_fault_number};
+    ghost use Rattle.part_core.specs.declared.fault.OpenFault.TheVariants.{Memory};
 
     /// The number that the fault has in what programs print.
     pub const fn number(self) -> u8
@@ -88,6 +89,16 @@ impl OpenFault {
         match self {
             OpenFault::Memory => 1,
             OpenFault::BadOptions => 60,
+        }
+    }
+
+    /// The library's error for want of memory, which the fault has to be.
+    pub fn alloc_error(self) -> AllocError
+        requires { self ≡ Memory }
+    {
+        match self {
+            OpenFault::Memory => AllocError,
+            OpenFault::BadOptions => unreachable!(),
         }
     }
 }

@@ -1,5 +1,6 @@
 -- A table that is opened, and its objects.
 use Rattle.std.proofs.Common.{◌≡◌, ℕ, zero, suc, ◌+◌, ◌-◌, ◌<◌, ◌≤◌, List, [], ◌∷◌, ◌++◌, refl, ap, sym, ◌∙◌, Some, All, arith, slice_get, flat_map, append_assoc}
+use Rattle.std.specs.Prelude.{Result, Ok, Err, IfErr, IsErrOf}
 use Rattle.std.specs.List.{range_with_len}
 use Rattle.std.specs.Coded.{codes}
 use Rattle.std.proofs.Props.{props}
@@ -10,6 +11,8 @@ use Rattle.std.proofs.lemmas.List.Concat.{flat_map-append}
 use Rattle.std.proofs.lemmas.Option.{slice_get_within, get_or_from_slice_get}
 use Rattle.term_core.specs.Datum.{Datum}
 use Rattle.term_core.specs.DatumCode.{datum_code}
+use Rattle.part_core.specs.declared.fault.OpenFault.{OpenFault}
+use Rattle.part_core.specs.declared.fault.OpenFault.TheVariants as open_fault
 use Rattle.part_core.specs.declared.settings.Settings.{Settings}
 use Rattle.part_core.specs.Acts.{History}
 use Rattle.part_core.specs.Rows.{Row, PartState, opening}
@@ -22,6 +25,12 @@ use Rattle.tables.specs.Local.{part_objects, objects_seen}
 use Rattle.tables.specs.OneThread.{TableState, opened}
 use Rattle.walks.specs.OneThread.{table_objects}
 use Rattle.tool_script.specs.State.{IsAt}
+
+-- a fault that isn't that of the options is want of memory
+pub memory_alone : {T : Type 0} (P : Type 0) (r : Result T OpenFault) → P → (IsErrOf r open_fault.BadOptions → ¬ P) → IfErr r (λ fault. fault ≡ open_fault.Memory)
+memory_alone P (Ok t) holds refused = tt
+memory_alone P (Err open_fault.Memory) holds refused = refl
+memory_alone P (Err open_fault.BadOptions) holds refused = absurd (refused refl holds)
 
 pub opened_is : (o p : Options) (sees : Views → Type 0) → p ≡ o → sees (λ part. []) → IsAt p sees (opened o)
 opened_is o p sees same none =

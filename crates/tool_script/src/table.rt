@@ -10,7 +10,7 @@ ghost use Rattle.tool_script.specs.State.{IsAt, IsAnswered};
 use crate::command::Ask;
 use crate::reply::CommandReply;
 use crate::session::perform;
-use part_core::{OpenFault, Part};
+use part_core::Part;
 use std::alloc::{AllocError, Allocator};
 use tables::{LocalTable, Options};
 
@@ -40,18 +40,5 @@ pub(crate) fn open_at<A: Allocator + Copy, P: Part<A> + Drop>(
     ensures state { IfOk result (λ table. IsAt table.options
         (AreAfter P.is_after table.parts.items) (opened options)) }
 {
-    match LocalTable::open(alloc, options) {
-        Ok(table) => Ok(table),
-        Err(fault) => Err(memory_alone(fault)),
-    }
-}
-
-/// Want of memory, which the fault has to be.
-fn memory_alone(fault: OpenFault) -> AllocError
-    requires { fault ≡ OpenFault.Memory }
-{
-    match fault {
-        OpenFault::Memory => AllocError,
-        OpenFault::BadOptions => unreachable!(),
-    }
+    LocalTable::open(alloc, options).map_err(|fault| fault.alloc_error())
 }

@@ -1,12 +1,14 @@
-use Rattle.std.proofs.Common.{◌-◌, [], ◌∷◌, ◌∙◌, arith, refl}
-use Rattle.std.proofs.lemmas.Result.{err_from_is_err_and}
+use Rattle.std.proofs.Common.{◌≡◌, ◌-◌, [], ◌∷◌, ◌∙◌, arith, refl, rules}
+use Rattle.std.proofs.lemmas.Result.{err_from_is_err_and, IfErr-weaker}
+use Rattle.std.specs.Prelude.{Ok, IfErr}
 use Rattle.term_core.specs.Datum.Datum.{tuple, map}
 use Rattle.term_core.specs.Datum.{items_of, entries_of, cells}
 use Rattle.term_core.specs.ShortRow.{row_items}
+use Rattle.term_core.specs.declared.fault.Fault.TheVariants.{Memory}
 use Rattle.code_format.specs.Formats.{constant_format, pair_format, RisingPairs}
 use Rattle.code_file.specs.Due.{BeginsWith}
 use Rattle.code_file.proofs.RowLemmas.{row_start, row_step, plain_step, not_so}
-use Rattle.code_file.proofs.LevelLemmas.{tag_short, level_past, nil_begins, tag_unnamed, elements_stop, tuple_short, tuple_stop, tuple_begins, row_of_one, made, pair_key_stop, pair_value_stop, key_unordered, pair_begins, pairs_stop, map_short, map_stop, map_begins, map_of_one, map_made, map_term, list_short, list_stop, tail_stop, tail_joined, tail_no_cell, list_begins}
+use Rattle.code_file.proofs.LevelLemmas.{tag_short, level_past, nil_begins, tag_unnamed, elements_stop, tuple_short, tuple_stop, tuple_begins, made, pair_key_stop, pair_value_stop, key_unordered, pair_begins, pairs_stop, map_short, map_stop, map_begins, map_of_one, map_made, map_term, list_short, list_stop, tail_stop, tail_joined, tail_no_cell, list_begins}
 use Rattle.code_file.proofs.constant.+constant.Goals as goal
 
 pub read_constant-returns-in_err-tag : goal.read_constant-returns-in_err-tag
@@ -44,13 +46,17 @@ read_tuple-returns-in_err-elements g t c =
     let p = err_from_is_err_and c.from_residual-in_err-elements.result c.from_residual-in_err-elements.ensures.1 in
     rw (p.1, p.2) (tuple_stop (c.args.room - 1) c.args.room c.args.bytes.now c.args.rest.now c.in_ok-count.count c.in_ok-count.behind.now _ (omega arith) c.requires.tag c.in_ok-count.ensures (rw c.from.ensures at c.in_err-elements.ensures))
 
-pub read_tuple-returns-in-Ok : goal.read_tuple-returns-in-Ok
-read_tuple-returns-in-Ok g t c = rw c.in-Ok.ensures.ok (tuple_begins (c.args.room - 1) c.args.room c.args.bytes.now c.args.rest.now c.in_ok-count.count c.in_ok-count.behind.now c.in_ok-elements.elements.items c.in_ok-elements.behind.now (omega arith) c.requires.tag c.in_ok-count.ensures (rw c.from.ensures at c.in_ok-elements.ensures))
+pub read_tuple-returns : goal.read_tuple-returns
+read_tuple-returns g t c =
+    let is : c.tuple.result ≡ Ok c.in_ok-tuple.tuple = search rules in
+    rw (rw is at c.tuple.ensures.ok) (tuple_begins (c.args.room - 1) c.args.room c.args.bytes.now c.args.rest.now c.in_ok-count.count c.in_ok-count.behind.now c.in_ok-elements.elements.items c.in_ok-elements.behind.now (omega arith) c.requires.tag c.in_ok-count.ensures (rw c.from.ensures at c.in_ok-elements.ensures))
 
-pub read_tuple-alloc_error-requires : goal.read_tuple-alloc_error-requires
-read_tuple-alloc_error-requires g t c =
+pub read_tuple-map_err-requires : goal.read_tuple-map_err-requires
+read_tuple-map_err-requires g t c =
     let begun = tuple_begins (c.args.room - 1) c.args.room c.args.bytes.now c.args.rest.now c.in_ok-count.count c.in_ok-count.behind.now c.in_ok-elements.elements.items c.in_ok-elements.behind.now (omega arith) c.requires.tag c.in_ok-count.ensures (rw c.from.ensures at c.in_ok-elements.ensures) in
-    made c.args.room c.args.bytes.now (tuple (items_of c.in_ok-elements.elements.items)) c.in_ok-elements.behind.now c.in-Err.refused.fault (omega arith) begun c.in-Err.ensures.refused.1
+    let alone : IfErr c.tuple.result (λ refused. refused.fault ≡ Memory) =
+    IfErr-weaker c.tuple.result _ _ (λ refused k. made c.args.room c.args.bytes.now (tuple (items_of c.in_ok-elements.elements.items)) c.in_ok-elements.behind.now refused.fault (omega arith) begun k.1) c.tuple.ensures.refused in
+    search (rules, alone)
 
 pub read_short_row-returns-in_err-first : goal.read_short_row-returns-in_err-first
 read_short_row-returns-in_err-first g t c =
@@ -73,14 +79,17 @@ read_short_tuple-returns-in_err-elements g t c =
     let p = err_from_is_err_and c.from_residual.result c.from_residual.ensures.1 in
     rw (p.1, p.2) (tuple_stop (c.args.room - 1) c.args.room c.args.bytes.now c.args.rest.now c.args.count c.args.behind.now _ (omega arith) c.requires.tag c.requires.count c.in_err-elements.ensures)
 
-pub read_short_tuple-returns-in-Ok : goal.read_short_tuple-returns-in-Ok
-read_short_tuple-returns-in-Ok g t c =
-    rw c.in-Ok.ensures.ok (tuple_begins (c.args.room - 1) c.args.room c.args.bytes.now c.args.rest.now c.args.count c.args.behind.now (row_items c.in_ok-elements.elements) c.in_ok-elements.behind.now (omega arith) c.requires.tag c.requires.count c.in_ok-elements.ensures)
+pub read_short_tuple-returns : goal.read_short_tuple-returns
+read_short_tuple-returns g t c =
+    let is : c.short_tuple.result ≡ Ok c.in_ok-tuple.tuple = search rules in
+    rw (rw is at c.short_tuple.ensures.ok) (tuple_begins (c.args.room - 1) c.args.room c.args.bytes.now c.args.rest.now c.args.count c.args.behind.now (row_items c.in_ok-elements.elements) c.in_ok-elements.behind.now (omega arith) c.requires.tag c.requires.count c.in_ok-elements.ensures)
 
-pub read_short_tuple-alloc_error-requires : goal.read_short_tuple-alloc_error-requires
-read_short_tuple-alloc_error-requires g t c =
+pub read_short_tuple-map_err-requires : goal.read_short_tuple-map_err-requires
+read_short_tuple-map_err-requires g t c =
     let begun = tuple_begins (c.args.room - 1) c.args.room c.args.bytes.now c.args.rest.now c.args.count c.args.behind.now (row_items c.in_ok-elements.elements) c.in_ok-elements.behind.now (omega arith) c.requires.tag c.requires.count c.in_ok-elements.ensures in
-    made c.args.room c.args.bytes.now (tuple (items_of (row_items c.in_ok-elements.elements))) c.in_ok-elements.behind.now c.in-Err.refused.fault (omega arith) begun c.in-Err.ensures.refused.1
+    let alone : IfErr c.short_tuple.result (λ refused. refused.fault ≡ Memory) =
+    IfErr-weaker c.short_tuple.result _ _ (λ refused k. made c.args.room c.args.bytes.now (tuple (items_of (row_items c.in_ok-elements.elements))) c.in_ok-elements.behind.now refused.fault (omega arith) begun k.1) c.short_tuple.ensures.refused in
+    search (rules, alone)
 
 pub read_pair-returns-in_err-key : goal.read_pair-returns-in_err-key
 read_pair-returns-in_err-key g t c =
@@ -116,14 +125,17 @@ read_map_of_one-returns-in_err-key g t c =
     rw (p.1, p.2) (map_stop room c.args.room c.args.bytes.now c.args.rest.now 1 c.args.behind.now _ (omega arith) c.requires.tag c.requires.count
     (pairs_stop room 1 c.args.behind.now [] c.args.behind.now 0 _ start (omega arith) (rw (c.as_slice.ensures.value ∙ c.new-before.ensures.items) at c.in_err-key.ensures)))
 
-pub read_map_of_one-returns-in-Ok : goal.read_map_of_one-returns-in-Ok
-read_map_of_one-returns-in-Ok g t c =
-    rw c.in-Ok.ensures.ok (map_of_one (c.args.room - 1) c.args.room c.args.bytes.now c.args.rest.now c.args.behind.now (c.in_ok-key.key, c.in_ok-key.value) c.in_ok-key.behind.now (omega arith) c.requires.tag c.requires.count (rw (c.as_slice.ensures.value ∙ c.new-before.ensures.items) at c.in_ok-key.ensures))
+pub read_map_of_one-returns : goal.read_map_of_one-returns
+read_map_of_one-returns g t c =
+    let is : c.map_of_one.result ≡ Ok c.in_ok-map.map = search rules in
+    rw (rw is at c.map_of_one.ensures.ok) (map_of_one (c.args.room - 1) c.args.room c.args.bytes.now c.args.rest.now c.args.behind.now (c.in_ok-key.key, c.in_ok-key.value) c.in_ok-key.behind.now (omega arith) c.requires.tag c.requires.count (rw (c.as_slice.ensures.value ∙ c.new-before.ensures.items) at c.in_ok-key.ensures))
 
-pub read_map_of_one-alloc_error-requires : goal.read_map_of_one-alloc_error-requires
-read_map_of_one-alloc_error-requires g t c =
+pub read_map_of_one-map_err-requires : goal.read_map_of_one-map_err-requires
+read_map_of_one-map_err-requires g t c =
     let begun = map_of_one (c.args.room - 1) c.args.room c.args.bytes.now c.args.rest.now c.args.behind.now (c.in_ok-key.key, c.in_ok-key.value) c.in_ok-key.behind.now (omega arith) c.requires.tag c.requires.count (rw (c.as_slice.ensures.value ∙ c.new-before.ensures.items) at c.in_ok-key.ensures) in
-    made c.args.room c.args.bytes.now (map (entries_of ((c.in_ok-key.key, c.in_ok-key.value) ∷ []))) c.in_ok-key.behind.now c.in-Err.refused.fault (omega arith) begun c.in-Err.ensures.refused.1
+    let alone : IfErr c.map_of_one.result (λ refused. refused.fault ≡ Memory) =
+    IfErr-weaker c.map_of_one.result _ _ (λ refused k. made c.args.room c.args.bytes.now (map (entries_of ((c.in_ok-key.key, c.in_ok-key.value) ∷ []))) c.in_ok-key.behind.now refused.fault (omega arith) begun k.1) c.map_of_one.ensures.refused in
+    search (rules, alone)
 
 pub read_map-returns-in_err-count : goal.read_map-returns-in_err-count
 read_map-returns-in_err-count g t c =
@@ -135,14 +147,17 @@ read_map-returns-in_err-pairs g t c =
     let p = err_from_is_err_and c.from_residual-in_err-pairs.result c.from_residual-in_err-pairs.ensures.1 in
     rw (p.1, p.2) (map_stop (c.args.room - 1) c.args.room c.args.bytes.now c.args.rest.now c.in_ok-count.count c.in_ok-count.behind.now _ (omega arith) c.requires.tag c.in_ok-count.ensures c.in_err-pairs.ensures)
 
-pub read_map-returns-in-Ok : goal.read_map-returns-in-Ok
-read_map-returns-in-Ok g t c =
-    rw (← map_term c.in_ok-pairs.pairs.items c.in-Ok.map c.in_ok-pairs.ensures.fits.1 c.in-Ok.ensures.only) (map_begins (c.args.room - 1) c.args.room c.args.bytes.now c.args.rest.now c.in_ok-count.count c.in_ok-count.behind.now c.in_ok-pairs.pairs.items c.in_ok-pairs.behind.now (omega arith) c.requires.tag c.in_ok-count.ensures c.in_ok-pairs.ensures)
+pub read_map-returns : goal.read_map-returns
+read_map-returns g t c =
+    let is : c.map_of_pairs.result ≡ Ok c.in_ok-map.map = search rules in
+    rw (← map_term c.in_ok-pairs.pairs.items c.in_ok-map.map c.in_ok-pairs.ensures.fits.1 (rw is at c.map_of_pairs.ensures.only)) (map_begins (c.args.room - 1) c.args.room c.args.bytes.now c.args.rest.now c.in_ok-count.count c.in_ok-count.behind.now c.in_ok-pairs.pairs.items c.in_ok-pairs.behind.now (omega arith) c.requires.tag c.in_ok-count.ensures c.in_ok-pairs.ensures)
 
-pub read_map-alloc_error-requires : goal.read_map-alloc_error-requires
-read_map-alloc_error-requires g t c =
+pub read_map-map_err-requires : goal.read_map-map_err-requires
+read_map-map_err-requires g t c =
     let begun = map_begins (c.args.room - 1) c.args.room c.args.bytes.now c.args.rest.now c.in_ok-count.count c.in_ok-count.behind.now c.in_ok-pairs.pairs.items c.in_ok-pairs.behind.now (omega arith) c.requires.tag c.in_ok-count.ensures c.in_ok-pairs.ensures in
-    map_made c.args.room c.args.bytes.now c.in_ok-pairs.pairs.items c.in_ok-pairs.behind.now c.in-Err.refused.fault (omega arith) c.in_ok-pairs.ensures.fits.1 begun c.in-Err.ensures.refused.1
+    let alone : IfErr c.map_of_pairs.result (λ refused. refused.fault ≡ Memory) =
+    IfErr-weaker c.map_of_pairs.result _ _ (λ refused k. map_made c.args.room c.args.bytes.now c.in_ok-pairs.pairs.items c.in_ok-pairs.behind.now refused.fault (omega arith) c.in_ok-pairs.ensures.fits.1 begun k.1) c.map_of_pairs.ensures.refused in
+    search (rules, alone)
 
 pub read_list-returns-in_err-count : goal.read_list-returns-in_err-count
 read_list-returns-in_err-count g t c =
@@ -162,13 +177,16 @@ read_list-returns-in_err-tail g t c =
     let p = err_from_is_err_and c.from_residual-in_err-tail.result c.from_residual-in_err-tail.ensures.1 in
     rw (p.1, p.2) (tail_stop (c.args.room - 1) c.args.room c.args.bytes.now c.args.rest.now c.in_ok-count.count c.in_ok-count.behind.now c.in_ok-elements.elements.items c.in_ok-elements.behind.now _ (omega arith) c.requires.tag c.in_ok-count.ensures c.in_ok-elements.ensures (not_so {P = BeginsWith (6 ∷ []) c.in_ok-elements.behind.now} c.if-begins_list.ensures.1) c.in_err-tail.ensures)
 
-pub read_list-returns-in-Ok : goal.read_list-returns-in-Ok
-read_list-returns-in-Ok g t c =
-    let no_cell = tail_no_cell (c.args.room - 1) c.in_ok-elements.behind.now c.in_ok-tail.tail c.in_ok-tail.behind.now c.in_ok-tail.ensures (not_so c.if-begins_list.ensures.1) in
-    rw c.in-Ok.ensures.ok (list_begins (c.args.room - 1) c.args.room c.args.bytes.now c.args.rest.now c.in_ok-count.count c.in_ok-count.behind.now c.in_ok-elements.elements.items c.in_ok-elements.behind.now c.in_ok-tail.tail c.in_ok-tail.behind.now (omega arith) c.requires.tag c.in_ok-count.ensures c.in_ok-elements.ensures c.in_ok-tail.ensures no_cell)
+pub read_list-returns : goal.read_list-returns
+read_list-returns g t c =
+    let is : c.list.result ≡ Ok c.in_ok-list.list = search rules in
+    let no_cell = tail_no_cell (c.args.room - 1) c.in_ok-elements.behind.now c.in_ok-tail.tail c.in_ok-tail.behind.now c.in_ok-tail.ensures (not_so {P = BeginsWith (6 ∷ []) c.in_ok-elements.behind.now} c.if-begins_list.ensures.1) in
+    rw (rw is at c.list.ensures.ok) (list_begins (c.args.room - 1) c.args.room c.args.bytes.now c.args.rest.now c.in_ok-count.count c.in_ok-count.behind.now c.in_ok-elements.elements.items c.in_ok-elements.behind.now c.in_ok-tail.tail c.in_ok-tail.behind.now (omega arith) c.requires.tag c.in_ok-count.ensures c.in_ok-elements.ensures c.in_ok-tail.ensures no_cell)
 
-pub read_list-alloc_error-requires : goal.read_list-alloc_error-requires
-read_list-alloc_error-requires g t c =
-    let no_cell = tail_no_cell (c.args.room - 1) c.in_ok-elements.behind.now c.in_ok-tail.tail c.in_ok-tail.behind.now c.in_ok-tail.ensures (not_so c.if-begins_list.ensures.1) in
+pub read_list-map_err-requires : goal.read_list-map_err-requires
+read_list-map_err-requires g t c =
+    let no_cell = tail_no_cell (c.args.room - 1) c.in_ok-elements.behind.now c.in_ok-tail.tail c.in_ok-tail.behind.now c.in_ok-tail.ensures (not_so {P = BeginsWith (6 ∷ []) c.in_ok-elements.behind.now} c.if-begins_list.ensures.1) in
     let begun = list_begins (c.args.room - 1) c.args.room c.args.bytes.now c.args.rest.now c.in_ok-count.count c.in_ok-count.behind.now c.in_ok-elements.elements.items c.in_ok-elements.behind.now c.in_ok-tail.tail c.in_ok-tail.behind.now (omega arith) c.requires.tag c.in_ok-count.ensures c.in_ok-elements.ensures c.in_ok-tail.ensures no_cell in
-    made c.args.room c.args.bytes.now (cells c.in_ok-elements.elements.items c.in_ok-tail.tail) c.in_ok-tail.behind.now c.in-Err.refused.fault (omega arith) begun c.in-Err.ensures.refused.1
+    let alone : IfErr c.list.result (λ refused. refused.fault ≡ Memory) =
+    IfErr-weaker c.list.result _ _ (λ refused k. made c.args.room c.args.bytes.now (cells c.in_ok-elements.elements.items c.in_ok-tail.tail) c.in_ok-tail.behind.now refused.fault (omega arith) begun k.1) c.list.ensures.refused in
+    search (rules, alone)
