@@ -1,15 +1,12 @@
 -- What is held of a key exchanged, and the row that goes.
-use Rattle.std.proofs.Common.{◌≡◌, ℕ, List, [], ◌∷◌, ◌++◌, refl, ap, sym, subst, ◌∙◌, set, get_or}
-use Rattle.std.specs.Prelude.{Bool, true, false, not, ◌||◌, if◌then◌else◌, filter}
+use Rattle.std.proofs.Common.{◌≡◌, ℕ, List, ◌∷◌, ◌++◌, refl, ap, sym, subst, ◌∙◌, set, get_or}
+use Rattle.std.specs.Prelude.{true, false, if◌then◌else◌, filter}
 use Rattle.std.specs.List.{IsDistinct}
 use Rattle.std.specs.Map.{keys_of}
-use Rattle.std.proofs.lemmas.Bool.{true≢false}
 use Rattle.std.proofs.lemmas.List.Elements.{filter-append}
 use Rattle.term_core.specs.Datum.{Datum}
 use Rattle.term_operand.specs.Order.{is_same}
 use Rattle.part_core.specs.Rows.{Row, is_live, has_row, rows_at_key}
-use Rattle.part_core.proofs.KeyLemmas.{by_test}
-use Rattle.part_core.proofs.RowLemmas.{unwritten}
 use Rattle.part_stored.specs.Shown.{rows_exchanged}
 use Rattle.part_plain.specs.Places.{IsPlace}
 use Rattle.part_plain.proofs.PlaceLemmas.{none_behind, place_row, place_set, written_at}

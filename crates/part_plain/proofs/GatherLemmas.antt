@@ -1,6 +1,6 @@
 -- The objects of rows, class by class.
 use Rattle.std.proofs.Common.{◌≡◌, ℕ, ◌<◌, ◌≤◌, ◌+◌, List, [], ◌∷◌, ◌++◌, refl, ap, sym, ◌∙◌, length, take, get_or, append_assoc}
-use Rattle.std.specs.Prelude.{Bool, true, false, ◌==◌, if◌then◌else◌, flat_map}
+use Rattle.std.specs.Prelude.{Bool, true, false, ◌==◌, if◌then◌else◌}
 use Rattle.std.proofs.lemmas.List.{append-nil, take_more, take_all}
 use Rattle.std.proofs.lemmas.List.Concat.{flat_map-append}
 use Rattle.std.proofs.lemmas.List.Elements.{filter-append}
@@ -9,8 +9,7 @@ use Rattle.part_core.specs.declared.settings.Settings.{Settings}
 use Rattle.part_core.specs.Settings.{class_at}
 use Rattle.part_core.specs.Rows.{Row}
 use Rattle.part_core.specs.Visits.{in_class}
-use Rattle.part_stored.specs.Sets.{rows_from}
-use Rattle.part_stored.proofs.WalkLemmas.{rows_step, rows_none, all_objects}
+use Rattle.part_stored.proofs.WalkLemmas.{all_objects}
 
 -- ---- the rows of a class
 

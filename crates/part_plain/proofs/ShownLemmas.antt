@@ -1,9 +1,9 @@
 -- What rows in one list show.
-use Rattle.std.proofs.Common.{◌≡◌, ℕ, ◌≤◌, ◌+◌, List, refl, ap, sym, subst, ◌∙◌, arith, length}
-use Rattle.std.specs.Prelude.{Bool, true, false, if◌then◌else◌, IsTrue}
+use Rattle.std.proofs.Common.{◌≡◌, ℕ, ◌≤◌, ◌+◌, List, ap, sym, subst, ◌∙◌, arith, length}
+use Rattle.std.specs.Prelude.{Bool, true, false, if◌then◌else◌}
 use Rattle.term_core.specs.Datum.{Datum}
 use Rattle.part_core.specs.declared.kind.TableKind.{TableKind}
-use Rattle.part_core.specs.declared.kind.TableKind.TheVariants.{Set, OrderedSet, Bag, DuplicateBag}
+use Rattle.part_core.specs.declared.kind.TableKind.TheVariants.{Set}
 use Rattle.part_core.specs.declared.settings.Settings.{Settings}
 use Rattle.part_core.specs.Settings.{is_ordered}
 use Rattle.part_core.specs.Rows.{Row, with_object}
@@ -13,7 +13,6 @@ use Rattle.part_core.proofs.AfterLemmas.{slots_same}
 use Rattle.part_core.proofs.StepLemmas.{slots_grow, put_length}
 use Rattle.part_stored.specs.Shown.{Shown, shown_with}
 use Rattle.part_plain.specs.Served.{IsShown}
-use Rattle.part_stored.specs.Sets.{serves}
 use Rattle.part_stored.proofs.SetLemmas.{set_served}
 
 -- ---- slots

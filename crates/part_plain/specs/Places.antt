@@ -1,5 +1,5 @@
 -- At which place of a list of rows a key stands.
-use Rattle.std.specs.Prelude.{ℕ, ◌≡◌, IsTrue, IsFalse, if◌then◌else◌, length, List, [], ◌∷◌, ◌++◌}
+use Rattle.std.specs.Prelude.{ℕ, ◌≡◌, IsTrue, IsFalse, length, List, ◌∷◌, ◌++◌}
 use Rattle.term_core.specs.Datum.{Datum}
 use Rattle.term_operand.specs.Order.{is_same}
 use Rattle.part_core.specs.Rows.{Row, has_row}

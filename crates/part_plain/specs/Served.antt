@@ -1,7 +1,5 @@
 -- Which tables rows in one list are for, and what they show.
-use Rattle.std.specs.Prelude.{ℕ, ◌≡◌, Bool, true, false, IsTrue, List}
-use Rattle.part_core.specs.declared.kind.TableKind.{TableKind}
-use Rattle.part_core.specs.declared.kind.TableKind.TheVariants.{Set}
+use Rattle.std.specs.Prelude.{ℕ, ◌≡◌, IsTrue, List}
 use Rattle.part_core.specs.declared.settings.Settings.{Settings}
 use Rattle.part_core.specs.Rows.{Row}
 use Rattle.part_stored.specs.Shown.{Shown}

@@ -13,7 +13,11 @@ use std::alloc::Allocator;
 use term_core::Term;
 
 /// The place of a key's row.
-pub(crate) fn place_of<A: Allocator>(rows: &[HashedRow<A>], key: &Term<A>, hash: u64) -> Option<usize>
+pub(crate) fn place_of<A: Allocator>(
+    rows: &[HashedRow<A>],
+    key: &Term<A>,
+    hash: u64,
+) -> Option<usize>
     requires { hash ≡ key_hash key.now }
     ensures { MatchOption result (IsFalse (has_row rows.now key.now))
         (λ place. IsPlace key.now rows.now place) }
@@ -27,7 +31,10 @@ pub(crate) fn place_of<A: Allocator>(rows: &[HashedRow<A>], key: &Term<A>, hash:
 }
 
 /// What is held of a key, none where it has no row.
-pub(crate) fn held_of<'r, A: Allocator>(rows: &'r [HashedRow<A>], key: &Term<A>) -> Option<&'r Held<A>>
+pub(crate) fn held_of<'r, A: Allocator>(
+    rows: &'r [HashedRow<A>],
+    key: &Term<A>,
+) -> Option<&'r Held<A>>
     ensures { option_copied result ≡ lookup (is_same key.now) rows.now }
 {
     match place_of(rows, key, key.key_hash()) {

@@ -1,6 +1,6 @@
 -- Rows of sets.
 use Rattle.std.proofs.Common.{◌≡◌, List, [], ◌∷◌, refl, ap, sym, ◌∙◌}
-use Rattle.std.specs.Prelude.{Bool, true, false, not, ◌||◌, if◌then◌else◌, IsTrue, filter}
+use Rattle.std.specs.Prelude.{Bool, true, false, not, ◌||◌, IsTrue, filter}
 use Rattle.std.specs.List.{IsDistinct}
 use Rattle.std.specs.Map.{keys_of}
 use Rattle.std.proofs.lemmas.Bool.{true≢false}
@@ -9,7 +9,7 @@ use Rattle.term_core.specs.Datum.{Datum}
 use Rattle.term_operand.specs.Order.{is_same}
 use Rattle.part_core.specs.declared.kind.TableKind.{TableKind}
 use Rattle.part_core.specs.declared.kind.TableKind.TheVariants.{Set, OrderedSet, Bag, DuplicateBag}
-use Rattle.part_core.specs.Rows.{Row, is_live, has_row, objects_at, rows_at_key}
+use Rattle.part_core.specs.Rows.{Row, is_live, has_row, objects_at}
 use Rattle.part_core.proofs.KeyLemmas.{by_test, same_is}
 use Rattle.part_core.proofs.KeyedLemmas.{no_other, none_there}
 use Rattle.part_core.proofs.RowLemmas.{unwritten}
