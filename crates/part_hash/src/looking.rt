@@ -14,7 +14,7 @@ ghost use Rattle.part_hash.specs.Classes.{class_of_slots};
 ghost use Rattle.part_hash.specs.Places.{passes, rows_of};
 ghost use Rattle.part_hash.specs.Standing.{Stands};
 
-use crate::places::Place;
+use crate::places::{Place, places_in};
 use crate::row::Row;
 use crate::store::Store;
 use crate::walking::{places_of, step_of};
@@ -80,7 +80,7 @@ fn places_by_slot<A: Allocator + Copy>(
     let slots = store.slots.as_slice();
     let mut places = Vec::new(alloc);
     for turn in 0..slots.len() as u64 / step_of(slots.len() as u64, base) {
-        let some = places_of(slots, base, class, turn);
+        let some = places_of(&store.rows, slots, base, class, turn);
         gather_places(&store.rows, settings, base, class, some, &mut places)?;
     }
     Ok(places)
@@ -158,7 +158,8 @@ fn look_in<'r, A: Allocator + Copy>(
         → into.new.items ≡ into.old.items ++ in_class settings base class rows) }
 {
     if base == store.slots.len() as u64 {
-        look_at_places(&store.rows, store.slots[class as usize].places(), into)?;
+        let places = places_in(&store.rows, &store.slots[class as usize]);
+        look_at_places(&store.rows, places, into)?;
         return Ok(());
     }
     let places = places_of_class(*into.allocator(), store, settings, base, class)?;

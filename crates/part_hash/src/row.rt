@@ -13,6 +13,8 @@ use term_core::Term;
 pub struct Row<A: Allocator> {
     key: Term<A>,
     hash: u64,
+    // How many were made before it: where its place is looked for.
+    made: u64,
     held: Held<A>,
 }
 
@@ -48,14 +50,15 @@ impl<A: Allocator> Row<A> {
     ghost use Rattle.part_core.specs.Settings.{class_at};
     ghost use Rattle.part_core.specs.Rows.{is_live};
 
-    /// A dead row of a key, whose hash is known.
-    pub fn new(key: Term<A>, hash: u64) -> Self
+    /// A dead row of a key, whose hash is known, before which so many were made.
+    pub fn new(key: Term<A>, hash: u64, made: u64) -> Self
         requires { hash ≡ key_hash key }
         ensures { result ≡ (key, []) }
     {
         Row {
             key,
             hash,
+            made,
             held: Held::none(),
         }
     }
@@ -86,6 +89,11 @@ impl<A: Allocator> Row<A> {
         ensures { result ≡ key_hash self.now.0 }
     {
         self.hash
+    }
+
+    /// How many rows were made before it, by which its place is looked for.
+    pub fn made(&self) -> u64 {
+        self.made
     }
 
     /// Whether the key has an object.
