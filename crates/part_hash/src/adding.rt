@@ -19,6 +19,7 @@ use crate::places::{Place, Slot, places_in, slot_of, spread_of};
 use crate::row::Row;
 use crate::store::Store;
 use part_core::{Settings, slots_with_row};
+use part_stored::HashedRow;
 use slab::Slab;
 use std::alloc::{AllocError, Allocator};
 use std::mem;
@@ -36,7 +37,7 @@ fn is_in<A: Allocator>(
     ensures { result ≡ passes (λ k. slot_at settings count k == number) rows.now place }
 {
     match rows.get(place.at) {
-        Some(row) => slot_of(spread_of(settings), row.hash(), count) == number,
+        Some(row) => slot_of(spread_of(settings), row.hashed().hash(), count) == number,
         None => false,
     }
 }
@@ -239,7 +240,7 @@ pub(crate) fn add<A: Allocator + Copy>(
         return Err(AllocError);
     };
     let hash = key.key_hash();
-    let row = Row::new(key.copy()?, hash, store.made);
+    let row = Row::new(HashedRow::new(key.copy()?, hash), store.made);
     let own = key.copy()?;
     let place = Place {
         made: store.made,

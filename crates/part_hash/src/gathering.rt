@@ -27,7 +27,7 @@ fn gather_row<A: Allocator + Copy>(
         ≡ into.old.items ++ option_map_or (λ r. r.1) (get rows.now at) []) }
 {
     if let Some(row) = rows.get(at) {
-        if let Some(object) = row.held().object() {
+        if let Some(object) = row.hashed().held().object() {
             into.push(object.copy()?)?;
         }
     }

@@ -59,7 +59,7 @@ fn is_of_class<A: Allocator>(
     ensures { result ≡ passes (λ k. class_at settings base k == class) rows.now place }
 {
     match rows.get(place.at) {
-        Some(row) => row.is_in(settings, base, class),
+        Some(row) => row.hashed().is_in(settings, base, class),
         None => false,
     }
 }
@@ -124,7 +124,7 @@ fn look_at_row<'r, A: Allocator>(
     ensures { IfOk result (λ _. into.new.items ≡ into.old.items ++ option_to_list (get rows.now at)) }
 {
     if let Some(row) = rows.get(at) {
-        into.push(row.seen())?;
+        into.push(row.hashed().seen())?;
     }
     Ok(())
 }

@@ -50,8 +50,9 @@ fn remove<A: Allocator>(store: &mut Store<A>, spread: u64, at: usize)
     let Some(row) = store.rows.try_remove(at) else {
         return;
     };
-    index::take(&mut store.index, row.key());
-    unlist(&mut store.slots, spread, row.hash(), at, row.made());
+    let hashed = row.hashed();
+    index::take(&mut store.index, hashed.key());
+    unlist(&mut store.slots, spread, hashed.hash(), at, row.made());
     row.let_go();
 }
 
@@ -70,7 +71,7 @@ fn is_dead<A: Allocator>(rows: &Slab<Row<A>, A>, at: usize) -> bool
     ensures { result ≡ is_dead_at rows.now at }
 {
     match rows.get(at) {
-        Some(row) => !row.is_live(),
+        Some(row) => !row.hashed().is_live(),
         None => false,
     }
 }

@@ -14,9 +14,10 @@ ghost use Rattle.part_hash.specs.Places.{spread};
 ghost use Rattle.part_hash.specs.Standing.{Stands};
 
 use crate::places::{Place, Slot, later, places_in, slot_of, spread_of};
-use crate::row::{Row, class_of};
+use crate::row::Row;
 use crate::store::Store;
 use part_core::Settings;
+use part_stored::class_of;
 use slab::Slab;
 use std::alloc::Allocator;
 use term_core::Term;
@@ -38,7 +39,7 @@ fn is_next<A: Allocator>(
         return false;
     }
     match rows.get(place.at) {
-        Some(row) => row.is_live() && row.is_in(settings, base, class),
+        Some(row) => row.hashed().is_live() && row.hashed().is_in(settings, base, class),
         None => false,
     }
 }
@@ -146,7 +147,7 @@ fn key_at<A: Allocator>(rows: &Slab<Row<A>, A>, at: usize) -> Option<&Term<A>>
     ensures { option_copied result ≡ option_map (λ r. r.0) (get rows.now at) }
 {
     match rows.get(at) {
-        Some(row) => Some(row.key()),
+        Some(row) => Some(row.hashed().key()),
         None => None,
     }
 }
