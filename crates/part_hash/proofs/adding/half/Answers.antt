@@ -1,4 +1,4 @@
-use Rattle.std.proofs.Common.{rules, ◌≡◌, ◌==◌, ◌*◌, ◌%◌, List, [], length, ap, sym, subst, ◌∙◌, get_or}
+use Rattle.std.proofs.Common.{rules, ◌≡◌, ◌==◌, ◌*◌, ◌%◌, List, [], length, ap, subst, ◌∙◌, get_or}
 use Rattle.std.specs.Prelude.{IfOk, filter}
 use Rattle.std.proofs.lemmas.List.{get_or_default}
 use Rattle.std.proofs.Math.Nat.{mod-lt}

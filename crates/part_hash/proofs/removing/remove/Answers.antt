@@ -1,4 +1,4 @@
-use Rattle.std.proofs.Common.{rules, ◌≡◌, ◌<◌, ◌/◌, ◌%◌, List, [], length, get_or, ap, ◌∙◌}
+use Rattle.std.proofs.Common.{rules, ◌≡◌, ◌/◌, ◌%◌, List, [], length, get_or, ap, ◌∙◌}
 use Rattle.std.specs.Prelude.{None, cond}
 use Rattle.std.specs.HashMap.{get_by}
 use Rattle.term_core.specs.Datum.{Datum}

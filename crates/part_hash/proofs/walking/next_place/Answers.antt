@@ -1,4 +1,4 @@
-use Rattle.std.proofs.Common.{rules, arith, ℕ, ◌≡◌, ◌==◌, ◌+◌, suc, List, [], length, ap, sym, ◌∙◌, get_or}
+use Rattle.std.proofs.Common.{arith, ℕ, ◌≡◌, ◌==◌, ◌+◌, suc, List, [], length, ap, ◌∙◌, get_or}
 use Rattle.std.specs.Prelude.{Bool, ◌&&◌, false, find, Option}
 use Rattle.std.specs.Option.{option_map_or}
 use Rattle.slab.specs.Slab.{get}
