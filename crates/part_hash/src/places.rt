@@ -25,7 +25,7 @@ pub struct Place {
 /// The places of the rows of a slot, in the order in which they were made.
 #[derive(Drop)]
 pub struct Slot<A: Allocator> {
-    // A place that was taken out is a hole, until every second one would be.
+    // A place that was taken out is a hole, until every eighth one would be.
     places: Vec<Place, A>,
     gone: usize,
 }
@@ -166,7 +166,7 @@ impl<A: Allocator> Slot<A> {
     pub fn remove(&mut self, at: usize, made: u64)
         ensures { IsAlone at self.old → self.new ≡ filter (λ p. not (p.at == at)) self.old }
     {
-        if self.gone < self.places.len() / 2 {
+        if self.gone < self.places.len() / 8 {
             if let Some(number) = position(self.places.as_slice(), at, made) {
                 self.places[number].at = GONE;
                 self.gone += 1;
