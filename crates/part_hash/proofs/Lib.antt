@@ -14,3 +14,5 @@ pub mod ClassLemmas
 pub mod GatherLemmas
 pub mod EmptyLemmas
 pub mod ShownLemmas
+pub mod HoleLemmas
+pub mod AloneLemmas

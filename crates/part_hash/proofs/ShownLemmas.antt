@@ -8,7 +8,7 @@ use Rattle.slab.specs.Slab.{Slab}
 use Rattle.term_core.specs.Datum.{Datum}
 use Rattle.term_operand.specs.Order.{is_same}
 use Rattle.part_core.specs.declared.kind.TableKind.{TableKind}
-use Rattle.part_core.specs.declared.kind.TableKind.TheVariants.{Set, OrderedSet, Bag, DuplicateBag}
+use Rattle.part_core.specs.declared.kind.TableKind.TheVariants.{Set}
 use Rattle.part_core.specs.declared.settings.Settings.{Settings}
 use Rattle.part_core.specs.Rows.{Row, is_empty, is_live, rows_at_key, with_object}
 use Rattle.part_core.specs.After.{slots_after}
@@ -18,7 +18,6 @@ use Rattle.part_stored.specs.Shown.{Shown, shown_with, rows_exchanged}
 use Rattle.part_hash.specs.declared.places.Place.{Place}
 use Rattle.part_hash.specs.Standing.{Stands}
 use Rattle.part_hash.specs.Served.{IsShown}
-use Rattle.part_stored.specs.Sets.{serves}
 use Rattle.part_stored.proofs.SetLemmas.{set_served}
 
 -- an object that was put in, or wasn't

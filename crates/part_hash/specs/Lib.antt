@@ -3,3 +3,4 @@ pub mod Places
 pub mod Standing
 pub mod Swept
 pub mod Classes
+pub mod Holes

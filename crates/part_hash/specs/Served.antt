@@ -1,10 +1,8 @@
 -- Which tables these rows are for, and what they show.
-use Rattle.std.specs.Prelude.{ℕ, ◌≡◌, Bool, true, false, IsTrue, All, length, List}
+use Rattle.std.specs.Prelude.{ℕ, ◌≡◌, Bool, true, IsTrue, All, length, List}
 use Rattle.std.specs.HashMap.{HashMap}
 use Rattle.slab.specs.Slab.{Slab}
 use Rattle.term_core.specs.Datum.{Datum}
-use Rattle.part_core.specs.declared.kind.TableKind.{TableKind}
-use Rattle.part_core.specs.declared.kind.TableKind.TheVariants.{Set}
 use Rattle.part_core.specs.declared.settings.Settings.{Settings}
 use Rattle.part_core.specs.Rows.{Row, is_live}
 use Rattle.part_stored.specs.Shown.{Shown}

@@ -15,7 +15,7 @@ ghost use Rattle.part_hash.specs.Places.{Standing, passes, half_at, slot_at};
 ghost use Rattle.part_hash.specs.Standing.{Stands, AreListed};
 
 use crate::index;
-use crate::places::{Place, Slot, slot_of, spread_of};
+use crate::places::{Place, Slot, places_in, slot_of, spread_of};
 use crate::row::Row;
 use crate::store::Store;
 use part_core::{Settings, slots_with_row};
@@ -36,7 +36,7 @@ fn is_in<A: Allocator>(
     ensures { result ≡ passes (λ k. slot_at settings count k == number) rows.now place }
 {
     match rows.get(place.at) {
-        Some(row) => slot_of(spread_of(settings), row.hash(), count) == number,
+        Some(row) => slot_of(spread_of(settings), row.hashed().hash(), count) == number,
         None => false,
     }
 }
@@ -76,7 +76,7 @@ fn half<A: Allocator>(
     ensures { IfOk result (λ half. half ≡ half_at settings rows.now slots.now number) }
 {
     let count = slots.len();
-    let slot = slots[number % count].places();
+    let slot = places_in(rows, &slots[number % count]);
     part(alloc, rows, settings, 2 * count as u64, number as u64, slot)
 }
 
@@ -239,7 +239,7 @@ pub(crate) fn add<A: Allocator + Copy>(
         return Err(AllocError);
     };
     let hash = key.key_hash();
-    let row = Row::new(key.copy()?, hash);
+    let row = Row::new(key.copy()?, hash, store.made);
     let own = key.copy()?;
     let place = Place {
         made: store.made,

@@ -9,7 +9,7 @@ ghost use Rattle.part_hash.specs.Places.{rows_of};
 ghost use Rattle.part_hash.specs.Standing.{Stands};
 
 use crate::looking::places_of_class;
-use crate::places::Place;
+use crate::places::{Place, places_in};
 use crate::row::Row;
 use crate::store::Store;
 use part_core::Settings;
@@ -27,7 +27,7 @@ fn gather_row<A: Allocator + Copy>(
         ≡ into.old.items ++ option_map_or (λ r. r.1) (get rows.now at) []) }
 {
     if let Some(row) = rows.get(at) {
-        if let Some(object) = row.held().object() {
+        if let Some(object) = row.hashed().held().object() {
             into.push(object.copy()?)?;
         }
     }
@@ -64,7 +64,8 @@ fn gather_class<A: Allocator + Copy>(
         → into.new.items ≡ into.old.items ++ flat_map (λ r. r.1) (in_class settings base class rows)) }
 {
     if base == store.slots.len() as u64 {
-        gather_places(&store.rows, store.slots[class as usize].places(), into)?;
+        let places = places_in(&store.rows, &store.slots[class as usize]);
+        gather_places(&store.rows, places, into)?;
         return Ok(());
     }
     let places = places_of_class(*into.allocator(), store, settings, base, class)?;

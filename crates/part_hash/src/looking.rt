@@ -14,7 +14,7 @@ ghost use Rattle.part_hash.specs.Classes.{class_of_slots};
 ghost use Rattle.part_hash.specs.Places.{passes, rows_of};
 ghost use Rattle.part_hash.specs.Standing.{Stands};
 
-use crate::places::Place;
+use crate::places::{Place, places_in};
 use crate::row::Row;
 use crate::store::Store;
 use crate::walking::{places_of, step_of};
@@ -59,7 +59,7 @@ fn is_of_class<A: Allocator>(
     ensures { result ≡ passes (λ k. class_at settings base k == class) rows.now place }
 {
     match rows.get(place.at) {
-        Some(row) => row.is_in(settings, base, class),
+        Some(row) => row.hashed().is_in(settings, base, class),
         None => false,
     }
 }
@@ -80,7 +80,7 @@ fn places_by_slot<A: Allocator + Copy>(
     let slots = store.slots.as_slice();
     let mut places = Vec::new(alloc);
     for turn in 0..slots.len() as u64 / step_of(slots.len() as u64, base) {
-        let some = places_of(slots, base, class, turn);
+        let some = places_of(&store.rows, slots, base, class, turn);
         gather_places(&store.rows, settings, base, class, some, &mut places)?;
     }
     Ok(places)
@@ -124,7 +124,7 @@ fn look_at_row<'r, A: Allocator>(
     ensures { IfOk result (λ _. into.new.items ≡ into.old.items ++ option_to_list (get rows.now at)) }
 {
     if let Some(row) = rows.get(at) {
-        into.push(row.seen())?;
+        into.push(row.hashed().seen())?;
     }
     Ok(())
 }
@@ -158,7 +158,8 @@ fn look_in<'r, A: Allocator + Copy>(
         → into.new.items ≡ into.old.items ++ in_class settings base class rows) }
 {
     if base == store.slots.len() as u64 {
-        look_at_places(&store.rows, store.slots[class as usize].places(), into)?;
+        let places = places_in(&store.rows, &store.slots[class as usize]);
+        look_at_places(&store.rows, places, into)?;
         return Ok(());
     }
     let places = places_of_class(*into.allocator(), store, settings, base, class)?;

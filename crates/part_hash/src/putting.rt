@@ -80,7 +80,7 @@ fn is_live_at<A: Allocator>(rows: &Slab<Row<A>, A>, at: usize) -> bool
     ensures { result ≡ option_map_or is_live (get rows.now at) false }
 {
     match rows.get(at) {
-        Some(row) => row.is_live(),
+        Some(row) => row.hashed().is_live(),
         None => false,
     }
 }

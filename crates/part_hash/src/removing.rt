@@ -1,5 +1,5 @@
 //! Rows that are written, or taken out.
-ghost use Rattle.std.specs.Prelude.{ℕ, ◌≡◌, ◌<◌, ◌+◌, ◌==◌, List, All, Some, None, false, filter, if◌then◌else◌, length, not};
+ghost use Rattle.std.specs.Prelude.{ℕ, ◌≡◌, ◌<◌, ◌+◌, ◌/◌, ◌%◌, ◌==◌, [], List, All, get_or, Some, None, false, filter, if◌then◌else◌, length, not};
 ghost use Rattle.slab.specs.Slab.{Updates, get};
 ghost use Rattle.term_core.specs.Datum.{Datum};
 ghost use Rattle.term_core.specs.KeyHash.{key_hash};
@@ -7,6 +7,7 @@ ghost use Rattle.term_operand.specs.Order.{is_same};
 ghost use Rattle.part_core.specs.declared.settings.Settings.{Settings as AnySettings};
 ghost use Rattle.part_core.specs.Rows.{Row as AnyRow, has_row, is_live, objects_at};
 ghost use Rattle.part_stored.specs.Shown.{rows_exchanged};
+ghost use Rattle.part_hash.specs.Holes.{IsAlone};
 ghost use Rattle.part_hash.specs.Places.{Standing, spread as spread_of};
 ghost use Rattle.part_hash.specs.Standing.{AreListed, Stands};
 ghost use Rattle.part_hash.specs.Swept.{AreDeadFrom, is_dead_at};
@@ -20,18 +21,19 @@ use slab::Slab;
 use std::alloc::Allocator;
 use term_core::Term;
 
-/// Takes the place at a key of the slab out of the slot of a hash.
-fn unlist<A: Allocator>(slots: &mut Vec<Slot<A>, A>, spread: u64, hash: u64, at: usize)
+/// Takes the place at a key of the slab, before whose row so many were made, out of the slot of a hash.
+fn unlist<A: Allocator>(slots: &mut Vec<Slot<A>, A>, spread: u64, hash: u64, at: usize, made: u64)
     requires spread { 0 < spread }
     requires slots { 0 < length slots.old.items }
     ensures count { length slots.new.items ≡ length slots.old.items }
     ensures listed { (o : AnySettings) (key : Datum) (list : List Standing) → spread ≡ spread_of o
         → hash ≡ key_hash key → All (λ e. (e.0.at == at) ≡ is_same key e.1.0) list
+        → IsAlone at (get_or slots.old.items ((hash / spread) % length slots.old.items) [])
         → AreListed o slots.old.items list
         → AreListed o slots.new.items (filter (λ e. not (is_same key e.1.0)) list) }
 {
     let number = slot_of(spread, hash, slots.len() as u64) as usize;
-    slots[number].remove(at);
+    slots[number].remove(at, made);
 }
 
 /// Takes the row at a key of the slab out.
@@ -48,8 +50,9 @@ fn remove<A: Allocator>(store: &mut Store<A>, spread: u64, at: usize)
     let Some(row) = store.rows.try_remove(at) else {
         return;
     };
-    index::take(&mut store.index, row.key());
-    unlist(&mut store.slots, spread, row.hash(), at);
+    let hashed = row.hashed();
+    index::take(&mut store.index, hashed.key());
+    unlist(&mut store.slots, spread, hashed.hash(), at, row.made());
     row.let_go();
 }
 
@@ -68,7 +71,7 @@ fn is_dead<A: Allocator>(rows: &Slab<Row<A>, A>, at: usize) -> bool
     ensures { result ≡ is_dead_at rows.now at }
 {
     match rows.get(at) {
-        Some(row) => !row.is_live(),
+        Some(row) => !row.hashed().is_live(),
         None => false,
     }
 }

@@ -1,114 +1,62 @@
-//! A row: a key with what is held of it.
-ghost use Rattle.std.specs.Prelude.{◌≡◌, ◌<◌, ◌/◌, ◌%◌};
-
-use part_core::{Held, Settings};
-use part_stored::SeenRow;
+//! A row that remembers how many were made before it.
+use part_core::Held;
+use part_stored::HashedRow;
 use std::alloc::Allocator;
 use std::marker::Model;
-use std::mem;
 use term_core::Term;
 
-/// A key, its hash, and what is held of it.
+/// A row, and how many were made before it, by which its place is looked for.
 #[derive(Drop)]
 pub struct Row<A: Allocator> {
-    key: Term<A>,
-    hash: u64,
-    held: Held<A>,
+    hashed: HashedRow<A>,
+    made: u64,
 }
 
 impl<A: Allocator> Model for Row<A> {
-    ghost use Rattle.std.specs.Prelude.{◌≡◌, List};
+    ghost use Rattle.std.specs.Prelude.{List};
     ghost use Rattle.std.specs.Coded.{codes};
     ghost use Rattle.term_core.specs.Datum.{Datum};
     ghost use Rattle.term_core.specs.DatumCode.{datum_code};
-    ghost use Rattle.term_core.specs.KeyHash.{key_hash};
 
     ghost Value = { Datum × List Datum };
 
     ghost coded = { Prim.hlevel (codes, datum_code) };
 
-    ghost view = { λ r. (r.key, r.held) };
-
-    ghost invariant = { λ r. r.hash ≡ key_hash r.key };
-}
-
-/// The class of a key by a base, by its hash.
-pub(crate) fn class_of(settings: Settings, base: u64, hash: u64) -> u64
-    requires parts { 0 < settings.parts }
-    requires base { 0 < base }
-    ensures value { result ≡ (hash / settings.parts) % base }
-    ensures within { result < base }
-{
-    (hash / u64::from(settings.parts)) % base
+    ghost view = { λ r. r.hashed };
 }
 
 impl<A: Allocator> Row<A> {
-    ghost use Rattle.std.specs.Prelude.{◌≡◌, ◌<◌, ◌==◌, [], ◌∷◌};
+    ghost use Rattle.std.specs.Prelude.{◌≡◌, [], ◌∷◌};
     ghost use Rattle.term_core.specs.KeyHash.{key_hash};
-    ghost use Rattle.part_core.specs.Settings.{class_at};
-    ghost use Rattle.part_core.specs.Rows.{is_live};
 
-    /// A dead row of a key, whose hash is known.
-    pub fn new(key: Term<A>, hash: u64) -> Self
+    /// A dead row of a key, whose hash is known, before which so many were made.
+    pub fn new(key: Term<A>, hash: u64, made: u64) -> Self
         requires { hash ≡ key_hash key }
         ensures { result ≡ (key, []) }
     {
         Row {
-            key,
-            hash,
-            held: Held::none(),
+            hashed: HashedRow::new(key, hash),
+            made,
         }
     }
 
-    /// The key.
-    pub fn key(&self) -> &Term<A>
-        ensures { result.now ≡ self.now.0 }
+    /// The row, without that number.
+    pub fn hashed(&self) -> &HashedRow<A>
+        ensures { result.now ≡ self.now }
     {
-        &self.key
+        &self.hashed
     }
 
-    /// What is held of it.
-    pub fn held(&self) -> &Held<A>
-        ensures { result.now ≡ self.now.1 }
-    {
-        &self.held
-    }
-
-    /// The row, as a visit sees it.
-    pub fn seen(&self) -> SeenRow<'_, A>
-        ensures { result ≡ self.now }
-    {
-        SeenRow::new(&self.key, &self.held)
-    }
-
-    /// The hash of the key.
-    pub fn hash(&self) -> u64
-        ensures { result ≡ key_hash self.now.0 }
-    {
-        self.hash
-    }
-
-    /// Whether the key has an object.
-    pub fn is_live(&self) -> bool
-        ensures { result ≡ is_live self.now }
-    {
-        !self.held.is_empty()
-    }
-
-    /// Whether the key is of a class, by a base.
-    pub fn is_in(&self, settings: Settings, base: u64, class: u64) -> bool
-        requires parts { 0 < settings.parts }
-        requires base { 0 < base }
-        ensures { result ≡ (class_at settings base self.now.0 == class) }
-    {
-        class_of(settings, base, self.hash) == class
+    /// How many rows were made before it.
+    pub fn made(&self) -> u64 {
+        self.made
     }
 
     /// Puts an object in the place of the one that is there.
     pub fn put(&mut self, object: Term<A>)
         ensures { self.new ≡ (self.old.0, object ∷ []) }
     {
-        self.held.put(object);
+        self.hashed.put(object);
     }
 
     /// What is held of the key and `held` change places.
@@ -116,9 +64,11 @@ impl<A: Allocator> Row<A> {
         ensures row { self.new ≡ (self.old.0, held.old) }
         ensures held { held.new ≡ self.old.1 }
     {
-        mem::swap(&mut self.held, held);
+        self.hashed.exchange(held);
     }
 
     /// Lets the row go.
-    pub fn let_go(self) {}
+    pub fn let_go(self) {
+        self.hashed.let_go();
+    }
 }

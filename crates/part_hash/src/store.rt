@@ -86,7 +86,7 @@ fn held_at<A: Allocator>(rows: &Slab<Row<A>, A>, at: usize) -> Option<&Held<A>>
     ensures { option_copied result ≡ option_map (λ r. r.1) (get rows.now at) }
 {
     match rows.get(at) {
-        Some(row) => Some(row.held()),
+        Some(row) => Some(row.hashed().held()),
         None => None,
     }
 }

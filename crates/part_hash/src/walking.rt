@@ -1,5 +1,5 @@
 //! The order of a walk: class by class, in each as the rows were made.
-ghost use Rattle.std.specs.Prelude.{◌≡◌, ◌<◌, ◌+◌, ◌/◌, ◌%◌, ◌≤◌, ◌==◌, ◌++◌, [], List, find, get_or, length, option_map, IsTrue};
+ghost use Rattle.std.specs.Prelude.{◌≡◌, ◌<◌, ◌+◌, ◌/◌, ◌%◌, ◌≤◌, ◌==◌, ◌++◌, [], List, None, find, get_or, length, option_map, IsTrue};
 ghost use Rattle.std.specs.Option.{option_copied};
 ghost use Rattle.slab.specs.Slab.{get};
 ghost use Rattle.part_core.specs.declared.kind.TableKind.TheVariants.{Set};
@@ -9,13 +9,15 @@ ghost use Rattle.part_core.specs.States.{IsBase};
 ghost use Rattle.part_core.specs.Visits.{in_class, walk_order};
 ghost use Rattle.part_hash.specs.Classes.{earlier as earlier_of, is_next as is_next_of, made_from, next_of_class, slot_of_class, step_of as step_between};
 ghost use Rattle.part_stored.specs.Sets.{rows_from};
+ghost use Rattle.part_hash.specs.Holes.{AreRising, IsAlone, gone, there};
 ghost use Rattle.part_hash.specs.Places.{spread};
 ghost use Rattle.part_hash.specs.Standing.{Stands};
 
-use crate::places::{Place, Slot, slot_of, spread_of};
-use crate::row::{Row, class_of};
+use crate::places::{Place, Slot, later, places_in, slot_of, spread_of};
+use crate::row::Row;
 use crate::store::Store;
 use part_core::Settings;
+use part_stored::class_of;
 use slab::Slab;
 use std::alloc::Allocator;
 use term_core::Term;
@@ -37,7 +39,7 @@ fn is_next<A: Allocator>(
         return false;
     }
     match rows.get(place.at) {
-        Some(row) => row.is_live() && row.is_in(settings, base, class),
+        Some(row) => row.hashed().is_live() && row.hashed().is_in(settings, base, class),
         None => false,
     }
 }
@@ -89,20 +91,24 @@ pub(crate) fn step_of(count: u64, base: u64) -> u64
     if count % base == 0 { base } else { 1 }
 }
 
-/// The places of one of the slots in which rows of a class may stand.
-pub(crate) fn places_of<A: Allocator>(
-    slots: &[Slot<A>],
+/// The places of one of the slots in which rows of a class may stand, with holes, at which no row is.
+pub(crate) fn places_of<'s, A: Allocator>(
+    rows: &Slab<Row<A>, A>,
+    slots: &'s [Slot<A>],
     base: u64,
     class: u64,
     turn: u64,
-) -> &[Place]
+) -> &'s [Place]
     requires base { 0 < base }
     requires few { length slots.now ≤ 65536 }
     requires turn { turn < length slots.now / step_between (length slots.now) base }
-    ensures { result.now ≡ get_or slots.now (slot_of_class (length slots.now) base class turn) [] }
+    ensures places { there result.now
+        ≡ get_or slots.now (slot_of_class (length slots.now) base class turn) [] }
+    ensures rising { AreRising result.now }
+    ensures holes { get rows.now gone ≡ None }
 {
     let step = step_of(slots.len() as u64, base);
-    slots[(class % step + turn * step) as usize].places()
+    places_in(rows, &slots[(class % step + turn * step) as usize])
 }
 
 /// The first place of a live row of a class, made after so many.
@@ -120,10 +126,17 @@ fn next_place<A: Allocator>(
     let slots = store.slots.as_slice();
     let mut next = None;
     for turn in 0..slots.len() as u64 / step_of(slots.len() as u64, base) {
-        let places = places_of(slots, base, class, turn);
+        let places = places_of(&store.rows, slots, base, class, turn);
         next = earlier(
             next,
-            next_among(&store.rows, settings, base, class, from, places),
+            next_among(
+                &store.rows,
+                settings,
+                base,
+                class,
+                from,
+                later(places, from),
+            ),
         );
     }
     next
@@ -134,7 +147,7 @@ fn key_at<A: Allocator>(rows: &Slab<Row<A>, A>, at: usize) -> Option<&Term<A>>
     ensures { option_copied result ≡ option_map (λ r. r.0) (get rows.now at) }
 {
     match rows.get(at) {
-        Some(row) => Some(row.key()),
+        Some(row) => Some(row.hashed().key()),
         None => None,
     }
 }
@@ -217,31 +230,28 @@ fn live_behind<A: Allocator>(
     }
 }
 
-/// The place at a key of the slab.
-fn place_at(places: &[Place], at: usize) -> Option<Place>
-    ensures { result ≡ find (λ p. p.at == at) places.now }
-{
-    for place in places {
-        if place.at == at {
-            return Some(*place);
-        }
-    }
-    None
-}
-
-/// The place at a key of the slab, which is that of a row with this hash.
+/// The place at a key of the slab, which is that of a row with this hash, before which so many were made.
 fn place_of<A: Allocator>(
     slots: &[Slot<A>],
     settings: Settings,
     hash: u64,
     at: usize,
+    made: u64,
 ) -> Option<Place>
     requires { 0 < length slots.now }
-    ensures { result
+    ensures { IsAlone at (get_or slots.now ((hash / spread settings) % length slots.now) []) → result
         ≡ find (λ p. p.at == at) (get_or slots.now ((hash / spread settings) % length slots.now) []) }
 {
     let number = slot_of(spread_of(settings), hash, slots.len() as u64) as usize;
-    place_at(slots[number].places(), at)
+    slots[number].find(at, made)
+}
+
+/// How many rows were made before that at a key of the slab.
+fn made_at<A: Allocator>(rows: &Slab<Row<A>, A>, at: usize) -> u64 {
+    match rows.get(at) {
+        Some(row) => row.made(),
+        None => 0,
+    }
 }
 
 /// How many rows were made up to that at a place, where so many were made in all.
@@ -272,7 +282,8 @@ pub(crate) fn live_past<'r, A: Allocator>(
         return None;
     };
     let hash = key.key_hash();
-    let Some(place) = place_of(store.slots.as_slice(), settings, hash, at) else {
+    let made = made_at(&store.rows, at);
+    let Some(place) = place_of(store.slots.as_slice(), settings, hash, at, made) else {
         return None;
     };
     let class = class_of(settings, base, hash);
