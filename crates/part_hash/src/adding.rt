@@ -19,7 +19,6 @@ use crate::places::{Place, Slot, places_in, slot_of, spread_of};
 use crate::row::Row;
 use crate::store::Store;
 use part_core::{Settings, slots_with_row};
-use part_stored::HashedRow;
 use slab::Slab;
 use std::alloc::{AllocError, Allocator};
 use std::mem;
@@ -240,7 +239,7 @@ pub(crate) fn add<A: Allocator + Copy>(
         return Err(AllocError);
     };
     let hash = key.key_hash();
-    let row = Row::new(HashedRow::new(key.copy()?, hash), store.made);
+    let row = Row::new(key.copy()?, hash, store.made);
     let own = key.copy()?;
     let place = Place {
         made: store.made,

@@ -27,12 +27,17 @@ impl<A: Allocator> Model for Row<A> {
 
 impl<A: Allocator> Row<A> {
     ghost use Rattle.std.specs.Prelude.{◌≡◌, [], ◌∷◌};
+    ghost use Rattle.term_core.specs.KeyHash.{key_hash};
 
-    /// A row before which so many were made.
-    pub fn new(hashed: HashedRow<A>, made: u64) -> Self
-        ensures { result ≡ hashed }
+    /// A dead row of a key, whose hash is known, before which so many were made.
+    pub fn new(key: Term<A>, hash: u64, made: u64) -> Self
+        requires { hash ≡ key_hash key }
+        ensures { result ≡ (key, []) }
     {
-        Row { hashed, made }
+        Row {
+            hashed: HashedRow::new(key, hash),
+            made,
+        }
     }
 
     /// The row, without that number.
