@@ -20,4 +20,4 @@ pub record IsShown {S : Type 0} (o : Settings) (slab : Slab Row) (index : HashMa
   pub rows : Stands o slab index lists made w.rows
   pub spread : divisor ≡ spread_of o
   pub slots : w.slots ≡ length lists
-  pub dead : dead ≡ dead_rows w.rows
+  pub count : dead ≡ dead_rows w.rows

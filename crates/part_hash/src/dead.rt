@@ -1,5 +1,5 @@
 //! How many rows are dead.
-ghost use Rattle.std.specs.Prelude.{◌≡◌, ◌≤◌, ◌==◌, IsTrue, List, if◌then◌else◌, option_map, unwrap_or};
+ghost use Rattle.std.specs.Prelude.{◌≡◌, ◌==◌, IsTrue, List, if◌then◌else◌, option_map, unwrap_or};
 ghost use Rattle.std.specs.Map.{lookup};
 ghost use Rattle.std.specs.Option.{option_copied};
 ghost use Rattle.term_core.specs.Datum.Datum.{nil};
@@ -31,7 +31,7 @@ pub(crate) fn dead_coming<A: Allocator>(held: &Held<A>, keeps: bool) -> usize
 
 /// How many dead rows the row of a key is, none where the key has no row.
 fn dead_held<A: Allocator>(held: Option<&Held<A>>) -> usize
-    ensures { result ≡ unwrap_or (option_map one_dead (option_copied held)) 0 }
+    ensures { result ≡ unwrap_or (option_map one_dead (option_copied held.entry)) 0 }
 {
     match held {
         Some(held) => dead_in(held),

@@ -1,6 +1,6 @@
 -- How many rows are dead.
 use Rattle.std.proofs.Common.{◌≡◌, ℕ, ◌+◌, ◌-◌, ◌≤◌, List, [], ◌∷◌, ap, sym, ◌∙◌, arith}
-use Rattle.std.specs.Prelude.{Option, Some, option_map, unwrap_or}
+use Rattle.std.specs.Prelude.{true, Option, Some, option_map, unwrap_or}
 use Rattle.std.specs.BTreeMap.{insert_entry}
 use Rattle.std.specs.List.Sorted.{IsStrictlySortedBy}
 use Rattle.std.specs.Map.{keys_of, lookup, remove_entry, set_value}

@@ -1,5 +1,4 @@
 use Rattle.std.proofs.Common.{List, sym, subst, ◌∙◌}
-use Rattle.std.proofs.lemmas.Bool.{eqb-true}
 use Rattle.part_core.specs.Rows.{Row}
 use Rattle.part_stored.proofs.DeadLemmas.{live_left, none_dead}
 use Rattle.part_hash.specs.Standing.{Stands}
@@ -7,12 +6,12 @@ use Rattle.part_hash.proofs.rows.HashRowsRows.keep_live.Goals as goal
 
 pub returns-then-self-eq0 : goal.returns-then-self-eq0
 returns-then-self-eq0 g c = λ o w shown.
-    let none = sym shown.dead ∙ eqb-true c.args.self.now.dead 0 c.if-self-eq0.true in record {
+    let none = sym shown.count ∙ c.if-self-eq0.true in record {
       served = shown.served;
       rows = subst (λ (rs : List Row). Stands o c.args.self.now.store.rows c.args.self.now.store.index c.args.self.now.store.slots.items c.args.self.now.store.made rs) (sym (none_dead w.rows none)) shown.rows;
       spread = shown.spread;
       slots = shown.slots;
-      dead = eqb-true c.args.self.now.dead 0 c.if-self-eq0.true ∙ sym (live_left w.rows);
+      count = c.if-self-eq0.true ∙ sym (live_left w.rows);
     }
 
 pub returns : goal.returns
@@ -21,5 +20,5 @@ returns g c = λ o w shown. record {
   rows = c.keep_live.ensures.done o w.rows shown.spread shown.rows;
   spread = shown.spread;
   slots = shown.slots ∙ sym c.keep_live.ensures.slots;
-  dead = sym (live_left w.rows);
+  count = sym (live_left w.rows);
 }

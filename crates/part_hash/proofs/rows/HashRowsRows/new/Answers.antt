@@ -7,5 +7,5 @@ returns g c = record {
   rows = c.in_ok-empty.ensures.rows c.args.settings;
   spread = c.spread_of.ensures.value;
   slots = sym c.in_ok-empty.ensures.slots;
-  dead = refl;
+  count = refl;
 }

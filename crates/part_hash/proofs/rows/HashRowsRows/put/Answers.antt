@@ -8,5 +8,5 @@ pub returns-clause-put : goal.returns-clause-put
 returns-clause-put g c = λ w shown sound.
     let kind = set_served c.args.settings.kind shown.served in
     let done = c.in_ok-put.ensures.done w.rows kind shown.rows in
-    let left = put_dead c.args.settings (unwrap_or c.args.object.now nil) w.rows c.args.self.now.dead c.dead_at-going.result c.saturating_sub.result c.in_ok-put.put c.args.replaces kind sound.rows.distinct shown.dead done.0 (c.dead_at-going.ensures w.rows shown.rows) c.saturating_sub.ensures in
+    let left = put_dead c.args.settings (unwrap_or c.args.object.now nil) w.rows c.args.self.now.dead c.dead_at-going.result c.saturating_sub-self.result c.in_ok-put.put c.args.replaces kind sound.rows.distinct shown.count done.0 (c.dead_at-going.ensures w.rows shown.rows) c.saturating_sub-self.ensures in
     (done.0, shown_either (unwrap_or c.args.object.now nil) w c.in_ok-put.put shown done.1 done.2 left)
