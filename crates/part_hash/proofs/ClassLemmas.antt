@@ -1,12 +1,11 @@
 -- The rows of a class, found in several slots.
 use Rattle.std.proofs.Common.{◌≡◌, ℕ, ◌<◌, ◌≤◌, ◌+◌, ◌*◌, ◌/◌, ◌%◌, zero, suc, List, [], ◌∷◌, ◌++◌, refl, ap, sym, subst, ◌∙◌, length, get_or, take, append_assoc, arith, eq-eqb, ◌⊎◌, inl, inr}
 use Rattle.std.specs.Prelude.{Bool, true, false, ◌==◌, ◌&&◌, if◌then◌else◌, Option, Some, None, All, filter, flat_map, map}
-use Rattle.std.specs.List.{range_with_len, IsDistinct}
+use Rattle.std.specs.List.{range_with_len}
 use Rattle.std.specs.List.Sorted.{IsNonDecreasingBy}
-use Rattle.std.specs.Map.{keys_of, values_of}
+use Rattle.std.specs.Map.{values_of}
 use Rattle.std.specs.Option.{option_to_list}
 use Rattle.std.proofs.lemmas.List.{append-nil, take_more}
-use Rattle.std.proofs.lemmas.Map.Keys.{IsDistinct-tail}
 use Rattle.std.specs.HashMap.{HashMap}
 use Rattle.std.proofs.lemmas.Bool.{true≢false, eqb-true}
 use Rattle.std.proofs.lemmas.List.Elements.{All-head, All-tail, All-filter, All-map, filter-append, filter_map-append, filter_agree}
@@ -14,13 +13,11 @@ use Rattle.std.proofs.Math.Nat.{le_of_mul-le-mul_right}
 use Rattle.slab.specs.Slab.{Slab, get}
 use Rattle.term_core.specs.Datum.{Datum}
 use Rattle.term_core.specs.KeyHash.{key_hash}
-use Rattle.term_operand.specs.Order.{is_same}
 use Rattle.part_core.specs.declared.settings.Settings.{Settings}
 use Rattle.part_core.specs.Settings.{class_at}
-use Rattle.part_core.specs.Rows.{Row, has_row, objects_at}
+use Rattle.part_core.specs.Rows.{Row}
 use Rattle.part_core.specs.Visits.{in_class}
-use Rattle.part_core.proofs.KeyLemmas.{by_test, same_is}
-use Rattle.part_core.proofs.KeyedLemmas.{no_other, none_there}
+use Rattle.part_core.proofs.KeyLemmas.{by_test}
 use Rattle.part_hash.specs.declared.places.Place.{Place}
 use Rattle.part_hash.specs.Places.{Standing, passes, places_where, rows_of, slot_at}
 use Rattle.part_hash.specs.Standing.{IsRising, Stands}

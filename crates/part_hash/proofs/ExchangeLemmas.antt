@@ -1,14 +1,12 @@
 -- What is held of a key exchanged, and the row that goes.
-use Rattle.std.proofs.Common.{◌≡◌, List, [], ◌∷◌, refl, ap, sym, ◌∙◌}
-use Rattle.std.specs.Prelude.{Bool, true, false, not, ◌||◌, if◌then◌else◌, filter}
-use Rattle.std.proofs.lemmas.Bool.{true≢false}
+use Rattle.std.proofs.Common.{◌≡◌, List, [], ◌∷◌, refl, ap}
+use Rattle.std.specs.Prelude.{true, false, not, if◌then◌else◌, filter}
 use Rattle.term_core.specs.Datum.{Datum}
 use Rattle.term_operand.specs.Order.{is_same}
-use Rattle.part_core.specs.Rows.{Row, is_live, has_row, rows_at_key}
+use Rattle.part_core.specs.Rows.{Row, is_live, rows_at_key}
 use Rattle.part_core.proofs.KeyLemmas.{by_test}
-use Rattle.part_core.proofs.RowLemmas.{unwritten}
 use Rattle.part_stored.specs.Shown.{rows_exchanged}
-use Rattle.part_stored.proofs.SetLemmas.{stays, others_stay}
+use Rattle.part_stored.proofs.SetLemmas.{stays}
 
 -- the row of the key stays if it is live
 left_live : (k : Datum) (os : List Datum) (rows : List Row) → is_live (k, os) ≡ true → rows_at_key k (λ _. os) rows ≡ filter (stays k) (rows_at_key k (λ _. os) rows)

@@ -3,8 +3,6 @@ use Rattle.std.specs.Prelude.{ℕ, ◌≡◌, IsTrue, length, List}
 use Rattle.std.specs.HashMap.{HashMap}
 use Rattle.slab.specs.Slab.{Slab}
 use Rattle.term_core.specs.Datum.{Datum}
-use Rattle.part_core.specs.declared.kind.TableKind.{TableKind}
-use Rattle.part_core.specs.declared.kind.TableKind.TheVariants.{Set}
 use Rattle.part_core.specs.declared.settings.Settings.{Settings}
 use Rattle.part_core.specs.Rows.{Row}
 use Rattle.part_stored.specs.Dead.{dead_rows}

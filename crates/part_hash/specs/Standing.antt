@@ -1,5 +1,5 @@
 -- The rows that stand in a slab, found by an index and listed in slots.
-use Rattle.std.specs.Prelude.{ℕ, ◌≡◌, ◌<◌, ⊤, false, if◌then◌else◌, All, Some, None, get_or, length, List, [], ◌∷◌, ◌++◌}
+use Rattle.std.specs.Prelude.{ℕ, ◌≡◌, ◌<◌, ⊤, false, All, Some, None, get_or, length, List, [], ◌∷◌}
 use Rattle.std.specs.List.{IsDistinct}
 use Rattle.std.specs.Map.{keys_of, values_of}
 use Rattle.std.specs.HashMap.{HashMap, get_by, hash_map_len}
