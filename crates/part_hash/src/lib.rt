@@ -9,12 +9,13 @@
 //!   `index`: `find`, `put` and `take`, through which alone the index is reached; `store`: these together, and what is
 //!   held of a key.
 //! - `adding`: a row behind the others, with the doubling of the slots; `putting`: objects put in; `removing`: what is
-//!   exchanged, and rows that go.
+//!   exchanged, and rows that go; `dead`: how many dead rows come and go with these.
 //! - `walking`: the next live row of a class, by any base, with no memory (`specs/Classes.antt`); `looking`,
 //!   `gathering`: the rows of a class, which by another base than the number of slots are sorted from several slots.
 #![tactic(auto)]
 
 mod adding;
+mod dead;
 mod gathering;
 mod index;
 mod looking;

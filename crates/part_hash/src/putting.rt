@@ -44,7 +44,21 @@ fn row_for<A: Allocator + Copy>(
     Ok(at)
 }
 
-/// The same of the key of an object.
+/// The key of an object.
+pub(crate) fn key_of<A: Allocator>(settings: Settings, object: &Option<Term<A>>) -> &Term<A>
+    requires { IsTrue (is_object settings (unwrap_or object.now nil)) }
+    ensures { result.now ≡ key_of settings (unwrap_or object.now nil) }
+{
+    match object {
+        Some(object) => match key_in(settings.keypos, object) {
+            Some(key) => key,
+            None => unreachable!(),
+        },
+        None => unreachable!(),
+    }
+}
+
+/// The row of the key of an object, the same way.
 fn row_for_object<A: Allocator + Copy>(
     store: &mut Store<A>,
     settings: Settings,
@@ -66,13 +80,7 @@ fn row_for_object<A: Allocator + Copy>(
         → Stands settings store.new.rows store.new.index store.new.slots.items store.new.made rows) }
     ensures slots { OnErr result (length store.new.slots.items ≡ length store.old.slots.items) }
 {
-    let Some(object) = object else {
-        unreachable!();
-    };
-    let Some(key) = key_in(settings.keypos, object) else {
-        unreachable!();
-    };
-    row_for(store, settings, key)
+    row_for(store, settings, key_of(settings, object))
 }
 
 /// Whether there is a live row at a key of the slab.

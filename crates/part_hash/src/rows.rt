@@ -1,7 +1,7 @@
 //! Rows that are found by their hashes.
-ghost use Rattle.std.specs.Prelude.{◌≡◌, ◌<◌, ◌&&◌, ◌||◌, not};
-ghost use Rattle.part_core.specs.Rows.{is_empty};
+ghost use Rattle.std.specs.Prelude.{◌<◌};
 
+use crate::dead::{dead_at, dead_coming, dead_in};
 use crate::gathering::gather;
 use crate::looking::look;
 use crate::places::spread_of;
@@ -20,16 +20,9 @@ pub struct HashRows<A: Allocator = Global> {
     store: Store<A>,
     // By what the hashes of the part's keys are divided.
     spread: u64,
-    // Whether it is known that no row is dead.
-    all_live: bool,
+    // How many rows are dead.
+    dead: usize,
     ghost some: { 0 < spread },
-}
-
-/// Whether rows that were live all are so yet, once a key's row holds this, which is kept or goes if it is dead.
-fn stay_live<A: Allocator>(all_live: bool, held: &Held<A>, keeps: bool) -> bool
-    ensures { result ≡ (all_live && (not keeps || not (is_empty held.now))) }
-{
-    all_live && (!keeps || !held.is_empty())
 }
 
 impl<A: Allocator + Copy> Rows<A> for HashRows<A> {
@@ -43,7 +36,7 @@ impl<A: Allocator + Copy> Rows<A> for HashRows<A> {
     ghost serves = { serves };
 
     ghost shows = { λ o p w.
-        IsShown o p.store.rows p.store.index p.store.slots.items p.store.made p.spread p.all_live w };
+        IsShown o p.store.rows p.store.index p.store.slots.items p.store.made p.spread p.dead w };
 
     fn is_served(kind: TableKind) -> bool {
         matches!(kind, TableKind::Set)
@@ -53,7 +46,7 @@ impl<A: Allocator + Copy> Rows<A> for HashRows<A> {
         Ok(HashRows {
             store: empty(alloc)?,
             spread: spread_of(settings),
-            all_live: true,
+            dead: 0,
         })
     }
 
@@ -71,7 +64,9 @@ impl<A: Allocator + Copy> Rows<A> for HashRows<A> {
         object: &mut Option<Term<A>>,
         replaces: bool,
     ) -> Result<bool, AllocError> {
+        let going = dead_at(&self.store, settings, object, self.dead);
         let put = put(&mut self.store, settings, object, replaces)?;
+        self.dead = self.dead.saturating_sub(going);
         Ok(put)
     }
 
@@ -82,18 +77,22 @@ impl<A: Allocator + Copy> Rows<A> for HashRows<A> {
         held: &mut Held<A>,
         keeps: bool,
     ) -> bool {
-        let all_live = stay_live(self.all_live, held, keeps);
-        let found = exchange(&mut self.store, settings, key, held, keeps);
-        self.all_live = all_live;
-        found
+        prove!(self.store.index.len() < usize::MAX);
+        let coming = dead_coming(held, keeps);
+        if !exchange(&mut self.store, settings, key, held, keeps) {
+            return false;
+        }
+        let going = dead_in(held);
+        self.dead = self.dead.saturating_add(coming).saturating_sub(going);
+        true
     }
 
     fn keep_live(&mut self) {
-        if self.all_live {
+        if self.dead == 0 {
             return;
         }
         keep_live(&mut self.store, self.spread);
-        self.all_live = true;
+        self.dead = 0;
     }
 
     fn look<'r>(
@@ -108,7 +107,7 @@ impl<A: Allocator + Copy> Rows<A> for HashRows<A> {
         requires placed { IsTrue (is_placed settings (scope_of scope.now)) }
         ensures { IfOk result (λ _. (w : Shown)
             → IsShown settings self.now.store.rows self.now.store.index self.now.store.slots.items
-            self.now.store.made self.now.spread self.now.all_live w
+            self.now.store.made self.now.spread self.now.dead w
             → AreSound settings w
             → into.new.items ≡ into.old.items ++ looked_at settings base (scope_of scope.now) w.rows) }
     {

@@ -1,14 +1,14 @@
 -- What writing in a tree leaves of its rows.
 use Rattle.std.proofs.Common.{◌≡◌, List, [], ◌∷◌, refl, ap, sym, ◌∙◌}
-use Rattle.std.specs.Prelude.{Bool, true, false, not, ◌&&◌, ◌||◌, filter}
+use Rattle.std.specs.Prelude.{true, false}
 use Rattle.std.specs.List.{IsDistinct, AllByRecursion}
 use Rattle.std.specs.List.Sorted.{IsStrictlySortedBy}
-use Rattle.std.specs.Map.{keys_of, remove_entry, set_value}
+use Rattle.std.specs.Map.{keys_of, set_value}
 use Rattle.std.specs.BTreeMap.{insert_entry}
 use Rattle.std.specs.declared.cmp.Ordering.{Ordering}
 use Rattle.std.specs.declared.cmp.Ordering.TheVariants.{Less, Equal, Greater}
 use Rattle.std.specs.Ordering.{is_eq, match_ordering}
-use Rattle.std.proofs.lemmas.Bool.{true≢false, false≢true}
+use Rattle.std.proofs.lemmas.Bool.{true≢false}
 use Rattle.std.proofs.lemmas.Map.Keys.{IsDistinct-tail, IsDistinct-from_sorted}
 use Rattle.std.proofs.lemmas.List.Elements.{All-weaker, All-from_recursion, recursion_from_All}
 use Rattle.term_core.specs.Datum.{Datum}
@@ -18,21 +18,12 @@ use Rattle.term_operand.specs.Order.{is_same}
 use Rattle.part_core.specs.declared.kind.TableKind.TheVariants.{OrderedSet}
 use Rattle.part_core.specs.declared.settings.Settings.{Settings}
 use Rattle.part_core.specs.Settings.{key_of}
-use Rattle.part_core.specs.Rows.{Row, is_empty, is_live, has_row, rows_at_key, with_object}
+use Rattle.part_core.specs.Rows.{Row, has_row, rows_at_key, with_object}
 use Rattle.part_core.proofs.KeyLemmas.{by_test}
 use Rattle.part_core.proofs.RowLemmas.{unwritten}
 use Rattle.part_core.proofs.KeyedLemmas.{no_other}
-use Rattle.part_stored.specs.Shown.{rows_exchanged}
 
 -- ---- what is written at a key
-
--- objects written through what a look-up lent
-pub written : (k : Datum) (os : List Datum) (rows : List Row) → IsDistinct is_same (keys_of rows) → set_value (is_same k) rows os ≡ rows_at_key k (λ _. os) rows
-written k os [] d = refl
-written k os (r ∷ rows) d =
-    by_test (is_same k r.0) _
-    (λ there. rw there (ap (λ rs. (r.0, os) ∷ rs) (sym (unwritten k (λ _. os) rows (no_other k r rows d there)))))
-    (λ other. rw other (ap (λ rs. r ∷ rs) (written k os rows (IsDistinct-tail is_same r.0 (keys_of rows) d))))
 
 -- where the key has no row, nothing is written
 pub set_nowhere : (k : Datum) (os : List Datum) (rows : List Row) → has_row rows k ≡ false → set_value (is_same k) rows os ≡ rows
@@ -41,38 +32,6 @@ set_nowhere k os (r ∷ rows) none =
     by_test (is_same k r.0) _
     (λ here. absurd (true≢false (rw here at none)))
     (λ other. rw other (ap (λ rs. r ∷ rs) (set_nowhere k os rows (rw other at none))))
-
-others_stay : (k : Datum) (rows : List Row) → has_row rows k ≡ false → filter (λ r. not (is_same k r.0) || is_live r) rows ≡ rows
-others_stay k [] none = refl
-others_stay k (r ∷ rows) none =
-    by_test (is_same k r.0) _
-    (λ here. absurd (true≢false (rw here at none)))
-    (λ other. rw other (ap (λ rs. r ∷ rs) (others_stay k rows (rw other at none))))
-
--- a row that is taken out, the others stay, dead or live
-removed : (k : Datum) (rows : List Row) → IsDistinct is_same (keys_of rows) → remove_entry (is_same k) rows ≡ filter (λ r. not (is_same k r.0) || is_live r) (rows_at_key k (λ _. []) rows)
-removed k [] d = refl
-removed k (r ∷ rows) d =
-    by_test (is_same k r.0) _
-    (λ there. rw there (sym (ap (filter (λ v. not (is_same k v.0) || is_live v)) (unwritten k (λ _. []) rows (no_other k r rows d there)) ∙ others_stay k rows (no_other k r rows d there))))
-    (λ other. rw other (ap (λ rs. r ∷ rs) (removed k rows (IsDistinct-tail is_same r.0 (keys_of rows) d))))
-
--- a row that has objects stays
-live_stays : (k : Datum) (os : List Datum) (rows : List Row) → is_empty os ≡ false → filter (λ r. not (is_same k r.0) || is_live r) (rows_at_key k (λ _. os) rows) ≡ rows_at_key k (λ _. os) rows
-live_stays k os [] live = refl
-live_stays k os (r ∷ rows) live =
-    by_test (is_same k r.0) _
-    (λ there. rw (there, live) (ap (λ rs. (r.0, os) ∷ rs) (live_stays k os rows live)))
-    (λ other. rw other (ap (λ rs. r ∷ rs) (live_stays k os rows live)))
-
-pub exchanged_there : (k : Datum) (os : List Datum) (keeps : Bool) (rows : List Row) → (not keeps && is_empty os) ≡ false → rows_at_key k (λ _. os) rows ≡ rows_exchanged k os keeps rows
-exchanged_there k os true rows stays = refl
-exchanged_there k os false rows stays = sym (live_stays k os rows stays)
-
-pub exchanged_out : (k : Datum) (os : List Datum) (keeps : Bool) (rows : List Row) → (not keeps && is_empty os) ≡ true → IsDistinct is_same (keys_of rows) → remove_entry (is_same k) rows ≡ rows_exchanged k os keeps rows
-exchanged_out k os true rows goes d = absurd (false≢true goes)
-exchanged_out k [] false rows goes d = removed k rows d
-exchanged_out k (t ∷ os) false rows goes d = absurd (false≢true goes)
 
 -- ---- putting objects in
 

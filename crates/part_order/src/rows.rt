@@ -22,7 +22,7 @@ impl<A: Allocator> Model for OrderRows<A> {
     ghost use Rattle.std.specs.Coded.{codes};
     ghost use Rattle.term_core.specs.Datum.{Datum};
     ghost use Rattle.term_core.specs.DatumCode.{datum_code};
-    ghost use Rattle.part_order.specs.Served.{dead_rows};
+    ghost use Rattle.part_stored.specs.Dead.{dead_rows};
 
     ghost Value = { List (Datum × List Datum) };
 

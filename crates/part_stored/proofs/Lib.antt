@@ -4,3 +4,4 @@ pub mod SweepLemmas
 pub mod VisitLemmas
 pub mod SetLemmas
 pub mod WalkLemmas
+pub mod DeadLemmas

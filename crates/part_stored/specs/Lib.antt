@@ -3,3 +3,4 @@ pub mod Looks
 pub mod Deletions
 pub mod Stored
 pub mod Sets
+pub mod Dead
