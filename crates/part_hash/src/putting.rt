@@ -14,7 +14,8 @@ ghost use Rattle.part_stored.specs.Sets.{with_key};
 use crate::adding::add;
 use crate::row::Row;
 use crate::store::Store;
-use part_core::{Settings, key_in};
+use part_core::Settings;
+use part_stored::key_of;
 use slab::Slab;
 use std::alloc::{AllocError, Allocator};
 use term_core::Term;
@@ -42,20 +43,6 @@ fn row_for<A: Allocator + Copy>(
     }
     let at = add(store, settings, key)?;
     Ok(at)
-}
-
-/// The key of an object.
-pub(crate) fn key_of<A: Allocator>(settings: Settings, object: &Option<Term<A>>) -> &Term<A>
-    requires { IsTrue (is_object settings (unwrap_or object.now nil)) }
-    ensures { result.now ≡ key_of settings (unwrap_or object.now nil) }
-{
-    match object {
-        Some(object) => match key_in(settings.keypos, object) {
-            Some(key) => key,
-            None => unreachable!(),
-        },
-        None => unreachable!(),
-    }
 }
 
 /// The row of the key of an object, the same way.

@@ -1,7 +1,7 @@
 //! Rows that are found by their hashes.
 ghost use Rattle.std.specs.Prelude.{◌<◌};
 
-use crate::dead::{dead_at, dead_coming, dead_in};
+use crate::dead::dead_at;
 use crate::gathering::gather;
 use crate::looking::look;
 use crate::places::spread_of;
@@ -10,7 +10,7 @@ use crate::removing::{exchange, keep_live};
 use crate::store::{Store, empty};
 use crate::walking::{first_live, live_past};
 use part_core::{Held, Scope, Settings, TableKind};
-use part_stored::{Rows, SeenRow};
+use part_stored::{Rows, SeenRow, dead_coming, dead_in};
 use std::alloc::{AllocError, Allocator, Global};
 use term_core::Term;
 

@@ -1,11 +1,10 @@
 //! Rows in a tree that counts the dead ones.
 use crate::looking::{first_key, gather, key_behind, look};
 use crate::tree::{
-    Tree, dead_gone, dead_in, goes, is_put, keep_live, key_of, let_go, put_back, put_down,
-    swap_held,
+    Tree, dead_gone, goes, is_put, keep_live, let_go, put_back, put_down, swap_held,
 };
 use part_core::{FIRST_SLOTS, Held, Scope, Settings, TableKind};
-use part_stored::{Rows, SeenRow};
+use part_stored::{Rows, SeenRow, dead_in, key_of};
 use std::alloc::{AllocError, Allocator, Global};
 use std::marker::Model;
 use term_core::Term;

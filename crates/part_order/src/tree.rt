@@ -1,13 +1,12 @@
 //! A tree of rows, found by their keys.
-ghost use Rattle.std.specs.Prelude.{◌≡◌, ◌||◌, ◌&&◌, IsTrue, filter, not, if◌then◌else◌, unwrap_or};
+ghost use Rattle.std.specs.Prelude.{◌≡◌, ◌||◌, ◌&&◌, filter, not, if◌then◌else◌, unwrap_or};
 ghost use Rattle.std.specs.Map.{set_value};
 ghost use Rattle.std.specs.Option.{option_map, option_to_list};
-ghost use Rattle.term_core.specs.Datum.Datum.{nil};
 ghost use Rattle.term_operand.specs.Order.{is_same};
-ghost use Rattle.part_core.specs.Settings.{is_object, key_of};
 ghost use Rattle.part_core.specs.Rows.{has_row, is_empty, objects_at};
 
-use part_core::{Held, Settings, key_in};
+use part_core::Held;
+use part_stored::dead_in;
 use std::alloc::Allocator;
 use std::collections::BTreeMap;
 use std::mem;
@@ -22,20 +21,6 @@ pub(crate) fn let_go<A: Allocator>(_object: Option<Term<A>>) {}
 /// Lets what was held of a key go.
 fn let_held_go<A: Allocator>(_held: Held<A>) {}
 
-/// The key of an object.
-pub(crate) fn key_of<A: Allocator>(settings: Settings, object: &Option<Term<A>>) -> &Term<A>
-    requires { IsTrue (is_object settings (unwrap_or object.now nil)) }
-    ensures { result.now ≡ key_of settings (unwrap_or object.now nil) }
-{
-    match object {
-        Some(object) => match key_in(settings.keypos, object) {
-            Some(key) => key,
-            None => unreachable!(),
-        },
-        None => unreachable!(),
-    }
-}
-
 /// Puts what is held of a key in the place of what was.
 pub(crate) fn put_down<A: Allocator>(place: &mut Held<A>, held: Held<A>)
     ensures { place.new ≡ held }
@@ -48,13 +33,6 @@ pub(crate) fn put_back<A: Allocator>(place: &mut Option<Term<A>>, row: (Term<A>,
     ensures { option_to_list place.new ≡ row.1 }
 {
     let_go(mem::replace(place, row.1.into_object()));
-}
-
-/// How many dead rows a row is: one where nothing is held of its key.
-pub(crate) fn dead_in<A: Allocator>(held: &Held<A>) -> usize
-    ensures { result ≡ (if is_empty held.now then 1 else 0) }
-{
-    usize::from(held.is_empty())
 }
 
 /// How many dead rows a row was that is gone, none where there was no row.

@@ -6,13 +6,15 @@ use Rattle.part_core.specs.declared.kind.TableKind.{TableKind}
 use Rattle.part_core.specs.declared.kind.TableKind.TheVariants.{Set}
 use Rattle.part_core.specs.declared.settings.Settings.{Settings}
 use Rattle.part_core.specs.Settings.{is_ordered}
-use Rattle.part_core.specs.Rows.{Row, with_object}
+use Rattle.part_core.specs.Rows.{Row, has_row, objects_at, with_object}
 use Rattle.part_core.specs.After.{slots_after}
 use Rattle.part_core.specs.States.{IsBase}
 use Rattle.part_core.proofs.AfterLemmas.{slots_same}
 use Rattle.part_core.proofs.StepLemmas.{slots_grow, put_length}
-use Rattle.part_stored.specs.Shown.{Shown, shown_with}
+use Rattle.part_stored.specs.Dead.{dead_rows}
+use Rattle.part_stored.specs.Shown.{Shown, rows_exchanged, shown_exchanged, shown_with}
 use Rattle.part_plain.specs.Served.{IsShown}
+use Rattle.part_stored.proofs.DeadLemmas.{dead_few}
 use Rattle.part_stored.proofs.SetLemmas.{set_served}
 
 -- ---- slots
@@ -25,8 +27,8 @@ grown_base before now slots result is same =
 -- ---- an object that is put in, or is not
 
 -- rows to which an object was put show it
-pub shown_put : (o : Settings) (t : Datum) (rows new : List Row) (slots more : ℕ) (w : Shown) → IsShown o rows slots w → (o.kind ≡ Set → new ≡ with_object o t rows) → (length new ≤ length rows + 1 → more ≡ slots_after Set (length rows) (length new) slots) → IsShown o new more (shown_with o t w)
-shown_put o t rows new slots more w shown put grown = record {
+pub shown_put : (o : Settings) (t : Datum) (rows new : List Row) (slots more dead left : ℕ) (w : Shown) → IsShown o rows slots dead w → (o.kind ≡ Set → new ≡ with_object o t rows) → (length new ≤ length rows + 1 → more ≡ slots_after Set (length rows) (length new) slots) → left ≡ dead_rows (with_object o t rows) → IsShown o new more left (shown_with o t w)
+shown_put o t rows new slots more dead left w shown put grown count = record {
   served = shown.served;
   rows = ap (with_object o t) shown.rows ∙ sym is;
   slots = ap (λ (rs : List Row). slots_after o.kind (length rs) (length (with_object o t rs)) w.slots) shown.rows
@@ -34,6 +36,7 @@ shown_put o t rows new slots more w shown put grown = record {
       ∙ ap (λ (rs : List Row). slots_after o.kind (length rows) (length rs) slots) (sym is)
       ∙ ap (λ (kind : TableKind). slots_after kind (length rows) (length new) slots) kind
       ∙ sym (grown few);
+  count = count ∙ ap (λ (rs : List Row). dead_rows (with_object o t rs)) (sym shown.rows);
 }
   where
     kind : o.kind ≡ Set
@@ -46,26 +49,47 @@ shown_put o t rows new slots more w shown put grown = record {
     few = subst (λ (rs : List Row). length rs ≤ length rows + 1) (sym is) (put_length o t rows (ap is_ordered kind))
 
 -- rows that stay show what they showed
-pub shown_left : (o : Settings) (rows new : List Row) (slots more : ℕ) (w : Shown) → IsShown o rows slots w → (o.kind ≡ Set → new ≡ rows) → (length new ≤ length rows + 1 → more ≡ slots_after Set (length rows) (length new) slots) → IsShown o new more w
-shown_left o rows new slots more w shown left grown = record {
+pub shown_left : (o : Settings) (rows new : List Row) (slots more dead left : ℕ) (w : Shown) → IsShown o rows slots dead w → (o.kind ≡ Set → new ≡ rows) → (length new ≤ length rows + 1 → more ≡ slots_after Set (length rows) (length new) slots) → left ≡ dead_rows rows → IsShown o new more left w
+shown_left o rows new slots more dead left w shown stay grown count = record {
   served = shown.served;
   rows = shown.rows ∙ sym is;
   slots = shown.slots ∙ sym (grown (omega (arith, same)) ∙ slots_same Set (length rows) (length new) slots (omega (arith, same)));
+  count = count ∙ ap dead_rows (sym shown.rows);
 }
   where
     is : new ≡ rows
-    is = left (set_served o.kind shown.served)
+    is = stay (set_served o.kind shown.served)
 
     same : length new ≡ length rows
     same = ap length is
 
 -- what is left where an object was put in or not
-pub shown_either : (o : Settings) (t : Datum) (rows new : List Row) (slots more : ℕ) (w : Shown) (b : Bool) → IsShown o rows slots w → (o.kind ≡ Set → new ≡ (if b then with_object o t rows else rows)) → (length new ≤ length rows + 1 → more ≡ slots_after Set (length rows) (length new) slots) → IsShown o new more (if b then shown_with o t w else w)
-shown_either o t rows new slots more w true shown put grown = shown_put o t rows new slots more w shown put grown
-shown_either o t rows new slots more w false shown put grown = shown_left o rows new slots more w shown put grown
+pub shown_either : (o : Settings) (t : Datum) (rows new : List Row) (slots more dead left : ℕ) (w : Shown) (b : Bool) → IsShown o rows slots dead w → (o.kind ≡ Set → new ≡ (if b then with_object o t rows else rows)) → (length new ≤ length rows + 1 → more ≡ slots_after Set (length rows) (length new) slots) → left ≡ dead_rows (if b then with_object o t rows else rows) → IsShown o new more left (if b then shown_with o t w else w)
+shown_either o t rows new slots more dead left w true shown put grown count = shown_put o t rows new slots more dead left w shown put grown count
+shown_either o t rows new slots more dead left w false shown put grown count = shown_left o rows new slots more dead left w shown put grown count
 
 -- the slots of rows that were seen as slices
 pub slots_of : (before after rows new : List Row) (slots more : ℕ) → before ≡ rows → after ≡ new → (length after ≤ length before + 1 → more ≡ slots_after Set (length before) (length after) slots) → length new ≤ length rows + 1 → more ≡ slots_after Set (length rows) (length new) slots
 slots_of before after rows new slots more first last grown =
     subst (λ (rs : List Row). length new ≤ length rs + 1 → more ≡ slots_after Set (length rs) (length new) slots) first
     (subst (λ (rs : List Row). length rs ≤ length before + 1 → more ≡ slots_after Set (length before) (length rs) slots) last grown)
+
+-- ---- what is held of a key exchanged
+
+-- rows of which one takes what it holds, or which have none of the key, show it
+pub shown_exchange : (o : Settings) (k : Datum) (os held : List Datum) (keeps there : Bool) (rows new : List Row) (slots dead left : ℕ) (w : Shown) → IsShown o rows slots dead w → there ≡ has_row rows k → held ≡ (if there then objects_at rows k else os) → new ≡ rows_exchanged k os keeps rows → left ≡ dead_rows (rows_exchanged k os keeps rows) → (there ≡ has_row w.rows k) × (held ≡ (if there then objects_at w.rows k else os)) × IsShown o new slots left (shown_exchanged k os keeps w)
+shown_exchange o k os held keeps there rows new slots dead left w shown has was is count = (
+  has ∙ ap (λ (rs : List Row). has_row rs k) (sym shown.rows),
+  was ∙ ap (λ (rs : List Row). if there then objects_at rs k else os) (sym shown.rows),
+  record {
+    served = shown.served;
+    rows = ap (rows_exchanged k os keeps) shown.rows ∙ sym is;
+    slots = shown.slots;
+    count = count ∙ ap (λ (rs : List Row). dead_rows (rows_exchanged k os keeps rs)) (sym shown.rows);
+  },
+)
+
+-- the dead are at most so many as the rows
+pub dead_within : (o : Settings) (rows : List Row) (slots dead : ℕ) (w : Shown) → IsShown o rows slots dead w → dead ≤ length rows
+dead_within o rows slots dead w shown =
+    omega (arith, shown.count, dead_few w.rows, ap length shown.rows)

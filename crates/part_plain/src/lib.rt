@@ -1,14 +1,16 @@
 //! The rows of a set in one list.
 //!
 //! The one contract: `PlainRows` keeps the trait `Rows` of `part_stored`, for sets alone. What the rows show is their
-//! list and the number that is kept as that of their slots (`IsShown` of `specs/Served.antt`). That no key has two
-//! rows isn't kept: it is a premise of `Rows`.
+//! list and the number that is kept as that of their slots, with a count of the dead among them (`IsShown` of
+//! `specs/Served.antt`). That no key has two rows isn't kept: it is a premise of `Rows`.
 //!
 //! - `rows`: the type. It hands each operation to a function whose contract is one over lists.
-//! - `places`: rows found by their keys (`specs/Places.antt`); `putting`, `exchanging`: what is written.
+//! - `places`: rows found by their keys (`specs/Places.antt`); `putting`, `exchanging`: what is written;
+//!   `dead`: how many dead rows a key has.
 //! - `walking`, `gathering`: the order of a walk, class by class; `looking`: what visits look at.
 #![tactic(auto)]
 
+mod dead;
 mod exchanging;
 mod gathering;
 mod looking;

@@ -11,8 +11,8 @@ ghost use Rattle.part_plain.specs.Places.{IsPlace};
 ghost use Rattle.part_stored.specs.Sets.{with_key};
 
 use crate::places::place_of;
-use part_core::{Settings, key_in};
-use part_stored::HashedRow;
+use part_core::Settings;
+use part_stored::{HashedRow, key_of};
 use std::alloc::{AllocError, Allocator};
 use term_core::Term;
 
@@ -51,13 +51,7 @@ fn place_of_object<A: Allocator + Copy>(
     ensures within { IfOk result (λ place. place < vec_len rows.new) }
     ensures refused { OnErr result (rows.new.items ≡ rows.old.items) }
 {
-    let Some(object) = object else {
-        unreachable!();
-    };
-    let Some(key) = key_in(settings.keypos, object) else {
-        unreachable!();
-    };
-    place_for(rows, key)
+    place_for(rows, key_of(settings, object))
 }
 
 /// Lets an object go.

@@ -4,6 +4,7 @@ ghost use Rattle.part_core.specs.declared.kind.TableKind.TheVariants.{Set};
 ghost use Rattle.part_core.specs.After.{slots_after};
 ghost use Rattle.part_core.specs.States.{IsBase};
 
+use crate::dead::dead_at;
 use crate::exchanging::{exchange, keep_live};
 use crate::gathering::gather;
 use crate::looking::look;
@@ -11,7 +12,7 @@ use crate::places::held_of;
 use crate::putting::put;
 use crate::walking::{first_live, live_past};
 use part_core::{FIRST_SLOTS, Held, Scope, Settings, TableKind, slots_with_row};
-use part_stored::{HashedRow, Rows, SeenRow};
+use part_stored::{HashedRow, Rows, SeenRow, dead_coming, dead_in};
 use std::alloc::{AllocError, Allocator, Global};
 use term_core::Term;
 
@@ -20,6 +21,8 @@ use term_core::Term;
 pub struct PlainRows<A: Allocator = Global> {
     rows: Vec<HashedRow<A>, A>,
     slots: u32,
+    // How many rows are dead.
+    dead: usize,
     ghost is_base: { IsBase slots },
 }
 
@@ -47,7 +50,7 @@ impl<A: Allocator + Copy> Rows<A> for PlainRows<A> {
 
     ghost serves = { serves };
 
-    ghost shows = { λ o p w. IsShown o p.rows.items p.slots w };
+    ghost shows = { λ o p w. IsShown o p.rows.items p.slots p.dead w };
 
     fn is_served(kind: TableKind) -> bool {
         matches!(kind, TableKind::Set)
@@ -57,6 +60,7 @@ impl<A: Allocator + Copy> Rows<A> for PlainRows<A> {
         Ok(PlainRows {
             rows: Vec::new(alloc),
             slots: FIRST_SLOTS,
+            dead: 0,
         })
     }
 
@@ -75,8 +79,10 @@ impl<A: Allocator + Copy> Rows<A> for PlainRows<A> {
         replaces: bool,
     ) -> Result<bool, AllocError> {
         let before = self.rows.as_slice().len();
+        let going = dead_at(self.rows.as_slice(), settings, object, self.dead);
         let put = put(settings, &mut self.rows, object, replaces)?;
         self.slots = slots_after(self.rows.as_slice(), before, self.slots);
+        self.dead = self.dead.saturating_sub(going);
         Ok(put)
     }
 
@@ -87,11 +93,22 @@ impl<A: Allocator + Copy> Rows<A> for PlainRows<A> {
         held: &mut Held<A>,
         keeps: bool,
     ) -> bool {
-        exchange(&mut self.rows, key, held, keeps)
+        prove!(self.rows.len() < usize::MAX);
+        let coming = dead_coming(held, keeps);
+        if !exchange(&mut self.rows, key, held, keeps) {
+            return false;
+        }
+        let going = dead_in(held);
+        self.dead = self.dead.saturating_add(coming).saturating_sub(going);
+        true
     }
 
     fn keep_live(&mut self) {
+        if self.dead == 0 {
+            return;
+        }
         keep_live(&mut self.rows);
+        self.dead = 0;
     }
 
     fn look<'r>(
@@ -105,7 +122,8 @@ impl<A: Allocator + Copy> Rows<A> for PlainRows<A> {
         requires base { 0 < base }
         requires placed { IsTrue (is_placed settings (scope_of scope.now)) }
         ensures { IfOk result (λ _. (w : Shown)
-            → IsShown settings self.now.rows.items self.now.slots w → AreSound settings w
+            → IsShown settings self.now.rows.items self.now.slots self.now.dead w
+            → AreSound settings w
             → into.new.items ≡ into.old.items ++ looked_at settings base (scope_of scope.now) w.rows) }
     {
         look(self.rows.as_slice(), settings, u64::from(base), scope, into)

@@ -11,14 +11,17 @@
 //! - `reading`, `writing`, `fixing`, `walking`: its operations at one key, on its counts of fixes, and by the order
 //!   of a walk.
 //! - `hashed`: a row that keeps its key's hash, for rows of sets; `specs/Sets.antt` has what these have in common.
+//! - `dead`: how many dead rows come and go, for rows that count them; `key`: the key of an object that is put in.
 //! - `looking`, `answering`, `counting`, `deleting`: visits. `specs/Looks.antt` says which rows a visit sees.
 #![tactic(auto)]
 
 mod answering;
 mod counting;
+mod dead;
 mod deleting;
 mod fixing;
 mod hashed;
+mod key;
 mod looking;
 mod part;
 mod reading;
@@ -28,7 +31,9 @@ mod stored;
 mod walking;
 mod writing;
 
+pub use dead::{dead_coming, dead_held, dead_in};
 pub use hashed::{HashedRow, class_of};
+pub use key::key_of;
 pub use rows::Rows;
 pub use seen::SeenRow;
 pub use stored::StoredPart;

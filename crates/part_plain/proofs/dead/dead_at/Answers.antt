@@ -1,0 +1,15 @@
+use Rattle.std.proofs.Common.{◌≡◌, List, ap, ◌∙◌}
+use Rattle.std.specs.Prelude.{false, ◌==◌, Option, option_map, unwrap_or}
+use Rattle.std.proofs.lemmas.Bool.{ne_eqb}
+use Rattle.std.specs.Map.{lookup}
+use Rattle.term_core.specs.Datum.{Datum}
+use Rattle.term_operand.specs.Order.{is_same}
+use Rattle.part_stored.specs.Dead.{one_dead}
+use Rattle.part_plain.proofs.dead.dead_at.Goals as goal
+
+pub returns : goal.returns
+returns g c =
+    let some : (c.args.dead == 0) ≡ false = ne_eqb c.args.dead 0 c.if-dead-eq0.false in
+    rw some (c.dead_held.ensures
+    ∙ ap (λ (found : Option (List Datum)). unwrap_or (option_map one_dead found) 0) (c.held_of.ensures
+    ∙ ap (λ (k : Datum). lookup (is_same k) c.args.rows.now) c.key_of.ensures))

@@ -1,0 +1,30 @@
+//! How many rows are dead at a key.
+ghost use Rattle.std.specs.Prelude.{◌≡◌, ◌==◌, IsTrue, if◌then◌else◌, option_map, unwrap_or};
+ghost use Rattle.std.specs.Map.{lookup};
+ghost use Rattle.term_core.specs.Datum.Datum.{nil};
+ghost use Rattle.term_operand.specs.Order.{is_same};
+ghost use Rattle.part_core.specs.Settings.{is_object, key_of};
+ghost use Rattle.part_stored.specs.Dead.{one_dead};
+
+use crate::places::held_of;
+use part_core::Settings;
+use part_stored::{HashedRow, dead_held, key_of};
+use std::alloc::Allocator;
+use term_core::Term;
+
+/// How many dead rows there are at the key of an object, which isn't looked for where no row is dead.
+pub(crate) fn dead_at<A: Allocator>(
+    rows: &[HashedRow<A>],
+    settings: Settings,
+    object: &Option<Term<A>>,
+    dead: usize,
+) -> usize
+    requires { IsTrue (is_object settings (unwrap_or object.now nil)) }
+    ensures { result ≡ (if dead == 0 then 0 else unwrap_or
+        (option_map one_dead (lookup (is_same (key_of settings (unwrap_or object.now nil))) rows.now)) 0) }
+{
+    if dead == 0 {
+        return 0;
+    }
+    dead_held(held_of(rows, key_of(settings, object)))
+}
