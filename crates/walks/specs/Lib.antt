@@ -1,2 +1,3 @@
 pub mod OneThread
 pub mod Keys
+pub mod Query

@@ -1,11 +1,14 @@
-//! Walks through tables, by keys.
-//!
-//! The one contract: `first` and `next` make turns at the parts in their order until one has a key (`specs/Keys.antt`). On one thread
-//! that is the first live key of the walk, and the first behind a row (`specs/OneThread.antt`).
-//!
-//! - `keys`: `first` and `next`.
+//! Walks through tables.
 #![tactic(auto)]
 
+mod fault;
+mod kept;
 mod keys;
+mod position;
+mod query;
 
+pub use fault::WalkFault;
 pub use keys::{first, next};
+pub use kept::Kept;
+pub use position::Position;
+pub use query::Query;

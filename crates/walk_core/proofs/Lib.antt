@@ -1,0 +1,5 @@
+pub mod PositionLemmas
+pub mod GrowthLemmas
+pub mod StepLemmas
+pub mod GoesLemmas
+pub mod TurnLemmas

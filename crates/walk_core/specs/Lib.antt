@@ -1,0 +1,4 @@
+pub mod Walk
+pub mod Goes
+pub mod Moments
+pub mod Laws

@@ -1,0 +1,32 @@
+//! Laws of walks, each the contract of a function that does nothing.
+ghost use Rattle.walk_core.specs.Laws.{WalksBegin, TurnsAreVisits, VisitsAreAnswered, WalksGoOn, WalksOutlastOthers, WalksEnd};
+
+/// A walk that begins has gathered nothing.
+pub fn walks_begin()
+    ensures { WalksBegin }
+{}
+
+/// A turn that was answered is a visit.
+pub fn turns_are_visits()
+    ensures { TurnsAreVisits }
+{}
+
+/// Where a walk can go on, its visit is answered.
+pub fn visits_are_answered()
+    ensures { VisitsAreAnswered }
+{}
+
+/// Visits carry a walk on.
+pub fn walks_go_on()
+    ensures { WalksGoOn }
+{}
+
+/// What others do, and other calls of the session, changes nothing of a walk so far.
+pub fn walks_outlast_others()
+    ensures { WalksOutlastOthers }
+{}
+
+/// At its end, with nothing kept, what a walk gave out is its answer.
+pub fn walks_end()
+    ensures { WalksEnd }
+{}

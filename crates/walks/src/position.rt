@@ -1,0 +1,49 @@
+//! How far a walk has come.
+ghost use Rattle.std.specs.Prelude.{◌≡◌, ◌<◌, ◌+◌, option_map};
+ghost use Rattle.part_core.specs.Ops.{cursor_of, scope_of};
+ghost use Rattle.walk_core.specs.Walk.{at_part, position_in, scope_from};
+ghost use Rattle.walks.specs.Query.{position_of};
+
+use part_core::{Cursor, Scope};
+use std::alloc::{Allocator, Global};
+
+/// How far a walk has come.
+#[derive(Drop)]
+pub enum Position<A: Allocator = Global> {
+    /// In a part, where a cursor says, or at the part's beginning.
+    InPart(u8, Option<Cursor<A>>),
+    /// At its end.
+    Over,
+}
+
+/// At the beginning of a part, if there are so many.
+pub(crate) fn at_part<A: Allocator>(part: u8, parts: u8) -> Position<A>
+    ensures { position_of result ≡ at_part part parts }
+{
+    if part < parts {
+        Position::InPart(part, None)
+    } else {
+        Position::Over
+    }
+}
+
+/// Where a walk through so many parts is behind a visit of one.
+pub(crate) fn behind<A: Allocator>(part: u8, next: Option<Cursor<A>>, parts: u8) -> Position<A>
+    requires { part < parts }
+    ensures { position_of result ≡ position_in parts part (option_map cursor_of next) }
+{
+    match next {
+        Some(cursor) => Position::InPart(part, Some(cursor)),
+        None => at_part(part + 1, parts),
+    }
+}
+
+/// What a visit looks at that goes on from a cursor, or begins.
+pub(crate) fn scope_from<A: Allocator>(cursor: &Option<Cursor<A>>) -> Scope<'_, A>
+    ensures { scope_of result ≡ scope_from (option_map cursor_of cursor.now) }
+{
+    match cursor {
+        Some(cursor) => Scope::After(cursor),
+        None => Scope::Begin,
+    }
+}
