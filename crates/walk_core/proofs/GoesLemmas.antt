@@ -24,7 +24,7 @@ use Rattle.tables.specs.declared.options.Options.{Options}
 use Rattle.tables.specs.Turns.{Home, Views, TurnedAt, Turned}
 use Rattle.walk_core.specs.Walk.{Walk, Position, IsWalk, IsPosition, is_all, is_in_parts, is_named_below, is_done, part_at, scope_at, scope_from, start_of, start_by, next_position, at_part, at_key, named_at, named_count}
 use Rattle.walk_core.specs.Walk.Position.{InPart, AtNamed, Over}
-use Rattle.walk_core.specs.Goes.{Way, IsAt, Visits, Goes, past_of}
+use Rattle.walk_core.specs.Goes.{Way, IsAt, Visits, Goes, Drifted, Stops, past_of}
 use Rattle.walk_core.specs.Goes.Goes.{stays, goes}
 use Rattle.walk_core.specs.Moments.{Span, IsMoment, Gathers, IsSoFar, IsAnswer, IsGrown, ArePlaced, AreLegal, part_of_key}
 use Rattle.walk_core.proofs.GrowthLemmas.{key_inside, grown_position, grown_gathers, more_gathers}
@@ -230,3 +230,24 @@ ends_answer w calls given now walk s = record {
       (λ done. inl done)
       (λ other. inr (λ t object key. walk.silent t object (subst (λ (j : Datum). IsTrue (is_in_parts w w.to j)) (sym key) inside) (subst (λ (j : Datum). is_all w w.plan j ≡ false) (sym key) other)));
 }
+
+-- ---- a walk that stops
+
+drifted_grown : (h : Home) (o : Options) (v u : Views) → h.options ≡ o → Drifted h v u → IsGrown o v u
+drifted_grown h o v u same drifted =
+    subst (λ (p : Options). IsGrown p v u) same (λ part inside. let d = drifted part inside in (d.0, d.2, d.3))
+
+pub stops_so_far : (h : Home) (w : Walk) (wanted : ℕ → ℕ) (calls : List Span) (given : List Datum) (a : Way) (at : Position) (gained : List Datum) (now : Views) → IsAt h w → IsWalk w → AreLegal w.options a.views → ArePlaced w.options now → IsSoFar w calls given a.views a.at a.gained → Stops h w wanted a at gained now → IsSoFar w (calls ++ span a.views now ∷ []) given now at gained
+stops_so_far h w wanted calls given a at gained now is_at walk legal placed s (last, way, drifted) =
+    let grown = drifted_grown h w.options last now is_at.options drifted in
+    let there = goes_so_far h w wanted calls given a (record { views = last; at = at; gained = gained }) is_at walk legal (placed_before w.options last now grown placed) s way in
+    record {
+      gathers = later_gathers w calls a.views last now now (is_done w at) (given ++ gained) (longer grown) (grown_gathers w (calls ++ span a.views last ∷ []) last now (is_done w at) (given ++ gained) walk grown there.gathers);
+      position = grown_position w last now at walk grown there.position;
+    }
+  where
+    longer : IsGrown w.options last now → (k : Datum) → length (last (part_of_key w k)) ≤ length (now (part_of_key w k))
+    longer grown k =
+        let g = grown (part_of_key w k) (key_inside w k walk) in
+        let long = length-append (last (part_of_key w k)) g.0 in
+        subst (λ (log : History). length (last (part_of_key w k)) ≤ length log) (sym g.1) (omega (arith, long))

@@ -8,7 +8,7 @@ use Rattle.part_core.specs.Replies.{said_by_visit}
 use Rattle.tables.specs.Turns.{Home, Views, Turned}
 use Rattle.walk_core.specs.Walk.{Walk, Position, IsWalk, IsPosition, start_of, part_at, scope_at, next_position}
 use Rattle.walk_core.specs.Walk.Position.{Over}
-use Rattle.walk_core.specs.Goes.{Way, way, IsAt, Visits, Goes}
+use Rattle.walk_core.specs.Goes.{Way, way, IsAt, Visits, Goes, Stops}
 use Rattle.walk_core.specs.Moments.{Span, IsSoFar, IsAnswer, IsGrown, AreLegal, ArePlaced}
 
 -- a walk that begins has gathered nothing
@@ -53,3 +53,12 @@ abbrev pub WalksEnd : Type 0
 WalksEnd =
     (w : Walk) (calls : List Span) (given : List Datum) (now : Views)
     → IsWalk w → IsSoFar w calls given now Over [] → IsAnswer w calls now given
+
+-- visits carry a walk on also where the one behind them was refused for want of memory
+abbrev pub WalksStop : Type 0
+WalksStop =
+    (h : Home) (w : Walk) (wanted : ℕ → ℕ) (calls : List Span) (given : List Datum) (a : Way) (at : Position)
+    (gained : List Datum) (now : Views)
+    → IsAt h w → IsWalk w → AreLegal w.options a.views → ArePlaced w.options now
+    → IsSoFar w calls given a.views a.at a.gained → Stops h w wanted a at gained now
+    → IsSoFar w (calls ++ (record { before = a.views; after = now }) ∷ []) given now at gained

@@ -1,5 +1,5 @@
 //! Laws of walks, each the contract of a function that does nothing.
-ghost use Rattle.walk_core.specs.Laws.{WalksBegin, TurnsAreVisits, VisitsAreAnswered, WalksGoOn, WalksOutlastOthers, WalksEnd};
+ghost use Rattle.walk_core.specs.Laws.{WalksBegin, TurnsAreVisits, VisitsAreAnswered, WalksGoOn, WalksStop, WalksOutlastOthers, WalksEnd};
 
 /// A walk that begins has gathered nothing.
 pub fn walks_begin()
@@ -19,6 +19,11 @@ pub fn visits_are_answered()
 /// Visits carry a walk on.
 pub fn walks_go_on()
     ensures { WalksGoOn }
+{}
+
+/// Visits carry a walk on also where the next one is refused for want of memory.
+pub fn walks_stop()
+    ensures { WalksStop }
 {}
 
 /// What others do, and other calls of the session, changes nothing of a walk so far.

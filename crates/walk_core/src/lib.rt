@@ -11,4 +11,5 @@ mod laws;
 
 pub use laws::{
     turns_are_visits, visits_are_answered, walks_begin, walks_end, walks_go_on, walks_outlast_others,
+    walks_stop,
 };

@@ -1,2 +1,4 @@
 mod KeyLemmas
 pub mod OneThreadLemmas
+mod VisitLemmas
+mod GoingLemmas

@@ -1,3 +1,4 @@
 pub mod OneThread
 pub mod Keys
 pub mod Query
+pub mod Visits

@@ -6,6 +6,7 @@ mod kept;
 mod keys;
 mod position;
 mod query;
+mod visit;
 
 pub use fault::WalkFault;
 pub use keys::{first, next};

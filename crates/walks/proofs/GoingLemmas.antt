@@ -1,0 +1,73 @@
+-- Visits one behind the other, by what the session sees.
+use Rattle.std.proofs.Common.{arith, ◌≡◌, ◌≢◌, ℕ, ◌<◌, ◌≤◌, refl, ap, sym, subst, ◌∙◌, Result, Option, option_map, Some, None, List, [], ◌++◌, length}
+use Rattle.std.specs.Prelude.{IsTrue, IsErrOf, Err}
+use Rattle.std.proofs.lemmas.Bool.{true≢false}
+use Rattle.term_core.specs.Datum.{Datum}
+use Rattle.part_core.specs.declared.fault.Fault.{Fault}
+use Rattle.part_core.specs.declared.fault.Fault.TheVariants as fault
+use Rattle.part_core.specs.Acts.{Act, Answer, Purpose}
+use Rattle.part_core.specs.Acts.Act.{Visit}
+use Rattle.part_core.specs.Acts.Answer.{Refused}
+use Rattle.part_core.specs.Acts.Refusal.{TooSmall, FixLimit, NotFixed, BadKey, CursorOutside}
+use Rattle.part_core.specs.Ops.{refusal_of}
+use Rattle.tables.specs.Turns.{Home, Views, Turned, Follows}
+use Rattle.walk_core.specs.Goes.{Way, way, IsAt, Visits, Goes, Drifted, Stops}
+use Rattle.walk_core.specs.Goes.Goes.{stays, goes}
+use Rattle.walk_core.specs.Moments.{AreLegal}
+use Rattle.walk_core.specs.Walk.{Walk, Position, IsWalk, IsPosition, part_at, scope_at}
+use Rattle.walk_core.specs.Walk.Position.{Over}
+use Rattle.walk_core.proofs.GoesLemmas.{goes_position}
+use Rattle.walks.specs.declared.query.Query.{Query}
+use Rattle.walks.specs.Query.{walk_of}
+use Rattle.walk_core.proofs.TurnLemmas.{turned_drifts, drifts_nowhere, never_outside}
+
+-- a walk by what the session sees: visits from where it began to where it is
+abbrev pub GoesBy : (h : Home) (w : Walk) (wanted : ℕ → ℕ) (at : Position) (gained : List Datum) (later : Position) (more : List Datum) → Views → Views → Type 0
+GoesBy h w wanted at gained later more v u = Goes h w wanted (way v at gained) (way u later more)
+
+pub goes_nowhere : (h : Home) (w : Walk) (wanted : ℕ → ℕ) (at : Position) (gained : List Datum) (now : Views → Type 0) → Follows now now (GoesBy h w wanted at gained at gained)
+goes_nowhere h w wanted at gained now v b = (v, b, stays)
+
+-- one visit more
+pub goes_once : (h : Home) (w : Walk) (wanted : ℕ → ℕ) (first at later : Position) (begun gained more : List Datum) (before now then : Views → Type 0) → at ≢ Over → Follows before now (GoesBy h w wanted first begun at gained) → Follows now then (λ v u. Visits h w wanted (way v at gained) (way u later more)) → Follows before then (GoesBy h w wanted first begun later more)
+goes_once h w wanted first at later begun gained more before now then open_still so_far visit v b =
+    let s = so_far v b in
+    let t = visit s.0 s.1 in
+    (t.0, t.1, goes s.2 open_still t.2)
+
+-- visits, and then one that was refused for want of memory
+pub stops_refused : (h : Home) (w : Walk) (wanted : ℕ → ℕ) (first at : Position) (begun gained : List Datum) (before now then : Views → Type 0) (part : ℕ) (act : Act) → ((v : Views) → now v → AreLegal h.options v) → Follows before now (GoesBy h w wanted first begun at gained) → Follows now then (Turned h part act None) → Follows before then (λ v u. Stops h w wanted (way v first begun) at gained u)
+stops_refused h w wanted first at begun gained before now then part act legal so_far turned v b =
+    let s = so_far v b in
+    let t = turned s.0 s.1 in
+    (t.0, t.1, (s.0, s.2, turned_drifts h part act s.0 t.0 (legal s.0 s.1) t.2))
+
+-- visits, and then none
+pub stops_there : (h : Home) (w : Walk) (wanted : ℕ → ℕ) (first at : Position) (begun gained : List Datum) (before now : Views → Type 0) → ((v : Views) → now v → AreLegal h.options v) → Follows before now (GoesBy h w wanted first begun at gained) → Follows before now (λ v u. Stops h w wanted (way v first begun) at gained u)
+stops_there h w wanted first at begun gained before now legal so_far v b =
+    let s = so_far v b in (s.0, s.1, (s.0, s.2, drifts_nowhere h s.0 (legal s.0 s.1)))
+
+-- a walk that can go on from where it begins has no visit that is refused but for want of memory
+pub no_stranger : (h : Home) (w : Walk) (wanted : ℕ → ℕ) (first at : Position) (begun gained : List Datum) (before now then : Views → Type 0) (n : ℕ) (f : Fault) → IsAt h w → IsWalk w → at ≢ Over → f ≢ fault.Memory → Follows before now (GoesBy h w wanted first begun at gained) → Follows now then (Turned h (part_at w at) (Visit w.purpose w.program (scope_at w at) n) (option_map Refused (refusal_of f))) → (v : Views) → before v → IsPosition w v first → ⊥
+no_stranger h w wanted first at begun gained before now then n f is_at walk open_still other so_far turned v b position =
+    let s = so_far v b in
+    let t = turned s.0 s.1 in
+    let there = goes_position h w wanted (way v first begun) (way s.0 at gained) is_at walk position s.2 in
+    of f other t.0 t.2 s.0 there
+  where
+    of : (f : Fault) → f ≢ fault.Memory → (u : Views) → {x : Views} → Turned h (part_at w at) (Visit w.purpose w.program (scope_at w at) n) (option_map Refused (refusal_of f)) x u → (y : Views) → IsPosition w x at → ⊥
+    of fault.Memory other u t y there = absurd (other refl)
+    of fault.TooSmall other u t y there = never_outside h w at n _ u TooSmall is_at walk open_still there t
+    of fault.FixLimit other u t y there = never_outside h w at n _ u FixLimit is_at walk open_still there t
+    of fault.NotFixed other u t y there = never_outside h w at n _ u NotFixed is_at walk open_still there t
+    of fault.BadKey other u t y there = never_outside h w at n _ u BadKey is_at walk open_still there t
+    of fault.CursorOutside other u t y there = never_outside h w at n _ u CursorOutside is_at walk open_still there t
+
+-- a query makes a walk of a session
+pub is_walk : {A : Type 0} (h : Home) (purpose : Purpose) (q : Query A) → (0 < h.options.parts) × (h.number < h.options.sessions) → IsWalk (walk_of h purpose q)
+is_walk h purpose q fits = record {
+  parts = (fits.0, omega arith);
+  number = fits.1;
+  plan = tt;
+  silent = λ t object inside other. absurd (true≢false (sym inside ∙ other));
+}

@@ -1,0 +1,65 @@
+-- What visits are answered.
+use Rattle.std.proofs.Common.{◌≡◌, ◌≢◌, ℕ, ◌-◌, refl, ap, sym, subst, ◌∙◌, IsTrue, Option, Some, List, [], ◌++◌, length}
+use Rattle.std.specs.Prelude.{Bool, true, false, ◌||◌}
+use Rattle.std.proofs.lemmas.List.{append-nil}
+use Rattle.term_core.specs.Datum.{Datum}
+use Rattle.mcode.specs.Program.{Program}
+use Rattle.part_core.specs.declared.settings.Settings.{Settings}
+use Rattle.part_core.specs.Acts.{Answer, Cursor, Scope, Said, is_refused}
+use Rattle.part_core.specs.Acts.Act.{Visit}
+use Rattle.part_core.specs.Acts.Answer.{Replied}
+use Rattle.part_core.specs.Acts.Purpose.{Answers}
+use Rattle.part_core.specs.Acts.Said.{Found}
+use Rattle.part_core.specs.Replies.{reply_of}
+use Rattle.part_core.specs.Rows.{PartState}
+use Rattle.part_core.specs.Visits.{is_inside}
+use Rattle.part_core.proofs.KeyLemmas.{by_test}
+use Rattle.tables.specs.Options.{settings_of}
+use Rattle.tables.specs.Turns.{Home, Views, Turned, Follows}
+use Rattle.tables.proofs.TurnLemmas.{answered_so}
+use Rattle.walk_core.specs.Goes.{way, up_to, Visits}
+use Rattle.walk_core.specs.Walk.{Position, position_in, scope_from}
+use Rattle.walk_core.specs.Walk.Position.{InPart}
+use Rattle.walk_core.proofs.TurnLemmas.{turn_visits}
+use Rattle.walks.specs.declared.query.Query.{Query}
+use Rattle.walks.specs.Query.{walk_of}
+use Rattle.walks.specs.Visits.{is_found}
+
+or_none : (b : Bool) → (b || false) ≡ true → b ≡ true
+or_none true h = refl
+or_none false h = h
+
+found_or_refused : (o : Settings) (s : PartState) (n : ℕ) (p : Program) (scope : Scope) (wanted : ℕ) → (is_found (reply_of o s n (Visit Answers p scope wanted)) || is_refused (reply_of o s n (Visit Answers p scope wanted))) ≡ true
+unfolding reply_of
+found_or_refused o s n p scope wanted =
+    by_test (is_inside o s scope) _ (λ inside. rw inside refl) (λ outside. rw outside refl)
+
+-- a visit that was answered tells what it found
+pub visit_found : (h : Home) (part : ℕ) (p : Program) (scope : Scope) (wanted : ℕ) (said : Said) (before now : Views → Type 0) → ∥ ((v : Views) × before v) ∥₁ → Follows before now (Turned h part (Visit Answers p scope wanted) (Some (Replied said))) → IsTrue (is_found (Replied said))
+visit_found h part p scope wanted said before now seen follows =
+    or_none (is_found (Replied said)) (answered_so (λ a. is_found a || is_refused a) h part (Visit Answers p scope wanted) (Replied said) before now seen follows (λ s. found_or_refused (settings_of h.options) s h.number p scope wanted))
+
+found_same : (xs ys : List Datum) (next : Option Cursor) → Found xs next ≡ Found ys next → xs ≡ ys
+found_same xs ys next e = cc
+
+-- such a turn is a visit of the walk, which gains what was found
+pub visit_made : {A : Type 0} (h : Home) (q : Query A) (limit part wanted : ℕ) (cursor next : Option Cursor) (gained found : List Datum) (before now : Views → Type 0) → wanted ≡ limit - length gained → Follows before now (Turned h part (Visit Answers q.code (scope_from cursor) wanted) (Some (Replied (Found found next)))) → Follows before now (λ v w. Visits h (walk_of h Answers q) (up_to limit) (way v (InPart part cursor) gained) (way w (position_in h.options.parts part next) (gained ++ found)))
+visit_made h q limit part wanted cursor next gained found before now is follows v b =
+    let f = follows v b in
+    let made = turn_visits h (walk_of h Answers q) (up_to limit) (InPart part cursor) gained v f.0 (Found found next) (record { options = refl; number = refl }) (subst (λ (n : ℕ). Turned h part (Visit Answers q.code (scope_from cursor) n) (Some (Replied (Found found next))) v f.0) is f.2) in (
+      f.0,
+      f.1,
+      subst (λ (ys : List Datum). Visits h (walk_of h Answers q) (up_to limit) (way v (InPart part cursor) gained) (way f.0 (position_in h.options.parts part next) (gained ++ ys))) (sym (found_same found made.0 next made.2)) made.1,
+    )
+
+pub visit_kept : {A : Type 0} (h : Home) (q : Query A) (limit part wanted : ℕ) (cursor next : Option Cursor) (gained found more : List Datum) (at later : Position) (before now : Views → Type 0) → at ≡ InPart part cursor → later ≡ position_in h.options.parts part next → more ≡ gained ++ found → wanted ≡ limit - length gained → Follows before now (Turned h part (Visit Answers q.code (scope_from cursor) wanted) (Some (Replied (Found found next)))) → Follows before now (λ v w. Visits h (walk_of h Answers q) (up_to limit) (way v at gained) (way w later more))
+visit_kept h q limit part wanted cursor next gained found more at later before now at_is later_is more_is is follows =
+    subst (λ (p : Position). Follows before now (λ v w. Visits h (walk_of h Answers q) (up_to limit) (way v p gained) (way w later more))) (sym at_is)
+    (subst (λ (p : Position). Follows before now (λ v w. Visits h (walk_of h Answers q) (up_to limit) (way v (InPart part cursor) gained) (way w p more))) (sym later_is)
+    (subst (λ (ys : List Datum). Follows before now (λ v w. Visits h (walk_of h Answers q) (up_to limit) (way v (InPart part cursor) gained) (way w (position_in h.options.parts part next) ys))) (sym more_is)
+    (visit_made h q limit part wanted cursor next gained found before now is follows)))
+
+-- a limit's rest, by the answers that are kept
+pub rest_wanted : (limit n : ℕ) (earlier last : List Datum) → n ≡ length earlier → last ≡ [] → limit - n ≡ limit - length (earlier ++ last)
+rest_wanted limit n earlier last is none =
+    ap (λ (m : ℕ). limit - m) (is ∙ ap length (sym (ap (λ (ys : List Datum). earlier ++ ys) none ∙ append-nil earlier)))

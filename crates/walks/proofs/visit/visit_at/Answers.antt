@@ -1,0 +1,8 @@
+use Rattle.part_core.specs.Ops.{said_of, scope_of}
+use Rattle.walks.proofs.VisitLemmas.{visit_found}
+use Rattle.walks.proofs.visit.visit_at.Goals as goal
+
+pub found-requires : goal.found-requires
+found-requires g c =
+    visit_found (g.T.Turns.home c.args.turns.now) c.args.part c.look_from.result.code.now (scope_of c.look_from.result.scope) c.look_from.result.wanted (said_of c.in_ok-reply.reply)
+    (g.T.Turns.sees c.args.turns.now) (g.T.Turns.sees c.turn_at.new.turns) (g.met.T.Turns.seen c.args.turns.now c.requires.ready) c.in_ok-reply.ensures.entry

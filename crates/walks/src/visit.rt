@@ -1,0 +1,153 @@
+//! Visits of a walk: each one turn at a part.
+ghost use Rattle.std.specs.Prelude.{◌≡◌, ◌≢◌, ◌<◌, ◌⊎◌, ◌≤◌, ℕ, [], ◌++◌, Some, None, IsTrue, IfOk, IfErr, IsErrOf, option_map, length};
+ghost use Rattle.part_core.specs.Acts.Act.{Visit};
+ghost use Rattle.part_core.specs.Acts.Answer.{Replied, Refused};
+ghost use Rattle.part_core.specs.Acts.Purpose.{Answers};
+ghost use Rattle.part_core.specs.Acts.Said.{Found};
+ghost use Rattle.part_core.specs.Ops.{cursor_of, refusal_of, said_of, scope_of};
+ghost use Rattle.tables.specs.Turns.{Turned, Views, Follows};
+ghost use Rattle.walk_core.specs.Goes.{way, up_to, Visits, Goes, Stops};
+ghost use Rattle.walk_core.specs.Walk.{IsPosition, part_at, scope_at, scope_from};
+ghost use Rattle.walk_core.specs.Walk.Position.{Over};
+ghost use Rattle.walks.specs.Query.{IsWithin, kept_of, position_of, walk_of};
+ghost use Rattle.walks.specs.Visits.{is_found};
+
+use crate::kept::Kept;
+use crate::position::{Position, move_on, scope_from};
+use crate::query::Query;
+use part_core::{Cursor, Fault, Look, PartOp, Reply};
+use std::alloc::Allocator;
+use std::sync::Wait;
+use tables::{Turns, turn_at};
+use term_core::Term;
+use verifier::Verified;
+
+/// What a visit found, and where the walk goes on.
+fn found<A: Allocator>(reply: Reply<A>) -> (Vec<Term<A>, A>, Option<Cursor<A>>)
+    requires { IsTrue (is_found (Replied (said_of reply))) }
+    ensures { said_of reply ≡ Found result.0.items (option_map cursor_of result.1) }
+{
+    match reply {
+        Reply::Found(answers, next) => (answers, next),
+        Reply::Done
+        | Reply::Flag(_)
+        | Reply::Objects(_)
+        | Reply::AtKey(_)
+        | Reply::Counted(..) => unreachable!(),
+    }
+}
+
+/// What a visit is asked.
+fn look_from<'q, A: Allocator>(
+    code: &'q Verified<A>,
+    cursor: &'q Option<Cursor<A>>,
+    wanted: u64,
+) -> Look<'q, A>
+    ensures code { result.code.now ≡ code.now }
+    ensures scope { scope_of result.scope ≡ scope_from (option_map cursor_of cursor.now) }
+    ensures wanted { result.wanted ≡ wanted }
+{
+    Look {
+        code,
+        scope: scope_from(cursor),
+        wanted,
+    }
+}
+
+/// Visits a part.
+fn visit_at<A: Allocator, T: Turns<A>>(
+    turns: &mut T,
+    part: u8,
+    code: &Verified<A>,
+    cursor: &Option<Cursor<A>>,
+    wanted: u64,
+) -> Result<(Vec<Term<A>, A>, Option<Cursor<A>>), Fault>
+    requires ready { T.is_ready turns.old }
+    requires part { part < (T.home turns.old).options.parts }
+    requires wanted { 0 < wanted }
+    ensures ready { T.is_ready turns.new }
+    ensures same { T.home turns.new ≡ T.home turns.old }
+    ensures done { IfOk result (λ found. Follows (T.sees turns.old) (T.sees turns.new)
+        (Turned (T.home turns.old) part (Visit Answers code.now (scope_from (option_map cursor_of cursor.now)) wanted)
+        (Some (Replied (Found found.0.items (option_map cursor_of found.1)))))) }
+    ensures refused { IfErr result (λ fault. Follows (T.sees turns.old) (T.sees turns.new)
+        (Turned (T.home turns.old) part (Visit Answers code.now (scope_from (option_map cursor_of cursor.now)) wanted)
+        (option_map Refused (refusal_of fault)))) }
+{
+    let reply = turn_at(turns, part, PartOp::Visit(look_from(code, cursor, wanted)))?;
+    Ok(found(reply))
+}
+
+/// Makes the next visit of a walk, and keeps what it finds.
+fn visit_next<A: Allocator, T: Turns<A>>(
+    turns: &mut T,
+    query: &Query<A>,
+    limit: u64,
+    at: &mut Position<A>,
+    kept: &mut Kept<A>,
+) -> Result<(), Fault>
+    requires ready { T.is_ready turns.old }
+    requires within { IsWithin (T.home turns.old).options.parts at.old }
+    requires more { position_of at.old ≢ Over }
+    requires settled { kept.old.last.items ≡ [] }
+    requires room { length (kept_of kept.old) < limit }
+    ensures ready { T.is_ready turns.new }
+    ensures same { T.home turns.new ≡ T.home turns.old }
+    ensures within { IsWithin (T.home turns.old).options.parts at.new }
+    ensures done { IfOk result (λ _. Follows (T.sees turns.old) (T.sees turns.new)
+        (λ v w. Visits (T.home turns.old) (walk_of (T.home turns.old) Answers query.now) (up_to limit)
+        (way v (position_of at.old) (kept_of kept.old)) (way w (position_of at.new) (kept_of kept.new)))) }
+    ensures refused { IfErr result (λ fault. Follows (T.sees turns.old) (T.sees turns.new)
+        (Turned (T.home turns.old) (part_at (walk_of (T.home turns.old) Answers query.now) (position_of at.old))
+        (Visit Answers query.now.code (scope_at (walk_of (T.home turns.old) Answers query.now) (position_of at.old))
+        (up_to limit (length (kept_of kept.old))))
+        (option_map Refused (refusal_of fault)))) }
+    ensures back { IfErr result (λ _. (at.new ≡ at.old) × (kept.new ≡ kept.old)) }
+{
+    let Position::InPart(part, cursor) = &*at else {
+        unreachable!()
+    };
+    let part = *part;
+    let wanted = limit - kept.len();
+    let (answers, next) = visit_at(turns, part, &query.code, cursor, wanted)?;
+    kept.hold(answers);
+    move_on(at, part, next, turns.options().parts);
+    Ok(())
+}
+
+/// Makes visits until there are as many answers as the limit, or the walk is at its end.
+pub(crate) fn visit_up_to<R: Wait, A: Allocator, T: Turns<A>>(
+    rt: &R,
+    turns: &mut T,
+    query: &Query<A>,
+    limit: u64,
+    at: &mut Position<A>,
+    kept: &mut Kept<A>,
+) -> Result<(), Fault>
+    requires ready { T.is_ready turns.old }
+    requires within { IsWithin (T.home turns.old).options.parts at.old }
+    ensures ready { T.is_ready turns.new }
+    ensures same { T.home turns.new ≡ T.home turns.old }
+    ensures enough { IfOk result (λ _. (kept.new.last.items ≡ [])
+        × ((limit ≤ length (kept_of kept.new)) ⊎ (position_of at.new ≡ Over))) }
+    ensures done { IfOk result (λ _. Follows (T.sees turns.old) (T.sees turns.new)
+        (λ v w. Goes (T.home turns.old) (walk_of (T.home turns.old) Answers query.now) (up_to limit)
+        (way v (position_of at.old) (kept_of kept.old)) (way w (position_of at.new) (kept_of kept.new)))) }
+    ensures stopped { IsErrOf result Fault.Memory → Follows (T.sees turns.old) (T.sees turns.new)
+        (λ v w. Stops (T.home turns.old) (walk_of (T.home turns.old) Answers query.now) (up_to limit)
+        (way v (position_of at.old) (kept_of kept.old)) (position_of at.new) (kept_of kept.new) w) }
+    ensures foreign { IfErr result (λ fault. fault ≢ Fault.Memory → (v : Views) → T.sees turns.old v
+        → IsPosition (walk_of (T.home turns.old) Answers query.now) v (position_of at.old) → ⊥) }
+{
+    for _visit in rt.forever() {
+        kept.settle()?;
+        if limit <= kept.len() {
+            return Ok(());
+        }
+        if at.is_over() {
+            return Ok(());
+        }
+        visit_next(turns, query, limit, at, kept)?;
+    }
+    unreachable!()
+}
