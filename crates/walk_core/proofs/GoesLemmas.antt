@@ -26,10 +26,10 @@ use Rattle.walk_core.specs.Walk.{Walk, Position, IsWalk, IsPosition, is_all, is_
 use Rattle.walk_core.specs.Walk.Position.{InPart, AtNamed, Over}
 use Rattle.walk_core.specs.Goes.{Way, IsAt, Visits, Goes, Drifted, Stops, past_of}
 use Rattle.walk_core.specs.Goes.Goes.{stays, goes}
-use Rattle.walk_core.specs.Moments.{Span, IsMoment, Gathers, IsSoFar, IsAnswer, IsGrown, ArePlaced, AreLegal, part_of_key}
+use Rattle.walk_core.specs.Moments.{Span, span, IsMoment, Gathers, IsSoFar, IsAnswer, IsGrown, ArePlaced, AreLegal, part_of_key}
 use Rattle.walk_core.proofs.GrowthLemmas.{key_inside, grown_position, grown_gathers, more_gathers}
 use Rattle.walk_core.proofs.PositionLemmas.{done_next, covered_anew}
-use Rattle.walk_core.proofs.StepLemmas.{all_front, turned_grown, visit_entry, span, later_gathers, gathers_on}
+use Rattle.walk_core.proofs.StepLemmas.{all_front, turned_grown, visit_entry, later_gathers, gathers_on}
 
 -- ---- one visit
 

@@ -31,7 +31,7 @@ use Rattle.tables.specs.declared.options.Options.{Options}
 use Rattle.tables.specs.Turns.{Home, Views, TurnedAt, Turned}
 use Rattle.walk_core.specs.Walk.{Walk, Position, IsWalk, IsPosition, is_done, is_covered, part_at, scope_at, scope_from, next_position}
 use Rattle.walk_core.specs.Walk.Position.{InPart, AtNamed, Over}
-use Rattle.walk_core.specs.Moments.{Span, IsVisit, IsMoment, IsMet, Mark, Gathers, IsGrown, ArePlaced, AreLegal, answers_at, part_of_key}
+use Rattle.walk_core.specs.Moments.{Span, span, IsVisit, IsMoment, IsMet, Mark, Gathers, IsGrown, ArePlaced, AreLegal, answers_at, part_of_key}
 use Rattle.walk_core.proofs.GrowthLemmas.{key_inside, grown_gathers}
 use Rattle.walk_core.proofs.PositionLemmas.{done_next, covered_anew}
 
@@ -101,9 +101,6 @@ visit_entry w scope wanted said =
 
 abbrev pub mark_at : ℕ → Datum → Mark
 mark_at moment k = record { key = k; moment = moment }
-
-abbrev pub span : Views → Views → Span
-span before after = record { before = before; after = after }
 
 -- a moment of the calls so far is one of the calls as they are later
 later_call : (w : Walk) (calls : List Span) (before now later : Views) (now_is : Views) (k : Datum) (moment : ℕ) → length (now (part_of_key w k)) ≤ length (later (part_of_key w k)) → IsMoment w (calls ++ span before now ∷ []) now_is k moment → IsMoment w (calls ++ span before later ∷ []) now_is k moment

@@ -9,7 +9,7 @@ use Rattle.tables.specs.Turns.{Home, Views, Turned}
 use Rattle.walk_core.specs.Walk.{Walk, Position, IsWalk, IsPosition, start_of, part_at, scope_at, next_position}
 use Rattle.walk_core.specs.Walk.Position.{Over}
 use Rattle.walk_core.specs.Goes.{Way, way, IsAt, Visits, Goes, Stops}
-use Rattle.walk_core.specs.Moments.{Span, IsSoFar, IsAnswer, IsGrown, AreLegal, ArePlaced}
+use Rattle.walk_core.specs.Moments.{Span, span, IsSoFar, IsAnswer, IsGrown, AreLegal, ArePlaced}
 
 -- a walk that begins has gathered nothing
 abbrev pub WalksBegin : Type 0
@@ -39,7 +39,7 @@ WalksGoOn =
     (h : Home) (w : Walk) (wanted : ℕ → ℕ) (calls : List Span) (given : List Datum) (a b : Way)
     → IsAt h w → IsWalk w → AreLegal w.options a.views → ArePlaced w.options b.views
     → IsSoFar w calls given a.views a.at a.gained → Goes h w wanted a b
-    → IsSoFar w (calls ++ (record { before = a.views; after = b.views }) ∷ []) given b.views b.at b.gained
+    → IsSoFar w (calls ++ span a.views b.views ∷ []) given b.views b.at b.gained
 
 -- what others do, and other calls of the session, changes nothing of a walk so far
 abbrev pub WalksOutlastOthers : Type 0
@@ -61,4 +61,4 @@ WalksStop =
     (gained : List Datum) (now : Views)
     → IsAt h w → IsWalk w → AreLegal w.options a.views → ArePlaced w.options now
     → IsSoFar w calls given a.views a.at a.gained → Stops h w wanted a at gained now
-    → IsSoFar w (calls ++ (record { before = a.views; after = now }) ∷ []) given now at gained
+    → IsSoFar w (calls ++ span a.views now ∷ []) given now at gained

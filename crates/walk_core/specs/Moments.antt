@@ -22,6 +22,9 @@ pub record Span : Type 0 where
   pub before : Views
   pub after : Views
 
+abbrev pub span : Views → Views → Span
+span before after = record { before = before; after = after }
+
 -- an entry is a visit of the walk that was answered, and the key is one that it covers
 pub record IsVisit (w : Walk) (k : Datum) (e : Entry) : Type 0 where
   pub scope : Scope

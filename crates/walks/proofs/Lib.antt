@@ -2,3 +2,4 @@ mod KeyLemmas
 pub mod OneThreadLemmas
 mod VisitLemmas
 mod GoingLemmas
+mod PieceLemmas

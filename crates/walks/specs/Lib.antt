@@ -2,3 +2,4 @@ pub mod OneThread
 pub mod Keys
 pub mod Query
 pub mod Visits
+pub mod Pieces

@@ -1,15 +1,19 @@
 //! Walks through tables.
 #![tactic(auto)]
 
+mod continuation;
 mod fault;
 mod kept;
 mod keys;
+mod pieces;
 mod position;
 mod query;
 mod visit;
 
+pub use continuation::{Continuation, Step};
 pub use fault::WalkFault;
 pub use keys::{first, next};
 pub use kept::Kept;
+pub use pieces::{select_limit, select_more};
 pub use position::Position;
 pub use query::Query;

@@ -19,7 +19,7 @@ pub enum Position<A: Allocator = Global> {
 impl<A: Allocator> Position<A> {
     ghost use Rattle.std.specs.Prelude.{◌≡◌, ◌≢◌, MatchBool};
     ghost use Rattle.walk_core.specs.Walk.Position.{Over};
-    ghost use Rattle.walks.specs.Query.{position_of};
+    ghost use Rattle.walks.specs.Query.{IsWithin, position_of};
 
     /// The walk is at its end.
     pub fn is_over(&self) -> bool
@@ -28,6 +28,16 @@ impl<A: Allocator> Position<A> {
         match self {
             Position::Over => true,
             Position::InPart(..) => false,
+        }
+    }
+
+    /// The part where the walk is, is one of so many.
+    pub(crate) fn is_within(&self, parts: u8) -> bool
+        ensures { MatchBool result (IsWithin parts self.now) (¬ (IsWithin parts self.now)) }
+    {
+        match self {
+            Position::InPart(part, _) => *part < parts,
+            Position::Over => true,
         }
     }
 }

@@ -1,0 +1,76 @@
+-- What a call of a walk in pieces makes of what a session sees.
+use Rattle.std.specs.Prelude.{ℕ, ◌≡◌, ◌<◌, ◌≤◌, ◌++◌, List, [], ◌∷◌, length}
+use Rattle.term_core.specs.Datum.{Datum}
+use Rattle.part_core.specs.Acts.Purpose.{Answers}
+use Rattle.tables.specs.Turns.{Home, Views}
+use Rattle.walk_core.specs.Goes.{way, up_to, Goes, Stops}
+use Rattle.walk_core.specs.Moments.{Span, span, IsSoFar, IsAnswer, ArePlaced}
+use Rattle.walk_core.specs.Walk.{Walk, Position, start_of}
+use Rattle.walk_core.specs.Walk.Position.{Over}
+use Rattle.walks.specs.declared.query.Query.{Query}
+use Rattle.walks.specs.declared.continuation.Continuation.{Continuation}
+use Rattle.walks.specs.declared.continuation.Step.{Step}
+use Rattle.walks.specs.declared.continuation.Step.TheVariants as step
+use Rattle.walks.specs.Query.{kept_of, position_of, walk_of}
+
+-- a walk that was begun by this session at this table
+abbrev pub IsOwn : {A : Type 0} → Home → Continuation A → Type 0
+IsOwn h c = (c.table ≡ h.options.name) × (c.session ≡ h.number)
+
+-- the walk with this query and this limit, of this session at this table
+abbrev pub IsWalkOf : {A : Type 0} → Home → Query A → ℕ → Continuation A → Type 0
+IsWalkOf h q limit c = (c.query ≡ q) × (c.limit ≡ limit) × IsOwn h c
+
+-- at most as many answers as the limit, and fewer only at the end of the walk, with none kept
+pub record IsPiece (limit : ℕ) (answers : List Datum) (at : Position) (kept : List Datum) : Type 0 where
+  pub most : length answers ≤ limit
+  pub fewer : length answers < limit → (at ≡ Over) × (kept ≡ [])
+
+-- a piece is given out, or, where it has no answer, the query is handed back
+abbrev pub IsStepOf : {A : Type 0} → Continuation A → List Datum → Step A → Type 0
+IsStepOf c piece (step.Piece answers d) = (answers.items ≡ piece) × (0 < length piece) × (d ≡ c)
+IsStepOf c piece (step.End q) = (piece ≡ []) × (q ≡ c.query)
+
+-- A call that was answered made visits: up to a piece, which has an answer, and what is kept behind it; or up to the end,
+-- with no answer.
+abbrev pub Steps : {A : Type 0} → Home → Query A → ℕ → Position → List Datum → Step A → Views → Views → Type 0
+Steps h q limit at kept (step.Piece answers c) v w =
+    Goes h (walk_of h Answers q) (up_to limit) (way v at kept) (way w (position_of c.at) (answers.items ++ kept_of c.kept))
+    × (0 < length answers.items) × IsPiece limit answers.items (position_of c.at) (kept_of c.kept) × IsWalkOf h q limit c
+Steps h q limit at kept (step.End p) v w =
+    Goes h (walk_of h Answers q) (up_to limit) (way v at kept) (way w Over []) × (p ≡ q)
+
+-- so the walk so far is carried on; at its end, what was given out is its answer
+abbrev pub IsCarriedOn : {A : Type 0} → Walk → List Span → List Datum → Step A → Views → Type 0
+IsCarriedOn w calls given (step.Piece answers c) now =
+    IsSoFar w calls (given ++ answers.items) now (position_of c.at) (kept_of c.kept)
+IsCarriedOn w calls given (step.End p) now = IsAnswer w calls now given
+
+-- A call that begins a walk and was refused for want of memory: the visits that it made are lost.
+abbrev pub StopsAnywhere : {A : Type 0} → Home → Query A → ℕ → Views → Views → Type 0
+StopsAnywhere h q limit v w =
+    (at : Position) × (gained : List Datum)
+    × Stops h (walk_of h Answers q) (up_to limit) (way v (start_of (walk_of h Answers q)) []) at gained w
+
+-- A call that begins a walk: where each object was put in at its key's part, the walk so far is what it gave out.
+abbrev pub Begins : {A : Type 0} → Home → Query A → ℕ → Step A → Views → Views → Type 0
+Begins h q limit s v w =
+    Steps h q limit (start_of (walk_of h Answers q)) [] s v w
+    × (ArePlaced h.options w → IsCarriedOn (walk_of h Answers q) (span v w ∷ []) [] s w)
+
+-- A call that carries a walk on: whatever was given out before, the walk so far grows by what it gives out.
+abbrev pub Continues : {A : Type 0} → Home → Continuation A → Step A → Views → Views → Type 0
+Continues h c s v w =
+    Steps h c.query c.limit (position_of c.at) (kept_of c.kept) s v w
+    × ((calls : List Span) (given : List Datum)
+    → IsSoFar (walk_of h Answers c.query) calls given v (position_of c.at) (kept_of c.kept) → ArePlaced h.options w
+    → IsCarriedOn (walk_of h Answers c.query) (calls ++ span v w ∷ []) given s w)
+
+-- One that was refused for want of memory gives out nothing, and what its visits found is kept.
+abbrev pub Keeps : {A : Type 0} → Home → Continuation A → Continuation A → Views → Views → Type 0
+Keeps h c d v w =
+    Stops h (walk_of h Answers c.query) (up_to c.limit) (way v (position_of c.at) (kept_of c.kept)) (position_of d.at) (kept_of d.kept) w
+    × IsWalkOf h c.query c.limit d
+    × ((calls : List Span) (given : List Datum)
+    → IsSoFar (walk_of h Answers c.query) calls given v (position_of c.at) (kept_of c.kept) → ArePlaced h.options w
+    → IsSoFar (walk_of h Answers c.query) (calls ++ span v w ∷ []) given w (position_of d.at) (kept_of d.kept))

@@ -1,0 +1,226 @@
+//! Walks in pieces.
+ghost use Rattle.std.specs.Prelude.{ℕ, ◌≡◌, ◌≢◌, ◌<◌, ◌++◌, [], IfOk, IfErr, IsErrAnd, IsErrOf, IsTrue, MatchBool, length};
+ghost use Rattle.part_core.specs.Acts.Purpose.{Answers};
+ghost use Rattle.tables.specs.Turns.{Views, Follows};
+ghost use Rattle.walk_core.specs.Goes.{way, up_to, Goes, Stops};
+ghost use Rattle.walk_core.specs.Walk.{IsPosition};
+ghost use Rattle.walks.specs.Query.{IsWithin, kept_of, position_of, walk_of};
+ghost use Rattle.walks.specs.Pieces.{IsOwn, IsPiece, IsWalkOf, IsStepOf, Steps, Begins, Continues, Keeps, StopsAnywhere};
+
+use crate::continuation::{Continuation, Step};
+use crate::fault::WalkFault;
+use crate::kept::Kept;
+use crate::position::{Position, at_part};
+use crate::query::Query;
+use crate::visit::visit_up_to;
+use part_core::Fault;
+use std::alloc::Allocator;
+use std::sync::Wait;
+use tables::Turns;
+use term_core::{Refused, Term};
+
+/// What a refused visit comes to: a walk that can't go on where it is was begun at another table.
+fn fault_of(fault: Fault) -> WalkFault
+    ensures scarce { (fault ≡ Fault.Memory) → result ≡ WalkFault.Memory }
+    ensures other { (fault ≢ Fault.Memory) → result ≡ WalkFault.StrangerContinuation }
+{
+    match fault {
+        Fault::Memory => WalkFault::Memory,
+        Fault::TooSmall
+        | Fault::FixLimit
+        | Fault::NotFixed
+        | Fault::BadKey
+        | Fault::CursorOutside => WalkFault::StrangerContinuation,
+    }
+}
+
+/// A piece is given out, unless it has no answer.
+fn step_of<A: Allocator>(walk: Continuation<A>, piece: Vec<Term<A>, A>) -> Step<A>
+    ensures { IsStepOf walk piece.items result }
+{
+    if piece.is_empty() {
+        Step::End(walk.query)
+    } else {
+        Step::Piece(piece, walk)
+    }
+}
+
+/// Makes visits until there are as many answers as the limit, or the walk is at its end, and gives out so many.
+fn next_piece<R: Wait, A: Allocator + Copy, T: Turns<A>>(
+    rt: &R,
+    alloc: A,
+    turns: &mut T,
+    query: &Query<A>,
+    limit: u64,
+    at: &mut Position<A>,
+    kept: &mut Kept<A>,
+) -> Result<Vec<Term<A>, A>, WalkFault>
+    requires ready { T.is_ready turns.old }
+    requires within { IsWithin (T.home turns.old).options.parts at.old }
+    ensures ready { T.is_ready turns.new }
+    ensures same { T.home turns.new ≡ T.home turns.old }
+    ensures done { IfOk result (λ piece. Follows (T.sees turns.old) (T.sees turns.new)
+        (λ v w. Goes (T.home turns.old) (walk_of (T.home turns.old) Answers query.now) (up_to limit)
+        (way v (position_of at.old) (kept_of kept.old)) (way w (position_of at.new) (piece.items ++ kept_of kept.new)))) }
+    ensures piece { IfOk result (λ piece. IsPiece limit piece.items (position_of at.new) (kept_of kept.new)) }
+    ensures stopped { IfErr result (λ fault. (fault ≡ WalkFault.Memory) → Follows (T.sees turns.old) (T.sees turns.new)
+        (λ v w. Stops (T.home turns.old) (walk_of (T.home turns.old) Answers query.now) (up_to limit)
+        (way v (position_of at.old) (kept_of kept.old)) (position_of at.new) (kept_of kept.new) w)) }
+    ensures foreign { IfErr result (λ fault. (fault ≢ WalkFault.Memory) → (fault ≡ WalkFault.StrangerContinuation)
+        × ((v : Views) → T.sees turns.old v
+        → IsPosition (walk_of (T.home turns.old) Answers query.now) v (position_of at.old) → ⊥)) }
+{
+    if let Err(fault) = visit_up_to(rt, turns, query, limit, at, kept) {
+        return Err(fault_of(fault));
+    }
+    match kept.piece(alloc, limit) {
+        Ok(piece) => Ok(piece),
+        Err(_) => Err(WalkFault::Memory),
+    }
+}
+
+/// Makes visits until a piece can be given out, or the walk is at its end.
+fn go_on<R: Wait, A: Allocator + Copy, T: Turns<A>>(
+    rt: &R,
+    alloc: A,
+    turns: &mut T,
+    walk: Continuation<A>,
+) -> Result<Step<A>, Refused<Continuation<A>, WalkFault>>
+    requires ready { T.is_ready turns.old }
+    requires own { IsOwn (T.home turns.old) walk }
+    requires within { IsWithin (T.home turns.old).options.parts walk.at }
+    ensures ready { T.is_ready turns.new }
+    ensures same { T.home turns.new ≡ T.home turns.old }
+    ensures done { IfOk result (λ step. Follows (T.sees turns.old) (T.sees turns.new)
+        (Steps (T.home turns.old) walk.query walk.limit (position_of walk.at) (kept_of walk.kept) step)) }
+    ensures stopped { IfErr result (λ refused. (refused.fault ≡ WalkFault.Memory) → Follows (T.sees turns.old) (T.sees turns.new)
+        (λ v w. Stops (T.home turns.old) (walk_of (T.home turns.old) Answers walk.query) (up_to walk.limit)
+        (way v (position_of walk.at) (kept_of walk.kept)) (position_of refused.value.at) (kept_of refused.value.kept) w)) }
+    ensures foreign { IfErr result (λ refused. (refused.fault ≢ WalkFault.Memory) → (refused.fault ≡ WalkFault.StrangerContinuation)
+        × ((v : Views) → T.sees turns.old v
+        → IsPosition (walk_of (T.home turns.old) Answers walk.query) v (position_of walk.at) → ⊥)) }
+    ensures back { IfErr result (λ refused. IsWalkOf (T.home turns.old) walk.query walk.limit refused.value) }
+{
+    let Continuation {
+        query,
+        table,
+        session,
+        limit,
+        mut at,
+        mut kept,
+    } = walk;
+    let piece = next_piece(rt, alloc, turns, &query, limit, &mut at, &mut kept);
+    let walk = Continuation {
+        query,
+        table,
+        session,
+        limit,
+        at,
+        kept,
+    };
+    match piece {
+        Ok(piece) => Ok(step_of(walk, piece)),
+        Err(fault) => Err(Refused { value: walk, fault }),
+    }
+}
+
+/// The query of a walk that was refused.
+fn query_refused<A: Allocator>(
+    refused: Refused<Continuation<A>, WalkFault>,
+) -> Refused<Query<A>, WalkFault>
+    ensures { (result.value ≡ refused.value.query) × (result.fault ≡ refused.fault) }
+{
+    let Refused { value: walk, fault } = refused;
+    Refused {
+        value: walk.query,
+        fault,
+    }
+}
+
+/// Whether a walk was begun at the table with this name, by the session with this number.
+fn is_own<A: Allocator>(walk: &Continuation<A>, table: u64, session: u8) -> bool
+    ensures { MatchBool result ((walk.now.table ≡ table) × (walk.now.session ≡ session))
+        (¬ ((walk.now.table ≡ table) × (walk.now.session ≡ session))) }
+{
+    walk.table == table && walk.session == session
+}
+
+/// Begins a walk in pieces of at most so many answers each (ets:select/3). A limit of 0 is refused before any turn; what is
+/// refused is handed back.
+pub fn select_limit<R: Wait, A: Allocator + Copy, T: Turns<A>>(
+    rt: &R,
+    alloc: A,
+    turns: &mut T,
+    query: Query<A>,
+    limit: u64,
+) -> Result<Step<A>, Refused<Query<A>, WalkFault>>
+    requires { T.is_ready turns.old }
+    ensures ready { T.is_ready turns.new }
+    ensures same { T.home turns.new ≡ T.home turns.old }
+    ensures done { IfOk result (λ step. Follows (T.sees turns.old) (T.sees turns.new)
+        (Begins (T.home turns.old) query limit step)) }
+    ensures limited { (limit ≡ 0) → IsErrAnd result (λ refused. refused.fault ≡ WalkFault.BadLimit)
+        × Follows (T.sees turns.old) (T.sees turns.new) (λ v w. w ≡ v) }
+    ensures refused { IfErr result (λ refused. (0 < limit) → (refused.fault ≡ WalkFault.Memory)
+        × Follows (T.sees turns.old) (T.sees turns.new) (StopsAnywhere (T.home turns.old) query limit)) }
+    ensures back { IfErr result (λ refused. refused.value ≡ query) }
+{
+    if limit == 0 {
+        return Err(Refused {
+            value: query,
+            fault: WalkFault::BadLimit,
+        });
+    }
+    let options = turns.options();
+    let walk = Continuation {
+        query,
+        table: options.name,
+        session: turns.number(),
+        limit,
+        at: at_part(0, options.parts),
+        kept: Kept::new(alloc),
+    };
+    match go_on(rt, alloc, turns, walk) {
+        Ok(step) => Ok(step),
+        Err(refused) => Err(query_refused(refused)),
+    }
+}
+
+/// Carries a walk in pieces on (ets:select/1). A walk of another table or session is refused before any turn. What is
+/// refused is handed back, with the visits that were made and what they found.
+pub fn select_more<R: Wait, A: Allocator + Copy, T: Turns<A>>(
+    rt: &R,
+    alloc: A,
+    turns: &mut T,
+    walk: Continuation<A>,
+) -> Result<Step<A>, Refused<Continuation<A>, WalkFault>>
+    requires { T.is_ready turns.old }
+    ensures ready { T.is_ready turns.new }
+    ensures same { T.home turns.new ≡ T.home turns.old }
+    ensures done { IfOk result (λ step. Follows (T.sees turns.old) (T.sees turns.new)
+        (Continues (T.home turns.old) walk step)) }
+    ensures stranger { ¬ (IsOwn (T.home turns.old) walk)
+        → IsErrAnd result (λ refused. (refused.fault ≡ WalkFault.StrangerContinuation) × (refused.value ≡ walk))
+        × Follows (T.sees turns.old) (T.sees turns.new) (λ v w. w ≡ v) }
+    ensures kept { IfErr result (λ refused. (refused.fault ≡ WalkFault.Memory)
+        → Follows (T.sees turns.old) (T.sees turns.new) (Keeps (T.home turns.old) walk refused.value)) }
+    ensures foreign { IfErr result (λ refused. (refused.fault ≢ WalkFault.Memory)
+        → (refused.fault ≡ WalkFault.StrangerContinuation)
+        × (IsOwn (T.home turns.old) walk → (v : Views) → T.sees turns.old v
+        → IsPosition (walk_of (T.home turns.old) Answers walk.query) v (position_of walk.at) → ⊥)) }
+{
+    let options = turns.options();
+    if !is_own(&walk, options.name, turns.number()) {
+        return Err(Refused {
+            value: walk,
+            fault: WalkFault::StrangerContinuation,
+        });
+    }
+    if !walk.at.is_within(options.parts) {
+        return Err(Refused {
+            value: walk,
+            fault: WalkFault::StrangerContinuation,
+        });
+    }
+    go_on(rt, alloc, turns, walk)
+}
