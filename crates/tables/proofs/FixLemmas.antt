@@ -1,5 +1,6 @@
 -- Changes of counts of fixes, part by part.
-use Rattle.std.proofs.Common.{◌≡◌, ◌≢◌, ℕ, Result, IfErr, ◌+◌, ◌<◌, ◌≤◌, ◌==◌, ◌++◌, [], ◌∷◌, refl, ap, sym, subst, ◌∙◌, arith, Bool, true, not, ◌&&◌, if◌then◌else◌, Some, IsTrue, fold, length}
+use Rattle.std.proofs.Common.{◌≡◌, ◌≢◌, ℕ, Result, IfErr, ◌+◌, ◌<◌, ◌≤◌, ◌==◌, ◌++◌, [], ◌∷◌, refl, ap, sym, subst, ◌∙◌, arith, Bool, true, false, not, ◌&&◌, if◌then◌else◌, Some, IsTrue, fold, length}
+use Rattle.std.specs.Prelude.{nat_lt}
 use Rattle.std.specs.Result.{is_ok}
 use Rattle.std.proofs.Math.Logic.{∥∥₁_map}
 use Rattle.std.proofs.lemmas.Bool.{eqb-true, eqb-false, false≢true}
@@ -9,11 +10,12 @@ use Rattle.part_core.specs.declared.fault.Fault.TheVariants as fault
 use Rattle.part_core.specs.declared.reply.Reply.{Reply}
 use Rattle.part_core.specs.Ops.{answer_in, takes_no_memory}
 use Rattle.part_core.specs.declared.settings.Settings.{Settings}
-use Rattle.part_core.specs.Acts.{Act, Answer, History, is_refused}
+use Rattle.part_core.specs.Acts.{Act, Answer, Said, History, is_refused}
 use Rattle.part_core.specs.Acts.Answer.{Replied, Refused}
+use Rattle.part_core.specs.Acts.Refusal.{FixLimit, NotFixed}
 use Rattle.part_core.specs.Acts.Said.{Nothing}
 use Rattle.part_core.specs.Rows.{PartState}
-use Rattle.part_core.specs.Replies.{reply_of, fixes_of}
+use Rattle.part_core.specs.Replies.{reply_of, fixes_of, most_fixes}
 use Rattle.part_core.specs.Legal.{state_after, fix_count, fixes_after}
 use Rattle.part_core.proofs.HistoryLemmas.{counts_of}
 use Rattle.part_core.proofs.KeyLemmas.{by_test}
@@ -23,26 +25,12 @@ use Rattle.tables.specs.Options.{settings_of}
 use Rattle.tables.specs.Turns.{Home, Views, TurnedAt, Turned, Follows, own}
 use Rattle.tables.specs.Calls.{is_granted, IsGranted}
 use Rattle.tables.specs.Fixing.{act_of_change}
-use Rattle.tables.proofs.TurnLemmas.{turned_right, turned_front, surely_done}
+use Rattle.tables.proofs.TurnLemmas.{count_own, met, turned_right, turned_front, surely_done}
 
 -- turns at the parts below one, and none at the others
 pub record TurnedBelow (h : Home) (act : Act) (part : ℕ) (v w : Views) : Type 0 where
   pub below : (k : ℕ) → k < part → TurnedAt h (v k) act (Some (Replied Nothing)) (w k)
   pub above : (k : ℕ) → part ≤ k → w k ≡ v k
-
--- entries of other sessions leave a session's count
-pub counts_own : (n : ℕ) (es : History) (count : ℕ) → own n es ≡ []
-    → fold (λ count e. if e.session == n && not (is_refused e.answer) then fixes_after e.act count else count) count es ≡ count
-counts_own n [] count none = refl
-counts_own n (e ∷ es) count none = by_test (e.session == n) _
-    (λ same. absurd (cons_nil (sym (ap (λ (b : Bool). if b then e ∷ own n es else own n es) same) ∙ none)))
-    (λ other. rw other (counts_own n es count (sym (ap (λ (b : Bool). if b then e ∷ own n es else own n es) other) ∙ none)))
-  where
-    cons_nil : e ∷ own n es ≡ [] → ⊥
-    cons_nil h = omega (arith, ap length h)
-
-pub count_own : (n : ℕ) (old between : History) → own n between ≡ [] → fix_count n (old ++ between) ≡ fix_count n old
-count_own n old between none = fold-append _ 0 old between ∙ counts_own n between (fix_count n old) none
 
 -- what a count allows is replied so
 pub granted_said : (o : Settings) (s : PartState) (n : ℕ) (c : Change) → is_granted (act_of_change c) (fixes_of s n) ≡ true
@@ -108,3 +96,39 @@ pub change_sure : (c : Change) → takes_no_memory (act_of_change c) ≡ true
 change_sure change.Fix = refl
 change_sure change.Unfix = refl
 change_sure change.Release = refl
+
+-- ---- a change at one part
+
+-- a change that the session's count there allows is made
+pub change_made : {A : Type 0} (h : Home) (c : Change) (part : ℕ) (now later : Views → Type 0) (result : Result (Reply A) Fault)
+    → h.number < (settings_of h.options).sessions
+    → ∥ ((v : Views) × now v × IsTrue (is_granted (act_of_change c) (fix_count h.number (v part)))) ∥₁
+    → Follows now later (Turned h part (act_of_change c) (answer_in result)) → IfErr result (λ f. f ≢ fault.Memory)
+    → IsTrue (is_ok result)
+change_made h c part now later result session seen turn sure =
+    surely_done h part (act_of_change c) (λ v. now v × IsTrue (is_granted (act_of_change c) (fix_count h.number (v part)))) later result (∥∥₁_map seen (λ s. (s.0, (s.1, s.2)))) (λ v b. turn v b.0) sure
+    (λ v x refusal b t. false≢true (sym (ap is_refused (granted_turn h (v part) (x part) c (Refused refusal) session b.1 t.here))))
+
+only_nothing : (o : Settings) (s : PartState) (n : ℕ) (c : Change) (said : Said) → Replied said ≡ reply_of o s n (act_of_change c)
+    → said ≡ Nothing
+unfolding reply_of
+only_nothing o s n change.Fix said is = of (nat_lt (fixes_of s n) most_fixes) is
+  where
+    of : (b : Bool) → Replied said ≡ (if b then Replied Nothing else Refused FixLimit) → said ≡ Nothing
+    of true e = cc
+    of false e = cc
+only_nothing o s n change.Unfix said is = of (nat_lt 0 (fixes_of s n)) is
+  where
+    of : (b : Bool) → Replied said ≡ (if b then Replied Nothing else Refused NotFixed) → said ≡ Nothing
+    of true e = cc
+    of false e = cc
+only_nothing o s n change.Release said is = cc
+
+-- what a change replies is nothing
+pub change_said : (h : Home) (c : Change) (part : ℕ) (said : Said) (now later : Views → Type 0)
+    → Follows now later (Turned h part (act_of_change c) (Some (Replied said)))
+    → Follows now later (Turned h part (act_of_change c) (Some (Replied Nothing)))
+change_said h c part said now later turn v b =
+    let t = turn v b in
+    let nothing = only_nothing (settings_of h.options) (met h (v part) (t.0 part) (act_of_change c) (Some (Replied said)) t.2.here) h.number c said (turned_right h (v part) (t.0 part) (act_of_change c) (Replied said) t.2.here) in
+    (t.0, t.1, subst (λ (s : Said). Turned h part (act_of_change c) (Some (Replied s)) v t.0) nothing t.2)

@@ -1,10 +1,11 @@
 -- What a turn was answered, told from the history that it leaves.
-use Rattle.std.proofs.Common.{◌≡◌, ◌≢◌, ℕ, ◌++◌, [], ◌∷◌, refl, ap, sym, subst, ◌∙◌, Bool, true, false, Result, Ok, Err, Option, option_map, Some, None, IsTrue, IfErr}
+use Rattle.std.proofs.Common.{arith, length, fold, not, ◌&&◌, ◌==◌, if◌then◌else◌, ◌≡◌, ◌≢◌, ℕ, ◌++◌, [], ◌∷◌, refl, ap, sym, subst, ◌∙◌, Bool, true, false, Result, Ok, Err, Option, option_map, Some, None, IsTrue, IfErr}
 use Rattle.std.proofs.Props.{props}
 use Rattle.std.proofs.Math.Logic.{∥∥₁_elim}
 use Rattle.std.proofs.lemmas.Bool.{false≢true}
 use Rattle.std.specs.Result.{is_ok}
 use Rattle.std.proofs.lemmas.List.{append-nil}
+use Rattle.std.proofs.lemmas.List.Sums.{fold-append}
 use Rattle.part_core.specs.declared.fault.Fault.{Fault}
 use Rattle.part_core.specs.declared.fault.Fault.TheVariants as fault
 use Rattle.part_core.specs.declared.reply.Reply.{Reply}
@@ -14,11 +15,12 @@ use Rattle.part_core.specs.Acts.Refusal.{TooSmall, FixLimit, NotFixed, BadKey, C
 use Rattle.part_core.specs.Rows.{PartState, opening}
 use Rattle.part_core.specs.Replies.{reply_of}
 use Rattle.part_core.specs.After.{after}
-use Rattle.part_core.specs.Legal.{state_after, IsLegal}
+use Rattle.part_core.specs.Legal.{state_after, IsLegal, fix_count, fixes_after}
 use Rattle.part_core.specs.Ops.{answer_in, refusal_of}
+use Rattle.part_core.proofs.KeyLemmas.{by_test}
 use Rattle.part_core.proofs.HistoryLemmas.{legal_front_from, legal_rest_from, state_more}
 use Rattle.tables.specs.Options.{settings_of}
-use Rattle.tables.specs.Turns.{Home, Views, TurnedAt, Turned, Follows}
+use Rattle.tables.specs.Turns.{Home, Views, TurnedAt, Turned, Follows, own}
 
 -- the state before a turn, behind the entries of others
 abbrev pub met : (h : Home) (old new : History) (act : Act) (answer : Option Answer) → TurnedAt h old act answer new → PartState
@@ -93,6 +95,20 @@ pub answered_as : (h : Home) (part : ℕ) (act : Act) (answer wanted : Answer) (
 answered_as h part act answer wanted before now follows said = λ v b.
     let t = (follows v b).2 in
     ((follows v b).0, (follows v b).1, subst (λ (a : Answer). Turned h part act (Some a) v (follows v b).0) (turned_right h _ _ act answer t.here ∙ said (met h _ _ act (Some answer) t.here)) t)
+
+-- entries of other sessions leave a session's count
+pub counts_own : (n : ℕ) (es : History) (count : ℕ) → own n es ≡ []
+    → fold (λ count e. if e.session == n && not (is_refused e.answer) then fixes_after e.act count else count) count es ≡ count
+counts_own n [] count none = refl
+counts_own n (e ∷ es) count none = by_test (e.session == n) _
+    (λ same. absurd (cons_nil (sym (ap (λ (b : Bool). if b then e ∷ own n es else own n es) same) ∙ none)))
+    (λ other. rw other (counts_own n es count (sym (ap (λ (b : Bool). if b then e ∷ own n es else own n es) other) ∙ none)))
+  where
+    cons_nil : e ∷ own n es ≡ [] → ⊥
+    cons_nil h = omega (arith, ap length h)
+
+pub count_own : (n : ℕ) (old between : History) → own n between ≡ [] → fix_count n (old ++ between) ≡ fix_count n old
+count_own n old between none = fold-append _ 0 old between ∙ counts_own n between (fix_count n old) none
 
 -- ---- a turn of a session that is alone
 

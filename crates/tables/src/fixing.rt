@@ -3,7 +3,8 @@ ghost use Rattle.std.specs.Prelude.{MatchBool, ℕ, ◌≡◌, ◌<◌, Some, Is
 ghost use Rattle.part_core.specs.Acts.Act.{Fix, Unfix, Release};
 ghost use Rattle.part_core.specs.Acts.Answer.{Replied};
 ghost use Rattle.part_core.specs.Acts.Said.{Nothing};
-ghost use Rattle.tables.specs.Turns.{Views, TurnedEach, Follows};
+ghost use Rattle.part_core.specs.Legal.{fix_count};
+ghost use Rattle.tables.specs.Turns.{Views, Turned, TurnedEach, Follows};
 ghost use Rattle.tables.specs.Calls.{is_granted, IsGranted, IsNotGranted, RefusedEach};
 ghost use Rattle.tables.specs.Fixing.{act_of_change};
 
@@ -124,4 +125,46 @@ pub fn release<A: Allocator, T: Turns<A>>(turns: &mut T)
         (TurnedEach (T.home turns.old) Release (Some (Replied Nothing))) }
 {
     change_each(turns, Change::Release);
+}
+
+/// Makes a change at one part.
+fn change_at<A: Allocator, T: Turns<A>>(turns: &mut T, part: u8, change: Change)
+    requires ready { T.is_ready turns.old }
+    requires part { part < (T.home turns.old).options.parts }
+    requires granted { ∥ ((v : Views) × T.sees turns.old v
+        × IsTrue (is_granted (act_of_change change) (fix_count (T.home turns.old).number (v part)))) ∥₁ }
+    ensures ready { T.is_ready turns.new }
+    ensures same { T.home turns.new ≡ T.home turns.old }
+    ensures done { Follows (T.sees turns.old) (T.sees turns.new)
+        (Turned (T.home turns.old) part (act_of_change change) (Some (Replied Nothing))) }
+{
+    reply_let_go(done(turn_at(turns, part, change.op())));
+}
+
+/// Fixes one part once more, where the session's count is below 65,535.
+pub fn fix_at<A: Allocator, T: Turns<A>>(turns: &mut T, part: u8)
+    requires ready { T.is_ready turns.old }
+    requires part { part < (T.home turns.old).options.parts }
+    requires granted { ∥ ((v : Views) × T.sees turns.old v
+        × IsTrue (is_granted Fix (fix_count (T.home turns.old).number (v part)))) ∥₁ }
+    ensures ready { T.is_ready turns.new }
+    ensures same { T.home turns.new ≡ T.home turns.old }
+    ensures done { Follows (T.sees turns.old) (T.sees turns.new)
+        (Turned (T.home turns.old) part Fix (Some (Replied Nothing))) }
+{
+    change_at(turns, part, Change::Fix);
+}
+
+/// Releases one fix of one part, where the session has one.
+pub fn unfix_at<A: Allocator, T: Turns<A>>(turns: &mut T, part: u8)
+    requires ready { T.is_ready turns.old }
+    requires part { part < (T.home turns.old).options.parts }
+    requires granted { ∥ ((v : Views) × T.sees turns.old v
+        × IsTrue (is_granted Unfix (fix_count (T.home turns.old).number (v part)))) ∥₁ }
+    ensures ready { T.is_ready turns.new }
+    ensures same { T.home turns.new ≡ T.home turns.old }
+    ensures done { Follows (T.sees turns.old) (T.sees turns.new)
+        (Turned (T.home turns.old) part Unfix (Some (Replied Nothing))) }
+{
+    change_at(turns, part, Change::Unfix);
 }

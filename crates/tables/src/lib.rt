@@ -19,7 +19,7 @@ mod replies;
 mod turns;
 
 pub use calls::{delete, delete_object, insert, insert_new, lookup, member, part_of_key, take};
-pub use fixing::{fix, release, unfix};
+pub use fixing::{fix, fix_at, release, unfix, unfix_at};
 pub use local::{Closed, LocalAt, LocalTable};
 pub use options::Options;
 pub use turns::{Turns, turn_at};

@@ -233,7 +233,7 @@ ends_answer w calls given now walk s = record {
 
 -- ---- a walk that stops
 
-drifted_grown : (h : Home) (o : Options) (v u : Views) → h.options ≡ o → Drifted h v u → IsGrown o v u
+pub drifted_grown : (h : Home) (o : Options) (v u : Views) → h.options ≡ o → Drifted h v u → IsGrown o v u
 drifted_grown h o v u same drifted =
     subst (λ (p : Options). IsGrown p v u) same (λ part inside. let d = drifted part inside in (d.0, d.2, d.3))
 

@@ -3,3 +3,4 @@ pub mod GrowthLemmas
 pub mod StepLemmas
 pub mod GoesLemmas
 pub mod TurnLemmas
+pub mod CountLemmas

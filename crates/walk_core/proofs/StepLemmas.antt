@@ -126,6 +126,37 @@ later_call w calls before now later now_is k moment longer m = of (Contains-push
           visit = m.visit;
         }
 
+-- what was made in one call was made in one that takes longer
+pub wider_gathers : (w : Walk) (before after first last now : Views) (done : Datum → Bool) (xs : List Datum) → ((k : Datum) → length (first (part_of_key w k)) ≤ length (before (part_of_key w k))) → ((k : Datum) → length (after (part_of_key w k)) ≤ length (last (part_of_key w k))) → Gathers w (span before after ∷ []) now done xs → Gathers w (span first last ∷ []) now done xs
+wider_gathers w before after first last now done xs sooner longer g = record {
+  marks = g.marks;
+  apart = g.apart;
+  inside = g.inside;
+  moments = All-weaker (λ m. IsMoment w (span before after ∷ []) now m.key m.moment) (λ m. IsMoment w (span first last ∷ []) now m.key m.moment) (λ m moment. wider m.key m.moment moment) g.marks g.moments;
+  sum = g.sum;
+  silent = λ k is. of k (g.silent k is);
+}
+  where
+    only : (call : Span) → Contains (span before after ∷ []) call → span before after ≡ call
+    only call (zero, within, is) = is
+    only call (suc n, within, is) = absurd (omega (arith, within))
+
+    wider : (k : Datum) (moment : ℕ) → IsMoment w (span before after ∷ []) now k moment → IsMoment w (span first last ∷ []) now k moment
+    wider k moment m =
+        let within = subst (λ (c : Span). (length (c.before (part_of_key w k)) ≤ moment) × (moment < length (c.after (part_of_key w k)))) (sym (only m.call m.made)) m.within in
+        record {
+          call = span first last;
+          made = Contains-push [] (span first last);
+          within = (omega (arith, within.0, sooner k), omega (arith, within.1, longer k));
+          entry = m.entry;
+          stands = m.stands;
+          visit = m.visit;
+        }
+
+    of : (k : Datum) → IsMet w (span before after ∷ []) now g.marks k → IsMet w (span first last ∷ []) now g.marks k
+    of k (inl marked) = inl marked
+    of k (inr (moment, is, none)) = inr (moment, wider k moment is, none)
+
 -- the calls as they are later gather the same
 pub later_gathers : (w : Walk) (calls : List Span) (before now later : Views) (now_is : Views) (done : Datum → Bool) (xs : List Datum) → ((k : Datum) → length (now (part_of_key w k)) ≤ length (later (part_of_key w k))) → Gathers w (calls ++ span before now ∷ []) now_is done xs → Gathers w (calls ++ span before later ∷ []) now_is done xs
 later_gathers w calls before now later now_is done xs longer g = record {

@@ -3,3 +3,5 @@ pub mod OneThreadLemmas
 mod VisitLemmas
 mod GoingLemmas
 mod PieceLemmas
+mod OwnLemmas
+mod WholeLemmas

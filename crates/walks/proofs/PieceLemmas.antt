@@ -1,9 +1,9 @@
 -- Pieces, by the answers that visits found.
 use Rattle.std.proofs.Common.{zero, suc, arith, ◌≡◌, ◌≢◌, ℕ, ◌<◌, ◌≤◌, ◌⊎◌, inl, inr, refl, ap, sym, subst, ◌∙◌, List, [], ◌∷◌, ◌++◌, length, take, drop}
-use Rattle.std.proofs.lemmas.List.{append_assoc, take-append-drop, length-take}
+use Rattle.std.proofs.lemmas.List.{append_assoc, append-nil, take-append-drop, length-take}
 use Rattle.std.proofs.Props.{props}
 use Rattle.std.proofs.Math.Logic.{∥∥₁_elim}
-use Rattle.std.specs.Prelude.{min, IfErr, Result, Ok, Err}
+use Rattle.std.specs.Prelude.{min, IfOk, IfErr, Result, Ok, Err}
 use Rattle.term_core.specs.Datum.{Datum}
 use Rattle.part_core.specs.Acts.Purpose.{Answers}
 use Rattle.tables.specs.Turns.{Home, Views, Follows}
@@ -20,7 +20,7 @@ use Rattle.walks.specs.declared.query.Query.{Query}
 use Rattle.walk_core.proofs.GoesLemmas.{goes_so_far, begins_so_far, ends_answer, stops_so_far}
 use Rattle.walks.specs.declared.fault.WalkFault.{WalkFault}
 use Rattle.walks.specs.declared.fault.WalkFault.TheVariants as fault
-use Rattle.walks.specs.Pieces.{IsPiece, IsStepOf, IsWalkOf, Steps, IsCarriedOn, Begins, Continues, Keeps, StopsAnywhere}
+use Rattle.walks.specs.Pieces.{IsPiece, IsStepOf, IsWalkOf, Steps, IsCarriedOn, Begins, Continues, Keeps}
 use Rattle.walks.specs.Query.{IsWithin, kept_of, position_of, walk_of}
 use Rattle.walks.proofs.GoingLemmas.{GoesBy, is_walk}
 
@@ -118,3 +118,19 @@ within_by h q position.Over v well = tt
 pub err_both : {X Y : Type 0} (r : Result X Y) (P Q R : Y → Type 0) → ((y : Y) → P y → Q y → R y) → IfErr r P → IfErr r Q → IfErr r R
 err_both (Ok x) P Q R f p q = tt
 err_both (Err y) P Q R f p q = f y p q
+
+pub ok_both : {X Y : Type 0} (r : Result X Y) (P Q R : X → Type 0) → ((x : X) → P x → Q x → R x) → IfOk r P → IfOk r Q → IfOk r R
+ok_both (Ok x) P Q R f p q = f x p q
+ok_both (Err y) P Q R f p q = tt
+
+-- what is in memory is less than the most that is counted
+pub few_in_memory : (len cap n : ℕ) → len ≡ n → len ≤ cap → cap < 9223372036854775808 → n < 18446744073709551615
+few_in_memory len cap n is within small = omega (arith, is, within, small)
+
+-- a walk from its beginning to its end
+pub gathered_by : (h : Home) (w : Walk) (wanted : ℕ → ℕ) (first start at : Position) (begun kept answers : List Datum) (before now : Views → Type 0) → first ≡ start → begun ≡ [] → at ≡ Over → kept ≡ [] → Follows before now (GoesBy h w wanted first begun at (answers ++ kept)) → Follows before now (GoesBy h w wanted start [] Over answers)
+gathered_by h w wanted first start at begun kept answers before now is_first is_begun is_at is_kept so_far =
+    subst (λ (ys : List Datum). Follows before now (GoesBy h w wanted start [] Over ys)) (ap (λ (ys : List Datum). answers ++ ys) is_kept ∙ append-nil answers)
+    (subst (λ (p : Position). Follows before now (GoesBy h w wanted start [] p (answers ++ kept))) is_at
+    (subst (λ (ys : List Datum). Follows before now (GoesBy h w wanted start ys at (answers ++ kept))) is_begun
+    (subst (λ (p : Position). Follows before now (GoesBy h w wanted p begun at (answers ++ kept))) is_first so_far)))

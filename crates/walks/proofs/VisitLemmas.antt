@@ -17,7 +17,7 @@ use Rattle.part_core.proofs.KeyLemmas.{by_test}
 use Rattle.tables.specs.Options.{settings_of}
 use Rattle.tables.specs.Turns.{Home, Views, Turned, Follows}
 use Rattle.tables.proofs.TurnLemmas.{answered_so}
-use Rattle.walk_core.specs.Goes.{way, up_to, Visits}
+use Rattle.walk_core.specs.Goes.{way, Visits}
 use Rattle.walk_core.specs.Walk.{Position, position_in, scope_from}
 use Rattle.walk_core.specs.Walk.Position.{InPart}
 use Rattle.walk_core.proofs.TurnLemmas.{turn_visits}
@@ -43,21 +43,21 @@ found_same : (xs ys : List Datum) (next : Option Cursor) → Found xs next ≡ F
 found_same xs ys next e = cc
 
 -- such a turn is a visit of the walk, which gains what was found
-pub visit_made : {A : Type 0} (h : Home) (q : Query A) (limit part wanted : ℕ) (cursor next : Option Cursor) (gained found : List Datum) (before now : Views → Type 0) → wanted ≡ limit - length gained → Follows before now (Turned h part (Visit Answers q.code (scope_from cursor) wanted) (Some (Replied (Found found next)))) → Follows before now (λ v w. Visits h (walk_of h Answers q) (up_to limit) (way v (InPart part cursor) gained) (way w (position_in h.options.parts part next) (gained ++ found)))
-visit_made h q limit part wanted cursor next gained found before now is follows v b =
+pub visit_made : {A : Type 0} (h : Home) (q : Query A) (by_count : ℕ → ℕ) (part wanted : ℕ) (cursor next : Option Cursor) (gained found : List Datum) (before now : Views → Type 0) → wanted ≡ by_count (length gained) → Follows before now (Turned h part (Visit Answers q.code (scope_from cursor) wanted) (Some (Replied (Found found next)))) → Follows before now (λ v w. Visits h (walk_of h Answers q) by_count (way v (InPart part cursor) gained) (way w (position_in h.options.parts part next) (gained ++ found)))
+visit_made h q by_count part wanted cursor next gained found before now is follows v b =
     let f = follows v b in
-    let made = turn_visits h (walk_of h Answers q) (up_to limit) (InPart part cursor) gained v f.0 (Found found next) (record { options = refl; number = refl }) (subst (λ (n : ℕ). Turned h part (Visit Answers q.code (scope_from cursor) n) (Some (Replied (Found found next))) v f.0) is f.2) in (
+    let made = turn_visits h (walk_of h Answers q) by_count (InPart part cursor) gained v f.0 (Found found next) (record { options = refl; number = refl }) (subst (λ (n : ℕ). Turned h part (Visit Answers q.code (scope_from cursor) n) (Some (Replied (Found found next))) v f.0) is f.2) in (
       f.0,
       f.1,
-      subst (λ (ys : List Datum). Visits h (walk_of h Answers q) (up_to limit) (way v (InPart part cursor) gained) (way f.0 (position_in h.options.parts part next) (gained ++ ys))) (sym (found_same found made.0 next made.2)) made.1,
+      subst (λ (ys : List Datum). Visits h (walk_of h Answers q) by_count (way v (InPart part cursor) gained) (way f.0 (position_in h.options.parts part next) (gained ++ ys))) (sym (found_same found made.0 next made.2)) made.1,
     )
 
-pub visit_kept : {A : Type 0} (h : Home) (q : Query A) (limit part wanted : ℕ) (cursor next : Option Cursor) (gained found more : List Datum) (at later : Position) (before now : Views → Type 0) → at ≡ InPart part cursor → later ≡ position_in h.options.parts part next → more ≡ gained ++ found → wanted ≡ limit - length gained → Follows before now (Turned h part (Visit Answers q.code (scope_from cursor) wanted) (Some (Replied (Found found next)))) → Follows before now (λ v w. Visits h (walk_of h Answers q) (up_to limit) (way v at gained) (way w later more))
-visit_kept h q limit part wanted cursor next gained found more at later before now at_is later_is more_is is follows =
-    subst (λ (p : Position). Follows before now (λ v w. Visits h (walk_of h Answers q) (up_to limit) (way v p gained) (way w later more))) (sym at_is)
-    (subst (λ (p : Position). Follows before now (λ v w. Visits h (walk_of h Answers q) (up_to limit) (way v (InPart part cursor) gained) (way w p more))) (sym later_is)
-    (subst (λ (ys : List Datum). Follows before now (λ v w. Visits h (walk_of h Answers q) (up_to limit) (way v (InPart part cursor) gained) (way w (position_in h.options.parts part next) ys))) (sym more_is)
-    (visit_made h q limit part wanted cursor next gained found before now is follows)))
+pub visit_kept : {A : Type 0} (h : Home) (q : Query A) (by_count : ℕ → ℕ) (part wanted : ℕ) (cursor next : Option Cursor) (gained found more : List Datum) (at later : Position) (before now : Views → Type 0) → at ≡ InPart part cursor → later ≡ position_in h.options.parts part next → more ≡ gained ++ found → wanted ≡ by_count (length gained) → Follows before now (Turned h part (Visit Answers q.code (scope_from cursor) wanted) (Some (Replied (Found found next)))) → Follows before now (λ v w. Visits h (walk_of h Answers q) by_count (way v at gained) (way w later more))
+visit_kept h q by_count part wanted cursor next gained found more at later before now at_is later_is more_is is follows =
+    subst (λ (p : Position). Follows before now (λ v w. Visits h (walk_of h Answers q) by_count (way v p gained) (way w later more))) (sym at_is)
+    (subst (λ (p : Position). Follows before now (λ v w. Visits h (walk_of h Answers q) by_count (way v (InPart part cursor) gained) (way w p more))) (sym later_is)
+    (subst (λ (ys : List Datum). Follows before now (λ v w. Visits h (walk_of h Answers q) by_count (way v (InPart part cursor) gained) (way w (position_in h.options.parts part next) ys))) (sym more_is)
+    (visit_made h q by_count part wanted cursor next gained found before now is follows)))
 
 -- a limit's rest, by the answers that are kept
 pub rest_wanted : (limit n : ℕ) (earlier last : List Datum) → n ≡ length earlier → last ≡ [] → limit - n ≡ limit - length (earlier ++ last)

@@ -3,3 +3,5 @@ pub mod Keys
 pub mod Query
 pub mod Visits
 pub mod Pieces
+pub mod Own
+pub mod Whole

@@ -46,12 +46,6 @@ IsCarriedOn w calls given (step.Piece answers c) now =
     IsSoFar w calls (given ++ answers.items) now (position_of c.at) (kept_of c.kept)
 IsCarriedOn w calls given (step.End p) now = IsAnswer w calls now given
 
--- A call that begins a walk and was refused for want of memory: the visits that it made are lost.
-abbrev pub StopsAnywhere : {A : Type 0} → Home → Query A → ℕ → Views → Views → Type 0
-StopsAnywhere h q limit v w =
-    (at : Position) × (gained : List Datum)
-    × Stops h (walk_of h Answers q) (up_to limit) (way v (start_of (walk_of h Answers q)) []) at gained w
-
 -- A call that begins a walk: where each object was put in at its key's part, the walk so far is what it gave out.
 abbrev pub Begins : {A : Type 0} → Home → Query A → ℕ → Step A → Views → Views → Type 0
 Begins h q limit s v w =

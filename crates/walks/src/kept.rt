@@ -14,7 +14,7 @@ pub struct Kept<A: Allocator = Global> {
 }
 
 impl<A: Allocator> Kept<A> {
-    ghost use Rattle.std.specs.Prelude.{◌≡◌, ◌≤◌, ◌++◌, [], IfOk, IfErr, take, drop, length};
+    ghost use Rattle.std.specs.Prelude.{◌≡◌, ◌<◌, ◌≤◌, ◌++◌, [], IfOk, IfErr, take, drop, length};
     ghost use Rattle.walks.specs.Query.{kept_of};
 
     /// Puts the answers of the last visit behind those before.
@@ -27,7 +27,8 @@ impl<A: Allocator> Kept<A> {
 
     /// How many there are but for the last visit's.
     pub(crate) fn len(&self) -> u64
-        ensures { result ≡ length self.now.earlier.items }
+        ensures length { result ≡ length self.now.earlier.items }
+        ensures small { result < 18446744073709551615 }
     {
         self.earlier.len() as u64
     }

@@ -5,10 +5,12 @@ mod continuation;
 mod fault;
 mod kept;
 mod keys;
+mod own;
 mod pieces;
 mod position;
 mod query;
 mod visit;
+mod whole;
 
 pub use continuation::{Continuation, Step};
 pub use fault::WalkFault;
@@ -17,3 +19,4 @@ pub use kept::Kept;
 pub use pieces::{select_limit, select_more};
 pub use position::Position;
 pub use query::Query;
+pub use whole::select;

@@ -5,7 +5,8 @@ ghost use Rattle.tables.specs.Turns.{Views, Follows};
 ghost use Rattle.walk_core.specs.Goes.{way, up_to, Goes, Stops};
 ghost use Rattle.walk_core.specs.Walk.{IsPosition};
 ghost use Rattle.walks.specs.Query.{IsWithin, kept_of, position_of, walk_of};
-ghost use Rattle.walks.specs.Pieces.{IsOwn, IsPiece, IsWalkOf, IsStepOf, Steps, Begins, Continues, Keeps, StopsAnywhere};
+ghost use Rattle.walks.specs.Pieces.{IsOwn, IsPiece, IsWalkOf, IsStepOf, Steps, Begins, Continues, Keeps};
+ghost use Rattle.walks.specs.Visits.{StopsAnywhere};
 
 use crate::continuation::{Continuation, Step};
 use crate::fault::WalkFault;
@@ -46,7 +47,7 @@ fn step_of<A: Allocator>(walk: Continuation<A>, piece: Vec<Term<A>, A>) -> Step<
 }
 
 /// Makes visits until there are as many answers as the limit, or the walk is at its end, and gives out so many.
-fn next_piece<R: Wait, A: Allocator + Copy, T: Turns<A>>(
+pub(crate) fn next_piece<R: Wait, A: Allocator + Copy, T: Turns<A>>(
     rt: &R,
     alloc: A,
     turns: &mut T,
@@ -162,7 +163,7 @@ pub fn select_limit<R: Wait, A: Allocator + Copy, T: Turns<A>>(
     ensures limited { (limit ≡ 0) → IsErrAnd result (λ refused. refused.fault ≡ WalkFault.BadLimit)
         × Follows (T.sees turns.old) (T.sees turns.new) (λ v w. w ≡ v) }
     ensures refused { IfErr result (λ refused. (0 < limit) → (refused.fault ≡ WalkFault.Memory)
-        × Follows (T.sees turns.old) (T.sees turns.new) (StopsAnywhere (T.home turns.old) query limit)) }
+        × Follows (T.sees turns.old) (T.sees turns.new) (StopsAnywhere (T.home turns.old) (walk_of (T.home turns.old) Answers query) (up_to limit))) }
     ensures back { IfErr result (λ refused. refused.value ≡ query) }
 {
     if limit == 0 {

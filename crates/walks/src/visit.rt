@@ -78,11 +78,11 @@ fn visit_at<A: Allocator, T: Turns<A>>(
     Ok(found(reply))
 }
 
-/// Makes the next visit of a walk, and keeps what it finds.
-fn visit_next<A: Allocator, T: Turns<A>>(
+/// Makes the next visit of a walk, which wants so many answers, and keeps what it finds.
+pub(crate) fn visit_next<A: Allocator, T: Turns<A>>(
     turns: &mut T,
     query: &Query<A>,
-    limit: u64,
+    wanted: u64,
     at: &mut Position<A>,
     kept: &mut Kept<A>,
 ) -> Result<(), Fault>
@@ -90,17 +90,17 @@ fn visit_next<A: Allocator, T: Turns<A>>(
     requires within { IsWithin (T.home turns.old).options.parts at.old }
     requires more { position_of at.old ≢ Over }
     requires settled { kept.old.last.items ≡ [] }
-    requires room { length (kept_of kept.old) < limit }
+    requires wanted { 0 < wanted }
     ensures ready { T.is_ready turns.new }
     ensures same { T.home turns.new ≡ T.home turns.old }
     ensures within { IsWithin (T.home turns.old).options.parts at.new }
-    ensures done { IfOk result (λ _. Follows (T.sees turns.old) (T.sees turns.new)
-        (λ v w. Visits (T.home turns.old) (walk_of (T.home turns.old) Answers query.now) (up_to limit)
+    ensures done { IfOk result (λ _. (by_count : ℕ → ℕ) → wanted ≡ by_count (length (kept_of kept.old))
+        → Follows (T.sees turns.old) (T.sees turns.new)
+        (λ v w. Visits (T.home turns.old) (walk_of (T.home turns.old) Answers query.now) by_count
         (way v (position_of at.old) (kept_of kept.old)) (way w (position_of at.new) (kept_of kept.new)))) }
     ensures refused { IfErr result (λ fault. Follows (T.sees turns.old) (T.sees turns.new)
         (Turned (T.home turns.old) (part_at (walk_of (T.home turns.old) Answers query.now) (position_of at.old))
-        (Visit Answers query.now.code (scope_at (walk_of (T.home turns.old) Answers query.now) (position_of at.old))
-        (up_to limit (length (kept_of kept.old))))
+        (Visit Answers query.now.code (scope_at (walk_of (T.home turns.old) Answers query.now) (position_of at.old)) wanted)
         (option_map Refused (refusal_of fault)))) }
     ensures back { IfErr result (λ _. (at.new ≡ at.old) × (kept.new ≡ kept.old)) }
 {
@@ -108,7 +108,6 @@ fn visit_next<A: Allocator, T: Turns<A>>(
         unreachable!()
     };
     let part = *part;
-    let wanted = limit - kept.len();
     let (answers, next) = visit_at(turns, part, &query.code, cursor, wanted)?;
     kept.hold(answers);
     move_on(at, part, next, turns.options().parts);
@@ -141,13 +140,14 @@ pub(crate) fn visit_up_to<R: Wait, A: Allocator, T: Turns<A>>(
 {
     for _visit in rt.forever() {
         kept.settle()?;
-        if limit <= kept.len() {
+        let found = kept.len();
+        if limit <= found {
             return Ok(());
         }
         if at.is_over() {
             return Ok(());
         }
-        visit_next(turns, query, limit, at, kept)?;
+        visit_next(turns, query, limit - found, at, kept)?;
     }
     unreachable!()
 }

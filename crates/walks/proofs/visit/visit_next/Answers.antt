@@ -1,9 +1,10 @@
-use Rattle.std.proofs.Common.{◌∙◌, ap, option_map, ◌-◌}
+use Rattle.std.proofs.Common.{◌∙◌, ap, option_map}
 use Rattle.part_core.specs.Ops.{cursor_of}
 use Rattle.tables.specs.declared.options.Options.{Options}
+use Rattle.tables.specs.Turns.{Home}
 use Rattle.walk_core.specs.Walk.{position_in}
 use Rattle.walks.specs.Query.{kept_of, position_of}
-use Rattle.walks.proofs.VisitLemmas.{rest_wanted, visit_kept}
+use Rattle.walks.proofs.VisitLemmas.{visit_kept}
 use Rattle.walks.proofs.visit.visit_next.Goals as goal
 
 pub returns-clause-done : goal.returns-clause-done
@@ -12,11 +13,11 @@ returns-clause-done g c =
     let cursor = option_map cursor_of c.in-InPart.cursor in
     let next = option_map cursor_of c.in_ok-answers.next in
     let part = c.in-InPart.part in
-    let parts = ap (λ (o : Options). position_in o.parts part next) (c.options.ensures ∙ ap (λ (home : _). home.options) c.visit_at.ensures.same) in
-    visit_kept h c.args.query.now c.args.limit part (c.args.limit - c.len.result) cursor next (kept_of c.args.kept.now) c.in_ok-answers.answers.items (kept_of c.hold.new.self) (position_of c.args.at.now) (position_of c.move_on.new.at)
+    let parts = ap (λ (o : Options). position_in o.parts part next) (c.options.ensures ∙ ap (λ (home : Home). home.options) c.visit_at.ensures.same) in
+    λ by_count is. visit_kept h c.args.query.now by_count part c.args.wanted cursor next (kept_of c.args.kept.now) c.in_ok-answers.answers.items (kept_of c.hold.new.self) (position_of c.args.at.now) (position_of c.move_on.new.at)
     (g.T.Turns.sees c.args.turns.now) (g.T.Turns.sees c.visit_at.new.turns)
     (ap position_of c.in-InPart.is)
     (c.move_on.ensures.at ∙ parts)
     c.hold.ensures
-    (rest_wanted c.args.limit c.len.result c.args.kept.now.earlier.items c.args.kept.now.last.items c.len.ensures c.requires.settled)
+    is
     c.in_ok-answers.ensures.done

@@ -1,4 +1,4 @@
-use Rattle.std.proofs.Common.{◌≡◌, ◌∙◌, refl, sym, ap, subst, option_map, None, length, List}
+use Rattle.std.proofs.Common.{◌≡◌, ◌∙◌, refl, sym, ap, subst, option_map, None, ◌-◌, List}
 use Rattle.std.proofs.lemmas.Result.{err_from_is_err_and}
 use Rattle.term_core.specs.Datum.{Datum}
 use Rattle.part_core.specs.declared.fault.Fault.{Fault}
@@ -13,6 +13,7 @@ use Rattle.walk_core.specs.Goes.{way, up_to, Visits, Stops}
 use Rattle.walk_core.specs.Moments.{AreLegal}
 use Rattle.walk_core.specs.Walk.{Position, part_at, scope_at}
 use Rattle.walks.specs.Query.{IsWithin, kept_of, position_of, walk_of}
+use Rattle.walks.proofs.VisitLemmas.{rest_wanted}
 use Rattle.walks.proofs.GoingLemmas.{GoesBy, goes_nowhere, goes_once, stops_refused, no_stranger, is_walk}
 use Rattle.walks.proofs.visit.visit_up_to.Goals as goal
 
@@ -34,7 +35,7 @@ loop-visit-preserved g c =
     let at = position_of c.loop-visit.at in
     let gained = kept_of c.settle.new.self in
     let so_far = subst (λ (ys : List Datum). Follows before now (GoesBy h (walk_of h Answers q) (up_to c.args.limit) (position_of c.args.at.now) (kept_of c.args.kept.now) at ys)) (sym c.settle.ensures.same) c.loop-visit.invariant.3 in
-    let visit = subst (λ (home : Home). Follows now later (λ v w. Visits home (walk_of home Answers q) (up_to c.args.limit) (way v at gained) (way w (position_of c.visit_next.new.at) (kept_of c.visit_next.new.kept)))) c.loop-visit.invariant.1 c.in_ok-visit_next.ensures.done in (
+    let visit = subst (λ (home : Home). Follows now later (λ v w. Visits home (walk_of home Answers q) (up_to c.args.limit) (way v at gained) (way w (position_of c.visit_next.new.at) (kept_of c.visit_next.new.kept)))) c.loop-visit.invariant.1 (c.in_ok-visit_next.ensures.done (up_to c.args.limit) (rest_wanted c.args.limit c.len-found.result c.settle.new.self.earlier.items c.settle.new.self.last.items c.len-found.ensures.length c.in_ok-settle.ensures.settled)) in (
       c.visit_next.ensures.ready,
       c.visit_next.ensures.same ∙ c.loop-visit.invariant.1,
       subst (λ (home : Home). IsWithin home.options.parts c.visit_next.new.at) c.loop-visit.invariant.1 c.visit_next.ensures.within,
@@ -51,7 +52,7 @@ returns-in_err-visit_next-clause-stopped g c =
     let later = g.T.Turns.sees c.visit_next.new.turns in
     let at = position_of c.loop-visit.at in
     let gained = kept_of c.settle.new.self in
-    let n = up_to c.args.limit (length gained) in
+    let n = c.args.limit - c.len-found.result in
     let so_far = subst (λ (ys : List Datum). Follows before now (GoesBy h w (up_to c.args.limit) (position_of c.args.at.now) (kept_of c.args.kept.now) at ys)) (sym c.settle.ensures.same) c.loop-visit.invariant.3 in
     let legal = subst (λ (home : Home). (v : Views) → now v → AreLegal home.options v) c.loop-visit.invariant.1 (λ v b part inside. g.met.T.Turns.legal c.loop-visit.turns v part c.loop-visit.invariant.0 b inside) in
     let turned = subst (λ (home : Home). Follows now later (Turned home (part_at (walk_of home Answers q) at) (Visit Answers q.code (scope_at (walk_of home Answers q) at) n) (option_map Refused (refusal_of c.in_err-visit_next.field-0.0)))) c.loop-visit.invariant.1 c.in_err-visit_next.ensures.refused in
@@ -68,7 +69,7 @@ returns-in_err-visit_next-clause-foreign g c =
     let later = g.T.Turns.sees c.visit_next.new.turns in
     let at = position_of c.loop-visit.at in
     let gained = kept_of c.settle.new.self in
-    let n = up_to c.args.limit (length gained) in
+    let n = c.args.limit - c.len-found.result in
     let so_far = subst (λ (ys : List Datum). Follows before now (GoesBy h w (up_to c.args.limit) (position_of c.args.at.now) (kept_of c.args.kept.now) at ys)) (sym c.settle.ensures.same) c.loop-visit.invariant.3 in
     let turned = subst (λ (home : Home). Follows now later (Turned home (part_at (walk_of home Answers q) at) (Visit Answers q.code (scope_at (walk_of home Answers q) at) n) (option_map Refused (refusal_of c.in_err-visit_next.field-0.0)))) c.loop-visit.invariant.1 c.in_err-visit_next.ensures.refused in
     let back = err_from_is_err_and c.from_residual-in_err-visit_next.result c.from_residual-in_err-visit_next.ensures.1 in

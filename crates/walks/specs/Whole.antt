@@ -1,0 +1,35 @@
+-- What a call of a whole walk makes of what a session sees.
+use Rattle.std.specs.Prelude.{ℕ, ◌≡◌, Bool, List, [], ◌∷◌, length, min}
+use Rattle.term_core.specs.Datum.{Datum}
+use Rattle.part_core.specs.Acts.{Purpose}
+use Rattle.part_core.specs.Replies.{most_counted}
+use Rattle.tables.specs.Turns.{Home, Views}
+use Rattle.walk_core.specs.Goes.{way, Stops}
+use Rattle.walk_core.specs.Moments.{span, Gathers, IsAnswer, ArePlaced}
+use Rattle.walk_core.specs.Walk.{Walk, Position, is_done, start_of}
+use Rattle.walk_core.specs.Walk.Position.{Over}
+use Rattle.walks.specs.declared.query.Query.{Query}
+use Rattle.walks.specs.Own.{FixesFirst, Releases}
+use Rattle.walks.specs.Query.{walk_of}
+
+-- A whole walk: the parts of a set that the session doesn't fix are fixed, visits are made from the beginning of the walk
+-- on, and these parts are released.
+pub record Wholly (h : Home) (w : Walk) (wanted : ℕ → ℕ) (at : Position) (gained : List Datum) (v u : Views) : Type 0 where
+  pub own : List Bool
+  pub fixed : Views
+  pub fixes : FixesFirst h own v fixed
+  pub last : Views
+  pub visits : Stops h w wanted (way fixed (start_of w) []) at gained last
+  pub releases : Releases h own last u
+
+-- A walk that came to its end: where each object was put in at its key's part, what it gained is its answer.
+abbrev pub Finishes : Home → Walk → (ℕ → ℕ) → List Datum → Views → Views → Type 0
+Finishes h w wanted gained v u =
+    Wholly h w wanted Over gained v u × (ArePlaced h.options u → IsAnswer w (span v u ∷ []) u gained)
+
+-- A walk that was refused for want of memory on its way: what it gained until then is gathered so for the keys that were
+-- done.
+abbrev pub GivesUp : Home → Walk → (ℕ → ℕ) → Views → Views → Type 0
+GivesUp h w wanted v u =
+    (at : Position) × (gained : List Datum) × Wholly h w wanted at gained v u
+    × (ArePlaced h.options u → Gathers w (span v u ∷ []) u (is_done w at) gained)

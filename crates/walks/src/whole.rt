@@ -1,0 +1,69 @@
+//! Whole walks.
+ghost use Rattle.std.specs.Prelude.{◌≡◌, [], IfOk, IfErr};
+ghost use Rattle.part_core.specs.Acts.Purpose.{Answers};
+ghost use Rattle.part_core.specs.Replies.{most_counted};
+ghost use Rattle.tables.specs.Turns.{Follows};
+ghost use Rattle.walk_core.specs.Goes.{way, up_to, Stops};
+ghost use Rattle.walk_core.specs.Walk.{start_of};
+ghost use Rattle.walk_core.specs.Walk.Position.{Over};
+ghost use Rattle.walks.specs.Query.{walk_of};
+ghost use Rattle.walks.specs.Visits.{StopsAnywhere};
+ghost use Rattle.walks.specs.Whole.{Finishes, GivesUp};
+
+use crate::fault::WalkFault;
+use crate::kept::Kept;
+use crate::own::{fix_own, release_own};
+use crate::pieces::next_piece;
+use crate::position::at_part;
+use crate::query::Query;
+use std::alloc::{AllocError, Allocator};
+use std::sync::Wait;
+use tables::Turns;
+use term_core::Term;
+
+/// All answers of a walk.
+fn gather<R: Wait, A: Allocator + Copy, T: Turns<A>>(
+    rt: &R,
+    alloc: A,
+    turns: &mut T,
+    query: &Query<A>,
+) -> Result<Vec<Term<A>, A>, WalkFault>
+    requires { T.is_ready turns.old }
+    ensures ready { T.is_ready turns.new }
+    ensures same { T.home turns.new ≡ T.home turns.old }
+    ensures done { IfOk result (λ answers. Follows (T.sees turns.old) (T.sees turns.new)
+        (λ v w. Stops (T.home turns.old) (walk_of (T.home turns.old) Answers query.now) (up_to most_counted)
+        (way v (start_of (walk_of (T.home turns.old) Answers query.now)) []) Over answers.items w)) }
+    ensures stopped { IfErr result (λ _. Follows (T.sees turns.old) (T.sees turns.new)
+        (StopsAnywhere (T.home turns.old) (walk_of (T.home turns.old) Answers query.now) (up_to most_counted))) }
+{
+    let options = turns.options();
+    let mut at = at_part(0, options.parts);
+    let mut kept = Kept::new(alloc);
+    next_piece(rt, alloc, turns, query, u64::MAX, &mut at, &mut kept)
+}
+
+/// The answers of a query on the objects of a table (ets:select/2). The parts of a set that the session doesn't fix are fixed
+/// first and released at the end, also where the call is refused.
+pub fn select<R: Wait, A: Allocator + Copy, T: Turns<A>>(
+    rt: &R,
+    alloc: A,
+    turns: &mut T,
+    query: &Query<A>,
+) -> Result<Vec<Term<A>, A>, AllocError>
+    requires { T.is_ready turns.old }
+    ensures ready { T.is_ready turns.new }
+    ensures same { T.home turns.new ≡ T.home turns.old }
+    ensures done { IfOk result (λ answers. Follows (T.sees turns.old) (T.sees turns.new)
+        (Finishes (T.home turns.old) (walk_of (T.home turns.old) Answers query.now) (up_to most_counted) answers.items)) }
+    ensures refused { IfErr result (λ _. Follows (T.sees turns.old) (T.sees turns.new)
+        (GivesUp (T.home turns.old) (walk_of (T.home turns.old) Answers query.now) (up_to most_counted))) }
+{
+    let own = fix_own(turns);
+    let answers = gather(rt, alloc, turns, query);
+    release_own(turns, &own);
+    match answers {
+        Ok(answers) => Ok(answers),
+        Err(_) => Err(AllocError),
+    }
+}
