@@ -5,7 +5,7 @@ use Rattle.part_core.specs.Acts.{Said, History, next_in}
 use Rattle.part_core.specs.Acts.Act.{Visit}
 use Rattle.part_core.specs.Acts.Answer.{Replied}
 use Rattle.part_core.specs.Legal.{state_after, IsLegal}
-use Rattle.part_core.specs.Replies.{yield_of}
+use Rattle.part_core.specs.Replies.{most_counted, yield_of}
 use Rattle.tables.specs.Options.{settings_of}
 use Rattle.tables.specs.Turns.{Home, Views, IsBetween, Turned}
 use Rattle.walk_core.specs.Walk.{Walk, Position, part_at, scope_at, next_position}
@@ -50,6 +50,10 @@ pub data Goes (h : Home) (w : Walk) (wanted : ℕ → ℕ) (a : Way) : Way → T
 -- a walk in pieces wants what is left up to its limit
 abbrev pub up_to : ℕ → ℕ → ℕ
 up_to limit count = limit - count
+
+-- a walk that counts wants all that can be counted
+abbrev pub whole : ℕ → ℕ
+whole count = most_counted
 
 -- Others may have made entries at the parts, and the session none.
 abbrev pub Drifted : Home → Views → Views → Type 0

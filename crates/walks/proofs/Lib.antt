@@ -5,3 +5,4 @@ mod GoingLemmas
 mod PieceLemmas
 mod OwnLemmas
 mod WholeLemmas
+mod CountingLemmas

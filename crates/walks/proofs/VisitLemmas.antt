@@ -9,21 +9,24 @@ use Rattle.part_core.specs.Acts.{Answer, Cursor, Scope, Said, is_refused}
 use Rattle.part_core.specs.Acts.Act.{Visit}
 use Rattle.part_core.specs.Acts.Answer.{Replied}
 use Rattle.part_core.specs.Acts.Purpose.{Answers}
-use Rattle.part_core.specs.Acts.Said.{Found}
-use Rattle.part_core.specs.Replies.{reply_of}
+use Rattle.part_core.specs.Acts.Said.{Found, Counted}
+use Rattle.part_core.specs.Replies.{most_counted, reply_of, said_by_visit}
 use Rattle.part_core.specs.Rows.{PartState}
 use Rattle.part_core.specs.Visits.{is_inside}
 use Rattle.part_core.proofs.KeyLemmas.{by_test}
 use Rattle.tables.specs.Options.{settings_of}
 use Rattle.tables.specs.Turns.{Home, Views, Turned, Follows}
 use Rattle.tables.proofs.TurnLemmas.{answered_so}
-use Rattle.walk_core.specs.Goes.{way, Visits}
+use Rattle.walk_core.specs.Goes.{way, whole, Visits}
 use Rattle.walk_core.specs.Walk.{Position, position_in, scope_from}
 use Rattle.walk_core.specs.Walk.Position.{InPart}
 use Rattle.walk_core.proofs.TurnLemmas.{turn_visits}
 use Rattle.walks.specs.declared.query.Query.{Query}
 use Rattle.walks.specs.Query.{walk_of}
-use Rattle.walks.specs.Visits.{is_found}
+use Rattle.walks.specs.Counting.{purpose_of, IsCount, CountsMore}
+use Rattle.walks.specs.Visits.{is_found, is_counted}
+use Rattle.walks.specs.declared.counting.Counting.{Counting}
+use Rattle.walks.specs.declared.counting.Counting.TheVariants as counting
 
 or_none : (b : Bool) → (b || false) ≡ true → b ≡ true
 or_none true h = refl
@@ -38,6 +41,31 @@ found_or_refused o s n p scope wanted =
 pub visit_found : (h : Home) (part : ℕ) (p : Program) (scope : Scope) (wanted : ℕ) (said : Said) (before now : Views → Type 0) → ∥ ((v : Views) × before v) ∥₁ → Follows before now (Turned h part (Visit Answers p scope wanted) (Some (Replied said))) → IsTrue (is_found (Replied said))
 visit_found h part p scope wanted said before now seen follows =
     or_none (is_found (Replied said)) (answered_so (λ a. is_found a || is_refused a) h part (Visit Answers p scope wanted) (Replied said) before now seen follows (λ s. found_or_refused (settings_of h.options) s h.number p scope wanted))
+
+counted_or_refused : (o : Settings) (s : PartState) (n : ℕ) (c : Counting) (p : Program) (scope : Scope) (wanted : ℕ) → (is_counted (reply_of o s n (Visit (purpose_of c) p scope wanted)) || is_refused (reply_of o s n (Visit (purpose_of c) p scope wanted))) ≡ true
+unfolding reply_of
+counted_or_refused o s n counting.Count p scope wanted =
+    by_test (is_inside o s scope) _ (λ inside. rw inside refl) (λ outside. rw outside refl)
+counted_or_refused o s n counting.Delete p scope wanted =
+    by_test (is_inside o s scope) _ (λ inside. rw inside refl) (λ outside. rw outside refl)
+
+-- a visit that counts and was answered tells how many
+pub visit_counted : (h : Home) (part : ℕ) (c : Counting) (p : Program) (scope : Scope) (wanted : ℕ) (said : Said) (before now : Views → Type 0) → ∥ ((v : Views) × before v) ∥₁ → Follows before now (Turned h part (Visit (purpose_of c) p scope wanted) (Some (Replied said))) → IsTrue (is_counted (Replied said))
+visit_counted h part c p scope wanted said before now seen follows =
+    or_none (is_counted (Replied said)) (answered_so (λ a. is_counted a || is_refused a) h part (Visit (purpose_of c) p scope wanted) (Replied said) before now seen follows (λ s. counted_or_refused (settings_of h.options) s h.number c p scope wanted))
+
+said_count : (c : Counting) (found : List Datum) (count : ℕ) (next : Option Cursor) → Counted count next ≡ said_by_visit (purpose_of c) found next → IsCount count found
+said_count counting.Count found count next is = cc
+said_count counting.Delete found count next is = cc
+
+-- such a turn is a visit of the walk, which gains what was counted
+pub visit_more : {A : Type 0} (h : Home) (q : Query A) (c : Counting) (part count : ℕ) (cursor next : Option Cursor) (at later : Position) (before now : Views → Type 0) → at ≡ InPart part cursor → later ≡ position_in h.options.parts part next → Follows before now (Turned h part (Visit (purpose_of c) q.code (scope_from cursor) most_counted) (Some (Replied (Counted count next)))) → Follows before now (CountsMore h (walk_of h (purpose_of c) q) at later count)
+visit_more h q c part count cursor next at later before now at_is later_is follows =
+    subst (λ (p : Position). Follows before now (CountsMore h (walk_of h (purpose_of c) q) p later count)) (sym at_is)
+    (subst (λ (p : Position). Follows before now (CountsMore h (walk_of h (purpose_of c) q) (InPart part cursor) p count)) (sym later_is)
+    (λ v b. let f = follows v b in (f.0, f.1, λ gained.
+    let made = turn_visits h (walk_of h (purpose_of c) q) whole (InPart part cursor) gained v f.0 (Counted count next) (record { options = refl; number = refl }) f.2 in
+    (made.0, made.1, said_count c made.0 count next made.2))))
 
 found_same : (xs ys : List Datum) (next : Option Cursor) → Found xs next ≡ Found ys next → xs ≡ ys
 found_same xs ys next e = cc

@@ -5,3 +5,4 @@ pub mod Visits
 pub mod Pieces
 pub mod Own
 pub mod Whole
+pub mod Counting

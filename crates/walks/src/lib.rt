@@ -2,6 +2,7 @@
 #![tactic(auto)]
 
 mod continuation;
+mod counting;
 mod fault;
 mod kept;
 mod keys;
@@ -19,4 +20,4 @@ pub use kept::Kept;
 pub use pieces::{select_limit, select_more};
 pub use position::Position;
 pub use query::Query;
-pub use whole::select;
+pub use whole::{select, select_count, select_delete};

@@ -1,15 +1,17 @@
 //! Whole walks.
 ghost use Rattle.std.specs.Prelude.{◌≡◌, [], IfOk, IfErr};
-ghost use Rattle.part_core.specs.Acts.Purpose.{Answers};
+ghost use Rattle.part_core.specs.Acts.Purpose.{Answers, Counts, Deletes};
 ghost use Rattle.part_core.specs.Replies.{most_counted};
 ghost use Rattle.tables.specs.Turns.{Follows};
-ghost use Rattle.walk_core.specs.Goes.{way, up_to, Stops};
-ghost use Rattle.walk_core.specs.Walk.{start_of};
+ghost use Rattle.walk_core.specs.Goes.{way, up_to, whole, Stops};
+ghost use Rattle.walk_core.specs.Walk.{Position, start_of};
 ghost use Rattle.walk_core.specs.Walk.Position.{Over};
+ghost use Rattle.walks.specs.Counting.{purpose_of, StopsAtCount, FinishesCount, GivesUpCount};
 ghost use Rattle.walks.specs.Query.{walk_of};
 ghost use Rattle.walks.specs.Visits.{StopsAnywhere};
 ghost use Rattle.walks.specs.Whole.{Finishes, GivesUp};
 
+use crate::counting::{Counting, count_on};
 use crate::fault::WalkFault;
 use crate::kept::Kept;
 use crate::own::{fix_own, release_own};
@@ -19,7 +21,7 @@ use crate::query::Query;
 use std::alloc::{AllocError, Allocator};
 use std::sync::Wait;
 use tables::Turns;
-use term_core::Term;
+use term_core::{Refused, Term};
 
 /// All answers of a walk.
 fn gather<R: Wait, A: Allocator + Copy, T: Turns<A>>(
@@ -66,4 +68,93 @@ pub fn select<R: Wait, A: Allocator + Copy, T: Turns<A>>(
         Ok(answers) => Ok(answers),
         Err(_) => Err(AllocError),
     }
+}
+
+/// How many objects answer true; a refusal has the number until then.
+fn tally<R: Wait, A: Allocator, T: Turns<A>>(
+    rt: &R,
+    turns: &mut T,
+    query: &Query<A>,
+    counting: Counting,
+) -> Result<u64, Refused<u64, AllocError>>
+    requires { T.is_ready turns.old }
+    ensures ready { T.is_ready turns.new }
+    ensures same { T.home turns.new ≡ T.home turns.old }
+    ensures done { IfOk result (λ count. Follows (T.sees turns.old) (T.sees turns.new)
+        (StopsAtCount (T.home turns.old) (walk_of (T.home turns.old) (purpose_of counting) query.now)
+        (start_of (walk_of (T.home turns.old) (purpose_of counting) query.now)) Over count)) }
+    ensures stopped { IfErr result (λ refused. Follows (T.sees turns.old) (T.sees turns.new)
+        (λ v w. (at : Position) × StopsAtCount (T.home turns.old) (walk_of (T.home turns.old) (purpose_of counting) query.now)
+        (start_of (walk_of (T.home turns.old) (purpose_of counting) query.now)) at refused.value v w)) }
+{
+    let mut at = at_part(0, turns.options().parts);
+    let mut total = 0;
+    match count_on(rt, turns, query, counting, &mut at, &mut total) {
+        Ok(()) => Ok(total),
+        Err(_) => Err(Refused {
+            value: total,
+            fault: AllocError,
+        }),
+    }
+}
+
+/// Counts, with the fixes of its own.
+fn count_table<R: Wait, A: Allocator, T: Turns<A>>(
+    rt: &R,
+    turns: &mut T,
+    query: &Query<A>,
+    counting: Counting,
+) -> Result<u64, Refused<u64, AllocError>>
+    requires { T.is_ready turns.old }
+    ensures ready { T.is_ready turns.new }
+    ensures same { T.home turns.new ≡ T.home turns.old }
+    ensures done { IfOk result (λ count. Follows (T.sees turns.old) (T.sees turns.new)
+        (FinishesCount (T.home turns.old) (walk_of (T.home turns.old) (purpose_of counting) query.now) count)) }
+    ensures refused { IfErr result (λ refused. Follows (T.sees turns.old) (T.sees turns.new)
+        (GivesUpCount (T.home turns.old) (walk_of (T.home turns.old) (purpose_of counting) query.now) refused.value)) }
+{
+    let own = fix_own(turns);
+    let counted = tally(rt, turns, query, counting);
+    release_own(turns, &own);
+    counted
+}
+
+/// How many objects of a table answer `true` to a query, at most 2^64 - 1 (ets:select_count/2). The parts of a set that the
+/// session doesn't fix are fixed first and released at the end, also where the call is refused.
+pub fn select_count<R: Wait, A: Allocator, T: Turns<A>>(
+    rt: &R,
+    turns: &mut T,
+    query: &Query<A>,
+) -> Result<u64, AllocError>
+    requires { T.is_ready turns.old }
+    ensures ready { T.is_ready turns.new }
+    ensures same { T.home turns.new ≡ T.home turns.old }
+    ensures done { IfOk result (λ count. Follows (T.sees turns.old) (T.sees turns.new)
+        (FinishesCount (T.home turns.old) (walk_of (T.home turns.old) Counts query.now) count)) }
+    ensures refused { IfErr result (λ _. Follows (T.sees turns.old) (T.sees turns.new)
+        (GivesUp (T.home turns.old) (walk_of (T.home turns.old) Counts query.now) whole)) }
+{
+    match count_table(rt, turns, query, Counting::Count) {
+        Ok(count) => Ok(count),
+        Err(_) => Err(AllocError),
+    }
+}
+
+/// Deletes the objects of a table that answer `true` to a query, each in the turn in which it was asked, and answers how many,
+/// at most 2^64 - 1 (ets:select_delete/2); a refusal has the number until then. The parts of a set that the session doesn't
+/// fix are fixed first and released at the end, also where the call is refused.
+pub fn select_delete<R: Wait, A: Allocator, T: Turns<A>>(
+    rt: &R,
+    turns: &mut T,
+    query: &Query<A>,
+) -> Result<u64, Refused<u64, AllocError>>
+    requires { T.is_ready turns.old }
+    ensures ready { T.is_ready turns.new }
+    ensures same { T.home turns.new ≡ T.home turns.old }
+    ensures done { IfOk result (λ count. Follows (T.sees turns.old) (T.sees turns.new)
+        (FinishesCount (T.home turns.old) (walk_of (T.home turns.old) Deletes query.now) count)) }
+    ensures refused { IfErr result (λ refused. Follows (T.sees turns.old) (T.sees turns.new)
+        (GivesUpCount (T.home turns.old) (walk_of (T.home turns.old) Deletes query.now) refused.value)) }
+{
+    count_table(rt, turns, query, Counting::Delete)
 }

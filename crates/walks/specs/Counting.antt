@@ -1,0 +1,46 @@
+-- What walks that count make of what a session sees.
+use Rattle.std.specs.Prelude.{ℕ, ◌≡◌, ◌++◌, List, [], ◌∷◌, length, min}
+use Rattle.term_core.specs.Datum.{Datum}
+use Rattle.part_core.specs.Acts.{Purpose}
+use Rattle.part_core.specs.Acts.Purpose.{Counts, Deletes}
+use Rattle.part_core.specs.Replies.{most_counted}
+use Rattle.tables.specs.Turns.{Home, Views}
+use Rattle.walk_core.specs.Goes.{way, whole, Visits, Goes, Stops}
+use Rattle.walk_core.specs.Moments.{span, Gathers, ArePlaced}
+use Rattle.walk_core.specs.Walk.{Walk, Position, is_done}
+use Rattle.walks.specs.Whole.{Wholly, Finishes}
+use Rattle.walks.specs.declared.counting.Counting.{Counting}
+use Rattle.walks.specs.declared.counting.Counting.TheVariants as counting
+
+-- what a visit is for
+abbrev pub purpose_of : Counting → Purpose
+purpose_of counting.Count = Counts
+purpose_of counting.Delete = Deletes
+
+-- a number counts these objects, up to the most that is counted
+abbrev pub IsCount : ℕ → List Datum → Type 0
+IsCount count found = count ≡ min (length found) most_counted
+
+-- one visit more, which found so many objects
+abbrev pub CountsMore : Home → Walk → Position → Position → ℕ → Views → Views → Type 0
+CountsMore h w at later count v u =
+    (gained : List Datum)
+    → (found : List Datum) × Visits h w whole (way v at gained) (way u later (gained ++ found)) × IsCount count found
+
+-- visits, which found so many objects
+abbrev pub CountsTo : Home → Walk → Position → Position → ℕ → Views → Views → Type 0
+CountsTo h w at later count v u = (found : List Datum) × Goes h w whole (way v at []) (way u later found) × IsCount count found
+
+-- and one that was refused for want of memory
+abbrev pub StopsAtCount : Home → Walk → Position → Position → ℕ → Views → Views → Type 0
+StopsAtCount h w at later count v u = (found : List Datum) × Stops h w whole (way v at []) later found u × IsCount count found
+
+-- a whole walk that counts, to its end
+abbrev pub FinishesCount : Home → Walk → ℕ → Views → Views → Type 0
+FinishesCount h w count v u = (found : List Datum) × IsCount count found × Finishes h w whole found v u
+
+-- and one that was refused for want of memory on its way, with the number until then
+abbrev pub GivesUpCount : Home → Walk → ℕ → Views → Views → Type 0
+GivesUpCount h w count v u =
+    (at : Position) × (found : List Datum) × IsCount count found × Wholly h w whole at found v u
+    × (ArePlaced h.options u → Gathers w (span v u ∷ []) u (is_done w at) found)

@@ -1,0 +1,153 @@
+//! Walks that count, and walks that delete.
+ghost use Rattle.std.specs.Prelude.{ℕ, ◌≡◌, ◌≢◌, ◌<◌, [], ◌++◌, List, Some, None, IsTrue, IfOk, IfErr, IsErrOf, option_map, length, min};
+ghost use Rattle.term_core.specs.Datum.{Datum};
+ghost use Rattle.part_core.specs.Acts.Act.{Visit};
+ghost use Rattle.part_core.specs.Acts.Answer.{Replied, Refused};
+ghost use Rattle.part_core.specs.Acts.Said.{Counted};
+ghost use Rattle.part_core.specs.Ops.{act_of, cursor_of, refusal_of, said_of};
+ghost use Rattle.part_core.specs.Replies.{most_counted};
+ghost use Rattle.tables.specs.Turns.{Turned, Views, Follows};
+ghost use Rattle.walk_core.specs.Goes.{way, whole, Visits};
+ghost use Rattle.walk_core.specs.Walk.{IsPosition, part_at, scope_at, scope_from};
+ghost use Rattle.walk_core.specs.Walk.Position.{Over};
+ghost use Rattle.walks.specs.Counting.{purpose_of, CountsTo, StopsAtCount, CountsMore};
+ghost use Rattle.walks.specs.Query.{IsWithin, position_of, walk_of};
+ghost use Rattle.walks.specs.Visits.{is_counted};
+
+use crate::position::{Position, move_on, scope_from};
+use crate::query::Query;
+use part_core::{Cursor, Fault, Look, PartOp, Reply};
+use std::alloc::Allocator;
+use std::sync::Wait;
+use tables::{Turns, turn_at};
+use verifier::Verified;
+
+/// What becomes of the objects that answer true.
+#[derive(Clone, Copy)]
+pub(crate) enum Counting {
+    /// They are counted.
+    Count,
+    /// They are deleted and counted.
+    Delete,
+}
+
+/// A visit that counts as an operation at a part.
+fn count_op<'q, A: Allocator>(
+    counting: Counting,
+    code: &'q Verified<A>,
+    cursor: &'q Option<Cursor<A>>,
+) -> PartOp<'q, A>
+    ensures { act_of result ≡ Visit (purpose_of counting) code.now (scope_from (option_map cursor_of cursor.now)) most_counted }
+{
+    let look = Look {
+        code,
+        scope: scope_from(cursor),
+        wanted: u64::MAX,
+    };
+    match counting {
+        Counting::Count => PartOp::VisitCount(look),
+        Counting::Delete => PartOp::VisitDelete(look),
+    }
+}
+
+/// How many a visit counted, and where the walk goes on.
+fn counted<A: Allocator>(reply: Reply<A>) -> (u64, Option<Cursor<A>>)
+    requires { IsTrue (is_counted (Replied (said_of reply))) }
+    ensures { said_of reply ≡ Counted result.0 (option_map cursor_of result.1) }
+{
+    match reply {
+        Reply::Counted(count, next) => (count, next),
+        Reply::Done | Reply::Flag(_) | Reply::Objects(_) | Reply::AtKey(_) | Reply::Found(..) =>
+            unreachable!(),
+    }
+}
+
+/// Counts in a part.
+fn count_at<A: Allocator, T: Turns<A>>(
+    turns: &mut T,
+    counting: Counting,
+    part: u8,
+    code: &Verified<A>,
+    cursor: &Option<Cursor<A>>,
+) -> Result<(u64, Option<Cursor<A>>), Fault>
+    requires ready { T.is_ready turns.old }
+    requires part { part < (T.home turns.old).options.parts }
+    ensures ready { T.is_ready turns.new }
+    ensures same { T.home turns.new ≡ T.home turns.old }
+    ensures done { IfOk result (λ found. Follows (T.sees turns.old) (T.sees turns.new)
+        (Turned (T.home turns.old) part
+        (Visit (purpose_of counting) code.now (scope_from (option_map cursor_of cursor.now)) most_counted)
+        (Some (Replied (Counted found.0 (option_map cursor_of found.1)))))) }
+    ensures refused { IfErr result (λ fault. Follows (T.sees turns.old) (T.sees turns.new)
+        (Turned (T.home turns.old) part
+        (Visit (purpose_of counting) code.now (scope_from (option_map cursor_of cursor.now)) most_counted)
+        (option_map Refused (refusal_of fault)))) }
+{
+    let reply = turn_at(turns, part, count_op(counting, code, cursor))?;
+    Ok(counted(reply))
+}
+
+/// Makes the next visit of a walk that counts, and answers how many it counted.
+fn count_next<A: Allocator, T: Turns<A>>(
+    turns: &mut T,
+    query: &Query<A>,
+    counting: Counting,
+    at: &mut Position<A>,
+) -> Result<u64, Fault>
+    requires ready { T.is_ready turns.old }
+    requires within { IsWithin (T.home turns.old).options.parts at.old }
+    requires more { position_of at.old ≢ Over }
+    ensures ready { T.is_ready turns.new }
+    ensures same { T.home turns.new ≡ T.home turns.old }
+    ensures within { IsWithin (T.home turns.old).options.parts at.new }
+    ensures done { IfOk result (λ count. Follows (T.sees turns.old) (T.sees turns.new)
+        (CountsMore (T.home turns.old) (walk_of (T.home turns.old) (purpose_of counting) query.now)
+        (position_of at.old) (position_of at.new) count)) }
+    ensures refused { IfErr result (λ fault. Follows (T.sees turns.old) (T.sees turns.new)
+        (Turned (T.home turns.old) (part_at (walk_of (T.home turns.old) (purpose_of counting) query.now) (position_of at.old))
+        (Visit (purpose_of counting) query.now.code
+        (scope_at (walk_of (T.home turns.old) (purpose_of counting) query.now) (position_of at.old)) most_counted)
+        (option_map Refused (refusal_of fault)))) }
+    ensures back { IfErr result (λ _. at.new ≡ at.old) }
+{
+    let Position::InPart(part, cursor) = &*at else {
+        unreachable!()
+    };
+    let part = *part;
+    let (count, next) = count_at(turns, counting, part, &query.code, cursor)?;
+    move_on(at, part, next, turns.options().parts);
+    Ok(count)
+}
+
+/// Makes visits from where a walk is to its end, and adds up what they count.
+pub(crate) fn count_on<R: Wait, A: Allocator, T: Turns<A>>(
+    rt: &R,
+    turns: &mut T,
+    query: &Query<A>,
+    counting: Counting,
+    at: &mut Position<A>,
+    total: &mut u64,
+) -> Result<(), Fault>
+    requires ready { T.is_ready turns.old }
+    requires within { IsWithin (T.home turns.old).options.parts at.old }
+    requires none { total.old ≡ 0 }
+    ensures ready { T.is_ready turns.new }
+    ensures same { T.home turns.new ≡ T.home turns.old }
+    ensures done { IfOk result (λ _. (position_of at.new ≡ Over) × Follows (T.sees turns.old) (T.sees turns.new)
+        (CountsTo (T.home turns.old) (walk_of (T.home turns.old) (purpose_of counting) query.now)
+        (position_of at.old) (position_of at.new) total.new)) }
+    ensures stopped { IsErrOf result Fault.Memory → Follows (T.sees turns.old) (T.sees turns.new)
+        (StopsAtCount (T.home turns.old) (walk_of (T.home turns.old) (purpose_of counting) query.now)
+        (position_of at.old) (position_of at.new) total.new) }
+    ensures foreign { IfErr result (λ fault. fault ≢ Fault.Memory → (v : Views) → T.sees turns.old v
+        → IsPosition (walk_of (T.home turns.old) (purpose_of counting) query.now) v (position_of at.old) → ⊥) }
+{
+    for _visit in rt.forever() {
+        if at.is_over() {
+            return Ok(());
+        }
+        let count = count_next(turns, query, counting, at)?;
+        *total = total.saturating_add(count);
+    }
+    unreachable!()
+}
