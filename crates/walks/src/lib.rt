@@ -1,4 +1,14 @@
-//! Walks through tables.
+//! Walks through tables, over any session.
+//!
+//! The one contract: a call makes visits, one behind the other, and over every interleaving its answers are those of `walk_core`: for
+//! each key once, what the query answers on the key's objects at one moment of the walk (`specs/Pieces.antt`, `specs/Whole.antt`).
+//! `first` and `next` make turns at the parts in their order until one has a key (`specs/Keys.antt`). Calls that visit take `rt`, since
+//! others may feed a walk through an ordered set for ever.
+//!
+//! - `query`: what is asked; `position`, `kept`, `continuation`: how far a walk has come, and what it keeps.
+//! - `visit`: visits up to a limit; `counting`: visits that count or delete.
+//! - `pieces`: `select_limit` and `select_more`; `whole`: `select`, `select_count` and `select_delete`; `own`: the fixes that these make.
+//! - `keys`: `first` and `next`.
 #![tactic(auto)]
 
 mod continuation;
@@ -15,8 +25,8 @@ mod whole;
 
 pub use continuation::{Continuation, Step};
 pub use fault::WalkFault;
-pub use keys::{first, next};
 pub use kept::Kept;
+pub use keys::{first, next};
 pub use pieces::{select_limit, select_more};
 pub use position::Position;
 pub use query::Query;
