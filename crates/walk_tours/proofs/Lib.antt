@@ -1,3 +1,4 @@
+mod WorkedTour
 pub mod OrderLemmas
 pub mod LiveLemmas
 pub mod StateLemmas

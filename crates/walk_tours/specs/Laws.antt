@@ -1,4 +1,4 @@
--- What holds of every tour.
+-- What holds of every tour whose order is kept.
 use Rattle.std.specs.Prelude.{ℕ, ◌≡◌, ◌≢◌, ◌++◌, IsTrue, AllPairs, Contains, None, [], ◌∷◌}
 use Rattle.std.specs.List.Sorted.{IsStrictlySortedBy}
 use Rattle.term_core.specs.Datum.{Datum}
@@ -11,8 +11,7 @@ use Rattle.walk_core.specs.Moments.{span, IsGrown}
 use Rattle.walks.specs.Keys.{RefusedNext}
 use Rattle.walk_tours.specs.Tours.{Tour, IsTour, IsTurn, IsSteady, Stayed, objects_then}
 
--- A key that a tour was answered isn't refused when the session asks for the key behind it, whatever was done
--- meanwhile.
+-- a key that a tour was answered isn't refused when the session asks for the key behind it, also long after
 abbrev pub ToursGoOn : Type 0
 ToursGoOn =
     (h : Home) (t : Tour) (k : Datum) (before after : Views)
