@@ -1,0 +1,2 @@
+pub mod Tours
+pub mod Laws
