@@ -138,7 +138,8 @@ fn change_at<A: Allocator, T: Turns<A>>(turns: &mut T, part: u8, change: Change)
     ensures done { Follows (T.sees turns.old) (T.sees turns.new)
         (Turned (T.home turns.old) part (act_of_change change) (Some (Replied Nothing))) }
 {
-    reply_let_go(done(turn_at(turns, part, change.op())));
+    let outcome = turn_at(turns, part, change.op());
+    reply_let_go(done(outcome));
 }
 
 /// Fixes one part once more, where the session's count is below 65,535.
