@@ -4,3 +4,4 @@ pub mod StepLemmas
 pub mod GoesLemmas
 pub mod TurnLemmas
 pub mod CountLemmas
+pub mod OnceLemmas

@@ -2,3 +2,4 @@ pub mod Walk
 pub mod Goes
 pub mod Moments
 pub mod Laws
+pub mod Once

@@ -1,5 +1,6 @@
 //! Laws of walks, each the contract of a function that does nothing.
 ghost use Rattle.walk_core.specs.Laws.{WalksBegin, TurnsAreVisits, VisitsAreAnswered, WalksGoOn, WalksStop, WalksOutlastOthers, WalksEnd};
+ghost use Rattle.walk_core.specs.Once.{DeletionsAreTheMarks, OtherVisitsTakeNothing};
 
 /// A walk that begins has gathered nothing.
 pub fn walks_begin()
@@ -34,4 +35,14 @@ pub fn walks_outlast_others()
 /// At its end, with nothing kept, what a walk gave out is its answer.
 pub fn walks_end()
     ensures { WalksEnd }
+{}
+
+/// The visit at a key's moment, in a walk that deletes, takes out the objects that answer true.
+pub fn deletions_are_the_marks()
+    ensures { DeletionsAreTheMarks }
+{}
+
+/// A visit takes nothing out of what it doesn't cover, and nothing at all where it doesn't delete.
+pub fn other_visits_take_nothing()
+    ensures { OtherVisitsTakeNothing }
 {}

@@ -10,6 +10,6 @@
 mod laws;
 
 pub use laws::{
-    turns_are_visits, visits_are_answered, walks_begin, walks_end, walks_go_on, walks_outlast_others,
-    walks_stop,
+    deletions_are_the_marks, other_visits_take_nothing, turns_are_visits, visits_are_answered,
+    walks_begin, walks_end, walks_go_on, walks_outlast_others, walks_stop,
 };
