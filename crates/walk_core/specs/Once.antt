@@ -1,5 +1,5 @@
 -- What a deleting walk takes out, and that a walk covers each key once.
-use Rattle.std.specs.Prelude.{ℕ, ◌≡◌, ◌+◌, ◌++◌, not, IsFalse, take, filter, List, [], ◌∷◌}
+use Rattle.std.specs.Prelude.{ℕ, ◌≡◌, ◌<◌, ◌≤◌, ◌+◌, ◌++◌, ◌⊎◌, Bool, not, IsTrue, IsFalse, Contains, take, filter, List, [], ◌∷◌, length}
 use Rattle.term_core.specs.Datum.{Datum}
 use Rattle.mcode.specs.Program.{Program}
 use Rattle.part_core.specs.declared.settings.Settings.{Settings}
@@ -11,9 +11,10 @@ use Rattle.part_core.specs.Content.{content}
 use Rattle.part_core.specs.Covers.{covers}
 use Rattle.part_core.specs.Visits.{is_true}
 use Rattle.tables.specs.Options.{settings_of}
-use Rattle.tables.specs.Turns.{Views}
-use Rattle.walk_core.specs.Walk.{Walk}
-use Rattle.walk_core.specs.Moments.{Span, IsMoment, part_of_key}
+use Rattle.tables.specs.Turns.{Home, Views}
+use Rattle.walk_core.specs.Walk.{Walk, Position, IsWalk, IsPosition, is_done, start_of}
+use Rattle.walk_core.specs.Goes.{Way, IsAt, Goes, Stops}
+use Rattle.walk_core.specs.Moments.{Span, span, IsMoment, Mark, Gathers, IsGrown, AreLegal, answers_at, part_of_key}
 
 -- The visit at a key's moment, in a walk that deletes, takes the objects that answer true out of the key's content, and
 -- no other.
@@ -32,3 +33,37 @@ OtherVisitsTakeNothing =
     → (purpose ≡ Deletes → IsFalse (covers o scope (next_in said) k))
     → content o k (past ++ (record { session = n; act = Visit purpose p scope wanted; answer = Replied said }) ∷ [])
     ≡ content o k past
+
+-- Each key is covered at one moment of the walk at most, and a key that was covered is done. What was seen behind each
+-- call is seen still.
+pub record IsOnce (w : Walk) (calls : List Span) (now : Views) (done : Datum → Bool) : Type 0 where
+  pub seen : (call : Span) → Contains calls call
+      → (part : ℕ) → part < w.options.parts → length (call.after part) ≤ length (now part)
+  pub covered : (k : Datum) (moment : ℕ) → IsMoment w calls now k moment → IsTrue (done k)
+  pub once : (k : Datum) (m n : ℕ) → IsMoment w calls now k m → IsMoment w calls now k n → m ≡ n
+
+-- a walk that begins has covered nothing
+abbrev pub WalksBeginOnce : Type 0
+WalksBeginOnce = (w : Walk) (now : Views) → IsOnce w [] now (is_done w (start_of w))
+
+-- visits cover no key again
+abbrev pub WalksCoverOnce : Type 0
+WalksCoverOnce =
+    (h : Home) (w : Walk) (wanted : ℕ → ℕ) (calls : List Span) (a b : Way)
+    → IsAt h w → IsWalk w → AreLegal w.options a.views → IsPosition w a.views a.at
+    → IsOnce w calls a.views (is_done w a.at) → Goes h w wanted a b
+    → IsOnce w (calls ++ span a.views b.views ∷ []) b.views (is_done w b.at)
+
+-- nor do they where the one behind them was refused for want of memory
+abbrev pub StopsCoverOnce : Type 0
+StopsCoverOnce =
+    (h : Home) (w : Walk) (wanted : ℕ → ℕ) (calls : List Span) (a : Way) (at : Position) (gained : List Datum) (now : Views)
+    → IsAt h w → IsWalk w → AreLegal w.options a.views → IsPosition w a.views a.at
+    → IsOnce w calls a.views (is_done w a.at) → Stops h w wanted a at gained now
+    → IsOnce w (calls ++ span a.views now ∷ []) now (is_done w at)
+
+-- what others do, and other calls of the session, changes nothing of it
+abbrev pub OnceOutlastsOthers : Type 0
+OnceOutlastsOthers =
+    (w : Walk) (calls : List Span) (now later : Views) (done : Datum → Bool)
+    → IsWalk w → IsGrown w.options now later → IsOnce w calls now done → IsOnce w calls later done

@@ -1,6 +1,6 @@
 //! Laws of walks, each the contract of a function that does nothing.
 ghost use Rattle.walk_core.specs.Laws.{WalksBegin, TurnsAreVisits, VisitsAreAnswered, WalksGoOn, WalksStop, WalksOutlastOthers, WalksEnd};
-ghost use Rattle.walk_core.specs.Once.{DeletionsAreTheMarks, OtherVisitsTakeNothing};
+ghost use Rattle.walk_core.specs.Once.{DeletionsAreTheMarks, OtherVisitsTakeNothing, WalksBeginOnce, WalksCoverOnce, StopsCoverOnce, OnceOutlastsOthers};
 
 /// A walk that begins has gathered nothing.
 pub fn walks_begin()
@@ -45,4 +45,24 @@ pub fn deletions_are_the_marks()
 /// A visit takes nothing out of what it doesn't cover, and nothing at all where it doesn't delete.
 pub fn other_visits_take_nothing()
     ensures { OtherVisitsTakeNothing }
+{}
+
+/// A walk that begins has covered nothing.
+pub fn walks_begin_once()
+    ensures { WalksBeginOnce }
+{}
+
+/// The visits of a walk cover each key once.
+pub fn walks_cover_once()
+    ensures { WalksCoverOnce }
+{}
+
+/// They do so also where the next one is refused for want of memory.
+pub fn stops_cover_once()
+    ensures { StopsCoverOnce }
+{}
+
+/// What others do changes nothing of that.
+pub fn once_outlasts_others()
+    ensures { OnceOutlastsOthers }
 {}
