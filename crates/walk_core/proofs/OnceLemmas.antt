@@ -1,9 +1,9 @@
 -- What a deleting walk takes out, and that a walk covers each key once.
 use Rattle.std.proofs.Common.{zero, suc, ◌≡◌, ◌≢◌, ℕ, ◌+◌, ◌<◌, ◌≤◌, ◌⊎◌, inl, inr, refl, ap, sym, subst, ◌∙◌, arith, List, [], ◌∷◌, ◌++◌, length}
-use Rattle.std.specs.Prelude.{Bool, true, false, not, ◌&&◌, ◌||◌, ◌==◌, if◌then◌else◌, nat_lt, IsTrue, IsFalse, Contains, Some, None, take, slice_get, filter, fold}
+use Rattle.std.specs.Prelude.{Bool, true, false, not, ◌||◌, ◌==◌, if◌then◌else◌, nat_lt, IsFalse, All, Contains, map, Some, take, slice_get, filter}
 use Rattle.std.proofs.lemmas.Bool.{true≢false, and_from, or_left, or_right, eqb-true, eqb-false, eq-eqb, ltb-true, ltb-false}
 use Rattle.std.proofs.lemmas.List.{take_more, length-append}
-use Rattle.std.proofs.lemmas.List.Elements.{Contains-append_left, Contains-push, Contains-push_cases}
+use Rattle.std.proofs.lemmas.List.Elements.{All-head, All-tail, Contains-append_left, Contains-push, Contains-push_cases}
 use Rattle.std.proofs.lemmas.List.Sums.{fold-append}
 use Rattle.std.proofs.lemmas.Option.{slice_get_within, get_or_from_slice_get, none-some, same_Some}
 use Rattle.term_core.specs.Datum.{Datum}
@@ -20,16 +20,16 @@ use Rattle.part_core.proofs.LawLemmas.{visits_led}
 use Rattle.part_core.specs.Acts.Purpose.{Answers, Counts, Deletes}
 use Rattle.part_core.specs.Content.{written, content}
 use Rattle.part_core.specs.Covers.{covers}
-use Rattle.part_core.specs.Visits.{is_true}
+use Rattle.part_core.specs.Visits.{is_true, yields}
 use Rattle.tables.specs.Options.{settings_of}
 use Rattle.tables.specs.declared.options.Options.{Options}
 use Rattle.tables.specs.Turns.{Home, Views, own}
-use Rattle.walk_core.specs.Walk.{Walk, Position, IsWalk, IsPosition, is_done, is_covered, start_of, part_at, scope_at, next_position}
+use Rattle.walk_core.specs.Walk.{Walk, Position, IsWalk, IsPosition, is_done, is_covered, start_of, part_at, scope_at}
 use Rattle.walk_core.specs.Walk.Position.{Over}
 use Rattle.walk_core.specs.Goes.{Way, IsAt, Visits, Goes, Drifted, Stops, past_of}
 use Rattle.walk_core.specs.Goes.Goes.{stays, goes}
 use Rattle.walk_core.specs.Moments.{Span, span, IsVisit, IsMoment, IsMet, Mark, Gathers, IsGrown, AreLegal, answers_at, part_of_key}
-use Rattle.walk_core.specs.Once.{IsOnce}
+use Rattle.walk_core.specs.Once.{IsOnce, IsVisitAt, content_at}
 use Rattle.walk_core.proofs.GrowthLemmas.{key_inside}
 use Rattle.walk_core.proofs.PositionLemmas.{done_next, covered_anew}
 use Rattle.walk_core.proofs.StepLemmas.{visit_entry}
@@ -328,3 +328,63 @@ drifts_once h w calls before last now done is_at walk drifted o = record {
 pub stops_once : (h : Home) (w : Walk) (wanted : ℕ → ℕ) (calls : List Span) (a : Way) (at : Position) (gained : List Datum) (now : Views) → IsAt h w → IsWalk w → AreLegal w.options a.views → IsPosition w a.views a.at → IsOnce w calls a.views (is_done w a.at) → Stops h w wanted a at gained now → IsOnce w (calls ++ span a.views now ∷ []) now (is_done w at)
 stops_once h w wanted calls a at gained now is_at walk legal position o (last, way, drifted) =
     drifts_once h w calls a.views last now (is_done w at) is_at walk drifted (goes_once h w wanted calls a (record { views = last; at = at; gained = gained }) is_at walk legal position o way)
+
+-- ---- what a walk gathers, and what it takes out
+
+marked_at : (w : Walk) (calls : List Span) (now : Views) (marks : List Mark) (k : Datum) → All (λ m. IsMoment w calls now m.key m.moment) marks → Contains (map (λ m. m.key) marks) k → (moment : ℕ) × Contains marks (record { key = k; moment = moment }) × IsMoment w calls now k moment
+marked_at w calls now [] k moments (n, within, is) = absurd (omega (arith, within))
+marked_at w calls now (m ∷ marks) k moments (zero, within, is) =
+    let there : IsMoment w calls now m.key m.moment = All-head (λ l. IsMoment w calls now l.key l.moment) m marks moments in
+    subst (λ (j : Datum). (moment : ℕ) × Contains (m ∷ marks) (record { key = j; moment = moment }) × IsMoment w calls now j moment) is
+    (m.moment, (0, omega arith, refl), there)
+marked_at w calls now (m ∷ marks) k moments (suc n, within, is) =
+    let later = marked_at w calls now marks k (All-tail (λ l. IsMoment w calls now l.key l.moment) m marks moments) (n, omega (arith, within), is) in
+    (later.0, (suc later.1.0, omega (arith, later.1.1), later.1.2), later.2)
+
+pub moments_marked : (w : Walk) (calls : List Span) (now : Views) (done : Datum → Bool) (answers : List Datum) → (g : Gathers w calls now done answers) → IsOnce w calls now done → (k : Datum) (moment : ℕ) → IsMoment w calls now k moment → Contains g.marks (record { key = k; moment = moment }) ⊎ (answers_at w now k moment ≡ [])
+moments_marked w calls now done answers g o k moment m = of (g.silent k (o.covered k moment m))
+  where
+    of : IsMet w calls now g.marks k → Contains g.marks (record { key = k; moment = moment }) ⊎ (answers_at w now k moment ≡ [])
+    of (inl marked) =
+        let there = marked_at w calls now g.marks k g.moments marked in
+        inl (subst (λ (n : ℕ). Contains g.marks (record { key = k; moment = n })) (o.once k there.0 moment there.2 m) there.1)
+    of (inr (other, is, none)) = inr (subst (λ (n : ℕ). answers_at w now k n ≡ []) (o.once k other moment is m) none)
+
+-- where nothing passes, nothing is taken out
+none_out : (test : Datum → Bool) (ts : List Datum) → filter test ts ≡ [] → filter (λ t. not (test t)) ts ≡ ts
+none_out test [] none = refl
+none_out test (t ∷ ts) none = of (λ h. none_out test ts h) (test t) refl
+  where
+    cons_not : (us : List Datum) → t ∷ us ≡ [] → ⊥
+    cons_not us is = omega (arith, ap length is)
+
+    of : (filter test ts ≡ [] → filter (λ u. not (test u)) ts ≡ ts) → (b : Bool) → test t ≡ b → filter (λ u. not (test u)) (t ∷ ts) ≡ t ∷ ts
+    of rest true is = absurd (cons_not (filter test ts) (sym (ap (λ (c : Bool). if c then t ∷ filter test ts else filter test ts) is) ∙ none))
+    of rest false is =
+        ap (λ (c : Bool). if not c then t ∷ filter (λ u. not (test u)) ts else filter (λ u. not (test u)) ts) is
+        ∙ ap (λ us. t ∷ us) (rest (sym (ap (λ (c : Bool). if c then t ∷ filter test ts else filter test ts) is) ∙ none))
+
+deleting : (w : Walk) (now : Views) (k : Datum) (moment : ℕ) → w.purpose ≡ Deletes → answers_at w now k moment ≡ filter (is_true w.program) (content_at w now k moment)
+deleting w now k moment deletes = ap (λ (purpose : Purpose). yields purpose w.program (content_at w now k moment)) deletes
+
+pub deleting_takes : (w : Walk) (calls : List Span) (now : Views) (done : Datum → Bool) (answers : List Datum) → w.purpose ≡ Deletes → (g : Gathers w calls now done answers) → IsOnce w calls now done → (k : Datum) (place : ℕ) → IsVisitAt w calls now k place → (Contains g.marks (record { key = k; moment = place }) × (content_at w now k (place + 1) ≡ filter (λ t. not (is_true w.program t)) (content_at w now k place)) × (answers_at w now k place ≡ filter (is_true w.program) (content_at w now k place))) ⊎ (content_at w now k (place + 1) ≡ content_at w now k place)
+deleting_takes w calls now done answers deletes g o k place v =
+    by_test (covers (settings_of w.options) v.scope (next_in v.said) k) _
+    (λ covered. let m = moment covered in of m (moments_marked w calls now done answers g o k place m))
+    (λ other. inr (ap (content (settings_of w.options) k) (one_more (now (part_of_key w k)) place (visit_entry w v.scope v.wanted v.said) v.stands)
+    ∙ takes_nothing (settings_of w.options) (take place (now (part_of_key w k))) w.number w.purpose w.program v.scope v.wanted v.said k (λ same. other)))
+  where
+    moment : covers (settings_of w.options) v.scope (next_in v.said) k ≡ true → IsMoment w calls now k place
+    moment covered = record {
+      call = v.call;
+      made = v.made;
+      within = v.within;
+      entry = visit_entry w v.scope v.wanted v.said;
+      stands = v.stands;
+      visit = record { scope = v.scope; wanted = v.wanted; said = v.said; made = refl; covered = covered };
+    }
+
+    of : IsMoment w calls now k place → Contains g.marks (record { key = k; moment = place }) ⊎ (answers_at w now k place ≡ []) → (Contains g.marks (record { key = k; moment = place }) × (content_at w now k (place + 1) ≡ filter (λ t. not (is_true w.program t)) (content_at w now k place)) × (answers_at w now k place ≡ filter (is_true w.program) (content_at w now k place))) ⊎ (content_at w now k (place + 1) ≡ content_at w now k place)
+    of m (inl marked) = inl (marked, moment_takes w calls now k place deletes m, deleting w now k place deletes)
+    of m (inr none) =
+        inr (moment_takes w calls now k place deletes m ∙ none_out (is_true w.program) (content_at w now k place) (sym (deleting w now k place deletes) ∙ none))

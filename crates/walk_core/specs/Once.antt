@@ -1,5 +1,5 @@
 -- What a deleting walk takes out, and that a walk covers each key once.
-use Rattle.std.specs.Prelude.{ℕ, ◌≡◌, ◌<◌, ◌≤◌, ◌+◌, ◌++◌, ◌⊎◌, Bool, not, IsTrue, IsFalse, Contains, take, filter, List, [], ◌∷◌, length}
+use Rattle.std.specs.Prelude.{ℕ, ◌≡◌, ◌<◌, ◌≤◌, ◌+◌, ◌++◌, ◌⊎◌, Bool, not, IsTrue, IsFalse, Contains, Some, slice_get, take, filter, List, [], ◌∷◌, length}
 use Rattle.term_core.specs.Datum.{Datum}
 use Rattle.mcode.specs.Program.{Program}
 use Rattle.part_core.specs.declared.settings.Settings.{Settings}
@@ -14,7 +14,7 @@ use Rattle.tables.specs.Options.{settings_of}
 use Rattle.tables.specs.Turns.{Home, Views}
 use Rattle.walk_core.specs.Walk.{Walk, Position, IsWalk, IsPosition, is_done, start_of}
 use Rattle.walk_core.specs.Goes.{Way, IsAt, Goes, Stops}
-use Rattle.walk_core.specs.Moments.{Span, span, IsMoment, Mark, Gathers, IsGrown, AreLegal, answers_at, part_of_key}
+use Rattle.walk_core.specs.Moments.{Span, span, IsMoment, Gathers, IsGrown, AreLegal, answers_at, part_of_key}
 
 -- The visit at a key's moment, in a walk that deletes, takes the objects that answer true out of the key's content, and
 -- no other.
@@ -67,3 +67,38 @@ abbrev pub OnceOutlastsOthers : Type 0
 OnceOutlastsOthers =
     (w : Walk) (calls : List Span) (now later : Views) (done : Datum → Bool)
     → IsWalk w → IsGrown w.options now later → IsOnce w calls now done → IsOnce w calls later done
+
+-- At each moment of a walk, either the answers on the key's objects are gathered, or there are none.
+abbrev pub MomentsAreTheMarks : Type 0
+MomentsAreTheMarks =
+    (w : Walk) (calls : List Span) (now : Views) (done : Datum → Bool) (answers : List Datum)
+    → (g : Gathers w calls now done answers) → IsOnce w calls now done
+    → (k : Datum) (moment : ℕ) → IsMoment w calls now k moment
+    → Contains g.marks (record { key = k; moment = moment }) ⊎ (answers_at w now k moment ≡ [])
+
+-- a visit of the walk at a key's part, whether or not it covers the key
+pub record IsVisitAt (w : Walk) (calls : List Span) (now : Views) (k : Datum) (place : ℕ) : Type 0 where
+  pub call : Span
+  pub made : Contains calls call
+  pub within : (length (call.before (part_of_key w k)) ≤ place) × (place < length (call.after (part_of_key w k)))
+  pub scope : Scope
+  pub wanted : ℕ
+  pub said : Said
+  pub stands : slice_get (now (part_of_key w k)) place
+      ≡ Some (record { session = w.number; act = Visit w.purpose w.program scope wanted; answer = Replied said })
+
+-- the objects of a key after so many entries of its part
+abbrev pub content_at : Walk → Views → Datum → ℕ → List Datum
+content_at w now k count = content (settings_of w.options) k (take count (now (part_of_key w k)))
+
+-- Whatever visit of a deleting walk, and whatever key of its part: either the visit is the key's moment among those
+-- that are gathered, and takes out the objects that answer true, which are the key's answers; or it takes out nothing.
+abbrev pub DeletingWalksTakeTheMarks : Type 0
+DeletingWalksTakeTheMarks =
+    (w : Walk) (calls : List Span) (now : Views) (done : Datum → Bool) (answers : List Datum)
+    → w.purpose ≡ Deletes → (g : Gathers w calls now done answers) → IsOnce w calls now done
+    → (k : Datum) (place : ℕ) → IsVisitAt w calls now k place
+    → (Contains g.marks (record { key = k; moment = place })
+    × (content_at w now k (place + 1) ≡ filter (λ t. not (is_true w.program t)) (content_at w now k place))
+    × (answers_at w now k place ≡ filter (is_true w.program) (content_at w now k place)))
+    ⊎ (content_at w now k (place + 1) ≡ content_at w now k place)

@@ -1,6 +1,6 @@
 //! Laws of walks, each the contract of a function that does nothing.
 ghost use Rattle.walk_core.specs.Laws.{WalksBegin, TurnsAreVisits, VisitsAreAnswered, WalksGoOn, WalksStop, WalksOutlastOthers, WalksEnd};
-ghost use Rattle.walk_core.specs.Once.{DeletionsAreTheMarks, OtherVisitsTakeNothing, WalksBeginOnce, WalksCoverOnce, StopsCoverOnce, OnceOutlastsOthers};
+ghost use Rattle.walk_core.specs.Once.{DeletionsAreTheMarks, OtherVisitsTakeNothing, WalksBeginOnce, WalksCoverOnce, StopsCoverOnce, OnceOutlastsOthers, MomentsAreTheMarks, DeletingWalksTakeTheMarks};
 
 /// A walk that begins has gathered nothing.
 pub fn walks_begin()
@@ -65,4 +65,14 @@ pub fn stops_cover_once()
 /// What others do changes nothing of that.
 pub fn once_outlasts_others()
     ensures { OnceOutlastsOthers }
+{}
+
+/// At each moment of a walk, its answers are gathered, or there are none.
+pub fn moments_are_the_marks()
+    ensures { MomentsAreTheMarks }
+{}
+
+/// The visits of a deleting walk take out what is gathered, and nothing else.
+pub fn deleting_walks_take_the_marks()
+    ensures { DeletingWalksTakeTheMarks }
 {}

@@ -10,7 +10,8 @@
 mod laws;
 
 pub use laws::{
-    deletions_are_the_marks, once_outlasts_others, other_visits_take_nothing, stops_cover_once,
-    turns_are_visits, visits_are_answered, walks_begin, walks_begin_once, walks_cover_once,
-    walks_end, walks_go_on, walks_outlast_others, walks_stop,
+    deleting_walks_take_the_marks, deletions_are_the_marks, moments_are_the_marks,
+    once_outlasts_others, other_visits_take_nothing, stops_cover_once, turns_are_visits,
+    visits_are_answered, walks_begin, walks_begin_once, walks_cover_once, walks_end, walks_go_on,
+    walks_outlast_others, walks_stop,
 };
