@@ -5,3 +5,4 @@ pub mod GoesLemmas
 pub mod TurnLemmas
 pub mod CountLemmas
 pub mod OnceLemmas
+pub mod StayedLemmas

@@ -3,3 +3,4 @@ pub mod Goes
 pub mod Moments
 pub mod Laws
 pub mod Once
+pub mod Stayed

@@ -1,6 +1,7 @@
 //! Laws of walks, each the contract of a function that does nothing.
 ghost use Rattle.walk_core.specs.Laws.{WalksBegin, TurnsAreVisits, VisitsAreAnswered, WalksGoOn, WalksStop, WalksOutlastOthers, WalksEnd};
 ghost use Rattle.walk_core.specs.Once.{DeletionsAreTheMarks, OtherVisitsTakeNothing, WalksBeginOnce, WalksCoverOnce, StopsCoverOnce, OnceOutlastsOthers, MomentsAreTheMarks, DeletingWalksTakeTheMarks};
+ghost use Rattle.walk_core.specs.Stayed.{WhoStayedIsAnswered, NothingIsInvented, ContentsHaveTheirKey, OneAnswerAKey};
 
 /// A walk that begins has gathered nothing.
 pub fn walks_begin()
@@ -75,4 +76,24 @@ pub fn moments_are_the_marks()
 /// The visits of a deleting walk take out what is gathered, and nothing else.
 pub fn deleting_walks_take_the_marks()
     ensures { DeletingWalksTakeTheMarks }
+{}
+
+/// An object that matched and stayed throughout is answered once.
+pub fn who_stayed_is_answered()
+    ensures { WhoStayedIsAnswered }
+{}
+
+/// Nothing is answered for an object that was never there.
+pub fn nothing_is_invented()
+    ensures { NothingIsInvented }
+{}
+
+/// In the content of a key stand objects with this key, in a set at most one.
+pub fn contents_have_their_key()
+    ensures { ContentsHaveTheirKey }
+{}
+
+/// A set gives at most one answer for a key.
+pub fn one_answer_a_key()
+    ensures { OneAnswerAKey }
 {}
