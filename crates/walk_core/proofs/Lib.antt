@@ -4,3 +4,5 @@ pub mod StepLemmas
 pub mod GoesLemmas
 pub mod TurnLemmas
 pub mod CountLemmas
+pub mod OnceLemmas
+pub mod StayedLemmas

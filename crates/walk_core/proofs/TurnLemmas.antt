@@ -34,8 +34,8 @@ turn_visits h w wanted at gained v u said is_at t =
     let o = settings_of w.options in
     let past : History = v (part_at w at) ++ t.here.between in
     let legal : IsLegal o (past ++ visit_entry w (scope_at w at) (wanted (length gained)) said ∷ []) =
-        subst (λ (n : ℕ). IsLegal o (past ++ (record { session = n; act = Visit w.purpose w.program (scope_at w at) (wanted (length gained)); answer = Replied said }) ∷ [])) is_at.number
-        (subst (λ (p : Options). IsLegal (settings_of p) (past ++ (record { session = h.number; act = Visit w.purpose w.program (scope_at w at) (wanted (length gained)); answer = Replied said }) ∷ [])) is_at.options (subst (IsLegal (settings_of h.options)) t.here.grown t.here.legal)) in
+    subst (λ (n : ℕ). IsLegal o (past ++ (record { session = n; act = Visit w.purpose w.program (scope_at w at) (wanted (length gained)); answer = Replied said }) ∷ [])) is_at.number
+    (subst (λ (p : Options). IsLegal (settings_of p) (past ++ (record { session = h.number; act = Visit w.purpose w.program (scope_at w at) (wanted (length gained)); answer = Replied said }) ∷ [])) is_at.options (subst (IsLegal (settings_of h.options)) t.here.grown t.here.legal)) in
     let says = visit_yields o past w.number w.purpose w.program (scope_at w at) (wanted (length gained)) said legal in (
       yield_of o (state_after o past) w.purpose w.program (scope_at w at) (wanted (length gained)),
       record { said = said; turned = t; at = refl; gained = refl },

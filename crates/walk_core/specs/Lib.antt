@@ -2,3 +2,5 @@ pub mod Walk
 pub mod Goes
 pub mod Moments
 pub mod Laws
+pub mod Once
+pub mod Stayed

@@ -1,5 +1,7 @@
 //! Laws of walks, each the contract of a function that does nothing.
 ghost use Rattle.walk_core.specs.Laws.{WalksBegin, TurnsAreVisits, VisitsAreAnswered, WalksGoOn, WalksStop, WalksOutlastOthers, WalksEnd};
+ghost use Rattle.walk_core.specs.Once.{DeletionsAreTheMarks, OtherVisitsTakeNothing, WalksBeginOnce, WalksCoverOnce, StopsCoverOnce, OnceOutlastsOthers, MomentsAreTheMarks, DeletingWalksTakeTheMarks};
+ghost use Rattle.walk_core.specs.Stayed.{WhoStayedIsAnswered, NothingIsInvented, ContentsHaveTheirKey, OneAnswerAKey};
 
 /// A walk that begins has gathered nothing.
 pub fn walks_begin()
@@ -34,4 +36,64 @@ pub fn walks_outlast_others()
 /// At its end, with nothing kept, what a walk gave out is its answer.
 pub fn walks_end()
     ensures { WalksEnd }
+{}
+
+/// The visit at a key's moment, in a walk that deletes, takes out the objects that answer true.
+pub fn deletions_are_the_marks()
+    ensures { DeletionsAreTheMarks }
+{}
+
+/// A visit takes nothing out of what it doesn't cover, and nothing at all where it doesn't delete.
+pub fn other_visits_take_nothing()
+    ensures { OtherVisitsTakeNothing }
+{}
+
+/// A walk that begins has covered nothing.
+pub fn walks_begin_once()
+    ensures { WalksBeginOnce }
+{}
+
+/// The visits of a walk cover each key once.
+pub fn walks_cover_once()
+    ensures { WalksCoverOnce }
+{}
+
+/// They do so also where the next one is refused for want of memory.
+pub fn stops_cover_once()
+    ensures { StopsCoverOnce }
+{}
+
+/// What others do changes nothing of that.
+pub fn once_outlasts_others()
+    ensures { OnceOutlastsOthers }
+{}
+
+/// At each moment of a walk, its answers are gathered, or there are none.
+pub fn moments_are_the_marks()
+    ensures { MomentsAreTheMarks }
+{}
+
+/// The visits of a deleting walk take out what is gathered, and nothing else.
+pub fn deleting_walks_take_the_marks()
+    ensures { DeletingWalksTakeTheMarks }
+{}
+
+/// An object that matched and stayed throughout is answered once.
+pub fn who_stayed_is_answered()
+    ensures { WhoStayedIsAnswered }
+{}
+
+/// Nothing is answered for an object that was never there.
+pub fn nothing_is_invented()
+    ensures { NothingIsInvented }
+{}
+
+/// In the content of a key stand objects with this key, in a set at most one.
+pub fn contents_have_their_key()
+    ensures { ContentsHaveTheirKey }
+{}
+
+/// A set gives at most one answer for a key.
+pub fn one_answer_a_key()
+    ensures { OneAnswerAKey }
 {}

@@ -10,6 +10,9 @@
 mod laws;
 
 pub use laws::{
-    turns_are_visits, visits_are_answered, walks_begin, walks_end, walks_go_on, walks_outlast_others,
-    walks_stop,
+    contents_have_their_key, deleting_walks_take_the_marks, deletions_are_the_marks,
+    moments_are_the_marks, nothing_is_invented, once_outlasts_others, one_answer_a_key,
+    other_visits_take_nothing, stops_cover_once, turns_are_visits, visits_are_answered,
+    walks_begin, walks_begin_once, walks_cover_once, walks_end, walks_go_on, walks_outlast_others,
+    walks_stop, who_stayed_is_answered,
 };
