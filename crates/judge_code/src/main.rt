@@ -27,7 +27,7 @@ use test_rows::{Kinds, judge_streams};
 struct CodeKinds;
 
 impl Kinds for CodeKinds {
-    fn came(alloc: Global, kind: &str, parts: &[Term], _forms: usize) -> Option<Vec<u8>> {
+    fn came(&self, alloc: Global, kind: &str, parts: &[Term], _forms: usize) -> Option<Vec<u8>> {
         if let Some(out) = codes::came(alloc, kind, parts) {
             return Some(out);
         }
@@ -50,5 +50,5 @@ impl Kinds for CodeKinds {
 }
 
 fn main(rt: HostRuntime) -> io::Result<ExitCode> {
-    judge_streams::<CodeKinds, _, _>(rt.alloc(), &mut rt.stdin(), &mut rt.stdout())
+    judge_streams(&CodeKinds, rt.alloc(), &mut rt.stdin(), &mut rt.stdout())
 }

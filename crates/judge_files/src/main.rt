@@ -23,7 +23,7 @@ use test_rows::{Kinds, judge_streams, swept_row};
 struct FileKinds;
 
 impl Kinds for FileKinds {
-    fn came(alloc: Global, kind: &str, parts: &[Term], _forms: usize) -> Option<Vec<u8>> {
+    fn came(&self, alloc: Global, kind: &str, parts: &[Term], _forms: usize) -> Option<Vec<u8>> {
         if let Some(out) = files::came(alloc, kind, parts) {
             return Some(out);
         }
@@ -43,5 +43,5 @@ impl Kinds for FileKinds {
 }
 
 fn main(rt: HostRuntime) -> io::Result<ExitCode> {
-    judge_streams::<FileKinds, _, _>(rt.alloc(), &mut rt.stdin(), &mut rt.stdout())
+    judge_streams(&FileKinds, rt.alloc(), &mut rt.stdin(), &mut rt.stdout())
 }

@@ -20,7 +20,7 @@ use test_rows::{Kinds, judge_streams};
 struct FunctionKinds;
 
 impl Kinds for FunctionKinds {
-    fn came(alloc: Global, kind: &str, parts: &[Term], forms: usize) -> Option<Vec<u8>> {
+    fn came(&self, alloc: Global, kind: &str, parts: &[Term], forms: usize) -> Option<Vec<u8>> {
         if let Some(out) = calls::came(alloc, kind, parts, forms) {
             return Some(out);
         }
@@ -45,5 +45,10 @@ impl Kinds for FunctionKinds {
 }
 
 fn main(rt: HostRuntime) -> io::Result<ExitCode> {
-    judge_streams::<FunctionKinds, _, _>(rt.alloc(), &mut rt.stdin(), &mut rt.stdout())
+    judge_streams(
+        &FunctionKinds,
+        rt.alloc(),
+        &mut rt.stdin(),
+        &mut rt.stdout(),
+    )
 }

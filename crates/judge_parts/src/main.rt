@@ -20,7 +20,7 @@ use test_rows::{Kinds, judge_streams};
 struct PartKinds;
 
 impl Kinds for PartKinds {
-    fn came(alloc: Global, kind: &str, parts: &[Term], forms: usize) -> Option<Vec<u8>> {
+    fn came(&self, alloc: Global, kind: &str, parts: &[Term], forms: usize) -> Option<Vec<u8>> {
         plays::came(alloc, kind, parts, forms)
     }
 
@@ -34,5 +34,5 @@ impl Kinds for PartKinds {
 }
 
 fn main(rt: HostRuntime) -> io::Result<ExitCode> {
-    judge_streams::<PartKinds, _, _>(rt.alloc(), &mut rt.stdin(), &mut rt.stdout())
+    judge_streams(&PartKinds, rt.alloc(), &mut rt.stdin(), &mut rt.stdout())
 }

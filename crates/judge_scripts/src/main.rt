@@ -14,6 +14,7 @@ use part_plain::PlainPart;
 use std::alloc::Global;
 use std::io;
 use std::process::ExitCode;
+use std::sync::Wait;
 use term_core::Term;
 use term_text::{read_terms, write_term};
 use test_rows::{Kinds, Outcome, elements, judge_streams};
@@ -42,29 +43,36 @@ fn list_of(alloc: Global, terms: &[Term]) -> Option<Vec<u8>> {
 }
 
 /// What a script is replied, with sets in such parts: the list of the replies.
-fn replies<S: Part<Global> + Drop>(alloc: Global, commands: &[Term]) -> Option<Vec<u8>>
+fn replies<H: Wait, S: Part<Global> + Drop>(
+    rt: &H,
+    alloc: Global,
+    commands: &[Term],
+) -> Option<Vec<u8>>
     requires { IsTrue (S.serves Set) }
 {
     let script = script_of(alloc, commands)?;
     let mut reader = script.as_slice();
     let mut out: Vec<u8> = Vec::new(alloc);
-    run_script::<S, OrderPart<Global>, _, _, _>(alloc, &mut reader, &mut out).ok()?;
+    run_script::<_, S, OrderPart<Global>, _, _, _>(rt, alloc, &mut reader, &mut out).ok()?;
     list_of(alloc, read_terms(alloc, out.as_slice()).ok()?.as_slice())
 }
 
 /// The kind of rows of scripts.
-struct ScriptKinds;
+#[derive(Drop)]
+struct ScriptKinds<'a, H: Wait> {
+    rt: &'a H,
+}
 
-impl Kinds for ScriptKinds {
-    fn came(alloc: Global, kind: &str, parts: &[Term], forms: usize) -> Option<Vec<u8>> {
+impl<H: Wait> Kinds for ScriptKinds<'_, H> {
+    fn came(&self, alloc: Global, kind: &str, parts: &[Term], forms: usize) -> Option<Vec<u8>> {
         let ("script", [commands, _wanted]) = (kind, parts) else {
             return None;
         };
         let commands = elements(commands)?;
         if forms == 0 {
-            replies::<PlainPart<Global>>(alloc, commands)
+            replies::<_, PlainPart<Global>>(self.rt, alloc, commands)
         } else {
-            replies::<HashPart<Global>>(alloc, commands)
+            replies::<_, HashPart<Global>>(self.rt, alloc, commands)
         }
     }
 
@@ -78,5 +86,10 @@ impl Kinds for ScriptKinds {
 }
 
 fn main(rt: HostRuntime) -> io::Result<ExitCode> {
-    judge_streams::<ScriptKinds, _, _>(rt.alloc(), &mut rt.stdin(), &mut rt.stdout())
+    judge_streams(
+        &ScriptKinds { rt: &rt },
+        rt.alloc(),
+        &mut rt.stdin(),
+        &mut rt.stdout(),
+    )
 }

@@ -20,7 +20,7 @@ use test_rows::{Kinds, judge_streams};
 struct TermKinds;
 
 impl Kinds for TermKinds {
-    fn came(alloc: Global, kind: &str, parts: &[Term], _forms: usize) -> Option<Vec<u8>> {
+    fn came(&self, alloc: Global, kind: &str, parts: &[Term], _forms: usize) -> Option<Vec<u8>> {
         if let Some(out) = texts::came(alloc, kind, parts) {
             return Some(out);
         }
@@ -37,5 +37,5 @@ impl Kinds for TermKinds {
 }
 
 fn main(rt: HostRuntime) -> io::Result<ExitCode> {
-    judge_streams::<TermKinds, _, _>(rt.alloc(), &mut rt.stdin(), &mut rt.stdout())
+    judge_streams(&TermKinds, rt.alloc(), &mut rt.stdin(), &mut rt.stdout())
 }

@@ -15,7 +15,7 @@ const SHOWN: usize = 2_000;
 /// The kinds of rows that a program knows.
 pub trait Kinds {
     /// What comes of a row of a kind, where its operands are in the forms of this number: a text. None where there is no such row.
-    fn came(alloc: Global, kind: &str, parts: &[Term], forms: usize) -> Option<Vec<u8>>;
+    fn came(&self, alloc: Global, kind: &str, parts: &[Term], forms: usize) -> Option<Vec<u8>>;
 
     /// In how many forms the operands of a row of a kind are tried.
     fn forms(kind: &str) -> usize;
@@ -64,13 +64,14 @@ fn wanted<K: Kinds>(alloc: Global, kind: &str, last: &Term) -> Option<Vec<u8>> {
 
 /// The first that comes of a row in its forms and isn't what is wanted, if any.
 fn other_than<K: Kinds>(
+    kinds: &K,
     alloc: Global,
     kind: &str,
     parts: &[Term],
     wanted: &[u8],
 ) -> Option<Option<Vec<u8>>> {
     for forms in 0..K::forms(kind) {
-        let came = K::came(alloc, kind, parts, forms)?;
+        let came = kinds.came(alloc, kind, parts, forms)?;
         if came.as_slice() != wanted {
             return Some(Some(came));
         }
@@ -79,18 +80,23 @@ fn other_than<K: Kinds>(
 }
 
 /// What comes of a row in each of its forms.
-fn verdict_in_forms<K: Kinds>(alloc: Global, kind: &str, parts: &[Term]) -> Option<Verdict> {
+fn verdict_in_forms<K: Kinds>(
+    kinds: &K,
+    alloc: Global,
+    kind: &str,
+    parts: &[Term],
+) -> Option<Verdict> {
     let wanted = wanted::<K>(alloc, kind, parts.last()?)?;
-    match other_than::<K>(alloc, kind, parts, wanted.as_slice())? {
+    match other_than(kinds, alloc, kind, parts, wanted.as_slice())? {
         Some(came) => Some(Verdict::Wrong(wanted, came)),
         None => Some(Verdict::Right),
     }
 }
 
 /// What comes of a row, none where it isn't one.
-fn verdict_of<K: Kinds>(alloc: Global, row: &Term) -> Option<Verdict> {
+fn verdict_of<K: Kinds>(kinds: &K, alloc: Global, row: &Term) -> Option<Verdict> {
     let parts = parts_of(row)?;
-    verdict_in_forms::<K>(alloc, kind_of(alloc, row)?.as_str(), parts)
+    verdict_in_forms(kinds, alloc, kind_of(alloc, row)?.as_str(), parts)
 }
 
 /// Appends a line of a word and the beginning of a text.
@@ -131,12 +137,13 @@ fn show_verdict(
 
 /// Judges a row, and counts it.
 fn judge_row<K: Kinds>(
+    kinds: &K,
     alloc: Global,
     out: &mut Vec<u8>,
     tally: &mut Tally,
     row: &Term,
 ) -> Result<(), AllocError> {
-    let verdict = match verdict_of::<K>(alloc, row) {
+    let verdict = match verdict_of(kinds, alloc, row) {
         Some(verdict) => verdict,
         None => Verdict::Unknown,
     };
@@ -148,11 +155,11 @@ fn judge_row<K: Kinds>(
 }
 
 /// Judges each of these rows.
-fn judge_rows<K: Kinds>(alloc: Global, rows: &[Term]) -> Result<Report, AllocError> {
+fn judge_rows<K: Kinds>(kinds: &K, alloc: Global, rows: &[Term]) -> Result<Report, AllocError> {
     let mut out = Vec::new(alloc);
     let mut tally = Tally::new(alloc);
     for row in rows {
-        judge_row::<K>(alloc, &mut out, &mut tally, row)?;
+        judge_row(kinds, alloc, &mut out, &mut tally, row)?;
     }
     tally.write(alloc, &mut out)?;
     Ok(Report {
@@ -162,9 +169,9 @@ fn judge_rows<K: Kinds>(alloc: Global, rows: &[Term]) -> Result<Report, AllocErr
 }
 
 /// Judges the rows of a text.
-fn judge<K: Kinds>(alloc: Global, text: &[u8]) -> Result<Report, AllocError> {
+fn judge<K: Kinds>(kinds: &K, alloc: Global, text: &[u8]) -> Result<Report, AllocError> {
     match read_terms(alloc, text) {
-        Ok(rows) => judge_rows::<K>(alloc, rows.as_slice()),
+        Ok(rows) => judge_rows(kinds, alloc, rows.as_slice()),
         Err(fault) => Ok(Report {
             text: format!(in alloc; "the rows can't be read: {fault}\n")?.into_bytes(),
             is_right: false,
@@ -175,13 +182,14 @@ fn judge<K: Kinds>(alloc: Global, text: &[u8]) -> Result<Report, AllocError> {
 /// Judges the rows that a reader gives to its end, and writes what is to be said of them. The status is of success where all rows are
 /// right. An error is of want of memory, of the reader or of the writer.
 pub fn judge_streams<K: Kinds, R: Read, W: Write>(
+    kinds: &K,
     alloc: Global,
     reader: &mut R,
     writer: &mut W,
 ) -> io::Result<ExitCode> {
     let mut rows = Vec::new(alloc);
     reader.read_to_end(&mut rows)?;
-    let report = judge::<K>(alloc, rows.as_slice())?;
+    let report = judge(kinds, alloc, rows.as_slice())?;
     writer.write_all(report.text.as_slice())?;
     Ok(if report.is_right {
         ExitCode::SUCCESS

@@ -2,6 +2,7 @@
 use crate::queries::{MADE, MADE_LINES};
 use crate::sweeps::{Written, lines_in};
 use std::alloc::Global;
+use std::sync::Wait;
 use test_alloc::{Failing, SweepOutcome, sweep};
 use test_streams::FILE;
 use tool_cli::{Request, Told, run_request};
@@ -42,11 +43,17 @@ impl<'a> Case<'a> {
     }
 
     /// Whether it writes and ends so where a request for memory may be refused, or ends for want of it behind no fewer lines than before.
-    fn is_right(self, alloc: Global, heap: &Failing<Global>, so_far: &mut Written) -> bool {
+    fn is_right<H: Wait>(
+        self,
+        rt: &H,
+        alloc: Global,
+        heap: &Failing<Global>,
+        so_far: &mut Written,
+    ) -> bool {
         let mut reader = self.input.as_bytes();
         let mut out = Vec::new(alloc);
         let mut err = Told::new(Vec::new(alloc));
-        let ended = run_request(heap, self.request, &mut reader, &mut out, &mut err);
+        let ended = run_request(rt, heap, self.request, &mut reader, &mut out, &mut err);
         let told = err.writer;
         if ended != 3 {
             return out.as_slice() == self.lines.as_bytes()
@@ -61,9 +68,11 @@ impl<'a> Case<'a> {
     }
 
     /// Whether it does with each request refused in turn, and with the last refused writes all lines but the last; else how that went.
-    fn tried(self, alloc: Global) -> Result<(), (SweepOutcome, usize)> {
+    fn tried<H: Wait>(self, rt: &H, alloc: Global) -> Result<(), (SweepOutcome, usize)> {
         let mut so_far = Written { lines: 0 };
-        let outcome = sweep(alloc, 4_000, |heap| self.is_right(alloc, heap, &mut so_far));
+        let outcome = sweep(alloc, 4_000, |heap| {
+            self.is_right(rt, alloc, heap, &mut so_far)
+        });
         let lines = lines_in(self.lines.as_bytes());
         if outcome.is_complete() && so_far.lines == lines.saturating_sub(1) {
             return Ok(());
@@ -74,7 +83,7 @@ impl<'a> Case<'a> {
 
 #[test]
 fn each_request_refused_in_turn(rt: HostRuntime) {
-    let answered = Case::answered(Request::Run, MADE, MADE_LINES).tried(rt.alloc());
+    let answered = Case::answered(Request::Run, MADE, MADE_LINES).tried(&rt, rt.alloc());
     assert_eq!(rt; answered, Ok(()));
     let refused = Case {
         request: Request::Run,
@@ -83,19 +92,19 @@ fn each_request_refused_in_turn(rt: HostRuntime) {
         line: "error E16 0 3\n",
         status: 2,
     };
-    assert_eq!(rt; refused.tried(rt.alloc()), Ok(()));
+    assert_eq!(rt; refused.tried(&rt, rt.alloc()), Ok(()));
 }
 
 #[test]
 fn each_request_over_code_files_refused_in_turn(rt: HostRuntime) {
     let compiled = Case::answered(Request::Compile, "[{'_',[],[true]}].", FILE);
-    assert_eq!(rt; compiled.tried(rt.alloc()), Ok(()));
+    assert_eq!(rt; compiled.tried(&rt, rt.alloc()), Ok(()));
     let verified = Case::answered(Request::Verify, FILE, "{ok,2,1}.\n");
-    assert_eq!(rt; verified.tried(rt.alloc()), Ok(()));
+    assert_eq!(rt; verified.tried(&rt, rt.alloc()), Ok(()));
     let input =
         "<<69,77,83,67,0,1,0,0,0,1,2,0,4,116,114,117,101,0,3,2,0,0,24,25,0,1,0,2,0,0,0,0,0,0>>. a.";
     let ran = Case::answered(Request::Run, input, "true.\n");
-    assert_eq!(rt; ran.tried(rt.alloc()), Ok(()));
+    assert_eq!(rt; ran.tried(&rt, rt.alloc()), Ok(()));
 }
 
 /// Commands of every kind on a set.
@@ -149,6 +158,6 @@ true.
 fn each_request_of_a_script_refused_in_turn(rt: HostRuntime) {
     for input in [SET_SCRIPT, ORDERED_SET_SCRIPT] {
         let replied = Case::answered(Request::Script, input, SCRIPT_LINES);
-        assert_eq!(rt; replied.tried(rt.alloc()), Ok(()));
+        assert_eq!(rt; replied.tried(&rt, rt.alloc()), Ok(()));
     }
 }

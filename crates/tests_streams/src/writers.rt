@@ -1,34 +1,35 @@
 //! Writers that fail, or hold all back until they are flushed.
 use std::alloc::Global;
+use std::sync::Wait;
 use test_streams::{FILE, FailingWriter, HoldingWriter, INPUT};
 use tool_cli::{Request, Told, run_request, run_words};
 use tool_io::ToolFault;
 use tool_query::tool_run;
 
 /// What a command over this input has passed on by its end, of a writer that holds it back.
-fn passed_on(alloc: Global, request: Request, input: &str) -> Vec<u8> {
+fn passed_on<H: Wait>(rt: &H, alloc: Global, request: Request, input: &str) -> Vec<u8> {
     let mut reader = input.as_bytes();
     let mut writer = HoldingWriter {
         held: Vec::new(alloc),
         passed: Vec::new(alloc),
     };
     let mut err = Told::new(Vec::new(alloc));
-    let _status = run_request(alloc, request, &mut reader, &mut writer, &mut err);
+    let _status = run_request(rt, alloc, request, &mut reader, &mut writer, &mut err);
     writer.passed
 }
 
 #[test]
 fn all_lines_are_passed_on(rt: HostRuntime) {
     let input = "[{{'$1'},[],['$1']}]. {1}. a.";
-    let run = passed_on(rt.alloc(), Request::Run, input);
+    let run = passed_on(&rt, rt.alloc(), Request::Run, input);
     assert!(rt; run.as_slice() == b"1.\n".as_slice());
-    let test = passed_on(rt.alloc(), Request::Test, input);
+    let test = passed_on(&rt, rt.alloc(), Request::Test, input);
     assert!(rt; test.as_slice() == b"{ok,1}.\nfalse.\n".as_slice());
-    let file = passed_on(rt.alloc(), Request::Compile, "[].");
+    let file = passed_on(&rt, rt.alloc(), Request::Compile, "[].");
     assert!(rt; file.as_slice() == b"<<69,77,83,67,0,1,0,0,0,0,0,1,25,0,0>>.\n".as_slice());
-    let verdict = passed_on(rt.alloc(), Request::Verify, FILE);
+    let verdict = passed_on(&rt, rt.alloc(), Request::Verify, FILE);
     assert!(rt; verdict.as_slice() == b"{ok,2,1}.\n".as_slice());
-    let replies = passed_on(rt.alloc(), Request::Script, "{close}.");
+    let replies = passed_on(&rt, rt.alloc(), Request::Script, "{close}.");
     assert!(rt; replies.as_slice() == b"{error,65}.\n".as_slice());
 }
 
@@ -47,39 +48,39 @@ fn a_writer_that_fails_is_refused(rt: HostRuntime) {
 }
 
 /// The status of `help` where standard output fails behind its beginning, and what it writes on standard error.
-fn left_by_unwritten_help(alloc: Global) -> (u8, Vec<u8>) {
+fn left_by_unwritten_help<H: Wait>(rt: &H, alloc: Global) -> (u8, Vec<u8>) {
     let mut reader = "".as_bytes();
     let mut out = FailingWriter { calls_left: 3 };
     let mut err = Told::new(Vec::new(alloc));
     let words = ["ets_tool", "help"];
-    let status = run_words(alloc, words.as_slice(), &mut reader, &mut out, &mut err);
+    let status = run_words(rt, alloc, words.as_slice(), &mut reader, &mut out, &mut err);
     (status, err.writer)
 }
 
 #[test]
 fn help_that_cannot_be_written_is_refused(rt: HostRuntime) {
-    let (status, err) = left_by_unwritten_help(rt.alloc());
+    let (status, err) = left_by_unwritten_help(&rt, rt.alloc());
     assert!(rt; status == 4 && err.as_slice() == b"error E71\n".as_slice());
 }
 
 /// The status of `run` where the first term is no specification and standard error fails, and whether it is kept that it did.
-fn left_by_an_untold_refusal(alloc: Global) -> (u8, bool) {
+fn left_by_an_untold_refusal<H: Wait>(rt: &H, alloc: Global) -> (u8, bool) {
     let mut reader = "a.".as_bytes();
     let mut out = Vec::new(alloc);
     let mut err = Told::new(FailingWriter { calls_left: 2 });
-    let status = run_request(alloc, Request::Run, &mut reader, &mut out, &mut err);
+    let status = run_request(rt, alloc, Request::Run, &mut reader, &mut out, &mut err);
     (status, err.has_failed)
 }
 
 /// What the same passes on of a standard error that holds it back, and whether it says that it failed.
-fn passed_on_of_a_refusal(alloc: Global) -> (Vec<u8>, bool) {
+fn passed_on_of_a_refusal<H: Wait>(rt: &H, alloc: Global) -> (Vec<u8>, bool) {
     let mut reader = "a.".as_bytes();
     let mut out = Vec::new(alloc);
     let mut err = Told::new(HoldingWriter {
         held: Vec::new(alloc),
         passed: Vec::new(alloc),
     });
-    let _status = run_request(alloc, Request::Run, &mut reader, &mut out, &mut err);
+    let _status = run_request(rt, alloc, Request::Run, &mut reader, &mut out, &mut err);
     let has_failed = err.has_failed;
     let writer = err.writer;
     (writer.passed, has_failed)
@@ -87,7 +88,7 @@ fn passed_on_of_a_refusal(alloc: Global) -> (Vec<u8>, bool) {
 
 #[test]
 fn a_refusal_is_told(rt: HostRuntime) {
-    assert!(rt; left_by_an_untold_refusal(rt.alloc()) == (2, true));
-    let (line, has_failed) = passed_on_of_a_refusal(rt.alloc());
+    assert!(rt; left_by_an_untold_refusal(&rt, rt.alloc()) == (2, true));
+    let (line, has_failed) = passed_on_of_a_refusal(&rt, rt.alloc());
     assert!(rt; line.as_slice() == b"error E10\n".as_slice() && !has_failed);
 }

@@ -17,6 +17,7 @@ use std::alloc::{AllocError, Allocator, Global};
 use std::convert::AsStr;
 use std::env::{self, Env};
 use std::io::{self, ErrorKind, Read, Write};
+use std::sync::Wait;
 use tool_io::{ToolFault, fault_line};
 use tool_query::{tool_compile, tool_run, tool_test, tool_verify};
 use tool_script::run_script;
@@ -31,7 +32,7 @@ const BAD_WORDS: u8 = 64;
 /// Runs the program on the words that it was started with, and answers its status. It reads from `reader`, writes what
 /// it was asked for to `out` and tells `err` why it ends early; only a failure of `out` changes the status.
 #[tactic(auto, using(tool_query::proofs::RunLemmas::kept))]
-pub fn run_program<H: Env + AllocGlobal, R: Read, O: Write, E: Tell>(
+pub fn run_program<H: Env + AllocGlobal + Wait, R: Read, O: Write, E: Tell>(
     rt: &H,
     reader: &mut R,
     out: &mut O,
@@ -41,7 +42,7 @@ pub fn run_program<H: Env + AllocGlobal, R: Read, O: Write, E: Tell>(
         (E.told err.old) (E.told err.new) (E.has_failed err.new) result }
 {
     match words_of(rt) {
-        Ok(words) => run_words(rt.alloc(), words.as_slice(), reader, out, err),
+        Ok(words) => run_words(rt, rt.alloc(), words.as_slice(), reader, out, err),
         Err(error) => end_unread(rt.alloc(), &error, err),
     }
 }
@@ -54,7 +55,8 @@ fn words_of<H: Env + AllocGlobal>(rt: &H) -> io::Result<Vec<String>> {
 
 /// As `run_program`, on these words, of which the first is the program's name: it runs the command that they ask for, or
 /// shows help where they ask for that.
-pub fn run_words<'a, S: AsStr, R: Read, O: Write, E: Tell>(
+pub fn run_words<'a, H: Wait, S: AsStr, R: Read, O: Write, E: Tell>(
+    rt: &H,
     alloc: Global,
     words: &'a [S],
     reader: &mut R,
@@ -65,13 +67,14 @@ pub fn run_words<'a, S: AsStr, R: Read, O: Write, E: Tell>(
         (O.contents out.old) (O.contents out.new) (E.told err.old) (E.told err.new) (E.has_failed err.new) result }
 {
     match read_words(alloc, words) {
-        Ok(request) => run_request(alloc, request, reader, out, err),
+        Ok(request) => run_request(rt, alloc, request, reader, out, err),
         Err(error) => end_unasked(alloc, &error, out, err),
     }
 }
 
 /// Runs one command, and answers the status that the program ends with.
-pub fn run_request<A: Allocator + Copy, R: Read, O: Write, E: Tell>(
+pub fn run_request<H: Wait, A: Allocator + Copy, R: Read, O: Write, E: Tell>(
+    rt: &H,
     alloc: A,
     request: Request,
     reader: &mut R,
@@ -81,12 +84,13 @@ pub fn run_request<A: Allocator + Copy, R: Read, O: Write, E: Tell>(
     ensures { EndsRequest request (R.remaining reader.old) (O.contents out.old)
         (O.contents out.new) (E.told err.old) (E.told err.new) (E.has_failed err.new) result }
 {
-    let outcome = command_outcome(alloc, request, reader, out);
+    let outcome = command_outcome(rt, alloc, request, reader, out);
     end(alloc, outcome, err)
 }
 
 /// What one command comes to.
-fn command_outcome<A: Allocator + Copy, R: Read, O: Write>(
+fn command_outcome<H: Wait, A: Allocator + Copy, R: Read, O: Write>(
+    rt: &H,
     alloc: A,
     request: Request,
     reader: &mut R,
@@ -100,7 +104,9 @@ fn command_outcome<A: Allocator + Copy, R: Read, O: Write>(
         Request::Test => tool_test(alloc, reader, out),
         Request::Compile => tool_compile(alloc, reader, out),
         Request::Verify => tool_verify(alloc, reader, out),
-        Request::Script => run_script::<HashPart<A>, OrderPart<A>, A, R, O>(alloc, reader, out),
+        Request::Script => run_script::<H, HashPart<A>, OrderPart<A>, A, R, O>(
+            rt, alloc, reader, out,
+        ),
     }
 }
 

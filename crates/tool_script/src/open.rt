@@ -9,6 +9,7 @@ use crate::reply::CommandReply;
 use crate::table::{attend, open_at};
 use part_core::{MAX_KEYPOS, MAX_PARTS, MAX_SESSIONS, Part, TableKind};
 use std::alloc::{AllocError, Allocator, Global};
+use std::sync::Wait;
 use tables::{LocalTable, Options};
 use term_core::Term;
 
@@ -136,8 +137,9 @@ impl<P: Part<A> + Drop, A: Allocator + Copy> OpenTable<P, A> {
     }
 
     /// Admits a session by its number, where it is there and hasn't left, and notes whether it leaves.
-    pub(crate) fn admit(
+    pub(crate) fn admit<H: Wait>(
         &mut self,
+        rt: &H,
         number: i64,
         ask: Ask<'_, A>,
     ) -> Result<CommandReply<A>, AllocError>
@@ -148,7 +150,7 @@ impl<P: Part<A> + Drop, A: Allocator + Copy> OpenTable<P, A> {
             return Ok(CommandReply::Error(STRANGER_SESSION));
         };
         let leaves = is_leaving(&ask);
-        let reply = attend(&mut self.table, number, ask)?;
+        let reply = attend(rt, &mut self.table, number, ask)?;
         note_leaving(&mut self.left, number, leaves);
         Ok(reply)
     }

@@ -11,11 +11,13 @@ use crate::script::Script;
 use part_core::Part;
 use std::alloc::{AllocError, Allocator};
 use std::io::{Read, Write};
+use std::sync::Wait;
 use term_core::Term;
 use tool_io::{ToolFault, out_of_memory, read_script, write_if_many, write_lines};
 
 /// Puts the line of the reply to a term at the end.
-fn put_next<S: Part<A> + Drop, O: Part<A> + Drop, A: Allocator + Copy>(
+fn put_next<H: Wait, S: Part<A> + Drop, O: Part<A> + Drop, A: Allocator + Copy>(
+    rt: &H,
     script: &mut Script<S, O, A>,
     term: &Term<A>,
     lines: &mut Vec<u8, A>,
@@ -28,12 +30,19 @@ fn put_next<S: Part<A> + Drop, O: Part<A> + Drop, A: Allocator + Copy>(
         (IsPut script.old script.new term.now lines.old.items lines.new.items) }
     ensures err { OnErr result (lines.new.items ≡ lines.old.items) }
 {
-    let reply = script.interpret(term)?;
+    let reply = script.interpret(rt, term)?;
     put_reply(&reply, lines)
 }
 
 /// Writes the replies to these terms.
-pub(crate) fn run_terms<S: Part<A> + Drop, O: Part<A> + Drop, A: Allocator + Copy, W: Write>(
+pub(crate) fn run_terms<
+    H: Wait,
+    S: Part<A> + Drop,
+    O: Part<A> + Drop,
+    A: Allocator + Copy,
+    W: Write,
+>(
+    rt: &H,
     alloc: A,
     script: &mut Script<S, O, A>,
     terms: &[Term<A>],
@@ -50,7 +59,7 @@ pub(crate) fn run_terms<S: Part<A> + Drop, O: Part<A> + Drop, A: Allocator + Cop
 {
     let mut lines = Vec::new(alloc);
     for term in terms {
-        match put_next(script, term, &mut lines) {
+        match put_next(rt, script, term, &mut lines) {
             Ok(()) => write_if_many(writer, &mut lines)?,
             Err(AllocError) => return Err(out_of_memory(writer, &mut lines)),
         }
@@ -60,12 +69,19 @@ pub(crate) fn run_terms<S: Part<A> + Drop, O: Part<A> + Drop, A: Allocator + Cop
 
 /// Reads a script, to the reader's end, and writes the replies to its terms.
 pub(crate) fn run_with<
+    H: Wait,
     S: Part<A> + Drop,
     O: Part<A> + Drop,
     A: Allocator + Copy,
     R: Read,
     W: Write,
->(alloc: A, script: &mut Script<S, O, A>, reader: &mut R, writer: &mut W) -> Result<(), ToolFault>
+>(
+    rt: &H,
+    alloc: A,
+    script: &mut Script<S, O, A>,
+    reader: &mut R,
+    writer: &mut W,
+) -> Result<(), ToolFault>
     requires set { IsTrue (S.serves Set) }
     requires ordered { IsTrue (O.serves OrderedSet) }
     requires beginning { HasState script.old beginning }
@@ -76,17 +92,20 @@ pub(crate) fn run_with<
         (W.contents writer.old) (W.contents writer.new) fault) }
 {
     let terms = read_script(alloc, reader)?;
-    run_terms(alloc, script, terms.as_slice(), writer)
+    run_terms(rt, alloc, script, terms.as_slice(), writer)
 }
 
 /// Reads a script, to the reader's end, and writes the line of the reply to each of its terms: tables of kind `set` are made of parts `S`,
 /// ordered sets of parts `O`. A text that is refused writes nothing; where memory runs out, the lines of the replies to a beginning of the
 /// terms are written.
-pub fn run_script<S: Part<A> + Drop, O: Part<A> + Drop, A: Allocator + Copy, R: Read, W: Write>(
-    alloc: A,
-    reader: &mut R,
-    writer: &mut W,
-) -> Result<(), ToolFault>
+pub fn run_script<
+    H: Wait,
+    S: Part<A> + Drop,
+    O: Part<A> + Drop,
+    A: Allocator + Copy,
+    R: Read,
+    W: Write,
+>(rt: &H, alloc: A, reader: &mut R, writer: &mut W) -> Result<(), ToolFault>
     requires set { IsTrue (S.serves Set) }
     requires ordered { IsTrue (O.serves OrderedSet) }
     ensures ok { OnOk result (OfScript (R.remaining reader.old) (λ terms.
@@ -95,5 +114,5 @@ pub fn run_script<S: Part<A> + Drop, O: Part<A> + Drop, A: Allocator + Copy, R: 
         (W.contents writer.old) (W.contents writer.new) fault) }
 {
     let mut script: Script<S, O, A> = Script::new(alloc);
-    run_with(alloc, &mut script, reader, writer)
+    run_with(rt, alloc, &mut script, reader, writer)
 }

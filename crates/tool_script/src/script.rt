@@ -5,6 +5,7 @@ use crate::reply::CommandReply;
 use part_core::{Part, TableKind};
 use std::alloc::{AllocError, Allocator, Global};
 use std::mem;
+use std::sync::Wait;
 use tables::Options;
 use term_core::Term;
 
@@ -127,20 +128,29 @@ impl<S: Part<A> + Drop, O: Part<A> + Drop, A: Allocator + Copy> Script<S, O, A> 
     }
 
     /// Hands what a session asks to the table.
-    fn forward(&mut self, number: i64, ask: Ask<'_, A>) -> Result<CommandReply<A>, AllocError>
+    fn forward<H: Wait>(
+        &mut self,
+        rt: &H,
+        number: i64,
+        ask: Ask<'_, A>,
+    ) -> Result<CommandReply<A>, AllocError>
         ensures count { self.new.count ≡ self.old.count }
         ensures answered { IfOk result (λ reply.
             IsStep self.old self.new (Session number (ask_of ask.entry)) (reply_term reply)) }
     {
         match &mut self.current {
-            Current::Set(table) => table.admit(number, ask),
-            Current::Ordered(table) => table.admit(number, ask),
+            Current::Set(table) => table.admit(rt, number, ask),
+            Current::Ordered(table) => table.admit(rt, number, ask),
             Current::NoTable => Ok(CommandReply::Error(BAD_INPUT)),
         }
     }
 
     /// Does what a command says.
-    fn obey(&mut self, command: Command<'_, A>) -> Result<CommandReply<A>, AllocError>
+    fn obey<H: Wait>(
+        &mut self,
+        rt: &H,
+        command: Command<'_, A>,
+    ) -> Result<CommandReply<A>, AllocError>
         requires set { IsTrue (S.serves Set) }
         requires ordered { IsTrue (O.serves OrderedSet) }
         requires count { self.old.count < 18446744073709551615 }
@@ -152,13 +162,17 @@ impl<S: Part<A> + Drop, O: Part<A> + Drop, A: Allocator + Copy> Script<S, O, A> 
             Command::Open(kind, keypos, parts, sessions) => {
                 self.open(kind, keypos, parts, sessions)
             }
-            Command::Session(number, ask) => self.forward(number, ask),
+            Command::Session(number, ask) => self.forward(rt, number, ask),
             Command::Close => self.close(),
         }
     }
 
     /// Obeys the command that a term says, and refuses a term that says none.
-    pub(crate) fn interpret(&mut self, term: &Term<A>) -> Result<CommandReply<A>, AllocError>
+    pub(crate) fn interpret<H: Wait>(
+        &mut self,
+        rt: &H,
+        term: &Term<A>,
+    ) -> Result<CommandReply<A>, AllocError>
         requires set { IsTrue (S.serves Set) }
         requires ordered { IsTrue (O.serves OrderedSet) }
         requires count { self.old.count < 18446744073709551615 }
@@ -167,7 +181,7 @@ impl<S: Part<A> + Drop, O: Part<A> + Drop, A: Allocator + Copy> Script<S, O, A> 
             IsTermStep self.old self.new term.now (reply_term reply)) }
     {
         match read_command(term) {
-            Some(command) => self.obey(command),
+            Some(command) => self.obey(rt, command),
             None => Ok(CommandReply::Error(BAD_INPUT)),
         }
     }

@@ -12,10 +12,12 @@ use crate::reply::CommandReply;
 use crate::session::perform;
 use part_core::Part;
 use std::alloc::{AllocError, Allocator};
+use std::sync::Wait;
 use tables::{LocalTable, Options};
 
 /// Has a session of a table perform what it asks, by its number.
-pub(crate) fn attend<A: Allocator + Copy, P: Part<A> + Drop>(
+pub(crate) fn attend<H: Wait, A: Allocator + Copy, P: Part<A> + Drop>(
+    rt: &H,
     table: &mut LocalTable<P, A>,
     number: u8,
     ask: Ask<'_, A>,
@@ -27,7 +29,7 @@ pub(crate) fn attend<A: Allocator + Copy, P: Part<A> + Drop>(
         (ask_of ask.entry) (reply_term reply)) }
 {
     let mut session = table.at(number);
-    perform(&mut session, ask)
+    perform(rt, &mut session, ask)
 }
 
 /// A table that is opened, with options that its parts serve.
