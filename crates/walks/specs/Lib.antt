@@ -1,2 +1,4 @@
 pub mod OneThread
 pub mod Keys
+pub mod Visits
+pub mod Laws

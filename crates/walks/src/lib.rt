@@ -4,8 +4,11 @@
 //! that is the first live key of the walk, and the first behind a row (`specs/OneThread.antt`).
 //!
 //! - `keys`: `first` and `next`.
+//! - `laws`: a law of whole walks on one thread, `specs/Visits.antt` and `specs/Laws.antt`. No call stands on these definitions yet.
 #![tactic(auto)]
 
 mod keys;
+mod laws;
 
 pub use keys::{first, next};
+pub use laws::whole_walks_go_in_order;
