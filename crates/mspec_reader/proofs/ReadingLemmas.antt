@@ -1,6 +1,7 @@
 -- Expressions, clauses and specifications read from terms: what is read has no fault, and readings of lists from the
 -- readings of their elements.
 use Rattle.std.proofs.Common.{◌≡◌, ℕ, suc, ◌+◌, ◌<◌, ◌≤◌, true, inl, inr, Option, Some, None, MatchResult, Result, Ok, Err, IfOk, IfErr, List, [], ◌∷◌, ◌++◌, length, get_or, drop, refl, sym, ◌∙◌, ap, subst, arith, add-one}
+use Rattle.std.specs.Prelude.{◌≢◌}
 use Rattle.std.proofs.lemmas.List.{append_assoc, append-nil, drop_all}
 use Rattle.term_core.specs.Datum.{Datum, Items, items_of, cells, proper_elements}
 use Rattle.term_core.specs.Datum.Datum.{integer, atom, tuple, map, nil, cons, binary}
@@ -318,6 +319,18 @@ refused-memory d s f h small (inl (inr fault)) =
 refused-memory d s f h small (inr large) =
     let P : Specification → Type 0 = λ x. IsWithinLimits x in
     absurd (large.1.large (subst P (IsSpecification-one d s large.1.specification h large.1.is) small))
+
+-- beside want of memory a term is refused for one fault
+pub refusal-one : (d : Datum) (f g : SpecFault) → IsRefusal f d → IsRefusal g d → f ≢ Memory → g ≢ Memory → f ≡ g
+refusal-one d f g (inl (inl e)) second some other = absurd (some e)
+refusal-one d f g first (inl (inl e)) some other = absurd (other e)
+refusal-one d f g (inl (inr fault)) (inl (inr also)) some other =
+    let e = sym fault.first ∙ also.first in cc
+refusal-one d f g (inl (inr fault)) (inr large) some other =
+    absurd (let e = sym (IsElements-faults (proper_elements d) large.1.specification large.1.is) ∙ fault.first in cc)
+refusal-one d f g (inr large) (inl (inr fault)) some other =
+    absurd (let e = sym (IsElements-faults (proper_elements d) large.1.specification large.1.is) ∙ fault.first in cc)
+refusal-one d f g (inr large) (inr also) some other = large.0 ∙ sym also.0
 
 -- what the clauses of a term, cut by size, are
 pub only-read : (d : Datum) (s cs : Specification) (r : Result Specification SpecFault) → IsSpecification d cs → IsSpecification d s → IsWithinLimits s → IfOk r (λ x. (x ≡ cs) × IsWithinLimits x) → IfErr r (λ f. IsSizeRefusal f cs) → MatchResult r (λ x. x ≡ s) (λ f. f ≡ Memory)

@@ -1,10 +1,25 @@
 -- Laws of reading.
-use Rattle.std.specs.Prelude.{◌≡◌}
+use Rattle.std.specs.Prelude.{◌≡◌, ◌≢◌}
 use Rattle.term_core.specs.Datum.{Datum}
+use Rattle.mspec_syntax.specs.Faults.{IsRefusal}
 use Rattle.mspec_syntax.specs.Grammar.{IsSpecification}
-use Rattle.mspec_syntax.specs.Specification.{Specification}
+use Rattle.mspec_syntax.specs.Specification.{Specification, IsWithinLimits}
+use Rattle.mspec_syntax.specs.declared.fault.SpecFault.{SpecFault}
+use Rattle.mspec_syntax.specs.declared.fault.SpecFault.TheVariants.{Memory}
 
 -- a term is read as one specification
 abbrev pub HasOneReading : Type 0
 HasOneReading =
     (d : Datum) (s t : Specification) → IsSpecification d s → IsSpecification d t → s ≡ t
+
+-- a term that is read as one within the limits is refused for want of memory alone
+abbrev pub ReadIsNotRefused : Type 0
+ReadIsNotRefused =
+    (d : Datum) (s : Specification) (f : SpecFault) → IsSpecification d s → IsWithinLimits s
+    → IsRefusal f d → f ≡ Memory
+
+-- a term is refused for one fault
+abbrev pub HasOneRefusal : Type 0
+HasOneRefusal =
+    (d : Datum) (f g : SpecFault) → IsRefusal f d → IsRefusal g d → f ≢ Memory → g ≢ Memory
+    → f ≡ g

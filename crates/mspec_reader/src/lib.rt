@@ -6,7 +6,7 @@
 //! `mspec_syntax/specs/Faults.antt`).
 //!
 //! - Heads: `head.rt`, conditions and bodies: `body.rt`, clauses: `read.rt`, their size: `size.rt`.
-//! - A law of reading: `laws.rt`, `specs/Laws.antt`.
+//! - Laws of reading: `laws.rt`, `specs/Laws.antt`.
 #![tactic(auto)]
 
 mod body;
@@ -15,7 +15,7 @@ mod laws;
 mod read;
 mod size;
 
-pub use laws::one_specification_is_read;
+pub use laws::{one_fault_is_refused, one_specification_is_read};
 pub use read::read_spec;
 
 /// The most nodes of a specification: clauses, patterns, keys of maps in patterns, and expressions.

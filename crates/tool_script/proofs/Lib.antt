@@ -8,3 +8,6 @@ mod TableLemmas
 mod OptionLemmas
 mod GatherLemmas
 mod WorkedRows
+mod SelectionLemmas
+mod FullReplyLemmas
+mod WorkedWalks

@@ -2,6 +2,7 @@ pub mod Command
 pub mod Commands
 pub mod Reading
 pub mod CommandLaws
+pub mod Held
 pub mod Script
 pub mod Replies
 pub mod State
@@ -9,4 +10,7 @@ pub mod Opened
 pub mod Scripts
 pub mod Run
 pub mod Input
+pub mod Selection
+pub mod Verdict
+pub mod Walks
 pub mod Laws

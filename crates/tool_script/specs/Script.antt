@@ -16,20 +16,23 @@ use Rattle.walks.specs.OneThread.{first_key, key_after, table_objects}
 use Rattle.tool_script.specs.Command.{Ask, Command, called, command_term, IsNoCommand}
 use Rattle.tool_script.specs.Command.Ask.{Insert, InsertNew, Lookup, Member, Delete, DeleteObject, Take, Fix, Unfix, Leave, First, Next}
 use Rattle.tool_script.specs.Command.Command.{Open, Session, Close}
+use Rattle.tool_script.specs.Held.{Held}
 
 -- the table that is open, and which sessions have left it
 pub record OpenTable : Type 0 where
   pub table : TableState
   pub left : ℕ → Bool
 
--- the table that is open, if one is, and how many were opened so far, by which tables are named
+-- The table that is open, if one is; how many were opened so far, by which tables are named; and the walks that can go on, by
+-- the numbers of their continuations, none where one is spent.
 pub record ScriptState : Type 0 where
   pub current : Option OpenTable
   pub count : ℕ
+  pub walks : List (Option Held)
 
 -- a script at its beginning
 abbrev pub beginning : ScriptState
-beginning = record { current = None; count = 0 }
+beginning = record { current = None; count = 0; walks = [] }
 
 -- a refusal, by its number
 abbrev pub error : ℕ → Datum
@@ -129,28 +132,28 @@ abbrev pub newly_opened : Options → OpenTable
 newly_opened options = record { table = opened options; left = λ n. false }
 
 -- a table is opened, or nothing is
-abbrev pub opening_of : ℕ → Option Options → Step
-opening_of count (Some options) =
-    (boolean true, record { current = Some (newly_opened options); count = count + 1 })
-opening_of count None = (error 60, record { current = None; count = count })
+abbrev pub opening_of : ScriptState → Option Options → Step
+opening_of st (Some options) =
+    (boolean true, record { current = Some (newly_opened options); count = st.count + 1; walks = st.walks })
+opening_of st None = (error 60, record { current = None; count = st.count; walks = st.walks })
 
 -- what a session is replied, by its number, and the table behind it
 abbrev pub answered_in : OpenTable → Ask → Option ℕ → Datum × OpenTable
 answered_in o ask (Some n) = in_session o n ask
 answered_in o ask None = (error 61, o)
 
-abbrev pub session_step : ℕ → OpenTable → Ask → Option ℕ → Step
-session_step count o ask n =
-    ((answered_in o ask n).0, record { current = Some (answered_in o ask n).1; count = count })
+abbrev pub session_step : ScriptState → OpenTable → Ask → Option ℕ → Step
+session_step st o ask n =
+    ((answered_in o ask n).0, record { current = Some (answered_in o ask n).1; count = st.count; walks = st.walks })
 
 -- A command's reply, and the script behind it. While a table is open none is opened, and else nothing is asked of one.
 abbrev pub step : ScriptState → Option OpenTable → Command → Step
 step st None (Open kind keypos parts sessions) =
-    opening_of st.count
+    opening_of st
     (options_with st.count kind (number_within 1 65535 keypos) (number_within 1 64 parts) (number_within 1 16 sessions))
-step st (Some o) (Session s ask) = session_step st.count o ask (session_number o s)
+step st (Some o) (Session s ask) = session_step st o ask (session_number o s)
 step st (Some o) Close =
-    (cells (table_objects o.table) nil, record { current = None; count = st.count })
+    (cells (table_objects o.table) nil, record { current = None; count = st.count; walks = st.walks })
 step st current command = (error 65, st)
 
 -- a reply, and the script behind it

@@ -10,7 +10,8 @@
 //!   open; `open` admits the session; `table` has it attend; `session` performs the call. `specs/Scripts.antt`, `Opened.antt` and
 //!   `State.antt` say which state each is in.
 //! - `reply`: replies and their lines, `specs/Replies.antt`; `run`: from a reader to a writer, `specs/Input.antt`.
-//! - `laws`: replies are one, `specs/Laws.antt`.
+//! - `laws`: replies are one, `specs/Laws.antt`, also those to what walks tables by specifications (`specs/Selection.antt`,
+//!   `Walks.antt`), which no call answers yet.
 #![tactic(auto)]
 
 mod command;
@@ -25,6 +26,6 @@ mod table;
 
 pub use command::{Ask, Command, read_command};
 pub use command_laws::terms_tell_commands;
-pub use laws::replies_are_one;
+pub use laws::{full_replies_are_one, replies_are_one};
 pub use reply::{CommandReply, put_reply};
 pub use run::run_script;

@@ -6,3 +6,7 @@ mod PieceLemmas
 mod OwnLemmas
 mod WholeLemmas
 mod CountingLemmas
+pub mod OrderLemmas
+pub mod SightLemmas
+pub mod MadeLemmas
+mod WorkedRows

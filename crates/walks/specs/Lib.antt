@@ -6,3 +6,5 @@ pub mod Pieces
 pub mod Own
 pub mod Whole
 pub mod Counting
+pub mod Sights
+pub mod Laws

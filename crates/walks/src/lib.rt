@@ -9,6 +9,7 @@
 //! - `visit`: visits up to a limit; `counting`: visits that count or delete.
 //! - `pieces`: `select_limit` and `select_more`; `whole`: `select`, `select_count` and `select_delete`; `own`: the fixes that these make.
 //! - `keys`: `first` and `next`.
+//! - `laws`: that a whole walk on one thread goes in order; `specs/Sights.antt` says what walks visit there. No call stands on that yet.
 #![tactic(auto)]
 
 mod continuation;
@@ -16,6 +17,7 @@ mod counting;
 mod fault;
 mod kept;
 mod keys;
+mod laws;
 mod own;
 mod pieces;
 mod position;
@@ -27,6 +29,7 @@ pub use continuation::{Continuation, Step};
 pub use fault::WalkFault;
 pub use kept::Kept;
 pub use keys::{first, next};
+pub use laws::whole_walks_go_in_order;
 pub use pieces::{select_limit, select_more};
 pub use position::Position;
 pub use query::Query;

@@ -1,0 +1,27 @@
+-- The walks in pieces that a script keeps, by the numbers of their continuations.
+use Rattle.std.specs.Prelude.{ℕ, ℤ, pos, ◌==◌, ◌&&◌, if◌then◌else◌, Option, Some, None, get_or, List}
+use Rattle.term_core.specs.Datum.{Datum}
+use Rattle.walk_core.specs.Walk.{Position}
+use Rattle.walks.specs.Sights.{}
+
+-- A walk that can go on: of which table, by its name, and of which session it is; what is answered on an object; the named
+-- keys, if it has any; how many answers a piece has at most; where the walk is; and which answers are kept.
+pub record Held : Type 0 where
+  pub table : ℕ
+  pub session : ℕ
+  pub answer : Datum → Option Datum
+  pub plan : Option (List Datum)
+  pub limit : ℕ
+  pub at : Position
+  pub kept : List Datum
+
+-- a walk that is a table's and a session's
+abbrev pub held_by : ℕ → ℕ → Option Held → Option Held
+held_by table n (Some held) =
+    if held.table == table && held.session == n then Some held else None
+held_by table n None = None
+
+-- the walk of a continuation, where there is one that isn't spent, of this table and session
+abbrev pub held_at : List (Option Held) → ℕ → ℕ → ℤ → Option Held
+held_at walks table n (pos c) = held_by table n (get_or walks c None)
+held_at walks table n c = None
