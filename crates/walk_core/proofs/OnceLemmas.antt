@@ -1,11 +1,11 @@
 -- What a deleting walk takes out, and that a walk covers each key once.
 use Rattle.std.proofs.Common.{zero, suc, ◌≡◌, ◌≢◌, ℕ, ◌+◌, ◌<◌, ◌≤◌, ◌⊎◌, inl, inr, refl, ap, sym, subst, ◌∙◌, arith, List, [], ◌∷◌, ◌++◌, length}
-use Rattle.std.specs.Prelude.{Bool, true, false, not, ◌||◌, ◌==◌, if◌then◌else◌, nat_lt, IsFalse, All, Contains, map, Some, take, slice_get, filter}
+use Rattle.std.specs.Prelude.{Bool, true, false, not, ◌||◌, ◌==◌, if◌then◌else◌, nat_lt, IsFalse, All, Contains, map, Some, take, slice_get, get_or, filter}
 use Rattle.std.proofs.lemmas.Bool.{true≢false, and_from, or_left, or_right, eqb-true, eqb-false, eq-eqb, ltb-true, ltb-false}
-use Rattle.std.proofs.lemmas.List.{take_more, length-append}
-use Rattle.std.proofs.lemmas.List.Elements.{All-head, All-tail, Contains-append_left, Contains-push, Contains-push_cases}
+use Rattle.std.proofs.lemmas.List.{append_assoc, take_more, length-append}
+use Rattle.std.proofs.lemmas.List.Elements.{All-head, All-push, All-tail, Contains-append_left, Contains-push, Contains-push_cases}
 use Rattle.std.proofs.lemmas.List.Sums.{fold-append}
-use Rattle.std.proofs.lemmas.Option.{slice_get_within, get_or_from_slice_get, none-some, same_Some}
+use Rattle.std.proofs.lemmas.Option.{slice_get-get_or, slice_get_within, get_or_from_slice_get, none-some, same_Some}
 use Rattle.term_core.specs.Datum.{Datum}
 use Rattle.mcode.specs.Program.{Program}
 use Rattle.part_core.specs.declared.settings.Settings.{Settings}
@@ -23,13 +23,13 @@ use Rattle.part_core.specs.Covers.{covers}
 use Rattle.part_core.specs.Visits.{is_true, yields}
 use Rattle.tables.specs.Options.{settings_of}
 use Rattle.tables.specs.declared.options.Options.{Options}
-use Rattle.tables.specs.Turns.{Home, Views, own}
+use Rattle.tables.specs.Turns.{Home, Views, TurnedAt, own}
 use Rattle.walk_core.specs.Walk.{Walk, Position, IsWalk, IsPosition, is_done, is_covered, start_of, part_at, scope_at}
 use Rattle.walk_core.specs.Walk.Position.{Over}
 use Rattle.walk_core.specs.Goes.{Way, IsAt, Visits, Goes, Drifted, Stops, past_of}
 use Rattle.walk_core.specs.Goes.Goes.{stays, goes}
 use Rattle.walk_core.specs.Moments.{Span, span, IsVisit, IsMoment, IsMet, Mark, Gathers, IsGrown, AreLegal, answers_at, part_of_key}
-use Rattle.walk_core.specs.Once.{IsOnce, IsVisitAt, content_at}
+use Rattle.walk_core.specs.Once.{IsOnce, IsQuiet, IsVisitAt, content_at}
 use Rattle.walk_core.proofs.GrowthLemmas.{key_inside}
 use Rattle.walk_core.proofs.PositionLemmas.{done_next, covered_anew}
 use Rattle.walk_core.proofs.StepLemmas.{visit_entry}
@@ -388,3 +388,78 @@ deleting_takes w calls now done answers deletes g o k place v =
     of m (inl marked) = inl (marked, moment_takes w calls now k place deletes m, deleting w now k place deletes)
     of m (inr none) =
         inr (moment_takes w calls now k place deletes m ∙ none_out (is_true w.program) (content_at w now k place) (sym (deleting w now k place deletes) ∙ none))
+
+-- ---- calls that do more
+
+beyond : {X : Type 0} (P : X → Type 0) (xs more : List X) (i : ℕ) (x : X) → All P more → length xs ≤ i → slice_get (xs ++ more) i ≡ Some x → P x
+beyond P [] more i x all long is =
+    subst P (get_or_from_slice_get more i x x is) (all i x (slice_get_within more i x is))
+beyond P (y ∷ xs) more zero x all long is = absurd (omega (arith, long))
+beyond P (y ∷ xs) more (suc i) x all long is = beyond P xs more i x all (omega (arith, long)) is
+
+pub wider_once : (w : Walk) (calls : List Span) (first before after last : Views) (done : Datum → Bool) → IsWalk w → IsQuiet w first before → IsGrown w.options before after → IsQuiet w after last → IsOnce w (calls ++ span before after ∷ []) after done → IsOnce w (calls ++ span first last ∷ []) last done
+wider_once w calls first before after last done walk quiet grown still o = record {
+  seen = λ call made part inside. seen_still call part inside (Contains-push_cases calls (span first last) call made);
+  covered = λ k moment m. o.covered k moment (was k moment m);
+  once = λ k m n one two. o.once k m n (was k m one) (was k n two);
+}
+  where
+    seen_still : (call : Span) (part : ℕ) → part < w.options.parts → Contains calls call ⊎ (span first last ≡ call) → length (call.after part) ≤ length (last part)
+    seen_still call part inside (inl old) =
+        let q = still part inside in
+        let long = length-append (after part) q.0 in
+        let short = o.seen call (Contains-append_left calls (span before after ∷ []) call old) part inside in
+        subst (λ (log : History). length (call.after part) ≤ length log) (sym q.1) (omega (arith, long, short))
+    seen_still call part inside (inr end) =
+        subst (λ (c : Span). length (c.after part) ≤ length (last part)) end (omega arith)
+
+    was : (k : Datum) (moment : ℕ) → IsMoment w (calls ++ span first last ∷ []) last k moment → IsMoment w (calls ++ span before after ∷ []) after k moment
+    was k moment m = of (Contains-push_cases calls (span first last) m.call m.made)
+      where
+        of : Contains calls m.call ⊎ (span first last ≡ m.call) → IsMoment w (calls ++ span before after ∷ []) after k moment
+        of (inl old) =
+            let p = part_of_key w k in
+            let inside = key_inside w k walk in
+            let q = still p inside in
+            let made = Contains-append_left calls (span before after ∷ []) m.call old in
+            let long = o.seen m.call made p inside in
+            front_moment w (calls ++ span before after ∷ []) after last q.0 k moment q.1 (omega (arith, long, m.within.1))
+            (record { call = m.call; made = made; within = m.within; entry = m.entry; stands = m.stands; visit = m.visit })
+        of (inr end) =
+            let p = part_of_key w k in
+            let inside = key_inside w k walk in
+            let within = subst (λ (c : Span). (length (c.before p) ≤ moment) × (moment < length (c.after p))) (sym end) m.within in
+            let q = still p inside in
+            let g = grown p inside in
+            let b = quiet p inside in
+            let there : slice_get (after p ++ q.0) moment ≡ Some m.entry = ap (λ (log : History). slice_get log moment) (sym q.1) ∙ m.stands in
+            by_test (nat_lt moment (length (after p))) _
+            (λ old. let short = ltb-true moment (length (after p)) old in
+            let stands : slice_get (after p) moment ≡ Some m.entry = sym (nth_left (after p) q.0 moment short) ∙ there in
+            by_test (nat_lt moment (length (before p))) _
+            (λ low. let early = ltb-true moment (length (before p)) low in
+            absurd (beyond (λ (e : Entry). IsVisit w k e → ⊥) (first p) b.0 moment m.entry (b.2 k) within.0
+            (ap (λ (log : History). slice_get log moment) (sym b.1) ∙ sym (nth_left (before p) g.0 moment early) ∙ ap (λ (log : History). slice_get log moment) (sym g.1) ∙ stands) m.visit))
+            (λ high. record {
+              call = span before after;
+              made = Contains-push calls (span before after);
+              within = (ltb-false moment (length (before p)) high, short);
+              entry = m.entry;
+              stands = stands;
+              visit = m.visit;
+            }))
+            (λ new. absurd (beyond (λ (e : Entry). IsVisit w k e → ⊥) (after p) q.0 moment m.entry (q.2 k) (ltb-false moment (length (after p)) new) there m.visit))
+
+-- entries of others are no visits of the walk
+pub others_quiet : (w : Walk) (k : Datum) (between : History) → own w.number between ≡ [] → All (λ e. IsVisit w k e → ⊥) between
+others_quiet w k between none i d within v =
+    no_entry w.number [] between i (get_or between i d) none (ap (λ (e : Entry). e.session) v.made) (omega arith) (slice_get-get_or between i d within)
+
+-- nor is a turn of the session that isn't a visit
+pub turned_quiet : (h : Home) (w : Walk) (old new : History) (act : Act) (said : Said) → IsAt h w → ((purpose : Purpose) (p : Program) (scope : Scope) (wanted : ℕ) → act ≢ Visit purpose p scope wanted) → TurnedAt h old act (Some (Replied said)) new → (more : History) × (new ≡ old ++ more) × ((k : Datum) → All (λ e. IsVisit w k e → ⊥) more)
+turned_quiet h w old new act said is_at other t =
+    let entry : Entry = record { session = h.number; act = act; answer = Replied said } in (
+      t.between ++ entry ∷ [],
+      t.grown ∙ append_assoc old t.between (entry ∷ []),
+      λ k. All-push (λ (e : Entry). IsVisit w k e → ⊥) t.between entry (others_quiet w k t.between (subst (λ (n : ℕ). own n t.between ≡ []) is_at.number t.others.others)) (λ v. other w.purpose w.program v.scope v.wanted (ap (λ (e : Entry). e.act) v.made)),
+    )

@@ -1,5 +1,5 @@
 -- What a deleting walk takes out, and that a walk covers each key once.
-use Rattle.std.specs.Prelude.{ℕ, ◌≡◌, ◌<◌, ◌≤◌, ◌+◌, ◌++◌, ◌⊎◌, Bool, not, IsTrue, IsFalse, Contains, Some, slice_get, take, filter, List, [], ◌∷◌, length}
+use Rattle.std.specs.Prelude.{ℕ, ◌≡◌, ◌<◌, ◌≤◌, ◌+◌, ◌++◌, ◌⊎◌, Bool, not, IsTrue, IsFalse, All, Contains, Some, slice_get, take, filter, List, [], ◌∷◌, length}
 use Rattle.term_core.specs.Datum.{Datum}
 use Rattle.mcode.specs.Program.{Program}
 use Rattle.part_core.specs.declared.settings.Settings.{Settings}
@@ -14,7 +14,7 @@ use Rattle.tables.specs.Options.{settings_of}
 use Rattle.tables.specs.Turns.{Home, Views}
 use Rattle.walk_core.specs.Walk.{Walk, Position, IsWalk, IsPosition, is_done, start_of}
 use Rattle.walk_core.specs.Goes.{Way, IsAt, Goes, Stops}
-use Rattle.walk_core.specs.Moments.{Span, span, IsMoment, Gathers, IsGrown, AreLegal, answers_at, part_of_key}
+use Rattle.walk_core.specs.Moments.{Span, span, IsVisit, IsMoment, Gathers, IsGrown, AreLegal, answers_at, part_of_key}
 
 -- The visit at a key's moment, in a walk that deletes, takes the objects that answer true out of the key's content, and
 -- no other.
@@ -102,3 +102,16 @@ DeletingWalksTakeTheMarks =
     × (content_at w now k (place + 1) ≡ filter (λ t. not (is_true w.program t)) (content_at w now k place))
     × (answers_at w now k place ≡ filter (is_true w.program) (content_at w now k place)))
     ⊎ (content_at w now k (place + 1) ≡ content_at w now k place)
+
+-- Entries of others may have been made, and entries of the session that are no visits of the walk.
+abbrev pub IsQuiet : Walk → Views → Views → Type 0
+IsQuiet w before after =
+    (part : ℕ) → part < w.options.parts
+    → (more : History) × (after part ≡ before part ++ more) × ((k : Datum) → All (λ e. IsVisit w k e → ⊥) more)
+
+-- a call that does more than the visits, before them and behind them, covers each key once too
+abbrev pub WiderCallsCoverOnce : Type 0
+WiderCallsCoverOnce =
+    (w : Walk) (calls : List Span) (first before after last : Views) (done : Datum → Bool)
+    → IsWalk w → IsQuiet w first before → IsGrown w.options before after → IsQuiet w after last
+    → IsOnce w (calls ++ span before after ∷ []) after done → IsOnce w (calls ++ span first last ∷ []) last done

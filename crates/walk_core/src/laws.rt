@@ -1,6 +1,6 @@
 //! Laws of walks, each the contract of a function that does nothing.
 ghost use Rattle.walk_core.specs.Laws.{WalksBegin, TurnsAreVisits, VisitsAreAnswered, WalksGoOn, WalksStop, WalksOutlastOthers, WalksEnd};
-ghost use Rattle.walk_core.specs.Once.{DeletionsAreTheMarks, OtherVisitsTakeNothing, WalksBeginOnce, WalksCoverOnce, StopsCoverOnce, OnceOutlastsOthers, MomentsAreTheMarks, DeletingWalksTakeTheMarks};
+ghost use Rattle.walk_core.specs.Once.{DeletionsAreTheMarks, OtherVisitsTakeNothing, WalksBeginOnce, WalksCoverOnce, StopsCoverOnce, OnceOutlastsOthers, MomentsAreTheMarks, DeletingWalksTakeTheMarks, WiderCallsCoverOnce};
 ghost use Rattle.walk_core.specs.Stayed.{WhoStayedIsAnswered, NothingIsInvented, ContentsHaveTheirKey, OneAnswerAKey};
 
 /// A walk that begins has gathered nothing.
@@ -96,4 +96,9 @@ pub fn contents_have_their_key()
 /// A set gives at most one answer for a key.
 pub fn one_answer_a_key()
     ensures { OneAnswerAKey }
+{}
+
+/// Calls that do more than the visits cover each key once too.
+pub fn wider_calls_cover_once()
+    ensures { WiderCallsCoverOnce }
 {}

@@ -14,5 +14,5 @@ pub use laws::{
     moments_are_the_marks, nothing_is_invented, once_outlasts_others, one_answer_a_key,
     other_visits_take_nothing, stops_cover_once, turns_are_visits, visits_are_answered,
     walks_begin, walks_begin_once, walks_cover_once, walks_end, walks_go_on, walks_outlast_others,
-    walks_stop, who_stayed_is_answered,
+    walks_stop, who_stayed_is_answered, wider_calls_cover_once,
 };
