@@ -1,10 +1,9 @@
 -- Changes of counts of fixes, part by part.
-use Rattle.std.proofs.Common.{◌≡◌, ◌≢◌, ℕ, Result, IfErr, ◌+◌, ◌<◌, ◌≤◌, ◌==◌, ◌++◌, [], ◌∷◌, refl, ap, sym, subst, ◌∙◌, arith, Bool, true, false, not, ◌&&◌, if◌then◌else◌, Some, IsTrue, fold, length}
+use Rattle.std.proofs.Common.{◌≡◌, ◌≢◌, ℕ, Result, IfErr, ◌+◌, ◌<◌, ◌≤◌, ◌==◌, ◌++◌, refl, ap, sym, subst, ◌∙◌, arith, Bool, true, false, if◌then◌else◌, Some, IsTrue}
 use Rattle.std.specs.Prelude.{nat_lt}
 use Rattle.std.specs.Result.{is_ok}
 use Rattle.std.proofs.Math.Logic.{∥∥₁_map}
 use Rattle.std.proofs.lemmas.Bool.{eqb-true, eqb-false, false≢true}
-use Rattle.std.proofs.lemmas.List.Sums.{fold-append}
 use Rattle.part_core.specs.declared.fault.Fault.{Fault}
 use Rattle.part_core.specs.declared.fault.Fault.TheVariants as fault
 use Rattle.part_core.specs.declared.reply.Reply.{Reply}
@@ -16,13 +15,13 @@ use Rattle.part_core.specs.Acts.Refusal.{FixLimit, NotFixed}
 use Rattle.part_core.specs.Acts.Said.{Nothing}
 use Rattle.part_core.specs.Rows.{PartState}
 use Rattle.part_core.specs.Replies.{reply_of, fixes_of, most_fixes}
-use Rattle.part_core.specs.Legal.{state_after, fix_count, fixes_after}
+use Rattle.part_core.specs.Legal.{state_after, fix_count}
 use Rattle.part_core.proofs.HistoryLemmas.{counts_of}
 use Rattle.part_core.proofs.KeyLemmas.{by_test}
 use Rattle.tables.specs.declared.fixing.Change.{Change}
 use Rattle.tables.specs.declared.fixing.Change.TheVariants as change
 use Rattle.tables.specs.Options.{settings_of}
-use Rattle.tables.specs.Turns.{Home, Views, TurnedAt, Turned, Follows, own}
+use Rattle.tables.specs.Turns.{Home, Views, TurnedAt, Turned, Follows}
 use Rattle.tables.specs.Calls.{is_granted, IsGranted}
 use Rattle.tables.specs.Fixing.{act_of_change}
 use Rattle.tables.proofs.TurnLemmas.{count_own, met, turned_right, turned_front, surely_done}

@@ -1,16 +1,14 @@
 -- A session's fixes along what it does at a part.
-use Rattle.std.proofs.Common.{◌≡◌, ◌≢◌, ℕ, ◌+◌, ◌<◌, ◌==◌, refl, ap, sym, subst, ◌∙◌, arith, List, [], ◌∷◌, ◌++◌, Option, Some, None}
-use Rattle.std.specs.Prelude.{Bool, true, false, not, ◌&&◌, if◌then◌else◌, fold}
+use Rattle.std.proofs.Common.{◌≡◌, ℕ, ◌<◌, ◌==◌, refl, ap, sym, subst, ◌∙◌, [], ◌∷◌, ◌++◌, Some}
+use Rattle.std.specs.Prelude.{true, not, ◌&&◌, if◌then◌else◌}
 use Rattle.std.proofs.lemmas.Bool.{eqb-true, eqb-false, eq-eqb}
-use Rattle.std.proofs.lemmas.List.{append-nil}
 use Rattle.std.proofs.lemmas.List.Sums.{fold-append}
-use Rattle.part_core.specs.Acts.{Act, Answer, Entry, History, Said, is_refused}
-use Rattle.part_core.specs.Acts.Act.{Fix, Unfix, Visit}
+use Rattle.part_core.specs.Acts.{Act, Entry, History, Said, is_refused}
+use Rattle.part_core.specs.Acts.Act.{Visit}
 use Rattle.part_core.specs.Acts.Answer.{Replied}
-use Rattle.part_core.specs.Acts.Said.{Nothing}
 use Rattle.part_core.specs.Legal.{fix_count, fixes_after}
 use Rattle.part_core.proofs.KeyLemmas.{by_test}
-use Rattle.tables.specs.Turns.{Home, Views, TurnedAt, Turned}
+use Rattle.tables.specs.Turns.{Home, Views, TurnedAt}
 use Rattle.tables.proofs.TurnLemmas.{count_own}
 use Rattle.walk_core.specs.Goes.{Way, Visits, Goes, Drifted}
 use Rattle.walk_core.specs.Goes.Goes.{stays, goes}

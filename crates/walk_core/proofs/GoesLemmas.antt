@@ -1,5 +1,5 @@
 -- Walks, visit after visit.
-use Rattle.std.proofs.Common.{◌≡◌, ◌≢◌, ℕ, ◌+◌, ◌<◌, ◌≤◌, ◌⊎◌, inl, inr, refl, ap, sym, subst, ◌∙◌, arith, List, [], ◌∷◌, ◌++◌, length}
+use Rattle.std.proofs.Common.{◌≡◌, ◌≢◌, ℕ, ◌+◌, ◌<◌, ◌≤◌, inl, inr, refl, ap, sym, subst, ◌∙◌, arith, List, [], ◌∷◌, ◌++◌, length}
 use Rattle.std.specs.Prelude.{Bool, true, false, ◌&&◌, ◌||◌, ◌==◌, nat_lt, nat_le, IsTrue, All, Option, Some, None}
 use Rattle.std.proofs.lemmas.Bool.{true≢false, ltb-true, ltb-false, leb-true, le-ltb, lt-ltb, lt-leb}
 use Rattle.std.proofs.lemmas.List.{append_assoc, append-nil, length-append}
@@ -8,21 +8,20 @@ use Rattle.term_core.specs.Datum.{Datum}
 use Rattle.part_core.specs.Acts.{Cursor, Scope, Said, Entry, History, next_in}
 use Rattle.part_core.specs.Acts.Act.{Visit}
 use Rattle.part_core.specs.Acts.Answer.{Replied}
-use Rattle.part_core.specs.Acts.Scope.{Begin, After, Named}
+use Rattle.part_core.specs.Acts.Scope.{After}
 use Rattle.part_core.specs.Laws.{IsPlacedAt, LeadsTo}
 use Rattle.part_core.specs.Legal.{state_after, IsLegal}
 use Rattle.part_core.specs.Replies.{yield_of}
 use Rattle.part_core.specs.Visits.{is_inside}
 use Rattle.part_core.specs.Yields.{Yields}
 use Rattle.part_core.specs.Covers.{covers}
-use Rattle.part_core.specs.Settings.{part_of}
 use Rattle.part_core.proofs.CoverLemmas.{visit_yields}
 use Rattle.part_core.proofs.KeyLemmas.{by_test}
 use Rattle.part_core.proofs.LawLemmas.{inside_stays, visits_led, visits_led_inside}
 use Rattle.tables.specs.Options.{settings_of}
 use Rattle.tables.specs.declared.options.Options.{Options}
-use Rattle.tables.specs.Turns.{Home, Views, TurnedAt, Turned}
-use Rattle.walk_core.specs.Walk.{Walk, Position, IsWalk, IsPosition, is_all, is_in_parts, is_named_below, is_done, part_at, scope_at, scope_from, start_of, start_by, next_position, at_part, at_key, named_at, named_count}
+use Rattle.tables.specs.Turns.{Home, Views}
+use Rattle.walk_core.specs.Walk.{Walk, Position, IsWalk, IsPosition, is_all, is_in_parts, is_named_below, is_done, part_at, scope_at, start_of, start_by, next_position, at_part, at_key, named_at, named_count}
 use Rattle.walk_core.specs.Walk.Position.{InPart, AtNamed, Over}
 use Rattle.walk_core.specs.Goes.{Way, IsAt, Visits, Goes, Drifted, Stops, past_of}
 use Rattle.walk_core.specs.Goes.Goes.{stays, goes}

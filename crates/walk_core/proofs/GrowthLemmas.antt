@@ -1,24 +1,22 @@
 -- What was seen stays so, however the histories grow.
-use Rattle.std.proofs.Common.{◌≡◌, ◌≢◌, ℕ, ◌+◌, ◌%◌, ◌<◌, ◌≤◌, ◌⊎◌, inl, inr, refl, ap, sym, subst, ◌∙◌, arith, List, [], ◌∷◌, ◌++◌, length}
-use Rattle.std.specs.Prelude.{Bool, IsTrue, All, AllPairs, Contains, Option, Some, None, take, slice_get, map, flat_map, get_or}
+use Rattle.std.proofs.Common.{◌≡◌, ℕ, ◌<◌, inl, inr, refl, ap, sym, subst, ◌∙◌, arith, List, [], ◌∷◌, ◌++◌, length}
+use Rattle.std.specs.Prelude.{Bool, IsTrue, All, Some, take, slice_get, flat_map}
 use Rattle.std.proofs.lemmas.List.{take-append-le, get_or_append_left, length-append}
-use Rattle.std.proofs.lemmas.List.Elements.{All-weaker, All-head, All-tail, All-get_or, Contains-append_left, Contains-append_right}
+use Rattle.std.proofs.lemmas.List.Elements.{All-weaker, All-head, All-tail, Contains-append_left}
 use Rattle.std.proofs.lemmas.Nat.{mod_below}
 use Rattle.std.proofs.lemmas.Option.{slice_get_within, slice_get-get_or}
 use Rattle.term_core.specs.Datum.{Datum}
 use Rattle.term_core.specs.KeyHash.{key_hash}
-use Rattle.part_core.specs.Acts.{Entry, History}
+use Rattle.part_core.specs.Acts.{History}
 use Rattle.part_core.specs.Content.{content}
 use Rattle.part_core.specs.Legal.{state_after, IsLegal}
 use Rattle.part_core.specs.Visits.{is_inside, yields}
-use Rattle.part_core.specs.Settings.{part_of}
 use Rattle.part_core.proofs.LawLemmas.{inside_stays}
 use Rattle.tables.specs.Options.{settings_of}
-use Rattle.tables.specs.declared.options.Options.{Options}
 use Rattle.tables.specs.Turns.{Views}
 use Rattle.walk_core.specs.Walk.{Walk, Position, IsWalk, IsPosition, is_done, scope_from}
 use Rattle.walk_core.specs.Walk.Position.{InPart, AtNamed, Over}
-use Rattle.walk_core.specs.Moments.{Span, IsVisit, IsMoment, IsMet, Mark, Gathers, IsSoFar, IsGrown, answers_at, part_of_key}
+use Rattle.walk_core.specs.Moments.{Span, IsMoment, IsMet, Mark, Gathers, IsSoFar, IsGrown, answers_at, part_of_key}
 
 -- the part of a key is one of the table's
 pub key_inside : (w : Walk) (k : Datum) → IsWalk w → part_of_key w k < w.options.parts

@@ -1,11 +1,11 @@
 -- What a visit adds to the keys that a walk has done, and where the walk is behind it.
-use Rattle.std.proofs.Common.{zero, suc, ◌≡◌, ◌≢◌, ℕ, ◌+◌, ◌/◌, ◌%◌, ◌<◌, ◌≤◌, ◌⊎◌, inl, inr, refl, ap, sym, subst, ◌∙◌, arith, List, [], ◌∷◌, ◌++◌, length}
-use Rattle.std.specs.Prelude.{Bool, true, false, not, ◌&&◌, ◌||◌, ◌==◌, if◌then◌else◌, nat_lt, nat_le, get_or, take, IsTrue, Option, Some, None}
-use Rattle.std.specs.List.{IsDistinct, AllByRecursion, list_any}
+use Rattle.std.proofs.Common.{zero, suc, ◌≡◌, ◌≢◌, ℕ, ◌+◌, ◌/◌, ◌<◌, ◌≤◌, ◌⊎◌, inl, inr, refl, ap, sym, subst, ◌∙◌, arith, List, [], ◌∷◌, ◌++◌, length}
+use Rattle.std.specs.Prelude.{Bool, true, false, not, ◌&&◌, ◌||◌, ◌==◌, if◌then◌else◌, nat_lt, nat_le, get_or, take, Option, Some, None}
+use Rattle.std.specs.List.{IsDistinct, AllByRecursion}
 use Rattle.std.specs.Ordering.{is_lt}
 use Rattle.std.specs.declared.cmp.Ordering.{Ordering}
 use Rattle.std.specs.declared.cmp.Ordering.TheVariants.{Less, Equal, Greater}
-use Rattle.std.proofs.lemmas.Bool.{true≢false, false≢true, and_parts, eqb-true, eqb-false, eq-eqb, ltb-true, ltb-false, lt-ltb, le-ltb, le-leb}
+use Rattle.std.proofs.lemmas.Bool.{true≢false, and_parts, eqb-true, eqb-false, eq-eqb, ltb-true, ltb-false, lt-ltb, le-ltb, le-leb}
 use Rattle.std.proofs.lemmas.List.{take_more}
 use Rattle.std.proofs.lemmas.Map.Keys.{IsDistinct-head, IsDistinct-tail}
 use Rattle.std.proofs.lemmas.Nat.{mod_below}
@@ -16,17 +16,16 @@ use Rattle.term_core.specs.Order.{datum_cmp}
 use Rattle.term_core.specs.OrderLaws.{datum_cmp_total}
 use Rattle.term_operand.specs.Order.{is_same}
 use Rattle.part_core.specs.declared.settings.Settings.{Settings}
-use Rattle.part_core.specs.Acts.{Cursor, Scope}
+use Rattle.part_core.specs.Acts.{Cursor}
 use Rattle.part_core.specs.Acts.Cursor.{Class, Behind}
-use Rattle.part_core.specs.Acts.Scope.{Begin, After, Named}
 use Rattle.part_core.specs.Settings.{is_ordered, part_of, class_at}
 use Rattle.part_core.specs.Covers.{covers, is_up_to}
 use Rattle.part_core.specs.Laws.{LeadsTo}
-use Rattle.part_core.specs.Visits.{is_behind, next_class}
+use Rattle.part_core.specs.Visits.{is_behind}
 use Rattle.part_core.proofs.KeyLemmas.{by_test, same_keys, same_is, same_from}
 use Rattle.tables.specs.Options.{settings_of}
 use Rattle.tables.specs.Turns.{Views}
-use Rattle.walk_core.specs.Walk.{Walk, Position, IsWalk, IsPosition, IsPlan, part_at, scope_at, scope_from, next_position, position_in, at_part, at_key, named_at, named_count, is_among, is_named_below, is_in_parts, is_passed, is_all, is_done, is_covered}
+use Rattle.walk_core.specs.Walk.{Walk, Position, IsWalk, IsPosition, IsPlan, scope_at, scope_from, next_position, named_at, named_count, is_among, is_named_below, is_in_parts, is_passed, is_all, is_done, is_covered}
 use Rattle.walk_core.specs.Walk.Position.{InPart, AtNamed, Over}
 
 -- ---- a cursor and what a visit behind it covers

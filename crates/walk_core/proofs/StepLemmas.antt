@@ -1,14 +1,13 @@
 -- One visit of a walk: which keys it marks.
-use Rattle.std.proofs.Common.{zero, suc, ◌≡◌, ◌≢◌, ℕ, ◌+◌, ◌<◌, ◌≤◌, ◌⊎◌, inl, inr, refl, ap, sym, subst, ◌∙◌, arith, List, [], ◌∷◌, ◌++◌, length}
-use Rattle.std.specs.Prelude.{Bool, true, false, ◌&&◌, ◌||◌, ◌==◌, IsTrue, All, AllPairs, Contains, Option, Some, None, take, slice_get, map, flat_map, filter}
+use Rattle.std.proofs.Common.{zero, suc, ◌≡◌, ◌≢◌, ℕ, ◌<◌, ◌≤◌, ◌⊎◌, inl, inr, refl, ap, sym, subst, ◌∙◌, arith, List, [], ◌∷◌, ◌++◌, length}
+use Rattle.std.specs.Prelude.{Bool, true, false, ◌&&◌, ◌||◌, ◌==◌, IsTrue, All, AllPairs, Contains, Option, Some, take, slice_get, map, flat_map, filter}
 use Rattle.std.proofs.Math.Seq.{take-append_seam}
-use Rattle.std.proofs.lemmas.Bool.{true≢false, and_parts, and_from, or_left, or_right, eqb-true, eqb-false, eq-eqb}
+use Rattle.std.proofs.lemmas.Bool.{true≢false, and_parts, and_from, or_left, or_right, eqb-true, eqb-false}
 use Rattle.std.proofs.lemmas.Grind.{flat_map-append}
 use Rattle.std.proofs.lemmas.List.{append_assoc, append-nil, length-append, map-append, get_or_append_left}
-use Rattle.std.proofs.lemmas.List.Elements.{All-weaker, All-head, All-tail, All-append, All-filter, All-map, All-contains, All-contains_itself, filter_passes, Contains-append_left, Contains-append_right, Contains-push, Contains-push_cases}
+use Rattle.std.proofs.lemmas.List.Elements.{All-weaker, All-head, All-tail, All-append, All-filter, All-map, filter_passes, Contains-append_left, Contains-append_right, Contains-push, Contains-push_cases}
 use Rattle.std.proofs.lemmas.List.Folds.{flat_map-map}
 use Rattle.std.proofs.lemmas.List.Kept.{AllPairs-cons, AllPairs-filter}
-use Rattle.std.proofs.lemmas.Option.{slice_get-get_or}
 use Rattle.term_core.specs.Datum.{Datum}
 use Rattle.mcode.specs.Program.{Program}
 use Rattle.part_core.specs.Acts.{Purpose, Scope, Said, Entry, History, Answer, Act, next_in}
@@ -17,23 +16,17 @@ use Rattle.part_core.specs.Acts.Purpose.{Answers, Counts, Deletes}
 use Rattle.part_core.specs.Acts.Answer.{Replied}
 use Rattle.part_core.specs.Content.{content}
 use Rattle.part_core.specs.Covers.{covers}
-use Rattle.part_core.specs.Laws.{IsPlacedAt, IsSaidByVisit, LeadsTo}
-use Rattle.part_core.specs.Legal.{state_after, IsLegal}
-use Rattle.part_core.specs.Replies.{yield_of}
-use Rattle.part_core.specs.Settings.{part_of}
-use Rattle.part_core.specs.Visits.{is_inside, yields}
+use Rattle.part_core.specs.Laws.{IsPlacedAt}
+use Rattle.part_core.specs.Legal.{IsLegal}
+use Rattle.part_core.specs.Visits.{yields}
 use Rattle.part_core.specs.Yields.{Yields}
-use Rattle.part_core.proofs.CoverLemmas.{visit_yields}
 use Rattle.part_core.proofs.KeyLemmas.{by_test}
-use Rattle.part_core.proofs.LawLemmas.{inside_stays, none_elsewhere, visits_led, visits_led_inside}
+use Rattle.part_core.proofs.LawLemmas.{none_elsewhere}
 use Rattle.tables.specs.Options.{settings_of}
 use Rattle.tables.specs.declared.options.Options.{Options}
-use Rattle.tables.specs.Turns.{Home, Views, TurnedAt, Turned}
-use Rattle.walk_core.specs.Walk.{Walk, Position, IsWalk, IsPosition, is_done, is_covered, part_at, scope_at, scope_from, next_position}
-use Rattle.walk_core.specs.Walk.Position.{InPart, AtNamed, Over}
-use Rattle.walk_core.specs.Moments.{Span, span, IsVisit, IsMoment, IsMet, Mark, Gathers, IsGrown, ArePlaced, AreLegal, answers_at, part_of_key}
-use Rattle.walk_core.proofs.GrowthLemmas.{key_inside, grown_gathers}
-use Rattle.walk_core.proofs.PositionLemmas.{done_next, covered_anew}
+use Rattle.tables.specs.Turns.{Home, Views, Turned}
+use Rattle.walk_core.specs.Walk.{Walk}
+use Rattle.walk_core.specs.Moments.{Span, span, IsMoment, IsMet, Mark, Gathers, IsGrown, AreLegal, answers_at, part_of_key}
 
 -- ---- lists
 

@@ -1,12 +1,12 @@
 -- Turns that are visits of a walk, and turns that were refused.
-use Rattle.std.proofs.Common.{◌≡◌, ◌≢◌, ℕ, ◌<◌, ◌≤◌, ◌⊎◌, inl, inr, refl, ap, sym, subst, ◌∙◌, arith, List, [], ◌∷◌, ◌++◌}
-use Rattle.std.specs.Prelude.{length, Bool, true, false, ◌==◌, IsTrue, Option, Some, None, if◌then◌else◌}
+use Rattle.std.proofs.Common.{◌≡◌, ◌≢◌, ℕ, refl, ap, sym, subst, ◌∙◌, List, [], ◌∷◌, ◌++◌}
+use Rattle.std.specs.Prelude.{length, false, ◌==◌, IsTrue, Some, None}
 use Rattle.std.proofs.lemmas.Bool.{eqb-true, eqb-false, false≢true}
 use Rattle.std.proofs.lemmas.List.{append-nil}
 use Rattle.term_core.specs.Datum.{Datum}
 use Rattle.mcode.specs.Program.{Program}
 use Rattle.part_core.specs.declared.settings.Settings.{Settings}
-use Rattle.part_core.specs.Acts.{Act, Answer, Purpose, Refusal, Scope, Said, History, next_in, is_refused}
+use Rattle.part_core.specs.Acts.{Act, Purpose, Refusal, Scope, Said, History, next_in, is_refused}
 use Rattle.part_core.specs.Acts.Act.{Visit}
 use Rattle.part_core.specs.Acts.Answer.{Replied, Refused}
 use Rattle.part_core.specs.Legal.{state_after, IsLegal}
@@ -18,13 +18,12 @@ use Rattle.part_core.proofs.KeyLemmas.{by_test}
 use Rattle.part_core.proofs.LawLemmas.{inside_stays}
 use Rattle.tables.specs.Options.{settings_of}
 use Rattle.tables.specs.declared.options.Options.{Options}
-use Rattle.tables.specs.Turns.{Home, Views, IsBetween, TurnedAt, Turned}
+use Rattle.tables.specs.Turns.{Home, Views, IsBetween, Turned}
 use Rattle.tables.proofs.TurnLemmas.{turned_right, turned_front}
 use Rattle.walk_core.specs.Walk.{Walk, Position, IsWalk, IsPosition, part_at, scope_at, next_position}
 use Rattle.walk_core.specs.Walk.Position.{InPart, AtNamed, Over}
-use Rattle.walk_core.specs.Goes.{Way, way, IsAt, Visits, past_of, Drifted}
+use Rattle.walk_core.specs.Goes.{way, IsAt, Visits, Drifted}
 use Rattle.walk_core.specs.Moments.{AreLegal}
-use Rattle.walk_core.proofs.GrowthLemmas.{key_inside}
 use Rattle.walk_core.proofs.StepLemmas.{visit_entry}
 
 -- a turn that was answered is a visit, and what it says is what it found

@@ -1,6 +1,6 @@
 -- A walk: who goes through which parts of a table and what is asked there, how far the walk has come, and which keys
 -- it has done.
-use Rattle.std.specs.Prelude.{ℕ, ◌≡◌, ◌+◌, ◌<◌, ◌≤◌, Bool, true, false, not, ◌&&◌, ◌||◌, ◌==◌, if◌then◌else◌, nat_lt, nat_le, get_or, length, take, IsTrue, IsFalse, Option, Some, None, List, [], ◌∷◌}
+use Rattle.std.specs.Prelude.{ℕ, ◌≡◌, ◌+◌, ◌<◌, ◌≤◌, Bool, false, not, ◌&&◌, ◌||◌, ◌==◌, if◌then◌else◌, nat_lt, nat_le, get_or, length, take, IsTrue, IsFalse, Option, Some, None, List}
 use Rattle.std.specs.List.{IsDistinct, list_any}
 use Rattle.term_core.specs.Datum.{Datum}
 use Rattle.term_core.specs.Datum.Datum.{nil}

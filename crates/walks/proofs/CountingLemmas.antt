@@ -28,7 +28,7 @@ use Rattle.walks.specs.declared.query.Query.{Query}
 use Rattle.walks.specs.Query.{walk_of}
 use Rattle.walks.specs.Visits.{StopsAnywhere}
 use Rattle.walks.specs.Whole.{Wholly}
-use Rattle.walks.proofs.WholeLemmas.{wholly_answers, wholly_gathers}
+use Rattle.walks.proofs.WholeLemmas.{wholly_answers, wholly_gathers, wholly_once}
 use Rattle.walks.proofs.GoingLemmas.{GoesBy, is_walk, no_stranger}
 
 -- two counts together
@@ -86,7 +86,7 @@ counts_wholly h w own total before fixed last now is_at walk legal fixes stops r
     let t = stops f.0 f.1 in
     let r = releases t.0 t.1 in
     let x : Wholly h w whole Over t.2.0 v r.0 = record { own = own; fixed = f.0; fixes = f.2; last = t.0; visits = t.2.1; releases = r.2 } in
-    (r.0, r.1, (t.2.0, t.2.2, (x, λ placed. wholly_answers h w whole t.2.0 v r.0 is_at walk (legal v b) x placed)))
+    (r.0, r.1, (t.2.0, t.2.2, (x, wholly_once h w whole Over t.2.0 v r.0 is_at walk (legal v b) x, λ placed. wholly_answers h w whole t.2.0 v r.0 is_at walk (legal v b) x placed)))
 
 pub count_given_up : (h : Home) (w : Walk) (own : List Bool) (total : ℕ) (before fixed last now : Views → Type 0) → IsAt h w → IsWalk w → ((v : Views) → before v → AreLegal h.options v) → Follows before fixed (FixesFirst h own) → Follows fixed last (λ v u. (at : Position) × StopsAtCount h w (start_of w) at total v u) → Follows last now (Releases h own) → Follows before now (GivesUpCount h w total)
 count_given_up h w own total before fixed last now is_at walk legal fixes stops releases v b =
@@ -94,7 +94,7 @@ count_given_up h w own total before fixed last now is_at walk legal fixes stops 
     let t = stops f.0 f.1 in
     let r = releases t.0 t.1 in
     let x : Wholly h w whole t.2.0 t.2.1.0 v r.0 = record { own = own; fixed = f.0; fixes = f.2; last = t.0; visits = t.2.1.1; releases = r.2 } in
-    (r.0, r.1, (t.2.0, t.2.1.0, t.2.1.2, x, λ placed. wholly_gathers h w whole t.2.0 t.2.1.0 v r.0 is_at walk (legal v b) x placed))
+    (r.0, r.1, (t.2.0, t.2.1.0, t.2.1.2, x, wholly_once h w whole t.2.0 t.2.1.0 v r.0 is_at walk (legal v b) x, λ placed. wholly_gathers h w whole t.2.0 t.2.1.0 v r.0 is_at walk (legal v b) x placed))
 
 -- a walk that can go on from where it begins is refused for want of memory alone
 pub scarce_alone : (w : Walk) (at : Position) (f : Fault) (before : Views → Type 0) → ∥ ((v : Views) × before v) ∥₁ → ((v : Views) → before v → IsPosition w v at) → (f ≢ fault.Memory → (v : Views) → before v → IsPosition w v at → ⊥) → f ≡ fault.Memory

@@ -1,12 +1,14 @@
 -- Whole walks, with the fixes of their own.
 use Rattle.std.proofs.Common.{◌≡◌, ◌≢◌, ℕ, ◌+◌, ◌<◌, ◌≤◌, ◌==◌, refl, ap, sym, subst, ◌∙◌, arith, IsTrue, List, [], ◌∷◌, ◌++◌, length, get_or}
-use Rattle.std.specs.Prelude.{Bool, true, false, ◌&&◌, not, Some, MatchBool, IfOk, IfErr, Result, Ok, Err}
+use Rattle.std.specs.Prelude.{All, Bool, true, false, ◌&&◌, not, Some, MatchBool, IfOk, IfErr, Result, Ok, Err}
 use Rattle.std.proofs.Math.Logic.{∥∥₁_map}
 use Rattle.std.proofs.lemmas.Bool.{and_parts, eqb-true}
 use Rattle.std.proofs.lemmas.List.{append_assoc, append-nil, length-append}
+use Rattle.std.proofs.lemmas.List.Elements.{All-nil}
 use Rattle.term_core.specs.Datum.{Datum}
-use Rattle.part_core.specs.Acts.{Act, History}
-use Rattle.part_core.specs.Acts.Act.{Fix, Unfix}
+use Rattle.mcode.specs.Program.{Program}
+use Rattle.part_core.specs.Acts.{Act, History, Purpose, Scope}
+use Rattle.part_core.specs.Acts.Act.{Fix, Unfix, Visit}
 use Rattle.part_core.specs.Acts.Answer.{Replied}
 use Rattle.part_core.specs.Acts.Said.{Nothing}
 use Rattle.part_core.specs.Legal.{IsLegal, fix_count}
@@ -15,12 +17,14 @@ use Rattle.part_core.proofs.KeyLemmas.{by_test}
 use Rattle.tables.specs.Options.{settings_of}
 use Rattle.tables.specs.Turns.{Home, Views, TurnedAt, Follows}
 use Rattle.walk_core.specs.Goes.{Way, way, IsAt, Goes, Drifted, Stops}
-use Rattle.walk_core.specs.Moments.{Span, span, Gathers, IsAnswer, IsSoFar, IsGrown, ArePlaced, AreLegal, part_of_key}
+use Rattle.walk_core.specs.Once.{IsOnce}
+use Rattle.walk_core.specs.Moments.{IsVisit, Span, span, Gathers, IsAnswer, IsSoFar, IsGrown, ArePlaced, AreLegal, part_of_key}
 use Rattle.walk_core.specs.Walk.{Walk, Position, IsWalk, is_done, start_of}
 use Rattle.walk_core.specs.Walk.Position.{Over}
 use Rattle.walk_core.proofs.CountLemmas.{turned_count, goes_count, drifted_count}
 use Rattle.walk_core.proofs.GoesLemmas.{begins_so_far, drifted_grown, ends_answer, goes_grown, grown_further, grown_legal, placed_before, stops_so_far}
 use Rattle.walk_core.proofs.GrowthLemmas.{grown_so_far, key_inside}
+use Rattle.walk_core.proofs.OnceLemmas.{begins_once, stops_once, turned_quiet, wider_once}
 use Rattle.walk_core.proofs.StepLemmas.{wider_gathers}
 use Rattle.walk_core.proofs.TurnLemmas.{drifts_nowhere}
 use Rattle.walks.specs.Own.{is_fixed_first, ChangedWhere, FixesFirst, Releases, AreHeld}
@@ -77,6 +81,33 @@ wholly_gathers h w wanted at gained v u is_at walk legal x placed =
     let later = grown_so_far w (span x.fixed x.last ∷ []) [] x.last u at gained walk after there in
     wider_gathers w x.fixed x.last v u u (is_done w at) gained (length_grown h w v x.fixed walk (subst (λ o. IsGrown o v x.fixed) same first)) (length_grown h w x.last u walk after) later.gathers
 
+-- ---- each key once
+
+changed_quiet : (h : Home) (w : Walk) (act : Act) (here : Bool) (before after : History) → IsAt h w → ((purpose : Purpose) (p : Program) (scope : Scope) (wanted : ℕ) → act ≢ Visit purpose p scope wanted) → ChangedWhere h act here before after → (more : History) × (after ≡ before ++ more) × ((k : Datum) → All (λ e. IsVisit w k e → ⊥) more)
+changed_quiet h w act true before after is_at other t = turned_quiet h w before after act Nothing is_at other t
+changed_quiet h w act false before after is_at other same =
+    ([], same ∙ sym (append-nil before), λ k. All-nil (λ e. IsVisit w k e → ⊥))
+
+fix_no_visit : (purpose : Purpose) (p : Program) (scope : Scope) (wanted : ℕ) → Fix ≢ Visit purpose p scope wanted
+fix_no_visit purpose p scope wanted e = cc
+
+unfix_no_visit : (purpose : Purpose) (p : Program) (scope : Scope) (wanted : ℕ) → Unfix ≢ Visit purpose p scope wanted
+unfix_no_visit purpose p scope wanted e = cc
+
+-- a whole walk covers each key once
+pub wholly_once : (h : Home) (w : Walk) (wanted : ℕ → ℕ) (at : Position) (gained : List Datum) (v u : Views) → IsAt h w → IsWalk w → AreLegal h.options v → Wholly h w wanted at gained v u → IsOnce w (span v u ∷ []) u (is_done w at)
+wholly_once h w wanted at gained v u is_at walk legal x =
+    let same = is_at.options in
+    let legal_fixed = subst (λ o. AreLegal o x.fixed) same (grown_legal h.options v x.fixed (fixed_grown h x.own v x.fixed legal x.fixes)) in
+    let went = goes_grown h w wanted (way x.fixed (start_of w) []) (way x.visits.0 at gained) is_at legal_fixed x.visits.1 in
+    let to_last = grown_further w.options x.fixed x.visits.0 x.last went (drifted_grown h w.options x.visits.0 x.last same x.visits.2) in
+    let once = stops_once h w wanted [] (way x.fixed (start_of w) []) at gained x.last is_at walk legal_fixed (begins_so_far w x.fixed walk).position (begins_once w x.fixed) x.visits in
+    wider_once w [] v x.fixed x.last u (is_done w at) walk
+    (subst (λ o. (part : ℕ) → part < o.parts → (more : History) × (x.fixed part ≡ v part ++ more) × ((k : Datum) → All (λ e. IsVisit w k e → ⊥) more)) same (λ part inside. changed_quiet h w Fix (is_fixed_first h v part) (v part) (x.fixed part) is_at fix_no_visit (x.fixes part inside).1))
+    to_last
+    (subst (λ o. (part : ℕ) → part < o.parts → (more : History) × (u part ≡ x.last part ++ more) × ((k : Datum) → All (λ e. IsVisit w k e → ⊥) more)) same (λ part inside. changed_quiet h w Unfix (get_or x.own part false) (x.last part) (u part) is_at unfix_no_visit (x.releases part inside)))
+    once
+
 -- a whole walk that came to its end
 pub wholly_answers : (h : Home) (w : Walk) (wanted : ℕ → ℕ) (gained : List Datum) (v u : Views) → IsAt h w → IsWalk w → AreLegal h.options v → Wholly h w wanted Over gained v u → ArePlaced h.options u → IsAnswer w (span v u ∷ []) u gained
 wholly_answers h w wanted gained v u is_at walk legal x placed =
@@ -114,7 +145,7 @@ finishes h w wanted own gained before fixed last now is_at walk legal fixes stop
     let t = stops f.0 f.1 in
     let r = releases t.0 t.1 in
     let whole : Wholly h w wanted Over gained v r.0 = record { own = own; fixed = f.0; fixes = f.2; last = t.0; visits = t.2; releases = r.2 } in
-    (r.0, r.1, (whole, λ placed. wholly_answers h w wanted gained v r.0 is_at walk (legal v b) whole placed))
+    (r.0, r.1, (whole, wholly_once h w wanted Over gained v r.0 is_at walk (legal v b) whole, λ placed. wholly_answers h w wanted gained v r.0 is_at walk (legal v b) whole placed))
 
 pub gives_up : (h : Home) (w : Walk) (wanted : ℕ → ℕ) (own : List Bool) (before fixed last now : Views → Type 0) → IsAt h w → IsWalk w → ((v : Views) → before v → AreLegal h.options v) → Follows before fixed (FixesFirst h own) → Follows fixed last (StopsAnywhere h w wanted) → Follows last now (Releases h own) → Follows before now (GivesUp h w wanted)
 gives_up h w wanted own before fixed last now is_at walk legal fixes stops releases v b =
@@ -122,4 +153,4 @@ gives_up h w wanted own before fixed last now is_at walk legal fixes stops relea
     let t = stops f.0 f.1 in
     let r = releases t.0 t.1 in
     let whole : Wholly h w wanted t.2.0 t.2.1 v r.0 = record { own = own; fixed = f.0; fixes = f.2; last = t.0; visits = t.2.2; releases = r.2 } in
-    (r.0, r.1, (t.2.0, t.2.1, whole, λ placed. wholly_gathers h w wanted t.2.0 t.2.1 v r.0 is_at walk (legal v b) whole placed))
+    (r.0, r.1, (t.2.0, t.2.1, whole, wholly_once h w wanted t.2.0 t.2.1 v r.0 is_at walk (legal v b) whole, λ placed. wholly_gathers h w wanted t.2.0 t.2.1 v r.0 is_at walk (legal v b) whole placed))

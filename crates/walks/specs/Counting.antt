@@ -7,6 +7,7 @@ use Rattle.part_core.specs.Replies.{most_counted}
 use Rattle.tables.specs.Turns.{Home, Views}
 use Rattle.walk_core.specs.Goes.{way, whole, Visits, Goes, Stops}
 use Rattle.walk_core.specs.Moments.{span, Gathers, ArePlaced}
+use Rattle.walk_core.specs.Once.{IsOnce}
 use Rattle.walk_core.specs.Walk.{Walk, Position, is_done}
 use Rattle.walks.specs.Whole.{Wholly, Finishes}
 use Rattle.walks.specs.declared.counting.Counting.{Counting}
@@ -43,4 +44,5 @@ FinishesCount h w count v u = (found : List Datum) × IsCount count found × Fin
 abbrev pub GivesUpCount : Home → Walk → ℕ → Views → Views → Type 0
 GivesUpCount h w count v u =
     (at : Position) × (found : List Datum) × IsCount count found × Wholly h w whole at found v u
+    × IsOnce w (span v u ∷ []) u (is_done w at)
     × (ArePlaced h.options u → Gathers w (span v u ∷ []) u (is_done w at) found)

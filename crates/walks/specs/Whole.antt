@@ -6,6 +6,7 @@ use Rattle.part_core.specs.Replies.{most_counted}
 use Rattle.tables.specs.Turns.{Home, Views}
 use Rattle.walk_core.specs.Goes.{way, Stops}
 use Rattle.walk_core.specs.Moments.{span, Gathers, IsAnswer, ArePlaced}
+use Rattle.walk_core.specs.Once.{IsOnce}
 use Rattle.walk_core.specs.Walk.{Walk, Position, is_done, start_of}
 use Rattle.walk_core.specs.Walk.Position.{Over}
 use Rattle.walks.specs.declared.query.Query.{Query}
@@ -22,14 +23,15 @@ pub record Wholly (h : Home) (w : Walk) (wanted : ℕ → ℕ) (at : Position) (
   pub visits : Stops h w wanted (way fixed (start_of w) []) at gained last
   pub releases : Releases h own last u
 
--- A walk that came to its end: where each object was put in at its key's part, what it gained is its answer.
+-- A walk that came to its end: it covered each key once, and where each object was put in at its key's part, what it
+-- gained is its answer.
 abbrev pub Finishes : Home → Walk → (ℕ → ℕ) → List Datum → Views → Views → Type 0
 Finishes h w wanted gained v u =
-    Wholly h w wanted Over gained v u × (ArePlaced h.options u → IsAnswer w (span v u ∷ []) u gained)
+    Wholly h w wanted Over gained v u × IsOnce w (span v u ∷ []) u (is_done w Over)
+    × (ArePlaced h.options u → IsAnswer w (span v u ∷ []) u gained)
 
--- A walk that was refused for want of memory on its way: what it gained until then is gathered so for the keys that were
--- done.
+-- A walk that was refused for want of memory on its way: the same of the keys that were done until then.
 abbrev pub GivesUp : Home → Walk → (ℕ → ℕ) → Views → Views → Type 0
 GivesUp h w wanted v u =
-    (at : Position) × (gained : List Datum) × Wholly h w wanted at gained v u
+    (at : Position) × (gained : List Datum) × Wholly h w wanted at gained v u × IsOnce w (span v u ∷ []) u (is_done w at)
     × (ArePlaced h.options u → Gathers w (span v u ∷ []) u (is_done w at) gained)

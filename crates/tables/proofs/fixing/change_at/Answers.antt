@@ -1,8 +1,8 @@
-use Rattle.std.proofs.Common.{ap, subst, ◌∙◌, sym, Result}
+use Rattle.std.proofs.Common.{ap, subst, ◌∙◌, Result}
 use Rattle.part_core.specs.declared.fault.Fault.{Fault}
 use Rattle.part_core.specs.declared.reply.Reply.{Reply}
 use Rattle.part_core.specs.Acts.{Act}
-use Rattle.part_core.specs.Ops.{act_of, answer_in, said_of, takes_no_memory}
+use Rattle.part_core.specs.Ops.{answer_in, said_of, takes_no_memory}
 use Rattle.tables.specs.Turns.{Turned, Follows}
 use Rattle.tables.specs.Fixing.{act_of_change}
 use Rattle.tables.proofs.FixLemmas.{change_made, change_said, change_sure}
