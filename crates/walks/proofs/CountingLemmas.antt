@@ -1,5 +1,5 @@
 -- Counts, visit after visit.
-use Rattle.std.proofs.Common.{arith, ◌≡◌, ◌≢◌, ℕ, ◌+◌, ◌<◌, ◌≤◌, refl, ap, sym, subst, ◌∙◌, List, [], ◌++◌, length}
+use Rattle.std.proofs.Common.{arith, ◌≡◌, ◌≢◌, ℕ, ◌+◌, ◌<◌, refl, ap, sym, subst, ◌∙◌, List, [], ◌++◌, length}
 use Rattle.std.specs.Prelude.{Bool, min, IfOk, IfErr, Result, Ok, Err}
 use Rattle.std.proofs.Props.{props}
 use Rattle.std.proofs.Math.Logic.{∥∥₁_elim}
@@ -15,14 +15,14 @@ use Rattle.part_core.specs.Replies.{most_counted}
 use Rattle.tables.specs.declared.options.Options.{Options}
 use Rattle.tables.specs.Turns.{Home, Views, Turned, Follows}
 use Rattle.std.specs.Prelude.{None, option_map}
-use Rattle.walk_core.specs.Goes.{way, whole, IsAt, Goes, Visits}
+use Rattle.walk_core.specs.Goes.{way, whole, IsAt, Goes}
 use Rattle.walk_core.specs.Goes.Goes.{stays, goes}
 use Rattle.walk_core.specs.Moments.{AreLegal}
 use Rattle.walk_core.specs.Walk.{Walk, Position, IsWalk, IsPosition, part_at, scope_at, start_of}
 use Rattle.walk_core.specs.Walk.Position.{Over}
 use Rattle.walk_core.proofs.GoesLemmas.{begins_so_far, goes_grown, grown_legal}
 use Rattle.walk_core.proofs.TurnLemmas.{turned_drifts, drifts_nowhere}
-use Rattle.walks.specs.Counting.{IsCount, CountsMore, CountsTo, StopsAtCount, FinishesCount, GivesUpCount}
+use Rattle.walks.specs.Counting.{CountsMore, CountsTo, StopsAtCount, FinishesCount, GivesUpCount}
 use Rattle.walks.specs.Own.{FixesFirst, Releases}
 use Rattle.walks.specs.declared.query.Query.{Query}
 use Rattle.walks.specs.Query.{walk_of}

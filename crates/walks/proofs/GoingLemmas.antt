@@ -1,17 +1,16 @@
 -- Visits one behind the other, by what the session sees.
-use Rattle.std.proofs.Common.{arith, ◌≡◌, ◌≢◌, ℕ, ◌<◌, ◌≤◌, refl, ap, sym, subst, ◌∙◌, Result, Option, option_map, Some, None, List, [], ◌++◌, length}
-use Rattle.std.specs.Prelude.{IsTrue, IsErrOf, Err}
+use Rattle.std.proofs.Common.{arith, ◌≢◌, ℕ, ◌<◌, refl, sym, ◌∙◌, option_map, None, List}
 use Rattle.std.proofs.lemmas.Bool.{true≢false}
 use Rattle.term_core.specs.Datum.{Datum}
 use Rattle.part_core.specs.declared.fault.Fault.{Fault}
 use Rattle.part_core.specs.declared.fault.Fault.TheVariants as fault
-use Rattle.part_core.specs.Acts.{Act, Answer, Purpose}
+use Rattle.part_core.specs.Acts.{Act, Purpose}
 use Rattle.part_core.specs.Acts.Act.{Visit}
 use Rattle.part_core.specs.Acts.Answer.{Refused}
 use Rattle.part_core.specs.Acts.Refusal.{TooSmall, FixLimit, NotFixed, BadKey, CursorOutside}
 use Rattle.part_core.specs.Ops.{refusal_of}
 use Rattle.tables.specs.Turns.{Home, Views, Turned, Follows}
-use Rattle.walk_core.specs.Goes.{Way, way, IsAt, Visits, Goes, Drifted, Stops}
+use Rattle.walk_core.specs.Goes.{way, IsAt, Visits, Goes, Stops}
 use Rattle.walk_core.specs.Goes.Goes.{stays, goes}
 use Rattle.walk_core.specs.Moments.{AreLegal}
 use Rattle.walk_core.specs.Walk.{Walk, Position, IsWalk, IsPosition, part_at, scope_at}

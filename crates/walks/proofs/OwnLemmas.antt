@@ -1,10 +1,10 @@
 -- Fixes of a call's own.
-use Rattle.std.proofs.Common.{zero, suc, ◌≡◌, ◌≢◌, ℕ, ◌+◌, ◌<◌, ◌≤◌, ◌==◌, refl, ap, sym, subst, ◌∙◌, arith, IsTrue, length, get_or, List, set, get_or-set_same, get_or-set_other}
-use Rattle.std.specs.Prelude.{Bool, true, false, not, ◌&&◌, MatchBool, Some, replicate}
+use Rattle.std.proofs.Common.{zero, suc, ◌≡◌, ◌≢◌, ℕ, ◌+◌, ◌<◌, ◌≤◌, ◌==◌, refl, ap, sym, subst, ◌∙◌, arith, length, get_or, List, set, get_or-set_same, get_or-set_other}
+use Rattle.std.specs.Prelude.{Bool, true, false, not, ◌&&◌, Some, replicate}
 use Rattle.std.proofs.Math.Logic.{∥∥₁_map}
 use Rattle.std.proofs.lemmas.List.{length-replicate}
 use Rattle.std.proofs.lemmas.Bool.{eqb-true, eqb-false, eq-eqb}
-use Rattle.part_core.specs.Acts.{Act, History}
+use Rattle.part_core.specs.Acts.{History}
 use Rattle.part_core.specs.Acts.Act.{Fix, Unfix}
 use Rattle.part_core.specs.Acts.Answer.{Replied}
 use Rattle.part_core.specs.Acts.Said.{Nothing}

@@ -1,11 +1,11 @@
 -- What visits are answered.
-use Rattle.std.proofs.Common.{◌≡◌, ◌≢◌, ℕ, ◌-◌, refl, ap, sym, subst, ◌∙◌, IsTrue, Option, Some, List, [], ◌++◌, length}
+use Rattle.std.proofs.Common.{◌≡◌, ℕ, ◌-◌, refl, ap, sym, subst, ◌∙◌, IsTrue, Option, Some, List, [], ◌++◌, length}
 use Rattle.std.specs.Prelude.{Bool, true, false, ◌||◌}
 use Rattle.std.proofs.lemmas.List.{append-nil}
 use Rattle.term_core.specs.Datum.{Datum}
 use Rattle.mcode.specs.Program.{Program}
 use Rattle.part_core.specs.declared.settings.Settings.{Settings}
-use Rattle.part_core.specs.Acts.{Answer, Cursor, Scope, Said, is_refused}
+use Rattle.part_core.specs.Acts.{Cursor, Scope, Said, is_refused}
 use Rattle.part_core.specs.Acts.Act.{Visit}
 use Rattle.part_core.specs.Acts.Answer.{Replied}
 use Rattle.part_core.specs.Acts.Purpose.{Answers}
@@ -63,9 +63,13 @@ pub visit_more : {A : Type 0} (h : Home) (q : Query A) (c : Counting) (part coun
 visit_more h q c part count cursor next at later before now at_is later_is follows =
     subst (λ (p : Position). Follows before now (CountsMore h (walk_of h (purpose_of c) q) p later count)) (sym at_is)
     (subst (λ (p : Position). Follows before now (CountsMore h (walk_of h (purpose_of c) q) (InPart part cursor) p count)) (sym later_is)
-    (λ v b. let f = follows v b in (f.0, f.1, λ gained.
-    let made = turn_visits h (walk_of h (purpose_of c) q) whole (InPart part cursor) gained v f.0 (Counted count next) (record { options = refl; number = refl }) f.2 in
-    (made.0, made.1, said_count c made.0 count next made.2))))
+    (λ v b. let f = follows v b in (
+      f.0,
+      f.1,
+      λ gained.
+          let made = turn_visits h (walk_of h (purpose_of c) q) whole (InPart part cursor) gained v f.0 (Counted count next) (record { options = refl; number = refl }) f.2 in
+          (made.0, made.1, said_count c made.0 count next made.2),
+    )))
 
 found_same : (xs ys : List Datum) (next : Option Cursor) → Found xs next ≡ Found ys next → xs ≡ ys
 found_same xs ys next e = cc

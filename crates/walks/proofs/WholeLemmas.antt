@@ -1,24 +1,20 @@
 -- Whole walks, with the fixes of their own.
-use Rattle.std.proofs.Common.{◌≡◌, ◌≢◌, ℕ, ◌+◌, ◌<◌, ◌≤◌, ◌==◌, refl, ap, sym, subst, ◌∙◌, arith, IsTrue, List, [], ◌∷◌, ◌++◌, length, get_or}
-use Rattle.std.specs.Prelude.{All, Bool, true, false, ◌&&◌, not, Some, MatchBool, IfOk, IfErr, Result, Ok, Err}
+use Rattle.std.proofs.Common.{◌≡◌, ◌≢◌, ℕ, ◌+◌, ◌<◌, ◌≤◌, sym, subst, ◌∙◌, arith, List, [], ◌∷◌, ◌++◌, length, get_or}
+use Rattle.std.specs.Prelude.{All, Bool, true, false, IfOk, IfErr, Result, Ok, Err}
 use Rattle.std.proofs.Math.Logic.{∥∥₁_map}
-use Rattle.std.proofs.lemmas.Bool.{and_parts, eqb-true}
 use Rattle.std.proofs.lemmas.List.{append_assoc, append-nil, length-append}
 use Rattle.std.proofs.lemmas.List.Elements.{All-nil}
 use Rattle.term_core.specs.Datum.{Datum}
 use Rattle.mcode.specs.Program.{Program}
 use Rattle.part_core.specs.Acts.{Act, History, Purpose, Scope}
 use Rattle.part_core.specs.Acts.Act.{Fix, Unfix, Visit}
-use Rattle.part_core.specs.Acts.Answer.{Replied}
 use Rattle.part_core.specs.Acts.Said.{Nothing}
 use Rattle.part_core.specs.Legal.{IsLegal, fix_count}
-use Rattle.part_core.specs.Settings.{is_ordered}
-use Rattle.part_core.proofs.KeyLemmas.{by_test}
 use Rattle.tables.specs.Options.{settings_of}
-use Rattle.tables.specs.Turns.{Home, Views, TurnedAt, Follows}
-use Rattle.walk_core.specs.Goes.{Way, way, IsAt, Goes, Drifted, Stops}
+use Rattle.tables.specs.Turns.{Home, Views, Follows}
+use Rattle.walk_core.specs.Goes.{way, IsAt, Stops}
 use Rattle.walk_core.specs.Once.{IsOnce}
-use Rattle.walk_core.specs.Moments.{IsVisit, Span, span, Gathers, IsAnswer, IsSoFar, IsGrown, ArePlaced, AreLegal, part_of_key}
+use Rattle.walk_core.specs.Moments.{IsVisit, span, Gathers, IsAnswer, IsGrown, ArePlaced, AreLegal, part_of_key}
 use Rattle.walk_core.specs.Walk.{Walk, Position, IsWalk, is_done, start_of}
 use Rattle.walk_core.specs.Walk.Position.{Over}
 use Rattle.walk_core.proofs.CountLemmas.{turned_count, goes_count, drifted_count}

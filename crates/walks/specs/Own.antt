@@ -1,5 +1,5 @@
 -- Fixes that a call makes first, at the parts that its session doesn't fix, and releases at its end.
-use Rattle.std.specs.Prelude.{ℕ, ◌≡◌, ◌<◌, ◌==◌, Bool, true, false, not, ◌&&◌, IsTrue, MatchBool, Some, get_or, List}
+use Rattle.std.specs.Prelude.{ℕ, ◌≡◌, ◌<◌, ◌==◌, Bool, false, not, ◌&&◌, IsTrue, MatchBool, Some, get_or, List}
 use Rattle.part_core.specs.Acts.{Act, History}
 use Rattle.part_core.specs.Acts.Act.{Fix, Unfix}
 use Rattle.part_core.specs.Acts.Answer.{Replied}

@@ -1,5 +1,5 @@
 -- Queries, and the walks that they make; how far a walk has come, and what it keeps.
-use Rattle.std.specs.Prelude.{ℕ, Option, None, option_map, ◌++◌, ◌<◌, List}
+use Rattle.std.specs.Prelude.{ℕ, None, option_map, ◌++◌, ◌<◌, List}
 use Rattle.term_core.specs.Datum.{Datum}
 use Rattle.part_core.specs.Acts.{Purpose}
 use Rattle.part_core.specs.Ops.{cursor_of}

@@ -1,17 +1,13 @@
 -- What a call of a whole walk makes of what a session sees.
-use Rattle.std.specs.Prelude.{ℕ, ◌≡◌, Bool, List, [], ◌∷◌, length, min}
+use Rattle.std.specs.Prelude.{ℕ, Bool, List, [], ◌∷◌}
 use Rattle.term_core.specs.Datum.{Datum}
-use Rattle.part_core.specs.Acts.{Purpose}
-use Rattle.part_core.specs.Replies.{most_counted}
 use Rattle.tables.specs.Turns.{Home, Views}
 use Rattle.walk_core.specs.Goes.{way, Stops}
 use Rattle.walk_core.specs.Moments.{span, Gathers, IsAnswer, ArePlaced}
 use Rattle.walk_core.specs.Once.{IsOnce}
 use Rattle.walk_core.specs.Walk.{Walk, Position, is_done, start_of}
 use Rattle.walk_core.specs.Walk.Position.{Over}
-use Rattle.walks.specs.declared.query.Query.{Query}
 use Rattle.walks.specs.Own.{FixesFirst, Releases}
-use Rattle.walks.specs.Query.{walk_of}
 
 -- A whole walk: the parts of a set that the session doesn't fix are fixed, visits are made from the beginning of the walk
 -- on, and these parts are released.

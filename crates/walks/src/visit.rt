@@ -29,11 +29,8 @@ fn found<A: Allocator>(reply: Reply<A>) -> (Vec<Term<A>, A>, Option<Cursor<A>>)
 {
     match reply {
         Reply::Found(answers, next) => (answers, next),
-        Reply::Done
-        | Reply::Flag(_)
-        | Reply::Objects(_)
-        | Reply::AtKey(_)
-        | Reply::Counted(..) => unreachable!(),
+        Reply::Done | Reply::Flag(_) | Reply::Objects(_) | Reply::AtKey(_) | Reply::Counted(..) =>
+            unreachable!(),
     }
 }
 

@@ -1,6 +1,5 @@
-use Rattle.std.proofs.Common.{◌≡◌, subst, Option, Some, option_map, Result}
-use Rattle.part_core.specs.declared.fault.Fault.{Fault}
-use Rattle.part_core.specs.Acts.{Act, Answer}
+use Rattle.std.proofs.Common.{subst, Some, option_map}
+use Rattle.part_core.specs.Acts.{Act}
 use Rattle.part_core.specs.Acts.Answer.{Replied}
 use Rattle.part_core.specs.Ops.{cursor_of, said_of}
 use Rattle.part_core.specs.Replies.{most_counted}

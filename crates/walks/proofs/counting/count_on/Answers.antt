@@ -1,4 +1,4 @@
-use Rattle.std.proofs.Common.{rules, ◌≡◌, ◌∙◌, ◌+◌, refl, sym, subst, option_map, None}
+use Rattle.std.proofs.Common.{rules, ◌≡◌, ◌∙◌, ◌+◌, refl, subst, option_map}
 use Rattle.std.specs.Prelude.{Err, Result, min}
 use Rattle.std.proofs.lemmas.Result.{err_from_is_err_and}
 use Rattle.part_core.specs.declared.fault.Fault.{Fault}

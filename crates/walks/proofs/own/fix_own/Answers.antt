@@ -1,15 +1,10 @@
-use Rattle.std.proofs.Common.{◌≡◌, ◌<◌, ◌∙◌, refl, ap, sym, subst, arith, IsTrue, get_or}
-use Rattle.std.specs.Prelude.{Bool, false, nat_lt}
+use Rattle.std.proofs.Common.{◌<◌, ◌∙◌, refl, ap, sym, subst, arith}
 use Rattle.std.proofs.Math.Logic.{∥∥₁_map}
 use Rattle.std.proofs.lemmas.Bool.{lt-ltb}
-use Rattle.part_core.specs.Acts.{History}
-use Rattle.part_core.specs.Acts.Act.{Fix}
-use Rattle.part_core.specs.Legal.{fix_count}
 use Rattle.part_core.specs.Replies.{most_fixes}
 use Rattle.part_core.specs.Settings.{is_ordered}
 use Rattle.tables.specs.declared.options.Options.{Options}
-use Rattle.tables.specs.Turns.{Home, Views, Turned, Follows}
-use Rattle.walks.proofs.OwnLemmas.{none_yet, count_yet, none_fixed, fixed_before, fixed_now, free_later, none_of_ordered, fixes_all}
+use Rattle.walks.proofs.OwnLemmas.{none_yet, count_yet, none_fixed, none_of_ordered}
 use Rattle.walks.proofs.own.fix_own.Goals as goal
 
 pub returns-then-is_ordered-clause-done : goal.returns-then-is_ordered-clause-done

@@ -1,11 +1,11 @@
-use Rattle.std.proofs.Common.{rules, ◌≡◌, ◌<◌, ◌∙◌, refl, ap, sym, subst, arith, IsTrue, get_or}
-use Rattle.std.specs.Prelude.{Bool, true, false, nat_lt}
+use Rattle.std.proofs.Common.{rules, ◌≡◌, ◌<◌, ap, sym, subst, arith, IsTrue, get_or}
+use Rattle.std.specs.Prelude.{true, false, nat_lt}
 use Rattle.std.proofs.Math.Logic.{∥∥₁_map}
 use Rattle.std.proofs.lemmas.Bool.{lt-ltb}
 use Rattle.part_core.specs.Legal.{fix_count}
 use Rattle.tables.specs.declared.options.Options.{Options}
-use Rattle.tables.specs.Turns.{Home, Views, Turned, Follows}
-use Rattle.walks.proofs.OwnLemmas.{none_released, left_alone, released_now, held_still, releases_all}
+use Rattle.tables.specs.Turns.{Home, Views}
+use Rattle.walks.proofs.OwnLemmas.{held_still}
 use Rattle.walks.proofs.own.release_own.Goals as goal
 
 pub unfix_at-requires-clause-granted : goal.unfix_at-requires-clause-granted

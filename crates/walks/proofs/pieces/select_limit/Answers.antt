@@ -1,10 +1,10 @@
-use Rattle.std.proofs.Common.{◌≡◌, ◌≢◌, ◌∙◌, [], List, ap, subst, sym}
+use Rattle.std.proofs.Common.{◌≡◌, ◌≢◌, ◌∙◌, [], List, ap, subst}
 use Rattle.term_core.specs.Datum.{Datum}
 use Rattle.part_core.specs.Acts.Purpose.{Answers}
 use Rattle.tables.specs.declared.options.Options.{Options}
-use Rattle.tables.specs.Turns.{Home, Views, Follows}
+use Rattle.tables.specs.Turns.{Views, Follows}
 use Rattle.walk_core.specs.Goes.{way, up_to, Stops}
-use Rattle.walk_core.specs.Walk.{Position, IsPosition, at_part, start_of}
+use Rattle.walk_core.specs.Walk.{Position, IsPosition, at_part}
 use Rattle.walks.specs.declared.fault.WalkFault.TheVariants.{Memory, StrangerContinuation}
 use Rattle.walks.specs.Pieces.{Steps}
 use Rattle.walks.specs.Query.{kept_of, position_of, walk_of}
@@ -31,7 +31,7 @@ returns-in-Err-clause-refused g c =
     let fits = g.met.T.Turns.fits c.args.turns.now c.requires in
     let at : position_of c.at_part.result ≡ at_part 0 h.options.parts = c.at_part.ensures.at ∙ ap (λ (o : Options). at_part 0 o.parts) c.options-options.ensures in
     let scarce : c.in-Err.refused.fault ≡ Memory = only_scarce h q (at_part 0 h.options.parts) c.in-Err.refused.fault before (g.met.T.Turns.seen c.args.turns.now c.requires) (λ v b. starts_well h q v fits)
-        (subst (λ (p : Position). c.in-Err.refused.fault ≢ Memory → (c.in-Err.refused.fault ≡ StrangerContinuation) × ((v : Views) → before v → IsPosition (walk_of h Answers q) v p → ⊥)) at c.in-Err.ensures.foreign) in
+    (subst (λ (p : Position). c.in-Err.refused.fault ≢ Memory → (c.in-Err.refused.fault ≡ StrangerContinuation) × ((v : Views) → before v → IsPosition (walk_of h Answers q) v p → ⊥)) at c.in-Err.ensures.foreign) in
     λ some. (
       c.query_refused.ensures.1 ∙ scarce,
       λ v b. let f = subst (λ (p : Position). Follows before now (λ x y. Stops h (walk_of h Answers q) (up_to c.args.limit) (way x p []) (position_of c.in-Err.refused.value.at) (kept_of c.in-Err.refused.value.kept) y)) at (subst (λ (ys : List Datum). Follows before now (λ x y. Stops h (walk_of h Answers q) (up_to c.args.limit) (way x (position_of c.at_part.result) ys) (position_of c.in-Err.refused.value.at) (kept_of c.in-Err.refused.value.kept) y)) c.new.ensures.none (c.in-Err.ensures.stopped scarce)) v b in

@@ -1,4 +1,4 @@
-use Rattle.std.proofs.Common.{◌≡◌, ◌∙◌, refl, sym, ap, subst, option_map, None, ◌-◌, List}
+use Rattle.std.proofs.Common.{◌≡◌, ◌∙◌, refl, sym, subst, option_map, ◌-◌, List}
 use Rattle.std.proofs.lemmas.Result.{err_from_is_err_and}
 use Rattle.term_core.specs.Datum.{Datum}
 use Rattle.part_core.specs.declared.fault.Fault.{Fault}
@@ -9,9 +9,9 @@ use Rattle.part_core.specs.Acts.Answer.{Refused}
 use Rattle.part_core.specs.Acts.Purpose.{Answers}
 use Rattle.part_core.specs.Ops.{refusal_of}
 use Rattle.tables.specs.Turns.{Home, Views, Turned, Follows}
-use Rattle.walk_core.specs.Goes.{way, up_to, Visits, Stops}
+use Rattle.walk_core.specs.Goes.{way, up_to, Visits}
 use Rattle.walk_core.specs.Moments.{AreLegal}
-use Rattle.walk_core.specs.Walk.{Position, part_at, scope_at}
+use Rattle.walk_core.specs.Walk.{part_at, scope_at}
 use Rattle.walks.specs.Query.{IsWithin, kept_of, position_of, walk_of}
 use Rattle.walks.proofs.VisitLemmas.{rest_wanted}
 use Rattle.walks.proofs.GoingLemmas.{GoesBy, goes_nowhere, goes_once, stops_refused, no_stranger, is_walk}

@@ -1,4 +1,4 @@
-use Rattle.std.proofs.Common.{◌≡◌, ◌∙◌, refl, ap, subst, sym}
+use Rattle.std.proofs.Common.{◌∙◌, refl, subst, sym}
 use Rattle.std.proofs.lemmas.Result.{IfOk-weaker, IfErr-weaker}
 use Rattle.tables.specs.Turns.{Home, Views, Follows}
 use Rattle.walk_core.specs.Goes.{whole}
@@ -23,7 +23,7 @@ release_own-requires-clause-held g c =
     let last = g.T.Turns.sees c.tally-counted.new.turns in
     let there = g.T.Turns.home c.fix_own-own.new.turns in
     let stops = subst (λ (home : Home). Follows fixed last (StopsAnywhere home (walk_of home purpose q) whole)) c.fix_own-own.ensures.same
-        (tally_stops c.tally-counted.result (λ count. count) there (walk_of there purpose q) (λ refused. refused.value) fixed last c.tally-counted.ensures.done c.tally-counted.ensures.stopped) in
+    (tally_stops c.tally-counted.result (λ count. count) there (walk_of there purpose q) (λ refused. refused.value) fixed last c.tally-counted.ensures.done c.tally-counted.ensures.stopped) in
     subst (λ (home : Home). ∥ ((x : Views) × last x × AreHeld home c.fix_own-own.result x) ∥₁) (sym (c.tally-counted.ensures.same ∙ c.fix_own-own.ensures.same))
     (held_own h (walk_of h purpose q) whole c.fix_own-own.result before fixed last (g.met.T.Turns.seen c.args.turns.now c.requires) c.fix_own-own.ensures.done stops)
 

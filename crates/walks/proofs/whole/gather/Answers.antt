@@ -3,8 +3,8 @@ use Rattle.term_core.specs.Datum.{Datum}
 use Rattle.part_core.specs.Acts.Purpose.{Answers}
 use Rattle.part_core.specs.Replies.{most_counted}
 use Rattle.tables.specs.declared.options.Options.{Options}
-use Rattle.tables.specs.Turns.{Home, Views, Follows}
-use Rattle.walk_core.specs.Goes.{way, up_to, Goes, Stops}
+use Rattle.tables.specs.Turns.{Views, Follows}
+use Rattle.walk_core.specs.Goes.{way, up_to, Stops}
 use Rattle.walk_core.specs.Walk.{Position, IsPosition, at_part}
 use Rattle.walk_core.specs.Walk.Position.{Over}
 use Rattle.walks.specs.declared.fault.WalkFault.TheVariants.{Memory, StrangerContinuation}

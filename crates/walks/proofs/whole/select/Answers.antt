@@ -1,12 +1,11 @@
-use Rattle.std.proofs.Common.{◌≡◌, ◌∙◌, refl, ap, subst, sym, [], List}
-use Rattle.std.specs.Prelude.{IfOk, IfErr}
+use Rattle.std.proofs.Common.{◌∙◌, refl, subst, sym, []}
 use Rattle.part_core.specs.Acts.Purpose.{Answers}
 use Rattle.part_core.specs.Replies.{most_counted}
 use Rattle.tables.specs.Turns.{Home, Views, Follows}
 use Rattle.walk_core.specs.Goes.{way, up_to, Stops}
 use Rattle.walk_core.specs.Walk.{start_of}
 use Rattle.walk_core.specs.Walk.Position.{Over}
-use Rattle.walks.specs.Own.{FixesFirst, Releases, AreHeld}
+use Rattle.walks.specs.Own.{Releases, AreHeld}
 use Rattle.walks.specs.Query.{walk_of}
 use Rattle.walks.specs.Visits.{StopsAnywhere}
 use Rattle.walks.proofs.GoingLemmas.{is_walk}
@@ -21,7 +20,7 @@ release_own-requires-clause-held g c =
     let fixed = g.T.Turns.sees c.fix_own-own.new.turns in
     let last = g.T.Turns.sees c.gather-answers.new.turns in
     let stops = subst (λ (home : Home). Follows fixed last (StopsAnywhere home (walk_of home Answers q) (up_to most_counted))) c.fix_own-own.ensures.same
-        (went c.gather-answers.result (λ answers. answers.items) (g.T.Turns.home c.fix_own-own.new.turns) (walk_of (g.T.Turns.home c.fix_own-own.new.turns) Answers q) (up_to most_counted) fixed last c.gather-answers.ensures.done c.gather-answers.ensures.stopped) in
+    (went c.gather-answers.result (λ answers. answers.items) (g.T.Turns.home c.fix_own-own.new.turns) (walk_of (g.T.Turns.home c.fix_own-own.new.turns) Answers q) (up_to most_counted) fixed last c.gather-answers.ensures.done c.gather-answers.ensures.stopped) in
     subst (λ (home : Home). ∥ ((x : Views) × last x × AreHeld home c.fix_own-own.result x) ∥₁) (sym (c.gather-answers.ensures.same ∙ c.fix_own-own.ensures.same))
     (held_own h (walk_of h Answers q) (up_to most_counted) c.fix_own-own.result before fixed last (g.met.T.Turns.seen c.args.turns.now c.requires) c.fix_own-own.ensures.done stops)
 
