@@ -1,175 +1,130 @@
 //! Calls of a session at a table, one for each object.
-ghost use Rattle.std.specs.Prelude.{◌≡◌, ◌<◌, IfSome};
+ghost use Rattle.std.specs.Prelude.{◌≡◌, ◌<◌};
 
-use part_core::{Cursor, Look, Part, PartOp, Reply, Scope, TableKind, key_in};
-use std::alloc::Global;
-use tables::{LocalTable, Options, delete, insert, lookup, member, turn_at};
-use term_core::Term;
+use part_core::{Cursor, Fault, Look, PartOp, Reply, Scope, key_in};
+use std::alloc::{AllocError, Global};
+use tables::{Turns, delete, insert, lookup, member, turn_at};
+use term_core::{Refused, Term};
 use verifier::Verified;
 
-/// An empty table of one session.
-pub(crate) fn opened<P: Part<Global> + Drop>(
-    alloc: Global,
-    kind: TableKind,
-    parts: u8,
-) -> Option<LocalTable<P>>
-    ensures { IfSome result (λ table. 0 < table.options.sessions) }
-{
-    let options = Options {
-        name: 0,
-        kind,
-        keypos: 1,
-        parts,
-        sessions: 1,
-    };
-    LocalTable::open(alloc, options).ok()
+/// A call with an object, or at its key.
+#[derive(Clone, Copy)]
+pub(crate) enum Call {
+    Insert,
+    Lookup,
+    Member,
+    Delete,
 }
 
-/// Puts an object in.
-pub(crate) fn put<P: Part<Global> + Drop>(table: &mut LocalTable<P>, object: Term) -> bool
-    requires { 0 < table.old.options.sessions }
-    ensures { table.new.options ≡ table.old.options }
-{
-    let mut session = table.at(0);
-    insert(&mut session, object).is_ok()
+/// What is timed.
+#[derive(Clone, Copy)]
+pub(crate) enum Work {
+    /// A call with each object.
+    Each(Call),
+    /// Counting all objects by the query.
+    Count,
 }
 
-/// Puts all objects in, and counts them.
-pub(crate) fn insert_all<P: Part<Global> + Drop>(
-    table: &mut LocalTable<P>,
-    objects: &[Term],
-) -> Option<usize>
-    requires { 0 < table.old.options.sessions }
-    ensures { table.new.options ≡ table.old.options }
-{
-    let mut count: usize = 0;
-    for object in objects {
-        if put(table, object.copy().ok()?) {
-            count = count.saturating_add(1);
-        }
-    }
-    Some(count)
+/// What the work is done on: objects with their keys at the first place, and the query that counts all.
+#[derive(Clone, Copy)]
+pub(crate) struct Load<'a> {
+    pub(crate) objects: &'a [Term],
+    pub(crate) query: &'a Verified,
 }
 
-/// How many objects a key has.
-fn found<P: Part<Global> + Drop>(table: &mut LocalTable<P>, key: &Term) -> usize
-    requires { 0 < table.old.options.sessions }
-    ensures { table.new.options ≡ table.old.options }
-{
-    let mut session = table.at(0);
-    match lookup(&mut session, key) {
+/// How many objects an insert puts in.
+fn put(inserted: Result<(), Refused<Term, Fault>>) -> usize {
+    usize::from(inserted.is_ok())
+}
+
+/// How many objects a lookup finds.
+fn found(objects: Result<Vec<Term>, AllocError>) -> usize {
+    match objects {
         Ok(objects) => objects.len(),
         Err(_) => 0,
     }
 }
 
-/// Looks each key up, and counts what is found.
-pub(crate) fn lookup_all<P: Part<Global> + Drop>(
-    table: &mut LocalTable<P>,
-    objects: &[Term],
-) -> usize
-    requires { 0 < table.old.options.sessions }
-    ensures { table.new.options ≡ table.old.options }
+/// Makes a call, and says how many objects it puts in or finds: none of a term that is no object, since it has no key.
+fn made<T: Turns<Global>>(session: &mut T, call: Call, object: &Term) -> Option<usize>
+    requires { T.is_ready session.old }
+    ensures ready { T.is_ready session.new }
+    ensures same { T.home session.new ≡ T.home session.old }
+{
+    let Some(key) = key_in(session.options().keypos, object) else {
+        return Some(0);
+    };
+    match call {
+        Call::Insert => Some(put(insert(session, object.copy().ok()?))),
+        Call::Lookup => Some(found(lookup(session, key))),
+        Call::Member => Some(usize::from(member(session, key))),
+        Call::Delete => {
+            delete(session, key);
+            Some(0)
+        }
+    }
+}
+
+/// Makes a call with each object, and says how many it puts in or finds.
+fn made_with_each<T: Turns<Global>>(session: &mut T, call: Call, objects: &[Term]) -> Option<usize>
+    requires { T.is_ready session.old }
+    ensures ready { T.is_ready session.new }
+    ensures same { T.home session.new ≡ T.home session.old }
 {
     let mut count: usize = 0;
     for object in objects {
-        if let Some(key) = key_in(1, object) {
-            count = count.saturating_add(found(table, key));
-        }
+        count = count.saturating_add(made(session, call, object)?);
     }
-    count
+    Some(count)
 }
 
-/// Whether a key has an object.
-fn is_there<P: Part<Global> + Drop>(table: &mut LocalTable<P>, key: &Term) -> bool
-    requires { 0 < table.old.options.sessions }
-    ensures { table.new.options ≡ table.old.options }
-{
-    let mut session = table.at(0);
-    member(&mut session, key)
-}
-
-/// Asks of each key whether it has an object, and counts those that have.
-pub(crate) fn member_all<P: Part<Global> + Drop>(
-    table: &mut LocalTable<P>,
-    objects: &[Term],
-) -> usize
-    requires { 0 < table.old.options.sessions }
-    ensures { table.new.options ≡ table.old.options }
-{
-    let mut count: usize = 0;
-    for object in objects {
-        if let Some(key) = key_in(1, object) {
-            if is_there(table, key) {
-                count = count.saturating_add(1);
-            }
-        }
-    }
-    count
-}
-
-/// Deletes the objects of a key.
-fn drop_key<P: Part<Global> + Drop>(table: &mut LocalTable<P>, key: &Term)
-    requires { 0 < table.old.options.sessions }
-    ensures { table.new.options ≡ table.old.options }
-{
-    let mut session = table.at(0);
-    delete(&mut session, key);
-}
-
-/// Deletes the objects of each key.
-pub(crate) fn delete_all<P: Part<Global> + Drop>(table: &mut LocalTable<P>, objects: &[Term])
-    requires { 0 < table.old.options.sessions }
-    ensures { table.new.options ≡ table.old.options }
-{
-    for object in objects {
-        if let Some(key) = key_in(1, object) {
-            drop_key(table, key);
-        }
+/// What a visit is answered: its count, and where the next goes on.
+fn counted(reply: Result<Reply, Fault>) -> Option<(u64, Option<Cursor>)> {
+    match reply {
+        Ok(Reply::Counted(count, next)) => Some((count, next)),
+        _ => None,
     }
 }
 
 /// What one visit of a part counts, and where the next goes on.
-fn visit_count<P: Part<Global> + Drop>(
-    table: &mut LocalTable<P>,
-    code: &Verified,
+fn visit_count<T: Turns<Global>>(
+    session: &mut T,
+    query: &Verified,
     part: u8,
     cursor: Option<&Cursor>,
 ) -> Option<(u64, Option<Cursor>)>
-    requires session { 0 < table.old.options.sessions }
-    requires part { part < table.old.options.parts }
-    ensures { table.new.options ≡ table.old.options }
+    requires ready { T.is_ready session.old }
+    requires part { part < (T.home session.old).options.parts }
+    ensures ready { T.is_ready session.new }
+    ensures same { T.home session.new ≡ T.home session.old }
 {
     let look = Look {
-        code,
+        code: query,
         scope: match cursor {
             Some(cursor) => Scope::After(cursor),
             None => Scope::Begin,
         },
         wanted: u64::MAX,
     };
-    let mut session = table.at(0);
-    match turn_at(&mut session, part, PartOp::VisitCount(look)) {
-        Ok(Reply::Counted(count, next)) => Some((count, next)),
-        _ => None,
-    }
+    counted(turn_at(session, part, PartOp::VisitCount(look)))
 }
 
 /// What the visits of a part count, of which there are at most so many.
-fn count_part<P: Part<Global> + Drop>(
-    table: &mut LocalTable<P>,
-    code: &Verified,
+fn count_part<T: Turns<Global>>(
+    session: &mut T,
+    query: &Verified,
     part: u8,
     visits: usize,
 ) -> Option<u64>
-    requires session { 0 < table.old.options.sessions }
-    requires part { part < table.old.options.parts }
-    ensures { table.new.options ≡ table.old.options }
+    requires ready { T.is_ready session.old }
+    requires part { part < (T.home session.old).options.parts }
+    ensures ready { T.is_ready session.new }
+    ensures same { T.home session.new ≡ T.home session.old }
 {
     let mut sum: u64 = 0;
     let mut cursor: Option<Cursor> = None;
     for _visit in 0..visits {
-        let (count, next) = visit_count(table, code, part, cursor.as_ref())?;
+        let (count, next) = visit_count(session, query, part, cursor.as_ref())?;
         sum = sum.saturating_add(count);
         if next.is_none() {
             return Some(sum);
@@ -180,61 +135,29 @@ fn count_part<P: Part<Global> + Drop>(
 }
 
 /// What a query counts in all parts of a table of so many objects.
-pub(crate) fn count_all<P: Part<Global> + Drop>(
-    table: &mut LocalTable<P>,
-    code: &Verified,
-    objects: usize,
-) -> Option<u64>
-    requires { 0 < table.old.options.sessions }
-    ensures { table.new.options ≡ table.old.options }
+fn count_all<T: Turns<Global>>(session: &mut T, query: &Verified, objects: usize) -> Option<u64>
+    requires { T.is_ready session.old }
+    ensures ready { T.is_ready session.new }
+    ensures same { T.home session.new ≡ T.home session.old }
 {
     let visits = objects
         .saturating_add(usize::from(u16::MAX))
         .saturating_add(1);
     let mut sum: u64 = 0;
-    for part in 0..table.options.parts {
-        sum = sum.saturating_add(count_part(table, code, part, visits)?);
+    for part in 0..session.options().parts {
+        sum = sum.saturating_add(count_part(session, query, part, visits)?);
     }
     Some(sum)
 }
 
-/// Puts the objects into so many tables, and holds them all.
-pub(crate) fn hold<P: Part<Global> + Drop>(
-    alloc: Global,
-    kind: TableKind,
-    parts: u8,
-    tables: u8,
-    objects: &[Term],
-) -> Option<()> {
-    let mut held: Vec<LocalTable<P>> = Vec::new(alloc);
-    for _table in 0..tables {
-        let mut table = opened::<P>(alloc, kind, parts)?;
-        let _count = insert_all(&mut table, objects)?;
-        held.push(table).ok()?;
+/// Does the work, and says how many objects it puts in, finds or counts.
+pub(crate) fn done<T: Turns<Global>>(session: &mut T, work: Work, load: Load<'_>) -> Option<u64>
+    requires { T.is_ready session.old }
+    ensures ready { T.is_ready session.new }
+    ensures same { T.home session.new ≡ T.home session.old }
+{
+    match work {
+        Work::Each(call) => Some(made_with_each(session, call, load.objects)? as u64),
+        Work::Count => count_all(session, load.query, load.objects.len()),
     }
-    Some(())
-}
-
-/// Writes what comes of each kind of call.
-pub(crate) fn write_found<P: Part<Global> + Drop>(
-    alloc: Global,
-    kind: TableKind,
-    parts: u8,
-    code: &Verified,
-    objects: &[Term],
-    lines: &mut String,
-) -> Option<()> {
-    let mut table = opened::<P>(alloc, kind, parts)?;
-    let inserted = insert_all(&mut table, objects)?;
-    let replaced = insert_all(&mut table, objects)?;
-    let found = lookup_all(&mut table, objects);
-    let there = member_all(&mut table, objects);
-    let counted = count_all(&mut table, code, objects.len())?;
-    delete_all(&mut table, objects);
-    let left = lookup_all(&mut table, objects);
-    writeln!(
-        lines,
-        "{inserted} inserted, {replaced} once more, {found} found, {there} there, {counted} counted, {left} left"
-    )
-    .ok()
 }

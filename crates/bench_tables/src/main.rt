@@ -12,6 +12,7 @@
 mod calls;
 mod times;
 
+use calls::Load;
 use compiler::compile;
 use mspec_reader::read_spec;
 use part_core::{Part, TableKind};
@@ -20,6 +21,7 @@ use part_order::OrderPart;
 use std::alloc::Global;
 use std::io::{Read, Write};
 use std::process::ExitCode;
+use tables::Options;
 use term_core::Term;
 use term_text::read_terms;
 use verifier::Verified;
@@ -27,12 +29,11 @@ use verifier::Verified;
 /// The query that counts all objects.
 const QUERY: &[u8] = b"[{'_',[],[true]}].";
 
-/// What is done at which table.
+/// What is done at which table, and at how many.
 #[derive(Clone, Copy)]
 struct Task<'a> {
     word: &'a str,
-    kind: TableKind,
-    parts: u8,
+    options: Options,
     tables: u8,
 }
 
@@ -58,6 +59,17 @@ fn kind_of(name: &str) -> Option<TableKind> {
     }
 }
 
+/// What a table is opened with: one session, and keys at the first place.
+fn options_of(kind: &str, parts: &str) -> Option<Options> {
+    Some(Options {
+        name: 0,
+        kind: kind_of(kind)?,
+        keypos: 1,
+        parts: parts.parse().ok()?,
+        sessions: 1,
+    })
+}
+
 /// What the arguments ask for.
 fn task_of(arguments: &[String]) -> Option<Task<'_>> {
     let [_program, word, kind, parts, tables] = arguments else {
@@ -65,51 +77,51 @@ fn task_of(arguments: &[String]) -> Option<Task<'_>> {
     };
     Some(Task {
         word: word.as_str(),
-        kind: kind_of(kind.as_str())?,
-        parts: parts.as_str().parse().ok()?,
+        options: options_of(kind.as_str(), parts.as_str())?,
         tables: tables.as_str().parse().ok()?,
     })
 }
 
-/// Writes the lines of a task at tables of a kind of part.
+/// Writes the lines of a task at tables of a kind of part. There are none where there is no such task or it can't be done.
 fn write_at<P: Part<Global> + Drop>(
     rt: &HostRuntime,
     task: Task<'_>,
+    load: Load<'_>,
     lines: &mut String,
 ) -> Option<()> {
-    let objects = input(rt)?;
-    let objects = objects.as_slice();
-    let code = query(rt.alloc())?;
     match task.word {
-        "times" => times::write::<P>(rt, task.kind, task.parts, &code, objects, lines),
-        "hold" => calls::hold::<P>(rt.alloc(), task.kind, task.parts, task.tables, objects),
-        "longest" => times::write_longest::<P>(rt, task.kind, task.parts, objects, lines),
-        "found" => calls::write_found::<P>(
-            rt.alloc(),
-            task.kind,
-            task.parts,
-            &code,
-            objects,
-            lines,
-        ),
+        "times" => times::write::<P>(rt, task.options, load, lines),
+        "hold" => times::hold::<P>(rt, task.options, task.tables, load),
+        "longest" => times::write_longest::<P>(rt, task.options, load, lines),
+        "found" => times::write_found::<P>(rt, task.options, load, lines),
         _ => None,
     }
 }
 
-/// Writes the lines of a task. There are none where there is no such task or it can't be done.
-fn write_task(rt: &HostRuntime, arguments: &[String], lines: &mut String) -> Option<()> {
-    let task = task_of(arguments)?;
-    if task.kind.is_ordered() {
-        write_at::<OrderPart<Global>>(rt, task, lines)
+/// Writes the lines of a task with the objects of standard input.
+fn write_task(rt: &HostRuntime, task: Task<'_>, lines: &mut String) -> Option<()> {
+    let objects = input(rt)?;
+    let query = query(rt.alloc())?;
+    let load = Load {
+        objects: objects.as_slice(),
+        query: &query,
+    };
+    if task.options.kind.is_ordered() {
+        write_at::<OrderPart<Global>>(rt, task, load, lines)
     } else {
-        write_at::<HashPart<Global>>(rt, task, lines)
+        write_at::<HashPart<Global>>(rt, task, load, lines)
     }
+}
+
+/// Writes the lines of what the arguments ask for. There are none where they ask for nothing.
+fn write_lines(rt: &HostRuntime, arguments: &[String], lines: &mut String) -> Option<()> {
+    write_task(rt, task_of(arguments)?, lines)
 }
 
 fn main(rt: HostRuntime) -> anyhow::Result<ExitCode> {
     let arguments: Vec<String> = std::env::args(&rt)?.collect(rt.alloc())?;
     let mut lines = String::new(rt.alloc());
-    match write_task(&rt, arguments.as_slice(), &mut lines) {
+    match write_lines(&rt, arguments.as_slice(), &mut lines) {
         Some(()) => {
             rt.stdout().write_all(lines.as_bytes())?;
             Ok(ExitCode::SUCCESS)

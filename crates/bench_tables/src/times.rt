@@ -1,113 +1,97 @@
-//! What calls take.
-ghost use Rattle.std.specs.Prelude.{◌≡◌, ◌<◌};
+//! What work at a table takes, and what comes of it.
+ghost use Rattle.std.specs.Prelude.{◌≡◌, ◌<◌, IfSome};
 
-use crate::calls::{count_all, delete_all, insert_all, lookup_all, member_all, opened, put};
-use part_core::{Part, TableKind};
+use crate::calls::{Call, Load, Work, done};
+use part_core::Part;
 use std::alloc::Global;
+use std::slice;
 use std::time::Instant;
-use tables::LocalTable;
-use term_core::Term;
-use verifier::Verified;
+use tables::{LocalTable, Options};
 
 /// How many rounds are timed.
 const ROUNDS: usize = 5;
-/// How many kinds of calls are timed.
-const CALLS: usize = 6;
-/// The kinds, in the order in which a round makes them.
-const NAMES: [&str; CALLS] = ["insert", "replace", "lookup", "member", "count", "delete"];
+/// How many kinds of work a round has.
+const WORKS: usize = 7;
+/// The work of a round, in its order. The second insert puts each object in the place of the first, and the last lookup finds what was
+/// left.
+const ROUND: [Work; WORKS] = [
+    Work::Each(Call::Insert),
+    Work::Each(Call::Insert),
+    Work::Each(Call::Lookup),
+    Work::Each(Call::Member),
+    Work::Count,
+    Work::Each(Call::Delete),
+    Work::Each(Call::Lookup),
+];
+/// What the work is called of which times are written: all but the last.
+const NAMES: [&str; WORKS - 1] = ["insert", "replace", "lookup", "member", "count", "delete"];
 
-/// Nanoseconds since a moment.
-fn since(rt: &HostRuntime, began: Instant) -> Option<u64> {
-    u64::try_from(began.elapsed(rt).ok()?.as_nanos()).ok()
+/// What came of work.
+#[derive(Clone, Copy)]
+struct Outcome {
+    nanoseconds: u64,
+    /// How many objects were put in, found or counted.
+    objects: u64,
 }
 
-/// What putting all objects in takes.
-fn insert_time<P: Part<Global> + Drop>(
+/// An empty table of some session.
+fn opened<P: Part<Global> + Drop>(alloc: Global, options: Options) -> Option<LocalTable<P>>
+    ensures { IfSome result (λ table. 0 < table.options.sessions) }
+{
+    LocalTable::open(alloc, options).ok()
+}
+
+/// Does the work in a session at a table, and times it.
+fn timed<P: Part<Global> + Drop>(
     rt: &HostRuntime,
     table: &mut LocalTable<P>,
-    objects: &[Term],
-) -> Option<u64>
+    work: Work,
+    load: Load<'_>,
+) -> Option<Outcome>
     requires { 0 < table.old.options.sessions }
     ensures { table.new.options ≡ table.old.options }
 {
+    let mut session = table.at(0);
     let began = Instant::now(rt).ok()?;
-    let _count = insert_all(table, objects)?;
-    since(rt, began)
+    let objects = done(&mut session, work, load)?;
+    let took = began.elapsed(rt).ok()?;
+    Some(Outcome {
+        nanoseconds: u64::try_from(took.as_nanos()).ok()?,
+        objects,
+    })
 }
 
-/// What looking all keys up takes.
-fn lookup_time<P: Part<Global> + Drop>(
-    rt: &HostRuntime,
-    table: &mut LocalTable<P>,
-    objects: &[Term],
-) -> Option<u64>
-    requires { 0 < table.old.options.sessions }
-    ensures { table.new.options ≡ table.old.options }
-{
-    let began = Instant::now(rt).ok()?;
-    let _count = lookup_all(table, objects);
-    since(rt, began)
-}
-
-/// What asking for all keys takes.
-fn member_time<P: Part<Global> + Drop>(
-    rt: &HostRuntime,
-    table: &mut LocalTable<P>,
-    objects: &[Term],
-) -> Option<u64>
-    requires { 0 < table.old.options.sessions }
-    ensures { table.new.options ≡ table.old.options }
-{
-    let began = Instant::now(rt).ok()?;
-    let _count = member_all(table, objects);
-    since(rt, began)
-}
-
-/// What counting by a query takes.
-fn count_time<P: Part<Global> + Drop>(
-    rt: &HostRuntime,
-    table: &mut LocalTable<P>,
-    code: &Verified,
-    objects: &[Term],
-) -> Option<u64>
-    requires { 0 < table.old.options.sessions }
-    ensures { table.new.options ≡ table.old.options }
-{
-    let began = Instant::now(rt).ok()?;
-    let _count = count_all(table, code, objects.len())?;
-    since(rt, began)
-}
-
-/// What deleting all keys takes.
-fn delete_time<P: Part<Global> + Drop>(
-    rt: &HostRuntime,
-    table: &mut LocalTable<P>,
-    objects: &[Term],
-) -> Option<u64>
-    requires { 0 < table.old.options.sessions }
-    ensures { table.new.options ≡ table.old.options }
-{
-    let began = Instant::now(rt).ok()?;
-    delete_all(table, objects);
-    since(rt, began)
-}
-
-/// What one round takes.
+/// What comes of a round at an empty table.
 fn round<P: Part<Global> + Drop>(
     rt: &HostRuntime,
-    kind: TableKind,
-    parts: u8,
-    code: &Verified,
-    objects: &[Term],
-) -> Option<[u64; CALLS]> {
-    let mut table = opened::<P>(rt.alloc(), kind, parts)?;
-    let insert = insert_time(rt, &mut table, objects)?;
-    let replace = insert_time(rt, &mut table, objects)?;
-    let lookup = lookup_time(rt, &mut table, objects)?;
-    let member = member_time(rt, &mut table, objects)?;
-    let count = count_time(rt, &mut table, code, objects)?;
-    let delete = delete_time(rt, &mut table, objects)?;
-    Some([insert, replace, lookup, member, count, delete])
+    options: Options,
+    load: Load<'_>,
+) -> Option<[Outcome; WORKS]> {
+    let mut table = opened::<P>(rt.alloc(), options)?;
+    let mut outcomes = [Outcome {
+        nanoseconds: 0,
+        objects: 0,
+    }; WORKS];
+    for work in 0..WORKS {
+        outcomes[work] = timed(rt, &mut table, ROUND[work], load)?;
+    }
+    Some(outcomes)
+}
+
+/// The nanoseconds of each work in each round.
+fn rounds<P: Part<Global> + Drop>(
+    rt: &HostRuntime,
+    options: Options,
+    load: Load<'_>,
+) -> Option<[[u64; ROUNDS]; WORKS]> {
+    let mut times = [[0; ROUNDS]; WORKS];
+    for number in 0..ROUNDS {
+        let outcomes = round::<P>(rt, options, load)?;
+        for work in 0..WORKS {
+            times[work][number] = outcomes[work].nanoseconds;
+        }
+    }
+    Some(times)
 }
 
 /// The median of the rounds.
@@ -119,54 +103,36 @@ fn median(mut rounds: [u64; ROUNDS]) -> u64 {
 /// Writes the nanoseconds of a call of each kind, the median of the rounds.
 pub(crate) fn write<P: Part<Global> + Drop>(
     rt: &HostRuntime,
-    kind: TableKind,
-    parts: u8,
-    code: &Verified,
-    objects: &[Term],
+    options: Options,
+    load: Load<'_>,
     lines: &mut String,
 ) -> Option<()> {
-    let mut times = [[0; ROUNDS]; CALLS];
-    for number in 0..ROUNDS {
-        let taken = round::<P>(rt, kind, parts, code, objects)?;
-        for call in 0..CALLS {
-            times[call][number] = taken[call];
-        }
-    }
-    let count = u64::try_from(objects.len()).ok()?.max(1);
-    for call in 0..CALLS {
-        let name = NAMES[call];
-        let each = median(times[call]).checked_div(count)?;
+    let times = rounds::<P>(rt, options, load)?;
+    let count = u64::try_from(load.objects.len()).ok()?.max(1);
+    for work in 0..NAMES.len() {
+        let name = NAMES[work];
+        let each = median(times[work]).checked_div(count)?;
         writeln!(lines, "{name} {each} ns").ok()?;
     }
     Some(())
 }
 
-/// What putting one object in takes.
-fn put_time<P: Part<Global> + Drop>(
-    rt: &HostRuntime,
-    table: &mut LocalTable<P>,
-    object: &Term,
-) -> Option<u64>
-    requires { 0 < table.old.options.sessions }
-    ensures { table.new.options ≡ table.old.options }
-{
-    let began = Instant::now(rt).ok()?;
-    let _is_in = put(table, object.copy().ok()?);
-    since(rt, began)
-}
-
-/// What the longest of all inserts takes.
+/// The nanoseconds of the longest insert.
 fn longest_insert<P: Part<Global> + Drop>(
     rt: &HostRuntime,
     table: &mut LocalTable<P>,
-    objects: &[Term],
+    load: Load<'_>,
 ) -> Option<u64>
     requires { 0 < table.old.options.sessions }
-    ensures { table.new.options ≡ table.old.options }
 {
     let mut longest: u64 = 0;
-    for object in objects {
-        longest = put_time(rt, table, object)?.max(longest);
+    for object in load.objects {
+        let one = Load {
+            objects: slice::from_ref(object),
+            query: load.query,
+        };
+        let outcome = timed(rt, table, Work::Each(Call::Insert), one)?;
+        longest = outcome.nanoseconds.max(longest);
     }
     Some(longest)
 }
@@ -174,12 +140,52 @@ fn longest_insert<P: Part<Global> + Drop>(
 /// Writes what the longest insert takes: that which doubles the most slots.
 pub(crate) fn write_longest<P: Part<Global> + Drop>(
     rt: &HostRuntime,
-    kind: TableKind,
-    parts: u8,
-    objects: &[Term],
+    options: Options,
+    load: Load<'_>,
     lines: &mut String,
 ) -> Option<()> {
-    let mut table = opened::<P>(rt.alloc(), kind, parts)?;
-    let longest = longest_insert(rt, &mut table, objects)?;
+    let mut table = opened::<P>(rt.alloc(), options)?;
+    let longest = longest_insert(rt, &mut table, load)?;
     writeln!(lines, "longest insert {longest} ns").ok()
+}
+
+/// Writes how many objects each work of a round finds.
+pub(crate) fn write_found<P: Part<Global> + Drop>(
+    rt: &HostRuntime,
+    options: Options,
+    load: Load<'_>,
+    lines: &mut String,
+) -> Option<()> {
+    let [insert, replace, lookup, member, count, _delete, last] = round::<P>(rt, options, load)?;
+    writeln!(
+        lines,
+        "{} inserted, {} once more, {} found, {} there, {} counted, {} left",
+        insert.objects, replace.objects, lookup.objects, member.objects, count.objects, last.objects
+    )
+    .ok()
+}
+
+/// A table with the objects.
+fn filled<P: Part<Global> + Drop>(
+    rt: &HostRuntime,
+    options: Options,
+    load: Load<'_>,
+) -> Option<LocalTable<P>> {
+    let mut table = opened::<P>(rt.alloc(), options)?;
+    let _outcome = timed(rt, &mut table, Work::Each(Call::Insert), load)?;
+    Some(table)
+}
+
+/// Puts the objects into so many tables, and holds them all.
+pub(crate) fn hold<P: Part<Global> + Drop>(
+    rt: &HostRuntime,
+    options: Options,
+    tables: u8,
+    load: Load<'_>,
+) -> Option<()> {
+    let mut held: Vec<LocalTable<P>> = Vec::new(rt.alloc());
+    for _table in 0..tables {
+        held.push(filled::<P>(rt, options, load)?).ok()?;
+    }
+    Some(())
 }
