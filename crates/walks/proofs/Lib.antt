@@ -9,4 +9,9 @@ mod CountingLemmas
 pub mod OrderLemmas
 pub mod SightLemmas
 pub mod MadeLemmas
+pub mod LookLemmas
+pub mod VisitLooks
+pub mod GoneLemmas
+pub mod AloneLemmas
+pub mod WhollyLemmas
 mod WorkedRows

@@ -8,3 +8,4 @@ pub mod Whole
 pub mod Counting
 pub mod Sights
 pub mod Laws
+pub mod Alone

@@ -9,7 +9,8 @@
 //! - `visit`: visits up to a limit; `counting`: visits that count or delete.
 //! - `pieces`: `select_limit` and `select_more`; `whole`: `select`, `select_count` and `select_delete`; `own`: the fixes that these make.
 //! - `keys`: `first` and `next`.
-//! - `laws`: that a whole walk on one thread goes in order; `specs/Sights.antt` says what walks visit there. No call stands on that yet.
+//! - `laws`: that a whole walk on one thread goes in order (`specs/Sights.antt` says what walks visit there), and what walks come to
+//!   where a session is alone (`specs/Alone.antt`).
 #![tactic(auto)]
 
 mod continuation;
@@ -29,7 +30,7 @@ pub use continuation::{Continuation, Step};
 pub use fault::WalkFault;
 pub use kept::Kept;
 pub use keys::{first, next};
-pub use laws::whole_walks_go_in_order;
+pub use laws::{steps_are_pieces, whole_walks_count, whole_walks_go_in_order, whole_walks_select};
 pub use pieces::{select_limit, select_more};
 pub use position::Position;
 pub use query::Query;

@@ -1,0 +1,204 @@
+-- Visits one behind the other, of a session that is alone and whose visits change no state.
+use Rattle.std.proofs.Common.{◌≡◌, ◌≢◌, ◌<◌, ◌+◌, ◌-◌, ◌==◌, ℕ, Option, Some, None, List, [], ◌∷◌, ◌++◌, refl, sym, subst, ◌∙◌, ap, arith, flat_map, length, fold}
+use Rattle.std.specs.Prelude.{IsTrue, nat_lt, filter_map}
+use Rattle.std.proofs.lemmas.Bool.{eqb-true, eqb-false, ltb-true}
+use Rattle.std.proofs.lemmas.List.{append_assoc, append-nil, length-append}
+use Rattle.std.proofs.lemmas.List.Concat.{flat_map-append}
+use Rattle.std.proofs.lemmas.List.Sums.{fold-append}
+use Rattle.term_core.specs.Datum.{Datum}
+use Rattle.mcode.specs.Program.{Program}
+use Rattle.part_core.specs.Acts.{Purpose, Cursor, Scope, Said, Entry, History, next_in}
+use Rattle.part_core.specs.Acts.Act.{Visit}
+use Rattle.part_core.specs.Acts.Answer.{Replied}
+use Rattle.part_core.specs.After.{after, rows_after}
+use Rattle.part_core.specs.Laws.{LeadsTo}
+use Rattle.part_core.specs.Legal.{state_after, IsLegal}
+use Rattle.part_core.specs.Replies.{reply_of, yield_of}
+use Rattle.part_core.specs.Rows.{Row, PartState, opening}
+use Rattle.part_core.specs.States.{IsState}
+use Rattle.part_core.specs.Visits.{is_inside, next_of, yields}
+use Rattle.part_core.proofs.AfterLemmas.{read_after}
+use Rattle.part_core.proofs.CoverLemmas.{visit_yields}
+use Rattle.part_core.proofs.HistoryLemmas.{legal_front_from, legal_rest_from, state_of}
+use Rattle.part_core.proofs.KeyLemmas.{by_test}
+use Rattle.part_core.proofs.LawLemmas.{visits_led}
+use Rattle.tables.specs.Options.{settings_of}
+use Rattle.tables.specs.OneThread.{TableState}
+use Rattle.tables.specs.Turns.{Home, Views, TurnedAt}
+use Rattle.tables.proofs.TurnLemmas.{turned_alone}
+use Rattle.walk_core.specs.Goes.{Way, way, Visits, Goes}
+use Rattle.walk_core.specs.Goes.Goes.{stays, goes}
+use Rattle.walk_core.specs.Walk.{Walk, Position, at_part, position_in, scope_from}
+use Rattle.walk_core.specs.Walk.Position.{InPart, AtNamed, Over}
+use Rattle.walks.specs.Sights.{Sight, answers_in, goes_on, made, rows_seen, sights_from}
+use Rattle.walks.specs.Alone.{IsUnnamed}
+use Rattle.walks.proofs.OneThreadLemmas.{AreStates}
+use Rattle.walks.proofs.LookLemmas.{Looks}
+use Rattle.walks.proofs.VisitLooks.{visit_looks}
+
+-- the walk of a session through all parts of its table
+abbrev pub plain : Home → Purpose → Program → Walk
+plain h purpose program = record {
+  options = h.options;
+  number = h.number;
+  purpose = purpose;
+  program = program;
+  plan = None;
+  from = 0;
+  to = h.options.parts;
+}
+
+abbrev pub table_of : Home → (ℕ → PartState) → TableState
+table_of h states = record { options = h.options; states = states }
+
+-- ---- one visit
+
+-- what is known of an answered visit, by the state that it met
+pub record Told (h : Home) (purpose : Purpose) (p : Program) (scope : Scope) (wanted : ℕ) (said : Said) (new : History) (s : PartState) : Type 0 where
+  pub some : 0 < wanted
+  pub state : IsState (settings_of h.options) s
+  pub inside : IsTrue (is_inside (settings_of h.options) s scope)
+  pub next : next_in said ≡ next_of (settings_of h.options) s purpose p scope wanted
+  pub leads : LeadsTo (settings_of h.options) s.base scope (next_of (settings_of h.options) s purpose p scope wanted)
+  pub replied : reply_of (settings_of h.options) s h.number (Visit purpose p scope wanted) ≡ Replied said
+  pub leaves : after (settings_of h.options) s h.number (Visit purpose p scope wanted) ≡ state_after (settings_of h.options) new
+
+pub visit_told : (h : Home) (purpose : Purpose) (p : Program) (scope : Scope) (wanted : ℕ) (said : Said) (old new : History) → IsTrue h.alone → TurnedAt h old (Visit purpose p scope wanted) (Some (Replied said)) new
+    → Told h purpose p scope wanted said new (state_after (settings_of h.options) old)
+visit_told h purpose p scope wanted said old new alone t =
+    let o = settings_of h.options in
+    let last : Entry = record { session = h.number; act = Visit purpose p scope wanted; answer = Replied said } in
+    let grown : new ≡ old ++ last ∷ [] = t.grown ∙ ap (λ (es : History). (old ++ es) ++ last ∷ []) (t.others.alone alone) ∙ ap (λ (es : History). es ++ last ∷ []) (append-nil old) in
+    let legal : IsLegal o (old ++ last ∷ []) = subst (IsLegal o) grown t.legal in
+    let turned = turned_alone h old new (Visit purpose p scope wanted) (Replied said) alone t in
+    let says = visit_yields o old h.number purpose p scope wanted said legal in
+    record {
+      some = (legal_rest_from o (opening o) old (last ∷ []) legal).0.asked;
+      state = state_of o old (legal_front_from o (opening o) old (last ∷ []) legal);
+      inside = says.inside;
+      next = says.next;
+      leads = subst (LeadsTo o (state_after o old).base scope) says.next (visits_led o old h.number purpose p scope wanted said legal);
+      replied = sym turned.0;
+      leaves = turned.1;
+    }
+
+same_next : (h : Home) (states : ℕ → PartState) (part : ℕ) (next : Option Cursor) → position_in h.options.parts part next ≡ goes_on (table_of h states) part next
+same_next h states part None = refl
+same_next h states part (Some c) = refl
+
+there_next : (parts part : ℕ) (next : Option Cursor) → part < parts → IsUnnamed parts (position_in parts part next)
+there_next parts part (Some c) inside = inside
+there_next parts part None inside =
+    by_test (nat_lt (part + 1) parts) (IsUnnamed parts (at_part (part + 1) parts)) (λ further. rw further (ltb-true (part + 1) parts further)) (λ last. rw last tt)
+
+-- what a visit looks at, of a table as the session sees it, and where the walk is then
+pub record Seen (f : Datum → Option Datum) (h : Home) (purpose : Purpose) (p : Program) (states : ℕ → PartState) (wanted : ℕ → ℕ) (a b : Way) : Type 0 where
+  pub part : ℕ
+  pub cursor : Option Cursor
+  pub said : Said
+  pub inside : part < h.options.parts
+  pub told : Told h purpose p (scope_from cursor) (wanted (length a.gained)) said (b.views part) (states part)
+  pub rest : (k : ℕ) → k ≢ part → b.views k ≡ a.views k
+  pub from : a.at ≡ InPart part cursor
+  pub looks : Looks f (table_of h states) (wanted (length a.gained)) a.at b.at (yield_of (settings_of h.options) (states part) purpose p (scope_from cursor) (wanted (length a.gained)))
+  pub gained : b.gained ≡ a.gained ++ yield_of (settings_of h.options) (states part) purpose p (scope_from cursor) (wanted (length a.gained))
+  pub there : IsUnnamed h.options.parts b.at
+
+seen_in : (f : Datum → Option Datum) (h : Home) (purpose : Purpose) (p : Program) (states : ℕ → PartState) (wanted : ℕ → ℕ) (v : Views) (part : ℕ) (cursor : Option Cursor) (gained : List Datum) (b : Way) → yields purpose p ≡ filter_map f → IsTrue h.alone → AreStates h (table_of h states) v → part < h.options.parts
+    → Visits h (plain h purpose p) wanted (way v (InPart part cursor) gained) b → Seen f h purpose p states wanted (way v (InPart part cursor) gained) b
+seen_in f h purpose p states wanted v part cursor gained b same alone are inside visit =
+    let o = settings_of h.options in
+    let n : ℕ = wanted (length gained) in
+    let told : Told h purpose p (scope_from cursor) n visit.said (b.views part) (states part) = subst (Told h purpose p (scope_from cursor) n visit.said (b.views part)) (sym (are part inside)) (visit_told h purpose p (scope_from cursor) n visit.said (v part) (b.views part) alone visit.turned.here) in
+    let met : state_after o (v part ++ visit.turned.here.between) ≡ states part = ap (λ (es : History). state_after o (v part ++ es)) (visit.turned.here.others.alone alone) ∙ ap (state_after o) (append-nil (v part)) ∙ sym (are part inside) in
+    let at : b.at ≡ goes_on (table_of h states) part (next_of o (states part) purpose p (scope_from cursor) n) = visit.at ∙ same_next h states part (next_in visit.said) ∙ ap (goes_on (table_of h states) part) told.next in
+    record {
+      part = part;
+      cursor = cursor;
+      said = visit.said;
+      inside = inside;
+      told = told;
+      rest = visit.turned.rest;
+      from = refl;
+      looks = subst (λ (later : Position). Looks f (table_of h states) n (InPart part cursor) later (yield_of o (states part) purpose p (scope_from cursor) n)) (sym at)
+          (visit_looks f purpose p (table_of h states) part n cursor same told.some told.state told.inside told.leads);
+      gained = visit.gained ∙ ap (λ (s : PartState). gained ++ yield_of o s purpose p (scope_from cursor) n) met;
+      there = subst (IsUnnamed h.options.parts) (sym visit.at) (there_next h.options.parts part (next_in visit.said) inside);
+    }
+
+pub visit_seen : (f : Datum → Option Datum) (h : Home) (purpose : Purpose) (p : Program) (states : ℕ → PartState) (wanted : ℕ → ℕ) (a b : Way) → yields purpose p ≡ filter_map f → IsTrue h.alone → AreStates h (table_of h states) a.views → IsUnnamed h.options.parts a.at → a.at ≢ Over
+    → Visits h (plain h purpose p) wanted a b → Seen f h purpose p states wanted a b
+visit_seen f h purpose p states wanted a b same alone are there more visit = of a.views a.at a.gained are there more visit
+  where
+    of : (v : Views) (at : Position) (gained : List Datum) → AreStates h (table_of h states) v → IsUnnamed h.options.parts at → at ≢ Over → Visits h (plain h purpose p) wanted (way v at gained) b → Seen f h purpose p states wanted (way v at gained) b
+    of v (InPart part cursor) gained are there more visit =
+        seen_in f h purpose p states wanted v part cursor gained b same alone are there visit
+    of v Over gained are there more visit = absurd (more refl)
+    of v (AtNamed n) gained are there more visit = absurd there
+
+-- ---- visits that change no state
+
+-- a visit of this purpose writes nothing
+abbrev pub Reads : Home → Purpose → Program → Type 0
+Reads h purpose p = (s : PartState) (scope : Scope) (wanted : ℕ) → rows_after (settings_of h.options) s (Visit purpose p scope wanted) ≡ s.rows
+
+pub states_seen : (f : Datum → Option Datum) (h : Home) (purpose : Purpose) (p : Program) (states : ℕ → PartState) (wanted : ℕ → ℕ) (a b : Way) → Reads h purpose p → AreStates h (table_of h states) a.views
+    → Seen f h purpose p states wanted a b → AreStates h (table_of h states) b.views
+states_seen f h purpose p states wanted a b reads are seen k inside =
+    by_test (k == seen.part) (states k ≡ state_after (settings_of h.options) (b.views k))
+    (λ here. subst (λ (j : ℕ). states j ≡ state_after (settings_of h.options) (b.views j)) (sym (eqb-true k seen.part here))
+    (sym (read_after (settings_of h.options) (states seen.part) h.number (Visit purpose p (scope_from seen.cursor) (wanted (length a.gained))) (Replied seen.said) seen.told.state seen.told.replied (reads (states seen.part) (scope_from seen.cursor) (wanted (length a.gained))) refl) ∙ seen.told.leaves))
+    (λ other. are k inside ∙ ap (state_after (settings_of h.options)) (sym (seen.rest k (eqb-false k seen.part other))))
+
+-- How a walk has gone, by the visits of one thread: it made those of the first list, and the others are left.
+pub record Gone (f : Datum → Option Datum) (h : Home) (states : ℕ → PartState) (wanted : ℕ → ℕ) (a b : Way) : Type 0 where
+  pub front : List Sight
+  pub splits : sights_from (table_of h states) None a.at ≡ front ++ sights_from (table_of h states) None b.at
+  pub gains : b.gained ≡ a.gained ++ answers_in f front
+  pub picks : (limit : ℕ) → ((n : ℕ) → wanted n ≡ limit - n) → made f (limit - length a.gained) (sights_from (table_of h states) None a.at) ≡ front ++ made f (limit - length b.gained) (sights_from (table_of h states) None b.at)
+  pub last : fold (λ before v. v.behind) a.at front ≡ b.at
+  pub there : IsUnnamed h.options.parts b.at
+  pub states_now : AreStates h (table_of h states) b.views
+
+answers_on : (f : Datum → Option Datum) (vs ws : List Sight) → answers_in f (vs ++ ws) ≡ answers_in f vs ++ answers_in f ws
+answers_on f vs ws =
+    ap (flat_map (λ (r : Row). filter_map f r.1)) (flat_map-append (λ (v : Sight). v.rows) vs ws)
+    ∙ flat_map-append (λ (r : Row). filter_map f r.1) (rows_seen vs) (rows_seen ws)
+
+gone_on : (f : Datum → Option Datum) (h : Home) (purpose : Purpose) (p : Program) (states : ℕ → PartState) (wanted : ℕ → ℕ) (a b c : Way) → Reads h purpose p → Gone f h states wanted a b → Seen f h purpose p states wanted b c → Gone f h states wanted a c
+gone_on f h purpose p states wanted a b c reads g seen =
+    let t = table_of h states in
+    let found = yield_of (settings_of h.options) (states seen.part) purpose p (scope_from seen.cursor) (wanted (length b.gained)) in
+    record {
+      front = g.front ++ seen.looks.front;
+      splits = g.splits ∙ ap (λ (vs : List Sight). g.front ++ vs) seen.looks.splits ∙ sym (append_assoc g.front seen.looks.front (sights_from t None c.at));
+      gains = seen.gained ∙ ap (λ (xs : List Datum). xs ++ found) g.gains ∙ append_assoc a.gained (answers_in f g.front) found
+          ∙ ap (λ (xs : List Datum). a.gained ++ xs) (ap (λ (xs : List Datum). answers_in f g.front ++ xs) (sym seen.looks.gains) ∙ sym (answers_on f g.front seen.looks.front));
+      picks = λ limit is.
+          let want = is (length b.gained) in
+          let all : length c.gained ≡ length b.gained + length found = ap length seen.gained ∙ length-append b.gained found in
+          let left : (limit - length b.gained) - length found ≡ limit - length c.gained = omega (arith, all) in
+          g.picks limit is
+          ∙ ap (λ (vs : List Sight). g.front ++ vs)
+          (subst (λ (n : ℕ). made f n (sights_from t None b.at) ≡ seen.looks.front ++ made f (n - length found) (sights_from t None c.at)) want seen.looks.picks
+          ∙ ap (λ (n : ℕ). seen.looks.front ++ made f n (sights_from t None c.at)) left)
+          ∙ sym (append_assoc g.front seen.looks.front (made f (limit - length c.gained) (sights_from t None c.at)));
+      last = fold-append (λ (before : Position) (v : Sight). v.behind) a.at g.front seen.looks.front ∙ ap (λ (at : Position). fold (λ (before : Position) (v : Sight). v.behind) at seen.looks.front) g.last ∙ seen.looks.last;
+      there = seen.there;
+      states_now = states_seen f h purpose p states wanted b c reads g.states_now seen;
+    }
+
+pub goes_gone : (f : Datum → Option Datum) (h : Home) (purpose : Purpose) (p : Program) (states : ℕ → PartState) (wanted : ℕ → ℕ) (a b : Way) → yields purpose p ≡ filter_map f → Reads h purpose p → IsTrue h.alone → AreStates h (table_of h states) a.views → IsUnnamed h.options.parts a.at
+    → Goes h (plain h purpose p) wanted a b → Gone f h states wanted a b
+goes_gone f h purpose p states wanted a b same reads alone are there stays = record {
+  front = [];
+  splits = refl;
+  gains = sym (append-nil a.gained);
+  picks = λ limit is. refl;
+  last = refl;
+  there = there;
+  states_now = are;
+}
+goes_gone f h purpose p states wanted a c same reads alone are there (goes {b} g more visit) =
+    let before = goes_gone f h purpose p states wanted a b same reads alone are there g in
+    gone_on f h purpose p states wanted a b c reads before (visit_seen f h purpose p states wanted b c same alone before.states_now before.there more visit)

@@ -1,0 +1,57 @@
+-- What walks come to where a session is alone with its table: what the definitions for one thread say.
+use Rattle.std.specs.Prelude.{ℕ, ◌≡◌, ◌<◌, IsTrue, None, List, [], length}
+use Rattle.term_core.specs.Datum.{Datum}
+use Rattle.mcode.specs.Answer.{answer_of}
+use Rattle.part_core.specs.Acts.Purpose.{Answers, Counts}
+use Rattle.part_core.specs.Legal.{state_after}
+use Rattle.tables.specs.Options.{settings_of}
+use Rattle.tables.specs.OneThread.{TableState}
+use Rattle.tables.specs.Turns.{Home, Views}
+use Rattle.walk_core.specs.Walk.{Position}
+use Rattle.walk_core.specs.Walk.Position.{InPart, AtNamed, Over}
+use Rattle.walks.specs.declared.query.Query.{Query}
+use Rattle.walks.specs.declared.continuation.Step.{Step}
+use Rattle.walks.specs.declared.continuation.Step.TheVariants as step
+use Rattle.walks.specs.Counting.{FinishesCount}
+use Rattle.walks.specs.Pieces.{Steps}
+use Rattle.walks.specs.Query.{kept_of, position_of, walk_of}
+use Rattle.walks.specs.Sights.{Piece, number_true, piece_of, selected, sights_from}
+use Rattle.walks.specs.Whole.{Finishes}
+
+-- a table's states are those that the session sees of its parts
+pub record IsSeen (h : Home) (t : TableState) (v : Views) : Type 0 where
+  pub options : t.options ≡ h.options
+  pub states : (part : ℕ) → part < h.options.parts → t.states part ≡ state_after (settings_of h.options) (v part)
+
+-- a walk without named keys can be there: in one of so many parts, or at its end
+abbrev pub IsUnnamed : ℕ → Position → Type 0
+IsUnnamed parts (InPart part cursor) = part < parts
+IsUnnamed parts (AtNamed n) = ⊥
+IsUnnamed parts Over = Unit {0}
+
+-- what a walk in pieces gives out, what it keeps and where it is then; it ends where there is no answer left
+abbrev pub IsPieceOf : {A : Type 0} → Piece → Step A → Type 0
+IsPieceOf p (step.Piece answers c) =
+    (0 < length p.given) × (answers.items ≡ p.given) × (kept_of c.kept ≡ p.kept) × (position_of c.at ≡ p.at)
+IsPieceOf p (step.End q) = (p.given ≡ []) × (p.kept ≡ []) × (p.at ≡ Over)
+
+-- A step of a walk in pieces gives out the piece of the definitions, and changes no state.
+abbrev pub StepsArePieces : Type 0 → Type 0
+StepsArePieces A =
+    (h : Home) (t : TableState) (q : Query A) (limit : ℕ) (at : Position) (kept : List Datum) (s : Step A) (v u : Views)
+    → IsTrue h.alone → IsSeen h t v → IsUnnamed h.options.parts at → Steps h q limit at kept s v u
+    → IsPieceOf (piece_of (answer_of q.code) limit kept at (sights_from t None at)) s × IsSeen h t u
+
+-- a whole walk answers all that is selected, and changes no state
+abbrev pub WholeWalksSelect : Type 0 → Type 0
+WholeWalksSelect A =
+    (h : Home) (t : TableState) (q : Query A) (wanted : ℕ → ℕ) (gained : List Datum) (v u : Views)
+    → IsTrue h.alone → 0 < h.options.parts → IsSeen h t v → Finishes h (walk_of h Answers q) wanted gained v u
+    → (gained ≡ selected t None (answer_of q.code)) × IsSeen h t u
+
+-- one that counts gives the number of objects that are answered true, and changes no state
+abbrev pub WholeWalksCount : Type 0 → Type 0
+WholeWalksCount A =
+    (h : Home) (t : TableState) (q : Query A) (count : ℕ) (v u : Views)
+    → IsTrue h.alone → 0 < h.options.parts → IsSeen h t v → FinishesCount h (walk_of h Counts q) count v u
+    → (count ≡ number_true t None (answer_of q.code)) × IsSeen h t u
