@@ -9,7 +9,7 @@
 //! - `visit`: visits up to a limit; `counting`: visits that count or delete.
 //! - `pieces`: `select_limit` and `select_more`; `whole`: `select`, `select_count` and `select_delete`; `own`: the fixes that these make.
 //! - `keys`: `first` and `next`.
-//! - `laws`: that a whole walk on one thread goes in order (`specs/Sights.antt` says what walks visit there), and what walks come to
+//! - `laws`: what walks come to where a session is alone (`specs/Alone.antt`), by what walks visit on one thread (`specs/Sights.antt`).
 //!   where a session is alone (`specs/Alone.antt`).
 #![tactic(auto)]
 
