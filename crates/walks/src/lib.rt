@@ -10,7 +10,6 @@
 //! - `pieces`: `select_limit` and `select_more`; `whole`: `select`, `select_count` and `select_delete`; `own`: the fixes that these make.
 //! - `keys`: `first` and `next`.
 //! - `laws`: what walks come to where a session is alone (`specs/Alone.antt`), by what walks visit on one thread (`specs/Sights.antt`).
-//!   where a session is alone (`specs/Alone.antt`).
 #![tactic(auto)]
 
 mod continuation;
