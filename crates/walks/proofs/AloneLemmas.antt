@@ -12,18 +12,18 @@ use Rattle.tables.specs.declared.options.Options.{Options}
 use Rattle.tables.specs.OneThread.{TableState}
 use Rattle.tables.specs.Turns.{Home, Views}
 use Rattle.walk_core.specs.Goes.{way, up_to}
-use Rattle.walk_core.specs.Walk.{Position}
-use Rattle.walk_core.specs.Walk.Position.{Over}
+use Rattle.walk_core.specs.Walk.{Position, start_of}
+use Rattle.walk_core.specs.Walk.Position.{InPart, Over}
 use Rattle.walks.specs.declared.query.Query.{Query}
 use Rattle.walks.specs.declared.continuation.Step.{Step}
 use Rattle.walks.specs.declared.continuation.Step.TheVariants as step
 use Rattle.walks.specs.Pieces.{IsPiece, Steps}
 use Rattle.walks.specs.declared.position.Position as walk_position
 use Rattle.walks.specs.declared.position.Position.TheVariants as position
-use Rattle.walks.specs.Query.{IsWithin, kept_of, position_of}
-use Rattle.walks.specs.Sights.{Piece, Sight, answers_in, made, piece_of, sights_from}
+use Rattle.walks.specs.Query.{IsWithin, kept_of, position_of, walk_of}
+use Rattle.walks.specs.Sights.{Piece, Sight, answers_in, made, piece_of, sights_from, first_position, whole}
 use Rattle.walks.specs.Alone.{IsSeen, IsPieceOf, IsUnnamed}
-use Rattle.walks.proofs.GoneLemmas.{Gone, goes_gone, table_of}
+use Rattle.walks.proofs.GoneLemmas.{Gone, goes_gone, starts, table_of}
 
 -- a table by the session's options
 pub seen_table : (h : Home) (t : TableState) (v : Views) → IsSeen h t v → t ≡ table_of h t.states
@@ -100,3 +100,12 @@ steps_alone h t q limit at kept s v u alone seen there steps =
 pub within_unnamed : {A : Type 0} (parts : ℕ) (at : walk_position.Position A) → IsWithin parts at → IsUnnamed parts (position_of at)
 within_unnamed parts (position.InPart part cursor) within = within
 within_unnamed parts position.Over within = tt
+
+-- the first step of a walk
+pub begun_alone : {A : Type 0} (h : Home) (t : TableState) (q : Query A) (limit : ℕ) (s : Step A) (v u : Views)
+    → IsTrue h.alone → 0 < h.options.parts → IsSeen h t v → Steps h q limit (start_of (walk_of h Answers q)) [] s v u
+    → IsPieceOf (piece_of (answer_of q.code) limit [] (first_position None) (whole t None)) s
+    × IsUnnamed h.options.parts (piece_of (answer_of q.code) limit [] (first_position None) (whole t None)).at × IsSeen h t u
+begun_alone h t q limit s v u alone some seen steps =
+    steps_alone h t q limit (InPart 0 None) [] s v u alone seen some
+    (subst (λ (at : Position). Steps h q limit at [] s v u) (starts h Answers q.code some) steps)

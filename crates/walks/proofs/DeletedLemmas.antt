@@ -44,10 +44,10 @@ use Rattle.walks.specs.Alone.{IsSeen, IsUnnamed}
 use Rattle.walks.proofs.AloneLemmas.{seen_table}
 use Rattle.walks.proofs.CutLemmas.{cut, cut_length, cut_nowhere, cut_shows, cut_state, deleted_after}
 use Rattle.walks.proofs.DoneLemmas.{done_at, done_elsewhere, done_in, done_more, inside_same, left_more, same_visit}
-use Rattle.walks.proofs.GoneLemmas.{Looked, Told, goes_along, plain, same_next, table_of, there_next, visit_told}
+use Rattle.walks.proofs.GoneLemmas.{Looked, Told, goes_along, plain, same_next, starts, table_of, there_next, visit_told}
 use Rattle.walks.proofs.LookLemmas.{Looks}
 use Rattle.walks.proofs.VisitLooks.{visit_looks}
-use Rattle.walks.proofs.WhollyLemmas.{fixed_once, held_state, held_where, starts, those_that, turn_right}
+use Rattle.walks.proofs.WhollyLemmas.{fixed_once, held_state, held_where, those_that, turn_right}
 
 -- ---- visits that delete
 

@@ -1,5 +1,5 @@
 -- Visits one behind the other, of a session that is alone and whose visits change no state.
-use Rattle.std.proofs.Common.{◌≡◌, ◌≢◌, ◌<◌, ◌+◌, ◌-◌, ◌==◌, ℕ, Option, Some, None, List, [], ◌∷◌, ◌++◌, refl, sym, subst, ◌∙◌, ap, arith, flat_map, length, fold}
+use Rattle.std.proofs.Common.{◌≡◌, ◌≢◌, ◌<◌, ◌+◌, ◌-◌, ◌==◌, ℕ, Option, Some, None, List, [], ◌∷◌, ◌++◌, refl, sym, subst, ◌∙◌, ap, arith, flat_map, length, fold, lt-ltb}
 use Rattle.std.specs.Prelude.{IsTrue, nat_lt, filter_map}
 use Rattle.std.proofs.lemmas.Bool.{eqb-true, eqb-false, ltb-true}
 use Rattle.std.proofs.lemmas.List.{append_assoc, append-nil, length-append}
@@ -28,7 +28,7 @@ use Rattle.tables.specs.Turns.{Home, Views, TurnedAt}
 use Rattle.tables.proofs.TurnLemmas.{turned_alone}
 use Rattle.walk_core.specs.Goes.{Way, way, Visits, Goes}
 use Rattle.walk_core.specs.Goes.Goes.{stays, goes}
-use Rattle.walk_core.specs.Walk.{Walk, Position, at_part, position_in, scope_from}
+use Rattle.walk_core.specs.Walk.{Walk, Position, at_part, position_in, scope_from, start_of}
 use Rattle.walk_core.specs.Walk.Position.{InPart, AtNamed, Over}
 use Rattle.walks.specs.Sights.{Sight, answers_in, goes_on, made, rows_seen, sights_from}
 use Rattle.walks.specs.Alone.{IsUnnamed}
@@ -50,6 +50,10 @@ plain h purpose program = record {
 
 abbrev pub table_of : Home → (ℕ → PartState) → TableState
 table_of h states = record { options = h.options; states = states }
+
+-- where it begins
+pub starts : (h : Home) (purpose : Purpose) (p : Program) → 0 < h.options.parts → start_of (plain h purpose p) ≡ InPart 0 None
+starts h purpose p some = rw (lt-ltb 0 h.options.parts some) refl
 
 -- ---- one visit
 

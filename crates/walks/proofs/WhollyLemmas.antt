@@ -28,7 +28,7 @@ use Rattle.tables.specs.OneThread.{TableState}
 use Rattle.tables.specs.Turns.{Home, Views, TurnedAt}
 use Rattle.tables.proofs.TurnLemmas.{turned_alone}
 use Rattle.walk_core.specs.Goes.{way, Goes}
-use Rattle.walk_core.specs.Walk.{Position, start_of}
+use Rattle.walk_core.specs.Walk.{Position}
 use Rattle.walk_core.specs.Walk.Position.{InPart, Over}
 use Rattle.walks.specs.declared.query.Query.{Query}
 use Rattle.walks.specs.Counting.{FinishesCount}
@@ -39,7 +39,7 @@ use Rattle.walks.specs.Whole.{Finishes, Wholly}
 use Rattle.walks.proofs.OneThreadLemmas.{AreStates}
 use Rattle.walks.specs.Alone.{IsSeen}
 use Rattle.walks.proofs.AloneLemmas.{seen_table}
-use Rattle.walks.proofs.GoneLemmas.{Reads, goes_gone, plain, table_of}
+use Rattle.walks.proofs.GoneLemmas.{Reads, goes_gone, plain, starts, table_of}
 
 -- ---- own fixes
 
@@ -114,9 +114,6 @@ back_where h true old fixed last new s alone is t r held =
 back_where h false old fixed last new s alone is t r held = held ∙ ap (state_after (settings_of h.options)) (sym r)
 
 -- ---- a whole walk
-
-pub starts : (h : Home) (purpose : Purpose) (p : Program) → 0 < h.options.parts → start_of (plain h purpose p) ≡ InPart 0 None
-starts h purpose p some = rw (lt-ltb 0 h.options.parts some) refl
 
 wholly_states : (f : Datum → Option Datum) (h : Home) (purpose : Purpose) (p : Program) (states : ℕ → PartState) (wanted : ℕ → ℕ) (gained : List Datum) (v u : Views) → yields purpose p ≡ filter_map f → Reads h purpose p → IsTrue h.alone → 0 < h.options.parts → AreStates h (table_of h states) v
     → Wholly h (plain h purpose p) wanted Over gained v u → (gained ≡ answers_in f (whole (table_of h states) None)) × AreStates h (table_of h states) u
