@@ -12,16 +12,18 @@ use Rattle.tables.specs.declared.options.Options.{Options}
 use Rattle.tables.specs.OneThread.{TableState}
 use Rattle.tables.specs.Turns.{Home, Views}
 use Rattle.walk_core.specs.Goes.{way, up_to}
-use Rattle.walk_core.specs.Walk.{Position}
-use Rattle.walk_core.specs.Walk.Position.{Over}
+use Rattle.walk_core.specs.Walk.{Position, start_of}
+use Rattle.walk_core.specs.Walk.Position.{InPart, Over}
 use Rattle.walks.specs.declared.query.Query.{Query}
 use Rattle.walks.specs.declared.continuation.Step.{Step}
 use Rattle.walks.specs.declared.continuation.Step.TheVariants as step
 use Rattle.walks.specs.Pieces.{IsPiece, Steps}
-use Rattle.walks.specs.Query.{kept_of, position_of}
-use Rattle.walks.specs.Sights.{Piece, Sight, answers_in, made, piece_of, sights_from}
+use Rattle.walks.specs.declared.position.Position as walk_position
+use Rattle.walks.specs.declared.position.Position.TheVariants as position
+use Rattle.walks.specs.Query.{IsWithin, kept_of, position_of, walk_of}
+use Rattle.walks.specs.Sights.{Piece, Sight, answers_in, made, piece_of, sights_from, first_position, whole}
 use Rattle.walks.specs.Alone.{IsSeen, IsPieceOf, IsUnnamed}
-use Rattle.walks.proofs.GoneLemmas.{Gone, goes_gone, table_of}
+use Rattle.walks.proofs.GoneLemmas.{Gone, goes_gone, starts, table_of}
 
 -- a table by the session's options
 pub seen_table : (h : Home) (t : TableState) (v : Views) → IsSeen h t v → t ≡ table_of h t.states
@@ -66,26 +68,44 @@ piece_gone f h states limit v u at later kept given rest g piece =
 -- one step
 step_of_states : {A : Type 0} (h : Home) (states : ℕ → PartState) (q : Query A) (limit : ℕ) (at : Position) (kept : List Datum) (s : Step A) (v u : Views)
     → IsTrue h.alone → IsSeen h (table_of h states) v → IsUnnamed h.options.parts at → Steps h q limit at kept s v u
-    → IsPieceOf (piece_of (answer_of q.code) limit kept at (sights_from (table_of h states) None at)) s × IsSeen h (table_of h states) u
+    → IsPieceOf (piece_of (answer_of q.code) limit kept at (sights_from (table_of h states) None at)) s
+    × IsUnnamed h.options.parts (piece_of (answer_of q.code) limit kept at (sights_from (table_of h states) None at)).at × IsSeen h (table_of h states) u
 step_of_states h states q limit at kept (step.Piece answers c) v u alone seen there steps =
     let f = answer_of q.code in
-    let gone : Gone f h states (up_to limit) (way v at kept) (way u (position_of c.at) (answers.items ++ kept_of c.kept)) = goes_gone f h Answers q.code states (up_to limit) _ _ refl (λ s scope wanted. refl) alone seen.states there steps.0 in
-    let is = sym (piece_gone f h states limit v u at (position_of c.at) kept answers.items (kept_of c.kept) gone steps.2) in (
+    let gone = goes_gone f h Answers q.code states (up_to limit) _ _ refl (λ s scope wanted. refl) alone seen.states there steps.0 in
+    let is = sym (piece_gone f h states limit v u at (position_of c.at) kept answers.items (kept_of c.kept) gone.0 steps.2) in (
       subst (λ (p : Piece). IsPieceOf p (step.Piece answers c)) is (steps.1, refl, refl, refl),
-      record { options = refl; states = gone.states_now },
+      subst (λ (p : Piece). IsUnnamed h.options.parts p.at) is gone.0.there,
+      record { options = refl; states = gone.1 },
     )
 step_of_states h states q limit at kept (step.End p) v u alone seen there steps =
     let f = answer_of q.code in
-    let gone : Gone f h states (up_to limit) (way v at kept) (way u Over []) = goes_gone f h Answers q.code states (up_to limit) _ _ refl (λ s scope wanted. refl) alone seen.states there steps.0 in
-    let is = sym (piece_gone f h states limit v u at Over kept [] [] gone (record { most = omega arith; fewer = λ less. (refl, refl) })) in (
+    let gone = goes_gone f h Answers q.code states (up_to limit) _ _ refl (λ s scope wanted. refl) alone seen.states there steps.0 in
+    let is = sym (piece_gone f h states limit v u at Over kept [] [] gone.0 (record { most = omega arith; fewer = λ less. (refl, refl) })) in (
       subst (λ (x : Piece). IsPieceOf x (step.End p)) is (refl, refl, refl),
-      record { options = refl; states = gone.states_now },
+      subst (λ (x : Piece). IsUnnamed h.options.parts x.at) is tt,
+      record { options = refl; states = gone.1 },
     )
 
 pub steps_alone : {A : Type 0} (h : Home) (t : TableState) (q : Query A) (limit : ℕ) (at : Position) (kept : List Datum) (s : Step A) (v u : Views)
     → IsTrue h.alone → IsSeen h t v → IsUnnamed h.options.parts at → Steps h q limit at kept s v u
-    → IsPieceOf (piece_of (answer_of q.code) limit kept at (sights_from t None at)) s × IsSeen h t u
+    → IsPieceOf (piece_of (answer_of q.code) limit kept at (sights_from t None at)) s
+    × IsUnnamed h.options.parts (piece_of (answer_of q.code) limit kept at (sights_from t None at)).at × IsSeen h t u
 steps_alone h t q limit at kept s v u alone seen there steps =
     let is = seen_table h t v seen in
-    subst (λ (x : TableState). IsPieceOf (piece_of (answer_of q.code) limit kept at (sights_from x None at)) s × IsSeen h x u) (sym is)
+    subst (λ (x : TableState). IsPieceOf (piece_of (answer_of q.code) limit kept at (sights_from x None at)) s × IsUnnamed h.options.parts (piece_of (answer_of q.code) limit kept at (sights_from x None at)).at × IsSeen h x u) (sym is)
     (step_of_states h t.states q limit at kept s v u alone (subst (λ (x : TableState). IsSeen h x v) is seen) there steps)
+
+-- where the walk of a continuation can be
+pub within_unnamed : {A : Type 0} (parts : ℕ) (at : walk_position.Position A) → IsWithin parts at → IsUnnamed parts (position_of at)
+within_unnamed parts (position.InPart part cursor) within = within
+within_unnamed parts position.Over within = tt
+
+-- the first step of a walk
+pub begun_alone : {A : Type 0} (h : Home) (t : TableState) (q : Query A) (limit : ℕ) (s : Step A) (v u : Views)
+    → IsTrue h.alone → 0 < h.options.parts → IsSeen h t v → Steps h q limit (start_of (walk_of h Answers q)) [] s v u
+    → IsPieceOf (piece_of (answer_of q.code) limit [] (first_position None) (whole t None)) s
+    × IsUnnamed h.options.parts (piece_of (answer_of q.code) limit [] (first_position None) (whole t None)).at × IsSeen h t u
+begun_alone h t q limit s v u alone some seen steps =
+    steps_alone h t q limit (InPart 0 None) [] s v u alone seen some
+    (subst (λ (at : Position). Steps h q limit at [] s v u) (starts h Answers q.code some) steps)

@@ -1,5 +1,5 @@
 -- Visits one behind the other, of a session that is alone and whose visits change no state.
-use Rattle.std.proofs.Common.{◌≡◌, ◌≢◌, ◌<◌, ◌+◌, ◌-◌, ◌==◌, ℕ, Option, Some, None, List, [], ◌∷◌, ◌++◌, refl, sym, subst, ◌∙◌, ap, arith, flat_map, length, fold}
+use Rattle.std.proofs.Common.{◌≡◌, ◌≢◌, ◌<◌, ◌+◌, ◌-◌, ◌==◌, ℕ, Option, Some, None, List, [], ◌∷◌, ◌++◌, refl, sym, subst, ◌∙◌, ap, arith, flat_map, length, fold, lt-ltb}
 use Rattle.std.specs.Prelude.{IsTrue, nat_lt, filter_map}
 use Rattle.std.proofs.lemmas.Bool.{eqb-true, eqb-false, ltb-true}
 use Rattle.std.proofs.lemmas.List.{append_assoc, append-nil, length-append}
@@ -28,7 +28,7 @@ use Rattle.tables.specs.Turns.{Home, Views, TurnedAt}
 use Rattle.tables.proofs.TurnLemmas.{turned_alone}
 use Rattle.walk_core.specs.Goes.{Way, way, Visits, Goes}
 use Rattle.walk_core.specs.Goes.Goes.{stays, goes}
-use Rattle.walk_core.specs.Walk.{Walk, Position, at_part, position_in, scope_from}
+use Rattle.walk_core.specs.Walk.{Walk, Position, at_part, position_in, scope_from, start_of}
 use Rattle.walk_core.specs.Walk.Position.{InPart, AtNamed, Over}
 use Rattle.walks.specs.Sights.{Sight, answers_in, goes_on, made, rows_seen, sights_from}
 use Rattle.walks.specs.Alone.{IsUnnamed}
@@ -50,6 +50,10 @@ plain h purpose program = record {
 
 abbrev pub table_of : Home → (ℕ → PartState) → TableState
 table_of h states = record { options = h.options; states = states }
+
+-- where it begins
+pub starts : (h : Home) (purpose : Purpose) (p : Program) → 0 < h.options.parts → start_of (plain h purpose p) ≡ InPart 0 None
+starts h purpose p some = rw (lt-ltb 0 h.options.parts some) refl
 
 -- ---- one visit
 
@@ -82,27 +86,30 @@ visit_told h purpose p scope wanted said old new alone t =
       leaves = turned.1;
     }
 
-same_next : (h : Home) (states : ℕ → PartState) (part : ℕ) (next : Option Cursor) → position_in h.options.parts part next ≡ goes_on (table_of h states) part next
+pub same_next : (h : Home) (states : ℕ → PartState) (part : ℕ) (next : Option Cursor) → position_in h.options.parts part next ≡ goes_on (table_of h states) part next
 same_next h states part None = refl
 same_next h states part (Some c) = refl
 
-there_next : (parts part : ℕ) (next : Option Cursor) → part < parts → IsUnnamed parts (position_in parts part next)
+pub there_next : (parts part : ℕ) (next : Option Cursor) → part < parts → IsUnnamed parts (position_in parts part next)
 there_next parts part (Some c) inside = inside
 there_next parts part None inside =
     by_test (nat_lt (part + 1) parts) (IsUnnamed parts (at_part (part + 1) parts)) (λ further. rw further (ltb-true (part + 1) parts further)) (λ last. rw last tt)
 
--- what a visit looks at, of a table as the session sees it, and where the walk is then
-pub record Seen (f : Datum → Option Datum) (h : Home) (purpose : Purpose) (p : Program) (states : ℕ → PartState) (wanted : ℕ → ℕ) (a b : Way) : Type 0 where
-  pub part : ℕ
-  pub cursor : Option Cursor
-  pub said : Said
-  pub inside : part < h.options.parts
-  pub told : Told h purpose p (scope_from cursor) (wanted (length a.gained)) said (b.views part) (states part)
-  pub rest : (k : ℕ) → k ≢ part → b.views k ≡ a.views k
-  pub from : a.at ≡ InPart part cursor
-  pub looks : Looks f (table_of h states) (wanted (length a.gained)) a.at b.at (yield_of (settings_of h.options) (states part) purpose p (scope_from cursor) (wanted (length a.gained)))
-  pub gained : b.gained ≡ a.gained ++ yield_of (settings_of h.options) (states part) purpose p (scope_from cursor) (wanted (length a.gained))
+-- a visit, by what it looks at of a table
+pub record Looked (f : Datum → Option Datum) (h : Home) (states : ℕ → PartState) (wanted : ℕ → ℕ) (a b : Way) : Type 0 where
+  pub found : List Datum
+  pub looks : Looks f (table_of h states) (wanted (length a.gained)) a.at b.at found
+  pub gained : b.gained ≡ a.gained ++ found
   pub there : IsUnnamed h.options.parts b.at
+
+-- a visit of a table as the session sees it
+record Seen (f : Datum → Option Datum) (h : Home) (purpose : Purpose) (p : Program) (states : ℕ → PartState) (wanted : ℕ → ℕ) (a b : Way) : Type 0 where
+  part : ℕ
+  scope : Scope
+  said : Said
+  told : Told h purpose p scope (wanted (length a.gained)) said (b.views part) (states part)
+  rest : (k : ℕ) → k ≢ part → b.views k ≡ a.views k
+  looked : Looked f h states wanted a b
 
 seen_in : (f : Datum → Option Datum) (h : Home) (purpose : Purpose) (p : Program) (states : ℕ → PartState) (wanted : ℕ → ℕ) (v : Views) (part : ℕ) (cursor : Option Cursor) (gained : List Datum) (b : Way) → yields purpose p ≡ filter_map f → IsTrue h.alone → AreStates h (table_of h states) v → part < h.options.parts
     → Visits h (plain h purpose p) wanted (way v (InPart part cursor) gained) b → Seen f h purpose p states wanted (way v (InPart part cursor) gained) b
@@ -114,19 +121,20 @@ seen_in f h purpose p states wanted v part cursor gained b same alone are inside
     let at : b.at ≡ goes_on (table_of h states) part (next_of o (states part) purpose p (scope_from cursor) n) = visit.at ∙ same_next h states part (next_in visit.said) ∙ ap (goes_on (table_of h states) part) told.next in
     record {
       part = part;
-      cursor = cursor;
+      scope = scope_from cursor;
       said = visit.said;
-      inside = inside;
       told = told;
       rest = visit.turned.rest;
-      from = refl;
-      looks = subst (λ (later : Position). Looks f (table_of h states) n (InPart part cursor) later (yield_of o (states part) purpose p (scope_from cursor) n)) (sym at)
-          (visit_looks f purpose p (table_of h states) part n cursor same told.some told.state told.inside told.leads);
-      gained = visit.gained ∙ ap (λ (s : PartState). gained ++ yield_of o s purpose p (scope_from cursor) n) met;
-      there = subst (IsUnnamed h.options.parts) (sym visit.at) (there_next h.options.parts part (next_in visit.said) inside);
+      looked = record {
+        found = yield_of o (states part) purpose p (scope_from cursor) n;
+        looks = subst (λ (later : Position). Looks f (table_of h states) n (InPart part cursor) later (yield_of o (states part) purpose p (scope_from cursor) n)) (sym at)
+            (visit_looks f purpose p (table_of h states) part n cursor same told.some told.state told.inside told.leads);
+        gained = visit.gained ∙ ap (λ (s : PartState). gained ++ yield_of o s purpose p (scope_from cursor) n) met;
+        there = subst (IsUnnamed h.options.parts) (sym visit.at) (there_next h.options.parts part (next_in visit.said) inside);
+      };
     }
 
-pub visit_seen : (f : Datum → Option Datum) (h : Home) (purpose : Purpose) (p : Program) (states : ℕ → PartState) (wanted : ℕ → ℕ) (a b : Way) → yields purpose p ≡ filter_map f → IsTrue h.alone → AreStates h (table_of h states) a.views → IsUnnamed h.options.parts a.at → a.at ≢ Over
+visit_seen : (f : Datum → Option Datum) (h : Home) (purpose : Purpose) (p : Program) (states : ℕ → PartState) (wanted : ℕ → ℕ) (a b : Way) → yields purpose p ≡ filter_map f → IsTrue h.alone → AreStates h (table_of h states) a.views → IsUnnamed h.options.parts a.at → a.at ≢ Over
     → Visits h (plain h purpose p) wanted a b → Seen f h purpose p states wanted a b
 visit_seen f h purpose p states wanted a b same alone are there more visit = of a.views a.at a.gained are there more visit
   where
@@ -136,19 +144,7 @@ visit_seen f h purpose p states wanted a b same alone are there more visit = of 
     of v Over gained are there more visit = absurd (more refl)
     of v (AtNamed n) gained are there more visit = absurd there
 
--- ---- visits that change no state
-
--- a visit of this purpose writes nothing
-abbrev pub Reads : Home → Purpose → Program → Type 0
-Reads h purpose p = (s : PartState) (scope : Scope) (wanted : ℕ) → rows_after (settings_of h.options) s (Visit purpose p scope wanted) ≡ s.rows
-
-pub states_seen : (f : Datum → Option Datum) (h : Home) (purpose : Purpose) (p : Program) (states : ℕ → PartState) (wanted : ℕ → ℕ) (a b : Way) → Reads h purpose p → AreStates h (table_of h states) a.views
-    → Seen f h purpose p states wanted a b → AreStates h (table_of h states) b.views
-states_seen f h purpose p states wanted a b reads are seen k inside =
-    by_test (k == seen.part) (states k ≡ state_after (settings_of h.options) (b.views k))
-    (λ here. subst (λ (j : ℕ). states j ≡ state_after (settings_of h.options) (b.views j)) (sym (eqb-true k seen.part here))
-    (sym (read_after (settings_of h.options) (states seen.part) h.number (Visit purpose p (scope_from seen.cursor) (wanted (length a.gained))) (Replied seen.said) seen.told.state seen.told.replied (reads (states seen.part) (scope_from seen.cursor) (wanted (length a.gained))) refl) ∙ seen.told.leaves))
-    (λ other. are k inside ∙ ap (state_after (settings_of h.options)) (sym (seen.rest k (eqb-false k seen.part other))))
+-- ---- visits one behind the other
 
 -- How a walk has gone, by the visits of one thread: it made those of the first list, and the others are left.
 pub record Gone (f : Datum → Option Datum) (h : Home) (states : ℕ → PartState) (wanted : ℕ → ℕ) (a b : Way) : Type 0 where
@@ -158,47 +154,71 @@ pub record Gone (f : Datum → Option Datum) (h : Home) (states : ℕ → PartSt
   pub picks : (limit : ℕ) → ((n : ℕ) → wanted n ≡ limit - n) → made f (limit - length a.gained) (sights_from (table_of h states) None a.at) ≡ front ++ made f (limit - length b.gained) (sights_from (table_of h states) None b.at)
   pub last : fold (λ before v. v.behind) a.at front ≡ b.at
   pub there : IsUnnamed h.options.parts b.at
-  pub states_now : AreStates h (table_of h states) b.views
 
 answers_on : (f : Datum → Option Datum) (vs ws : List Sight) → answers_in f (vs ++ ws) ≡ answers_in f vs ++ answers_in f ws
 answers_on f vs ws =
     ap (flat_map (λ (r : Row). filter_map f r.1)) (flat_map-append (λ (v : Sight). v.rows) vs ws)
     ∙ flat_map-append (λ (r : Row). filter_map f r.1) (rows_seen vs) (rows_seen ws)
 
-gone_on : (f : Datum → Option Datum) (h : Home) (purpose : Purpose) (p : Program) (states : ℕ → PartState) (wanted : ℕ → ℕ) (a b c : Way) → Reads h purpose p → Gone f h states wanted a b → Seen f h purpose p states wanted b c → Gone f h states wanted a c
-gone_on f h purpose p states wanted a b c reads g seen =
+gone_on : (f : Datum → Option Datum) (h : Home) (states : ℕ → PartState) (wanted : ℕ → ℕ) (a b c : Way) → Gone f h states wanted a b → Looked f h states wanted b c → Gone f h states wanted a c
+gone_on f h states wanted a b c g visit =
     let t = table_of h states in
-    let found = yield_of (settings_of h.options) (states seen.part) purpose p (scope_from seen.cursor) (wanted (length b.gained)) in
+    let looks = visit.looks in
     record {
-      front = g.front ++ seen.looks.front;
-      splits = g.splits ∙ ap (λ (vs : List Sight). g.front ++ vs) seen.looks.splits ∙ sym (append_assoc g.front seen.looks.front (sights_from t None c.at));
-      gains = seen.gained ∙ ap (λ (xs : List Datum). xs ++ found) g.gains ∙ append_assoc a.gained (answers_in f g.front) found
-          ∙ ap (λ (xs : List Datum). a.gained ++ xs) (ap (λ (xs : List Datum). answers_in f g.front ++ xs) (sym seen.looks.gains) ∙ sym (answers_on f g.front seen.looks.front));
+      front = g.front ++ looks.front;
+      splits = g.splits ∙ ap (λ (vs : List Sight). g.front ++ vs) looks.splits ∙ sym (append_assoc g.front looks.front (sights_from t None c.at));
+      gains = visit.gained ∙ ap (λ (xs : List Datum). xs ++ visit.found) g.gains ∙ append_assoc a.gained (answers_in f g.front) visit.found
+          ∙ ap (λ (xs : List Datum). a.gained ++ xs) (ap (λ (xs : List Datum). answers_in f g.front ++ xs) (sym looks.gains) ∙ sym (answers_on f g.front looks.front));
       picks = λ limit is.
           let want = is (length b.gained) in
-          let all : length c.gained ≡ length b.gained + length found = ap length seen.gained ∙ length-append b.gained found in
-          let left : (limit - length b.gained) - length found ≡ limit - length c.gained = omega (arith, all) in
+          let all : length c.gained ≡ length b.gained + length visit.found = ap length visit.gained ∙ length-append b.gained visit.found in
+          let left : (limit - length b.gained) - length visit.found ≡ limit - length c.gained = omega (arith, all) in
           g.picks limit is
           ∙ ap (λ (vs : List Sight). g.front ++ vs)
-          (subst (λ (n : ℕ). made f n (sights_from t None b.at) ≡ seen.looks.front ++ made f (n - length found) (sights_from t None c.at)) want seen.looks.picks
-          ∙ ap (λ (n : ℕ). seen.looks.front ++ made f n (sights_from t None c.at)) left)
-          ∙ sym (append_assoc g.front seen.looks.front (made f (limit - length c.gained) (sights_from t None c.at)));
-      last = fold-append (λ (before : Position) (v : Sight). v.behind) a.at g.front seen.looks.front ∙ ap (λ (at : Position). fold (λ (before : Position) (v : Sight). v.behind) at seen.looks.front) g.last ∙ seen.looks.last;
-      there = seen.there;
-      states_now = states_seen f h purpose p states wanted b c reads g.states_now seen;
+          (subst (λ (n : ℕ). made f n (sights_from t None b.at) ≡ looks.front ++ made f (n - length visit.found) (sights_from t None c.at)) want looks.picks
+          ∙ ap (λ (n : ℕ). looks.front ++ made f n (sights_from t None c.at)) left)
+          ∙ sym (append_assoc g.front looks.front (made f (limit - length c.gained) (sights_from t None c.at)));
+      last = fold-append (λ (before : Position) (v : Sight). v.behind) a.at g.front looks.front ∙ ap (λ (at : Position). fold (λ (before : Position) (v : Sight). v.behind) at looks.front) g.last ∙ looks.last;
+      there = visit.there;
     }
 
+-- where each visit is so, and carries on what is known of the views
+pub goes_along : (f : Datum → Option Datum) (h : Home) (w : Walk) (states : ℕ → PartState) (wanted : ℕ → ℕ) (Known : Way → Type 0) (a b : Way)
+    → ((x y : Way) → Known x → IsUnnamed h.options.parts x.at → x.at ≢ Over → Visits h w wanted x y → Looked f h states wanted x y × Known y)
+    → Known a → IsUnnamed h.options.parts a.at → Goes h w wanted a b → Gone f h states wanted a b × Known b
+goes_along f h w states wanted Known a b step known there stays = (
+  record {
+    front = [];
+    splits = refl;
+    gains = sym (append-nil a.gained);
+    picks = λ limit is. refl;
+    last = refl;
+    there = there;
+  },
+  known,
+)
+goes_along f h w states wanted Known a c step known there (goes {b} g more visit) =
+    let before = goes_along f h w states wanted Known a b step known there g in
+    let next = step b c before.1 before.0.there more visit in
+    (gone_on f h states wanted a b c before.0 next.0, next.1)
+
+-- ---- visits that change no state
+
+-- a visit of this purpose writes nothing
+abbrev pub Reads : Home → Purpose → Program → Type 0
+Reads h purpose p = (s : PartState) (scope : Scope) (wanted : ℕ) → rows_after (settings_of h.options) s (Visit purpose p scope wanted) ≡ s.rows
+
+states_seen : (f : Datum → Option Datum) (h : Home) (purpose : Purpose) (p : Program) (states : ℕ → PartState) (wanted : ℕ → ℕ) (a b : Way) → Reads h purpose p → AreStates h (table_of h states) a.views
+    → Seen f h purpose p states wanted a b → AreStates h (table_of h states) b.views
+states_seen f h purpose p states wanted a b reads are seen k inside =
+    by_test (k == seen.part) (states k ≡ state_after (settings_of h.options) (b.views k))
+    (λ here. subst (λ (j : ℕ). states j ≡ state_after (settings_of h.options) (b.views j)) (sym (eqb-true k seen.part here))
+    (sym (read_after (settings_of h.options) (states seen.part) h.number (Visit purpose p seen.scope (wanted (length a.gained))) (Replied seen.said) seen.told.state seen.told.replied (reads (states seen.part) seen.scope (wanted (length a.gained))) refl) ∙ seen.told.leaves))
+    (λ other. are k inside ∙ ap (state_after (settings_of h.options)) (sym (seen.rest k (eqb-false k seen.part other))))
+
 pub goes_gone : (f : Datum → Option Datum) (h : Home) (purpose : Purpose) (p : Program) (states : ℕ → PartState) (wanted : ℕ → ℕ) (a b : Way) → yields purpose p ≡ filter_map f → Reads h purpose p → IsTrue h.alone → AreStates h (table_of h states) a.views → IsUnnamed h.options.parts a.at
-    → Goes h (plain h purpose p) wanted a b → Gone f h states wanted a b
-goes_gone f h purpose p states wanted a b same reads alone are there stays = record {
-  front = [];
-  splits = refl;
-  gains = sym (append-nil a.gained);
-  picks = λ limit is. refl;
-  last = refl;
-  there = there;
-  states_now = are;
-}
-goes_gone f h purpose p states wanted a c same reads alone are there (goes {b} g more visit) =
-    let before = goes_gone f h purpose p states wanted a b same reads alone are there g in
-    gone_on f h purpose p states wanted a b c reads before (visit_seen f h purpose p states wanted b c same alone before.states_now before.there more visit)
+    → Goes h (plain h purpose p) wanted a b → Gone f h states wanted a b × AreStates h (table_of h states) b.views
+goes_gone f h purpose p states wanted a b same reads alone are there walk =
+    goes_along f h (plain h purpose p) states wanted (λ (x : Way). AreStates h (table_of h states) x.views) a b
+    (λ x y known inside more visit. let seen = visit_seen f h purpose p states wanted x y same alone known inside more visit in (seen.looked, states_seen f h purpose p states wanted x y reads known seen))
+    are there walk

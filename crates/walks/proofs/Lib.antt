@@ -14,4 +14,7 @@ pub mod VisitLooks
 pub mod GoneLemmas
 pub mod AloneLemmas
 pub mod WhollyLemmas
+pub mod CutLemmas
+pub mod DoneLemmas
+pub mod DeletedLemmas
 mod WorkedRows

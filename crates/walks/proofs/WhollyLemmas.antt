@@ -28,7 +28,7 @@ use Rattle.tables.specs.OneThread.{TableState}
 use Rattle.tables.specs.Turns.{Home, Views, TurnedAt}
 use Rattle.tables.proofs.TurnLemmas.{turned_alone}
 use Rattle.walk_core.specs.Goes.{way, Goes}
-use Rattle.walk_core.specs.Walk.{Position, start_of}
+use Rattle.walk_core.specs.Walk.{Position}
 use Rattle.walk_core.specs.Walk.Position.{InPart, Over}
 use Rattle.walks.specs.declared.query.Query.{Query}
 use Rattle.walks.specs.Counting.{FinishesCount}
@@ -39,12 +39,12 @@ use Rattle.walks.specs.Whole.{Finishes, Wholly}
 use Rattle.walks.proofs.OneThreadLemmas.{AreStates}
 use Rattle.walks.specs.Alone.{IsSeen}
 use Rattle.walks.proofs.AloneLemmas.{seen_table}
-use Rattle.walks.proofs.GoneLemmas.{Gone, Reads, goes_gone, plain, table_of}
+use Rattle.walks.proofs.GoneLemmas.{Reads, goes_gone, plain, starts, table_of}
 
 -- ---- own fixes
 
 -- an answered turn is right in the state that was seen, which is one
-turn_right : (h : Home) (old new : History) (act : Act) (answer : Answer) → IsTrue h.alone → TurnedAt h old act (Some answer) new
+pub turn_right : (h : Home) (old new : History) (act : Act) (answer : Answer) → IsTrue h.alone → TurnedAt h old act (Some answer) new
     → IsRight (settings_of h.options) (state_after (settings_of h.options) old) (record { session = h.number; act = act; answer = answer }) × IsState (settings_of h.options) (state_after (settings_of h.options) old)
 turn_right h old new act answer alone t =
     let o = settings_of h.options in
@@ -65,7 +65,7 @@ fixed_shows o n s within =
     let fixed : is_fixed counts ≡ true = list_any_at (nat_lt 0) counts n 0 (omega (arith, within, length-set s.fixes n (get_or s.fixes n 0 + 1))) (lt-ltb 0 _ (omega (arith, there))) in
     counted_after o s counts ∙ ap (λ (b : Bool). record { rows = if b then s.rows else filter is_live s.rows; fixes = counts; slots = s.slots; base = if b then s.base else s.slots }) fixed
 
-fixed_alone : (h : Home) (old new : History) → IsTrue h.alone → TurnedAt h old Fix (Some (Replied Nothing)) new → state_after (settings_of h.options) new ≡ fixed_once h.number (state_after (settings_of h.options) old)
+pub fixed_alone : (h : Home) (old new : History) → IsTrue h.alone → TurnedAt h old Fix (Some (Replied Nothing)) new → state_after (settings_of h.options) new ≡ fixed_once h.number (state_after (settings_of h.options) old)
 fixed_alone h old new alone t =
     let o = settings_of h.options in
     let turned = turned_alone h old new Fix (Replied Nothing) alone t in
@@ -91,7 +91,7 @@ released_alone h old new s alone state within is t =
     ∙ same_state o s state
 
 -- the states of a session that fixed the parts that it doesn't fix
-abbrev held_state : Home → Views → (ℕ → PartState) → ℕ → PartState
+abbrev pub held_state : Home → Views → (ℕ → PartState) → ℕ → PartState
 held_state h v states k = record {
   rows = (states k).rows;
   fixes = if is_fixed_first h v k then set (states k).fixes h.number (get_or (states k).fixes h.number 0 + 1) else (states k).fixes;
@@ -99,7 +99,7 @@ held_state h v states k = record {
   base = (states k).base;
 }
 
-held_where : (h : Home) (b : Bool) (old new : History) (s : PartState) → IsTrue h.alone → s ≡ state_after (settings_of h.options) old → ChangedWhere h Fix b old new
+pub held_where : (h : Home) (b : Bool) (old new : History) (s : PartState) → IsTrue h.alone → s ≡ state_after (settings_of h.options) old → ChangedWhere h Fix b old new
     → ◌≡◌ {A = PartState} (record { rows = s.rows; fixes = if b then set s.fixes h.number (get_or s.fixes h.number 0 + 1) else s.fixes; slots = s.slots; base = s.base }) (state_after (settings_of h.options) new)
 held_where h true old new s alone is t = ap (fixed_once h.number) is ∙ sym (fixed_alone h old new alone t)
 held_where h false old new s alone is t = is ∙ ap (state_after (settings_of h.options)) (sym t)
@@ -115,9 +115,6 @@ back_where h false old fixed last new s alone is t r held = held ∙ ap (state_a
 
 -- ---- a whole walk
 
-starts : (h : Home) (purpose : Purpose) (p : Program) → 0 < h.options.parts → start_of (plain h purpose p) ≡ InPart 0 None
-starts h purpose p some = rw (lt-ltb 0 h.options.parts some) refl
-
 wholly_states : (f : Datum → Option Datum) (h : Home) (purpose : Purpose) (p : Program) (states : ℕ → PartState) (wanted : ℕ → ℕ) (gained : List Datum) (v u : Views) → yields purpose p ≡ filter_map f → Reads h purpose p → IsTrue h.alone → 0 < h.options.parts → AreStates h (table_of h states) v
     → Wholly h (plain h purpose p) wanted Over gained v u → (gained ≡ answers_in f (whole (table_of h states) None)) × AreStates h (table_of h states) u
 wholly_states f h purpose p states wanted gained v u same reads alone some are x =
@@ -125,14 +122,14 @@ wholly_states f h purpose p states wanted gained v u same reads alone some are x
     let held : ℕ → PartState = held_state h v states in
     let are_held : AreStates h (table_of h held) x.fixed = λ k inside. held_where h (is_fixed_first h v k) (v k) (x.fixed k) (states k) alone (are k inside) (x.fixes k inside).1 in
     let went : Goes h (plain h purpose p) wanted (way x.fixed (InPart 0 None) []) (way x.visits.0 Over gained) = subst (λ (at : Position). Goes h (plain h purpose p) wanted (way x.fixed at []) (way x.visits.0 Over gained)) (starts h purpose p some) x.visits.1 in
-    let gone : Gone f h held wanted (way x.fixed (InPart 0 None) []) (way x.visits.0 Over gained) = goes_gone f h purpose p held wanted (way x.fixed (InPart 0 None) []) (way x.visits.0 Over gained) same reads alone are_held some went in (
-      gone.gains ∙ ap (answers_in f) (sym (gone.splits ∙ append-nil gone.front)),
+    let gone = goes_gone f h purpose p held wanted (way x.fixed (InPart 0 None) []) (way x.visits.0 Over gained) same reads alone are_held some went in (
+      gone.0.gains ∙ ap (answers_in f) (sym (gone.0.splits ∙ append-nil gone.0.front)),
       λ k inside.
           let drift = x.visits.2 k inside in
           let stays : x.last k ≡ x.visits.0 k = drift.2 ∙ ap (λ (es : History). x.visits.0 k ++ es) (drift.1.alone alone) ∙ append-nil (x.visits.0 k) in
           back_where h (is_fixed_first h v k) (v k) (x.fixed k) (x.last k) (u k) (states k) alone (are k inside) (x.fixes k inside).1
           (subst (λ (b : Bool). ChangedWhere h Unfix b (x.last k) (u k)) (x.fixes k inside).0 (x.releases k inside))
-          (gone.states_now k inside ∙ ap (state_after o) (sym stays)),
+          (gone.1 k inside ∙ ap (state_after o) (sym stays)),
     )
 
 wholly_alone : (f : Datum → Option Datum) (h : Home) (t : TableState) (purpose : Purpose) (p : Program) (wanted : ℕ → ℕ) (gained : List Datum) (v u : Views) → yields purpose p ≡ filter_map f → Reads h purpose p → IsTrue h.alone → 0 < h.options.parts → IsSeen h t v
@@ -150,7 +147,7 @@ selected_alone h t q wanted gained v u alone some seen done =
 
 -- ---- one that counts
 
-those_that : (p : Datum → Bool) (xs : List Datum) → filter p xs ≡ filter_map (λ x. if p x then Some x else None) xs
+pub those_that : (p : Datum → Bool) (xs : List Datum) → filter p xs ≡ filter_map (λ x. if p x then Some x else None) xs
 those_that p [] = refl
 those_that p (x ∷ xs) =
     by_test (p x) _ (λ holds. rw holds (ap (λ ys. x ∷ ys) (those_that p xs))) (λ fails. rw fails (those_that p xs))

@@ -2,7 +2,7 @@
 use Rattle.std.specs.Prelude.{ℕ, ◌≡◌, ◌<◌, IsTrue, None, List, [], length}
 use Rattle.term_core.specs.Datum.{Datum}
 use Rattle.mcode.specs.Answer.{answer_of}
-use Rattle.part_core.specs.Acts.Purpose.{Answers, Counts}
+use Rattle.part_core.specs.Acts.Purpose.{Answers, Counts, Deletes}
 use Rattle.part_core.specs.Legal.{state_after}
 use Rattle.tables.specs.Options.{settings_of}
 use Rattle.tables.specs.OneThread.{TableState}
@@ -15,7 +15,7 @@ use Rattle.walks.specs.declared.continuation.Step.TheVariants as step
 use Rattle.walks.specs.Counting.{FinishesCount}
 use Rattle.walks.specs.Pieces.{Steps}
 use Rattle.walks.specs.Query.{kept_of, position_of, walk_of}
-use Rattle.walks.specs.Sights.{Piece, number_true, piece_of, selected, sights_from}
+use Rattle.walks.specs.Sights.{Piece, after_removal, number_true, piece_of, selected, sights_from}
 use Rattle.walks.specs.Whole.{Finishes}
 
 -- a table's states are those that the session sees of its parts
@@ -35,12 +35,13 @@ IsPieceOf p (step.Piece answers c) =
     (0 < length p.given) × (answers.items ≡ p.given) × (kept_of c.kept ≡ p.kept) × (position_of c.at ≡ p.at)
 IsPieceOf p (step.End q) = (p.given ≡ []) × (p.kept ≡ []) × (p.at ≡ Over)
 
--- A step of a walk in pieces gives out the piece of the definitions, and changes no state.
+-- A step of a walk in pieces gives out the piece of the definitions, and changes no state. The walk can be where it is then.
 abbrev pub StepsArePieces : Type 0 → Type 0
 StepsArePieces A =
     (h : Home) (t : TableState) (q : Query A) (limit : ℕ) (at : Position) (kept : List Datum) (s : Step A) (v u : Views)
     → IsTrue h.alone → IsSeen h t v → IsUnnamed h.options.parts at → Steps h q limit at kept s v u
-    → IsPieceOf (piece_of (answer_of q.code) limit kept at (sights_from t None at)) s × IsSeen h t u
+    → IsPieceOf (piece_of (answer_of q.code) limit kept at (sights_from t None at)) s
+    × IsUnnamed h.options.parts (piece_of (answer_of q.code) limit kept at (sights_from t None at)).at × IsSeen h t u
 
 -- a whole walk answers all that is selected, and changes no state
 abbrev pub WholeWalksSelect : Type 0 → Type 0
@@ -55,3 +56,10 @@ WholeWalksCount A =
     (h : Home) (t : TableState) (q : Query A) (count : ℕ) (v u : Views)
     → IsTrue h.alone → 0 < h.options.parts → IsSeen h t v → FinishesCount h (walk_of h Counts q) count v u
     → (count ≡ number_true t None (answer_of q.code)) × IsSeen h t u
+
+-- one that deletes gives their number too, and leaves the table without them
+abbrev pub WholeWalksRemove : Type 0 → Type 0
+WholeWalksRemove A =
+    (h : Home) (t : TableState) (q : Query A) (count : ℕ) (v u : Views)
+    → IsTrue h.alone → 0 < h.options.parts → IsSeen h t v → FinishesCount h (walk_of h Deletes q) count v u
+    → (count ≡ number_true t None (answer_of q.code)) × IsSeen h (after_removal t None (answer_of q.code)) u

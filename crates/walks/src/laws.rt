@@ -1,5 +1,5 @@
 //! Laws of walks on one thread, each the contract of a function that does nothing.
-ghost use Rattle.walks.specs.Alone.{StepsArePieces, WholeWalksSelect, WholeWalksCount};
+ghost use Rattle.walks.specs.Alone.{StepsArePieces, WholeWalksSelect, WholeWalksCount, WholeWalksRemove};
 ghost use Rattle.walks.specs.Laws.{WholeWalksGoInOrder};
 
 use std::alloc::Allocator;
@@ -22,4 +22,9 @@ pub fn whole_walks_select<A: Allocator>()
 /// One that counts gives there the number of objects that are answered true.
 pub fn whole_walks_count<A: Allocator>()
     ensures { WholeWalksCount A }
+{}
+
+/// One that deletes gives their number too, and leaves the table without them.
+pub fn whole_walks_remove<A: Allocator>()
+    ensures { WholeWalksRemove A }
 {}

@@ -29,7 +29,10 @@ pub use continuation::{Continuation, Step};
 pub use fault::WalkFault;
 pub use kept::Kept;
 pub use keys::{first, next};
-pub use laws::{steps_are_pieces, whole_walks_count, whole_walks_go_in_order, whole_walks_select};
+pub use laws::{
+    steps_are_pieces, whole_walks_count, whole_walks_go_in_order, whole_walks_remove,
+    whole_walks_select,
+};
 pub use pieces::{select_limit, select_more};
 pub use position::Position;
 pub use query::Query;
