@@ -1,0 +1,15 @@
+//! The keys that a match specification names, where each of its heads names one.
+//!
+//! The contract: `named_keys` gives the keys that `named_by` of `specs/Named.antt` says. The laws: they are distinct, and on
+//! an object with another key the specification means nothing (`specs/Laws.antt`).
+//!
+//! - The term that a pattern spells, where it spells one: `spelled.rt`.
+//! - The key of each head, and the keys of all: `keys.rt`. The laws: `laws.rt`.
+#![tactic(auto)]
+
+mod keys;
+mod laws;
+mod spelled;
+
+pub use keys::named_keys;
+pub use laws::{named_keys_differ, unnamed_keys_mean_nothing};
