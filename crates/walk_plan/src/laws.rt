@@ -1,0 +1,12 @@
+//! Laws of named keys, each the contract of a function that does nothing.
+ghost use Rattle.walk_plan.specs.Laws.{NamedKeysDiffer, UnnamedKeysMeanNothing};
+
+/// The keys that a specification names are distinct.
+pub fn named_keys_differ()
+    ensures { NamedKeysDiffer }
+{}
+
+/// On an object whose key isn't named, a specification that names keys means nothing.
+pub fn unnamed_keys_mean_nothing()
+    ensures { UnnamedKeysMeanNothing }
+{}

@@ -1,0 +1,19 @@
+//! The keys that a match specification names, where each of its heads names one.
+//!
+//! The contract: `named_keys` gives the keys that `named_by` of `specs/Named.antt` says. The laws: they are distinct, and on
+//! an object with another key the specification means nothing (`specs/Laws.antt`). So the code that `compile_named` gives
+//! answers nothing there (`specs/Plan.antt`).
+//!
+//! - The term that a pattern spells, where it spells one: `spelled.rt`.
+//! - The key of each head, and the keys of all: `keys.rt`. The laws: `laws.rt`.
+//! - The keys in both orders in which walks visit them, and the code beside them: `plan.rt`.
+#![tactic(auto)]
+
+mod keys;
+mod laws;
+mod plan;
+mod spelled;
+
+pub use keys::named_keys;
+pub use laws::{named_keys_differ, unnamed_keys_mean_nothing};
+pub use plan::{NamedKeys, compile_named};
