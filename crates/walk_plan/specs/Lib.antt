@@ -1,3 +1,4 @@
 pub mod Named
 pub mod Laws
 pub mod Plan
+pub mod PlanFacts

@@ -1,5 +1,5 @@
 //! Laws of named keys, each the contract of a function that does nothing.
-ghost use Rattle.walk_plan.specs.Laws.{NamedKeysDiffer, UnnamedKeysMeanNothing};
+ghost use Rattle.walk_plan.specs.Laws.{NamedKeysDiffer, PlansAreOne, UnnamedKeysMeanNothing};
 
 /// The keys that a specification names are distinct.
 pub fn named_keys_differ()
@@ -9,4 +9,9 @@ pub fn named_keys_differ()
 /// On an object whose key isn't named, a specification that names keys means nothing.
 pub fn unnamed_keys_mean_nothing()
     ensures { UnnamedKeysMeanNothing }
+{}
+
+/// The keys that a walk by a specification visits, are one list.
+pub fn plans_are_one()
+    ensures { PlansAreOne }
 {}

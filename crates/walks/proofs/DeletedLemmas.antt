@@ -33,7 +33,7 @@ use Rattle.walk_core.specs.Goes.{Way, way, Goes, Visits}
 use Rattle.walk_core.specs.Goes.Goes.{stays, goes}
 use Rattle.walk_core.specs.Walk.{Walk, Position, is_passed, part_at, scope_at, scope_from}
 use Rattle.walk_core.specs.Walk.Position.{InPart, AtNamed, Over}
-use Rattle.walks.specs.declared.query.Query.{Query}
+use Rattle.walk_plan.specs.declared.query.Query.{Query}
 use Rattle.walks.specs.Counting.{FinishesCount}
 use Rattle.walks.specs.Own.{ChangedWhere, is_fixed_first}
 use Rattle.walks.specs.Query.{walk_of}

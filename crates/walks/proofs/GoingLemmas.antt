@@ -16,7 +16,7 @@ use Rattle.walk_core.specs.Moments.{AreLegal}
 use Rattle.walk_core.specs.Walk.{Walk, Position, IsWalk, IsPosition, part_at, scope_at}
 use Rattle.walk_core.specs.Walk.Position.{Over}
 use Rattle.walk_core.proofs.GoesLemmas.{goes_position}
-use Rattle.walks.specs.declared.query.Query.{Query}
+use Rattle.walk_plan.specs.declared.query.Query.{Query}
 use Rattle.walks.specs.Query.{walk_of}
 use Rattle.walk_core.proofs.TurnLemmas.{turned_drifts, drifts_nowhere, never_outside}
 

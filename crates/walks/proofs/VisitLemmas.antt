@@ -21,7 +21,7 @@ use Rattle.walk_core.specs.Goes.{way, whole, Visits}
 use Rattle.walk_core.specs.Walk.{Position, position_in, scope_from}
 use Rattle.walk_core.specs.Walk.Position.{InPart}
 use Rattle.walk_core.proofs.TurnLemmas.{turn_visits}
-use Rattle.walks.specs.declared.query.Query.{Query}
+use Rattle.walk_plan.specs.declared.query.Query.{Query}
 use Rattle.walks.specs.Query.{walk_of}
 use Rattle.walks.specs.Counting.{purpose_of, IsCount, CountsMore}
 use Rattle.walks.specs.Visits.{is_found, is_counted}

@@ -1,5 +1,5 @@
 -- What walks come to where a session is alone with its table: what the definitions for one thread say.
-use Rattle.std.specs.Prelude.{ℕ, ◌≡◌, ◌<◌, IsTrue, None, List, [], length}
+use Rattle.std.specs.Prelude.{ℕ, ◌≡◌, ◌<◌, IsTrue, List, [], length}
 use Rattle.term_core.specs.Datum.{Datum}
 use Rattle.mcode.specs.Answer.{answer_of}
 use Rattle.part_core.specs.Acts.Purpose.{Answers, Counts, Deletes}
@@ -7,14 +7,14 @@ use Rattle.part_core.specs.Legal.{state_after}
 use Rattle.tables.specs.Options.{settings_of}
 use Rattle.tables.specs.OneThread.{TableState}
 use Rattle.tables.specs.Turns.{Home, Views}
-use Rattle.walk_core.specs.Walk.{Position}
-use Rattle.walk_core.specs.Walk.Position.{InPart, AtNamed, Over}
-use Rattle.walks.specs.declared.query.Query.{Query}
+use Rattle.walk_core.specs.Walk.{Position, named_count}
+use Rattle.walk_core.specs.Walk.Position.{Over}
+use Rattle.walk_plan.specs.declared.query.Query.{Query}
 use Rattle.walks.specs.declared.continuation.Step.{Step}
 use Rattle.walks.specs.declared.continuation.Step.TheVariants as step
 use Rattle.walks.specs.Counting.{FinishesCount}
 use Rattle.walks.specs.Pieces.{Steps}
-use Rattle.walks.specs.Query.{kept_of, position_of, walk_of}
+use Rattle.walks.specs.Query.{IsThere, kept_of, plan_of, position_of, walk_of}
 use Rattle.walks.specs.Sights.{Piece, after_removal, number_true, piece_of, selected, sights_from}
 use Rattle.walks.specs.Whole.{Finishes}
 
@@ -23,11 +23,9 @@ pub record IsSeen (h : Home) (t : TableState) (v : Views) : Type 0 where
   pub options : t.options ≡ h.options
   pub states : (part : ℕ) → part < h.options.parts → t.states part ≡ state_after (settings_of h.options) (v part)
 
--- a walk without named keys can be there: in one of so many parts, or at its end
-abbrev pub IsUnnamed : ℕ → Position → Type 0
-IsUnnamed parts (InPart part cursor) = part < parts
-IsUnnamed parts (AtNamed n) = ⊥
-IsUnnamed parts Over = Unit {0}
+-- a walk by a query can be there
+abbrev pub IsAlong : {A : Type 0} → Home → Query A → Position → Type 0
+IsAlong h q at = IsThere h.options.parts (named_count (plan_of q h.options)) at
 
 -- what a walk in pieces gives out, what it keeps and where it is then; it ends where there is no answer left
 abbrev pub IsPieceOf : {A : Type 0} → Piece → Step A → Type 0
@@ -39,27 +37,27 @@ IsPieceOf p (step.End q) = (p.given ≡ []) × (p.kept ≡ []) × (p.at ≡ Over
 abbrev pub StepsArePieces : Type 0 → Type 0
 StepsArePieces A =
     (h : Home) (t : TableState) (q : Query A) (limit : ℕ) (at : Position) (kept : List Datum) (s : Step A) (v u : Views)
-    → IsTrue h.alone → IsSeen h t v → IsUnnamed h.options.parts at → Steps h q limit at kept s v u
-    → IsPieceOf (piece_of (answer_of q.code) limit kept at (sights_from t None at)) s
-    × IsUnnamed h.options.parts (piece_of (answer_of q.code) limit kept at (sights_from t None at)).at × IsSeen h t u
+    → IsTrue h.alone → IsSeen h t v → IsAlong h q at → Steps h q limit at kept s v u
+    → IsPieceOf (piece_of (answer_of q.code) limit kept at (sights_from t (plan_of q h.options) at)) s
+    × IsAlong h q (piece_of (answer_of q.code) limit kept at (sights_from t (plan_of q h.options) at)).at × IsSeen h t u
 
 -- a whole walk answers all that is selected, and changes no state
 abbrev pub WholeWalksSelect : Type 0 → Type 0
 WholeWalksSelect A =
     (h : Home) (t : TableState) (q : Query A) (wanted : ℕ → ℕ) (gained : List Datum) (v u : Views)
     → IsTrue h.alone → 0 < h.options.parts → IsSeen h t v → Finishes h (walk_of h Answers q) wanted gained v u
-    → (gained ≡ selected t None (answer_of q.code)) × IsSeen h t u
+    → (gained ≡ selected t (plan_of q h.options) (answer_of q.code)) × IsSeen h t u
 
 -- one that counts gives the number of objects that are answered true, and changes no state
 abbrev pub WholeWalksCount : Type 0 → Type 0
 WholeWalksCount A =
     (h : Home) (t : TableState) (q : Query A) (count : ℕ) (v u : Views)
     → IsTrue h.alone → 0 < h.options.parts → IsSeen h t v → FinishesCount h (walk_of h Counts q) count v u
-    → (count ≡ number_true t None (answer_of q.code)) × IsSeen h t u
+    → (count ≡ number_true t (plan_of q h.options) (answer_of q.code)) × IsSeen h t u
 
 -- one that deletes gives their number too, and leaves the table without them
 abbrev pub WholeWalksRemove : Type 0 → Type 0
 WholeWalksRemove A =
     (h : Home) (t : TableState) (q : Query A) (count : ℕ) (v u : Views)
     → IsTrue h.alone → 0 < h.options.parts → IsSeen h t v → FinishesCount h (walk_of h Deletes q) count v u
-    → (count ≡ number_true t None (answer_of q.code)) × IsSeen h (after_removal t None (answer_of q.code)) u
+    → (count ≡ number_true t (plan_of q h.options) (answer_of q.code)) × IsSeen h (after_removal t (plan_of q h.options) (answer_of q.code)) u

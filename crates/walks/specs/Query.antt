@@ -1,13 +1,16 @@
 -- Queries, and the walks that they make; how far a walk has come, and what it keeps.
-use Rattle.std.specs.Prelude.{ℕ, None, option_map, ◌++◌, ◌<◌, List}
+use Rattle.std.specs.Prelude.{ℕ, Option, option_map, ◌++◌, ◌<◌, List}
 use Rattle.term_core.specs.Datum.{Datum}
 use Rattle.part_core.specs.Acts.{Purpose}
 use Rattle.part_core.specs.Ops.{cursor_of}
+use Rattle.part_core.specs.Settings.{is_ordered}
+use Rattle.tables.specs.declared.options.Options.{Options}
 use Rattle.tables.specs.Turns.{Home}
 use Rattle.walk_core.specs.Walk.{Walk}
 use Rattle.walk_core.specs.Walk as walk
+use Rattle.walk_plan.specs.declared.query.Query.{Query}
+use Rattle.walk_plan.specs.Plan.{plan_at}
 use Rattle.walks.specs.declared.kept.Kept.{Kept}
-use Rattle.walks.specs.declared.query.Query.{Query}
 use Rattle.walks.specs.declared.position.Position.{Position}
 use Rattle.walks.specs.declared.position.Position.TheVariants as position
 use Rattle.walks.specs.declared.fault.WalkFault.{WalkFault}
@@ -16,28 +19,38 @@ use Rattle.walks.specs.declared.fault.WalkFault.TheVariants as fault
 -- how far a walk has come
 abbrev pub position_of : {A : Type 0} → Position A → walk.Position
 position_of (position.InPart part cursor) = walk.Position.InPart part (option_map cursor_of cursor)
+position_of (position.AtNamed n) = walk.Position.AtNamed n
 position_of position.Over = walk.Position.Over
 
 -- the answers that are kept
 abbrev pub kept_of : {A : Type 0} → Kept A → List Datum
 kept_of kept = kept.earlier.items ++ kept.last.items
 
--- the walk of a session through all parts of its table
+-- the keys that a walk by a query visits, of a table with these options, where it names them
+abbrev pub plan_of : {A : Type 0} → Query A → Options → Option (List Datum)
+plan_of query options = plan_at query.named options.keypos (is_ordered options.kind)
+
+-- the walk of a session through all parts of its table, or through the keys that are named
 abbrev pub walk_of : {A : Type 0} → Home → Purpose → Query A → Walk
 walk_of h purpose query = record {
   options = h.options;
   number = h.number;
   purpose = purpose;
   program = query.code;
-  plan = None;
+  plan = plan_of query h.options;
   from = 0;
   to = h.options.parts;
 }
 
--- a part where a walk is, is one of so many
-abbrev pub IsWithin : {A : Type 0} → ℕ → Position A → Type 0
-IsWithin parts (position.InPart part cursor) = part < parts
-IsWithin parts position.Over = Unit {0}
+-- a walk can be there: in one of so many parts, at one of so many named keys, or at its end
+abbrev pub IsThere : ℕ → ℕ → walk.Position → Type 0
+IsThere parts count (walk.Position.InPart part cursor) = part < parts
+IsThere parts count (walk.Position.AtNamed n) = n < count
+IsThere parts count walk.Position.Over = Unit {0}
+
+-- so a walk by a query can be, of a table with these options
+abbrev pub IsWithin : {A B : Type 0} → Options → Query A → Position B → Type 0
+IsWithin options query at = IsThere options.parts (walk.named_count (plan_of query options)) (position_of at)
 
 -- the numbers of refusals in what programs print
 abbrev pub walk_fault_number : WalkFault → ℕ
