@@ -7,7 +7,8 @@ use Rattle.term_core.specs.Datum.{Datum}
 use Rattle.tool_io.specs.Lines.{line, Passes, EndsBy}
 use Rattle.tool_io.specs.declared.fault.ToolFault.{ToolFault}
 use Rattle.tool_io.specs.declared.fault.ToolFault.TheVariants as fault
-use Rattle.tool_script.specs.Script.{ScriptState, beginning, IsReply, AreReplies}
+use Rattle.tool_script.specs.Script.{ScriptState, beginning}
+use Rattle.tool_script.specs.Replied.{IsReply, AreReplies}
 use Rattle.tool_script.specs.Run.{WritesReplies, StopsReplies}
 
 -- terms are replied one after the other, up to a state

@@ -8,6 +8,4 @@ mod TableLemmas
 mod OptionLemmas
 mod GatherLemmas
 mod WorkedRows
-mod SelectionLemmas
-mod FullReplyLemmas
 mod WorkedWalks

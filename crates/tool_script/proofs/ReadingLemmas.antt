@@ -1,6 +1,7 @@
 -- A command is read back from its term, and what is read from a term has that term.
 use Rattle.std.proofs.Common.{◌≡◌, ℕ, ℤ, List, [], ◌∷◌, Bool, true, false, refl, sym, ◌∙◌, subst, ap, Option, Some, None, nat_eq, option_map}
 use Rattle.std.specs.Prelude.{codes, if◌then◌else◌, MatchOption}
+use Rattle.std.specs.Option.{option_or}
 use Rattle.std.specs.Cmp.Lexicographic.{pointwise, bytes_decides}
 use Rattle.std.proofs.lemmas.Option.{none-some, same_Some}
 use Rattle.term_core.specs.Datum.{Datum, Items, items_of}
@@ -9,21 +10,26 @@ use Rattle.term_core.specs.Datum.Items.{no_items, item}
 use Rattle.term_operand.specs.Operand.{integer_of}
 use Rattle.part_core.specs.declared.kind.TableKind.{TableKind}
 use Rattle.part_core.specs.declared.kind.TableKind.TheVariants.{Set, OrderedSet, Bag, DuplicateBag}
-use Rattle.tool_script.specs.Command.{Ask, Command, called, kind_name, ask_term, command_term, IsNoCommand}
+use Rattle.tool_script.specs.Command.{Ask, Selection, Command, called, kind_name, ask_term, selection_term, command_term, IsNoCommand}
 use Rattle.tool_script.specs.Command.Ask.{Insert, InsertNew, Lookup, Member, Delete, DeleteObject, Take, Fix, Unfix, Leave, First, Next}
-use Rattle.tool_script.specs.Command.Command.{Open, Session, Close}
-use Rattle.tool_script.specs.Reading.{kind_in, ask_alone, ask_with, asked_with, kind_by, opened_with, command_with, elements_in}
+use Rattle.tool_script.specs.Command.Selection.{Select, SelectLimit, SelectMore, SelectCount, SelectDelete}
+use Rattle.tool_script.specs.Command.Command.{Open, Session, Walk, Close}
+use Rattle.tool_script.specs.Reading.{kind_in, ask_alone, ask_with, asked_by, asked_with, selection_with, selection_within, walked_by, walked_with}
+use Rattle.tool_script.specs.Reading.{told_by, kind_by, opened_with, command_with, elements_in}
 
 -- ---- what is read has the term that it was read from
 
 -- a name that is found is the one that was looked for
-choice : {X : Type 0} {later : Option X} (name cs : List ℕ) (x : X) (P : List ℕ → X → Type 0) → P name x → ((y : X) → later ≡ Some y → P cs y) → (y : X) → (if pointwise nat_eq name cs then Some x else later) ≡ Some y → P cs y
-choice {later = later} name cs x P here there y e = by (pointwise nat_eq name cs) refl e
+choices : {X : Type 0} {later : Option X} (name cs : List ℕ) (found : Option X) (P : List ℕ → X → Type 0) → ((x : X) → found ≡ Some x → P name x) → ((y : X) → later ≡ Some y → P cs y) → (y : X) → (if pointwise nat_eq name cs then found else later) ≡ Some y → P cs y
+choices {later = later} name cs found P here there y e = by (pointwise nat_eq name cs) refl e
   where
-    by : (b : Bool) → pointwise nat_eq name cs ≡ b → (if b then Some x else later) ≡ Some y → P cs y
-    by true same e =
-        subst (λ n. P n y) ((bytes_decides name cs).0 same) (subst (P name) (same_Some x y e) here)
+    by : (b : Bool) → pointwise nat_eq name cs ≡ b → (if b then found else later) ≡ Some y → P cs y
+    by true same e = subst (λ n. P n y) ((bytes_decides name cs).0 same) (here y e)
     by false other e = there y e
+
+choice : {X : Type 0} {later : Option X} (name cs : List ℕ) (x : X) (P : List ℕ → X → Type 0) → P name x → ((y : X) → later ≡ Some y → P cs y) → (y : X) → (if pointwise nat_eq name cs then Some x else later) ≡ Some y → P cs y
+choice name cs x P here there =
+    choices name cs (Some x) P (λ y e. subst (P name) (same_Some x y e) here) there
 
 nothing : {X : Type 0} (P : X → Type 0) (y : X) → None ≡ Some y → P y
 nothing P y e = absurd (none-some y e)
@@ -67,6 +73,31 @@ integer_is nil z e = absurd (none-some z e)
 integer_is (cons h t) z e = absurd (none-some z e)
 integer_is (binary bs) z e = absurd (none-some z e)
 
+-- what is made of an integer
+of_integer : {X : Type 0} (make : ℤ → X) (d : Datum) (x : X) (P : Datum → X → Type 0) → ((z : ℤ) → P (integer z) (make z)) → option_map make (integer_of d) ≡ Some x → P d x
+of_integer make (integer z) x P each e = subst (P (integer z)) (same_Some (make z) x e) (each z)
+of_integer make (atom cs) x P each e = absurd (none-some x e)
+of_integer make (tuple ds) x P each e = absurd (none-some x e)
+of_integer make (map es) x P each e = absurd (none-some x e)
+of_integer make nil x P each e = absurd (none-some x e)
+of_integer make (cons h t) x P each e = absurd (none-some x e)
+of_integer make (binary bs) x P each e = absurd (none-some x e)
+
+selection_sound : (s : ℤ) (d : Datum) (cs : List ℕ) (x : Selection) → selection_with cs d ≡ Some x → called cs (integer s ∷ d ∷ []) ≡ selection_term s x
+selection_sound s d cs =
+    let P : List ℕ → Selection → Type 0 = λ n x. called n (integer s ∷ d ∷ []) ≡ selection_term s x in
+    choice (codes "select") cs (Select d) P refl
+    (choices (codes "more") cs (option_map SelectMore (integer_of d)) P (λ x. of_integer SelectMore d x (λ d x. called (codes "more") (integer s ∷ d ∷ []) ≡ selection_term s x) (λ z. refl))
+    (choice (codes "select_count") cs (SelectCount d) P refl
+    (choice (codes "select_delete") cs (SelectDelete d) P refl
+    (nothing (P cs)))))
+
+within_sound : (s : ℤ) (d limit : Datum) (cs : List ℕ) (x : Selection) → selection_within cs d limit ≡ Some x → called cs (integer s ∷ d ∷ limit ∷ []) ≡ selection_term s x
+within_sound s d limit cs =
+    choices (codes "select") cs (option_map (SelectLimit d) (integer_of limit)) (λ n x. called n (integer s ∷ d ∷ limit ∷ []) ≡ selection_term s x)
+    (λ x. of_integer (SelectLimit d) limit x (λ limit x. called (codes "select") (integer s ∷ d ∷ limit ∷ []) ≡ selection_term s x) (λ z. refl))
+    (nothing (λ x. called cs (integer s ∷ d ∷ limit ∷ []) ≡ selection_term s x))
+
 kind_is : (d : Datum) (kind : TableKind) → kind_by d ≡ Some kind → d ≡ atom (kind_name kind)
 kind_is (atom cs) kind e = ap atom (kind_sound cs kind e)
 kind_is (integer x) kind e = absurd (none-some kind e)
@@ -80,6 +111,23 @@ asked_sound : (term : Datum → Datum) (s : Datum) (number : Option ℤ) (ask : 
 asked_sound term s (Some z) (Some a) c numbered asked e =
     ap term (numbered z refl) ∙ asked z a refl ∙ ap command_term (same_Some (Session z a) c e)
 asked_sound term s number ask c numbered asked e = absurd (none-some c e)
+
+walked_sound : (term : Datum → Datum) (s : Datum) (number : Option ℤ) (selection : Option Selection) (c : Command) → ((z : ℤ) → number ≡ Some z → s ≡ integer z) → ((z : ℤ) (x : Selection) → selection ≡ Some x → term (integer z) ≡ selection_term z x) → walked_with number selection ≡ Some c → term s ≡ command_term c
+walked_sound term s (Some z) (Some x) c numbered selected e =
+    ap term (numbered z refl) ∙ selected z x refl ∙ ap command_term (same_Some (Walk z x) c e)
+walked_sound term s number selection c numbered selected e = absurd (none-some c e)
+
+-- one of two
+either : {X : Type 0} (a b : Option X) (x : X) (P : X → Type 0) → ((y : X) → a ≡ Some y → P y) → ((y : X) → b ≡ Some y → P y) → option_or a b ≡ Some x → P x
+either None b x P first second e = second x e
+either (Some y) b x P first second e = first x e
+
+told_sound : (cs : List ℕ) (s d : Datum) (c : Command) → told_by cs s d ≡ Some c → called cs (s ∷ d ∷ []) ≡ command_term c
+told_sound cs s d c =
+    let term : Datum → Datum = λ x. called cs (x ∷ d ∷ []) in
+    either (asked_by s (ask_with cs d)) (walked_by s (selection_with cs d)) c (λ c. term s ≡ command_term c)
+    (λ c. asked_sound term s (integer_of s) (ask_with cs d) c (integer_is s) (λ z. with_sound z d cs))
+    (λ c. walked_sound term s (integer_of s) (selection_with cs d) c (integer_is s) (λ z. selection_sound z d cs))
 
 opened_sound : (kind keypos parts sessions : Datum) (k : Option TableKind) (x y z : Option ℤ) (c : Command) → ((j : TableKind) → k ≡ Some j → kind ≡ atom (kind_name j)) → ((i : ℤ) → x ≡ Some i → keypos ≡ integer i) → ((i : ℤ) → y ≡ Some i → parts ≡ integer i) → ((i : ℤ) → z ≡ Some i → sessions ≡ integer i) → opened_with k x y z ≡ Some c → called (codes "open") (kind ∷ keypos ∷ parts ∷ sessions ∷ []) ≡ command_term c
 opened_sound kind keypos parts sessions (Some k) (Some x) (Some y) (Some z) c first second third fourth e =
@@ -97,9 +145,9 @@ command_sound cs [] c e =
     choice (codes "close") cs Close (λ n x. called n [] ≡ command_term x) refl (nothing (λ x. called cs [] ≡ command_term x)) c e
 command_sound cs (s ∷ []) c e =
     asked_sound (λ d. called cs (d ∷ [])) s (integer_of s) (ask_alone cs) c (integer_is s) (λ z. alone_sound z cs) e
-command_sound cs (s ∷ d ∷ []) c e =
-    asked_sound (λ x. called cs (x ∷ d ∷ [])) s (integer_of s) (ask_with cs d) c (integer_is s) (λ z. with_sound z d cs) e
-command_sound cs (s ∷ d ∷ x ∷ []) c e = absurd (none-some c e)
+command_sound cs (s ∷ d ∷ []) c e = told_sound cs s d c e
+command_sound cs (s ∷ d ∷ limit ∷ []) c e =
+    walked_sound (λ x. called cs (x ∷ d ∷ limit ∷ [])) s (integer_of s) (selection_within cs d limit) c (integer_is s) (λ z. within_sound z d limit cs) e
 command_sound cs (kind ∷ keypos ∷ parts ∷ sessions ∷ []) c e =
     open_sound cs kind keypos parts sessions c (pointwise nat_eq (codes "open") cs) refl e
 command_sound cs (v ∷ w ∷ x ∷ y ∷ z ∷ ds) c e = absurd (none-some c e)
@@ -149,6 +197,11 @@ read_back (Session s Unfix) = refl
 read_back (Session s Leave) = refl
 read_back (Session s First) = refl
 read_back (Session s (Next k)) = refl
+read_back (Walk s (Select d)) = refl
+read_back (Walk s (SelectLimit d limit)) = refl
+read_back (Walk s (SelectMore c)) = refl
+read_back (Walk s (SelectCount d)) = refl
+read_back (Walk s (SelectDelete d)) = refl
 read_back Close = refl
 
 -- two commands with one term are one

@@ -20,11 +20,22 @@ pub data Ask : Type 0 where
   First : Ask
   Next : Datum → Ask
 
--- A table is opened, of a kind, with a place of the key, parts and sessions; a session, by its number, asks something; the
--- table is closed.
+-- What a session asks by a specification, or of a walk that it began: all answers (ets:select/2); at most so many at once
+-- (ets:select/3); those that go on behind a piece, by the number of its continuation (ets:select/1); how many objects are
+-- answered true (ets:select_count/2); that these go (ets:select_delete/2).
+pub data Selection : Type 0 where
+  Select : Datum → Selection
+  SelectLimit : Datum → ℤ → Selection
+  SelectMore : ℤ → Selection
+  SelectCount : Datum → Selection
+  SelectDelete : Datum → Selection
+
+-- A table is opened, of a kind, with a place of the key, parts and sessions; a session, by its number, asks something, or
+-- walks the table; the table is closed.
 pub data Command : Type 0 where
   Open : TableKind → ℤ → ℤ → ℤ → Command
   Session : ℤ → Ask → Command
+  Walk : ℤ → Selection → Command
   Close : Command
 
 -- the atom of a kind
@@ -53,11 +64,21 @@ ask_term s Leave = called (codes "leave") (integer s ∷ [])
 ask_term s First = called (codes "first") (integer s ∷ [])
 ask_term s (Next k) = called (codes "next") (integer s ∷ k ∷ [])
 
+-- the term of what it asks by a specification, or of a walk
+abbrev pub selection_term : ℤ → Selection → Datum
+selection_term s (Select d) = called (codes "select") (integer s ∷ d ∷ [])
+selection_term s (SelectLimit d limit) =
+    called (codes "select") (integer s ∷ d ∷ integer limit ∷ [])
+selection_term s (SelectMore c) = called (codes "more") (integer s ∷ integer c ∷ [])
+selection_term s (SelectCount d) = called (codes "select_count") (integer s ∷ d ∷ [])
+selection_term s (SelectDelete d) = called (codes "select_delete") (integer s ∷ d ∷ [])
+
 -- the term of a command
 abbrev pub command_term : Command → Datum
 command_term (Open kind keypos parts sessions) =
     called (codes "open") (atom (kind_name kind) ∷ integer keypos ∷ integer parts ∷ integer sessions ∷ [])
 command_term (Session s ask) = ask_term s ask
+command_term (Walk s selection) = selection_term s selection
 command_term Close = called (codes "close") []
 
 -- the term of no command

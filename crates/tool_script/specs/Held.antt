@@ -2,7 +2,6 @@
 use Rattle.std.specs.Prelude.{ℕ, ℤ, pos, ◌==◌, ◌&&◌, if◌then◌else◌, Option, Some, None, get_or, List}
 use Rattle.term_core.specs.Datum.{Datum}
 use Rattle.walk_core.specs.Walk.{Position}
-use Rattle.walks.specs.Sights.{}
 
 -- A walk that can go on: of which table, by its name, and of which session it is; what is answered on an object; the named
 -- keys, if it has any; how many answers a piece has at most; where the walk is; and which answers are kept.

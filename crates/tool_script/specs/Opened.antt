@@ -1,12 +1,17 @@
 -- The table that is open, in memory, and which sessions have left it.
-use Rattle.std.specs.Prelude.{ℕ, ℤ, ◌≡◌, ◌<◌, ◌==◌, Bool, ◌&&◌, ◌||◌, Some, slice_get, List}
+use Rattle.std.specs.Prelude.{ℕ, ℤ, ◌≡◌, ◌<◌, ◌==◌, Bool, ◌&&◌, ◌||◌, Option, Some, slice_get, List}
 use Rattle.term_core.specs.Datum.{Datum}
 use Rattle.part_core.specs.declared.part.Part.{Ghosts}
 use Rattle.tables.specs.Local.{AreAfter}
 use Rattle.tool_script.specs.declared.open.OpenTable as open_type
-use Rattle.tool_script.specs.Command.{Ask}
+use Rattle.walks.specs.declared.continuation.Continuation.{Continuation}
+use Rattle.tool_script.specs.Command.{Ask, Selection}
+use Rattle.tool_script.specs.Continuations.{AreHeld}
+use Rattle.tool_script.specs.Course.{Takes}
+use Rattle.tool_script.specs.Held.{Held}
 use Rattle.tool_script.specs.Script.{OpenTable, answered_in, session_number}
 use Rattle.tool_script.specs.State.{IsAt}
+use Rattle.tool_script.specs.Walks.{Walked, selecting_by}
 
 -- the table is in its state, and of each session it is known whether it has left
 pub record IsOpen {P A : Type 0} {p : Ghosts P A} (t : open_type.OpenTable P A p) (state : OpenTable) : Type 0 where
@@ -24,3 +29,11 @@ IsSessionAnswered old new number ask reply =
     (state : OpenTable) → IsOpen old state
     → (reply ≡ (answered_in state ask (session_number state number)).0)
     × IsOpen new (answered_in state ask (session_number state number)).1
+
+-- the same of what it selects, and of the walks of the script
+abbrev pub IsSelectionAnswered : {P A : Type 0} {p : Ghosts P A} → open_type.OpenTable P A p → open_type.OpenTable P A p → (old new : List (Option (Continuation A))) → ℤ → Selection → Datum → Type 0
+IsSelectionAnswered before now old new number selection reply =
+    (count : ℕ) (state : OpenTable) (walks : List (Option Held)) → before.table.options.name < count → IsOpen before state
+    → AreHeld (Some before.table.options) count old walks
+    → Takes (selecting_by (record { table = state.table; walks = walks }) selection (session_number state number)) reply
+    (λ w. IsOpen now (record { table = w.table; left = state.left }) × AreHeld (Some now.table.options) count new w.walks)

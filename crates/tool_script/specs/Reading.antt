@@ -1,14 +1,16 @@
 -- How a command is read: by its name and the number of its arguments.
-use Rattle.std.specs.Prelude.{ℕ, ℤ, nat_eq, if◌then◌else◌, Option, Some, None, List, [], ◌∷◌, codes}
+use Rattle.std.specs.Prelude.{ℕ, ℤ, nat_eq, if◌then◌else◌, Option, Some, None, option_map, List, [], ◌∷◌, codes}
+use Rattle.std.specs.Option.{option_or}
 use Rattle.std.specs.Cmp.Lexicographic.{pointwise}
 use Rattle.term_core.specs.Datum.{Datum}
 use Rattle.term_core.specs.Datum.Datum.{atom}
 use Rattle.term_operand.specs.Operand.{integer_of}
 use Rattle.part_core.specs.declared.kind.TableKind.{TableKind}
 use Rattle.part_core.specs.declared.kind.TableKind.TheVariants.{Set, OrderedSet, Bag, DuplicateBag}
-use Rattle.tool_script.specs.Command.{Ask, Command}
+use Rattle.tool_script.specs.Command.{Ask, Selection, Command}
 use Rattle.tool_script.specs.Command.Ask.{Insert, InsertNew, Lookup, Member, Delete, DeleteObject, Take, Fix, Unfix, Leave, First, Next}
-use Rattle.tool_script.specs.Command.Command.{Open, Session, Close}
+use Rattle.tool_script.specs.Command.Selection.{Select, SelectLimit, SelectMore, SelectCount, SelectDelete}
+use Rattle.tool_script.specs.Command.Command.{Open, Session, Walk, Close}
 
 -- no atom
 abbrev pub IsNoAtom : Datum → Type 0
@@ -54,6 +56,32 @@ asked_with s ask = None
 abbrev pub asked_by : Datum → Option Ask → Option Command
 asked_by s ask = asked_with (integer_of s) ask
 
+-- what is asked by a name and a term, which is a specification or numbers a continuation
+abbrev pub selection_with : List ℕ → Datum → Option Selection
+selection_with cs d =
+    if pointwise nat_eq (codes "select") cs then Some (Select d)
+    else if pointwise nat_eq (codes "more") cs then option_map SelectMore (integer_of d)
+    else if pointwise nat_eq (codes "select_count") cs then Some (SelectCount d)
+    else if pointwise nat_eq (codes "select_delete") cs then Some (SelectDelete d)
+    else None
+
+-- by a name, a specification and a limit
+abbrev pub selection_within : List ℕ → Datum → Datum → Option Selection
+selection_within cs d limit =
+    if pointwise nat_eq (codes "select") cs then option_map (SelectLimit d) (integer_of limit) else None
+
+-- a session that a term numbers walks the table
+abbrev pub walked_with : Option ℤ → Option Selection → Option Command
+walked_with (Some s) (Some selection) = Some (Walk s selection)
+walked_with s selection = None
+
+abbrev pub walked_by : Datum → Option Selection → Option Command
+walked_by s selection = walked_with (integer_of s) selection
+
+-- a session's command by a name and a term
+abbrev pub told_by : List ℕ → Datum → Datum → Option Command
+told_by cs s d = option_or (asked_by s (ask_with cs d)) (walked_by s (selection_with cs d))
+
 -- the kind that a term names
 abbrev pub kind_by : Datum → Option TableKind
 kind_by (atom cs) = kind_in cs
@@ -79,7 +107,8 @@ closed_by cs = if pointwise nat_eq (codes "close") cs then Some Close else None
 abbrev pub command_with : List ℕ → List Datum → Option Command
 command_with cs [] = closed_by cs
 command_with cs (s ∷ []) = asked_by s (ask_alone cs)
-command_with cs (s ∷ d ∷ []) = asked_by s (ask_with cs d)
+command_with cs (s ∷ d ∷ []) = told_by cs s d
+command_with cs (s ∷ d ∷ limit ∷ []) = walked_by s (selection_within cs d limit)
 command_with cs (kind ∷ keypos ∷ parts ∷ sessions ∷ []) = opened_by cs kind keypos parts sessions
 command_with cs ds = None
 

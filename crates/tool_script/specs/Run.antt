@@ -7,7 +7,8 @@ use Rattle.tool_io.specs.Lines.{line}
 use Rattle.tool_io.specs.declared.fault.ToolFault.{ToolFault}
 use Rattle.tool_io.specs.declared.fault.ToolFault.TheVariants as fault
 use Rattle.tool_script.specs.declared.script.Script as script_type
-use Rattle.tool_script.specs.Script.{ScriptState, beginning, IsReply, AreReplies}
+use Rattle.tool_script.specs.Script.{ScriptState, beginning}
+use Rattle.tool_script.specs.Replied.{IsReply, AreReplies}
 use Rattle.tool_script.specs.Scripts.{HasState}
 
 -- the line of the reply to a term is put at the end

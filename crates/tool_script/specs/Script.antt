@@ -1,5 +1,5 @@
--- What a script of commands is replied, on one thread.
-use Rattle.std.specs.Prelude.{ℕ, ℤ, pos, ◌≡◌, ◌⊎◌, ◌+◌, ◌==◌, Bool, true, false, not, ◌&&◌, ◌||◌, if◌then◌else◌, nat_le, nat_lt, Option, Some, None, List, [], ◌∷◌, codes}
+-- A script on one thread: its state, and what it is replied that opens a table or has a session ask something of it.
+use Rattle.std.specs.Prelude.{ℕ, ℤ, pos, ◌+◌, ◌==◌, Bool, true, false, not, ◌&&◌, ◌||◌, if◌then◌else◌, nat_le, nat_lt, Option, Some, None, List, [], ◌∷◌, codes}
 use Rattle.term_core.specs.Datum.{Datum, cells}
 use Rattle.term_core.specs.Datum.Datum.{integer, atom, nil}
 use Rattle.term_operand.specs.Operand.{boolean}
@@ -12,10 +12,10 @@ use Rattle.part_core.specs.Acts.Refusal.{TooSmall, FixLimit, NotFixed, BadKey, C
 use Rattle.tables.specs.declared.options.Options.{Options}
 use Rattle.tables.specs.Options.{settings_of}
 use Rattle.tables.specs.OneThread.{TableState, opened, reply_at, after_at, after_each, can_fix, can_unfix}
-use Rattle.walks.specs.OneThread.{first_key, key_after, table_objects}
-use Rattle.tool_script.specs.Command.{Ask, Command, called, command_term, IsNoCommand}
+use Rattle.walks.specs.OneThread.{first_key, key_after}
+use Rattle.tool_script.specs.Command.{Ask, called}
 use Rattle.tool_script.specs.Command.Ask.{Insert, InsertNew, Lookup, Member, Delete, DeleteObject, Take, Fix, Unfix, Leave, First, Next}
-use Rattle.tool_script.specs.Command.Command.{Open, Session, Close}
+use Rattle.tool_script.specs.Course.{Step}
 use Rattle.tool_script.specs.Held.{Held}
 
 -- the table that is open, and which sessions have left it
@@ -63,10 +63,6 @@ said_term (Counted n next) = integer (pos n)
 abbrev pub answer_term : Answer → Datum
 answer_term (Replied said) = said_term said
 answer_term (Refused refusal) = error (refusal_number refusal)
-
--- what is replied, and the script behind it
-abbrev pub Step : Type 0
-Step = Datum × ScriptState
 
 -- a session does something at one part
 abbrev pub at_part : TableState → ℕ → ℕ → Act → Datum × TableState
@@ -132,7 +128,7 @@ abbrev pub newly_opened : Options → OpenTable
 newly_opened options = record { table = opened options; left = λ n. false }
 
 -- a table is opened, or nothing is
-abbrev pub opening_of : ScriptState → Option Options → Step
+abbrev pub opening_of : ScriptState → Option Options → Step ScriptState
 opening_of st (Some options) =
     (boolean true, record { current = Some (newly_opened options); count = st.count + 1; walks = st.walks })
 opening_of st None = (error 60, record { current = None; count = st.count; walks = st.walks })
@@ -142,33 +138,6 @@ abbrev pub answered_in : OpenTable → Ask → Option ℕ → Datum × OpenTable
 answered_in o ask (Some n) = in_session o n ask
 answered_in o ask None = (error 61, o)
 
-abbrev pub session_step : ScriptState → OpenTable → Ask → Option ℕ → Step
+abbrev pub session_step : ScriptState → OpenTable → Ask → Option ℕ → Step ScriptState
 session_step st o ask n =
     ((answered_in o ask n).0, record { current = Some (answered_in o ask n).1; count = st.count; walks = st.walks })
-
--- A command's reply, and the script behind it. While a table is open none is opened, and else nothing is asked of one.
-abbrev pub step : ScriptState → Option OpenTable → Command → Step
-step st None (Open kind keypos parts sessions) =
-    opening_of st
-    (options_with st.count kind (number_within 1 65535 keypos) (number_within 1 64 parts) (number_within 1 16 sessions))
-step st (Some o) (Session s ask) = session_step st o ask (session_number o s)
-step st (Some o) Close =
-    (cells (table_objects o.table) nil, record { current = None; count = st.count; walks = st.walks })
-step st current command = (error 65, st)
-
--- a reply, and the script behind it
-abbrev pub Gives : Step → Datum → ScriptState → Type 0
-Gives s reply after = (reply ≡ s.0) × (after ≡ s.1)
-
--- A term is replied: what the command is replied that it is the term of, and a refusal where it is that of none.
-abbrev pub IsReply : ScriptState → Datum → Datum → ScriptState → Type 0
-IsReply st d reply after =
-    ((command : Command) × (d ≡ command_term command) × Gives (step st st.current command) reply after)
-    ⊎ (IsNoCommand d × Gives (error 65, st) reply after)
-
--- terms are replied one after the other, from a state on
-abbrev pub AreReplies : ScriptState → List Datum → List Datum → Type 0
-AreReplies st [] [] = Unit {0}
-AreReplies st (d ∷ ds) (reply ∷ replies) =
-    (after : ScriptState) × IsReply st d reply after × AreReplies after ds replies
-AreReplies st ds replies = ⊥

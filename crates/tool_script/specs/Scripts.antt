@@ -1,13 +1,17 @@
 -- A script in memory, and the state that it is in.
-use Rattle.std.specs.Prelude.{◌≡◌, Option, Some, None}
+use Rattle.std.specs.Prelude.{◌≡◌, ◌<◌, Option, Some, None, IfSome}
 use Rattle.term_core.specs.Datum.{Datum}
 use Rattle.part_core.specs.declared.part.Part.{Ghosts}
+use Rattle.tables.specs.declared.options.Options.{Options}
 use Rattle.tool_script.specs.declared.script.Current.{Current}
 use Rattle.tool_script.specs.declared.script.Current.TheVariants as current
 use Rattle.tool_script.specs.declared.script.Script as script_type
 use Rattle.tool_script.specs.Command.{Command}
-use Rattle.tool_script.specs.Script.{OpenTable, ScriptState, step, IsReply}
+use Rattle.tool_script.specs.Continuations.{AreHeld}
+use Rattle.tool_script.specs.Course.{Takes}
+use Rattle.tool_script.specs.Script.{OpenTable, ScriptState}
 use Rattle.tool_script.specs.Opened.{IsOpen}
+use Rattle.tool_script.specs.Replied.{course, IsReply}
 
 -- the table that is open is in its state, if one is
 abbrev pub HasTable : {S O A : Type 0} {s : Ghosts S A} {o : Ghosts O A} → Current S O A s o → Option OpenTable → Type 0
@@ -16,16 +20,24 @@ HasTable (current.Set t) (Some state) = IsOpen t state
 HasTable (current.Ordered t) (Some state) = IsOpen t state
 HasTable t state = ⊥
 
+-- what it was opened with
+abbrev pub open_options : {S O A : Type 0} {s : Ghosts S A} {o : Ghosts O A} → Current S O A s o → Option Options
+open_options current.NoTable = None
+open_options (current.Set t) = Some t.table.options
+open_options (current.Ordered t) = Some t.table.options
+
+-- A script is in its state: how many tables were opened, one of which is the one that is open; its table; and its walks.
 pub record HasState {S O A : Type 0} {s : Ghosts S A} {o : Ghosts O A} (script : script_type.Script S O A s o) (st : ScriptState) : Type 0
   where
     pub count : st.count ≡ script.count
     pub current : HasTable script.current st.current
+    pub named : IfSome (open_options script.current) (λ options. options.name < script.count)
+    pub walks : AreHeld (open_options script.current) script.count script.walks.items st.walks
 
 -- a command is replied
 abbrev pub IsStep : {S O A : Type 0} {s : Ghosts S A} {o : Ghosts O A} → script_type.Script S O A s o → script_type.Script S O A s o → Command → Datum → Type 0
 IsStep old new command reply =
-    (st : ScriptState) → HasState old st
-    → (reply ≡ (step st st.current command).0) × HasState new (step st st.current command).1
+    (st : ScriptState) → HasState old st → Takes (course st st.current command) reply (HasState new)
 
 -- a term is replied
 abbrev pub IsTermStep : {S O A : Type 0} {s : Ghosts S A} {o : Ghosts O A} → script_type.Script S O A s o → script_type.Script S O A s o → Datum → Datum → Type 0

@@ -1,5 +1,5 @@
 -- The tables and the script that stand in memory, and the states that they are in.
-use Rattle.std.specs.Prelude.{ℕ, ◌≡◌, ◌≢◌, ◌<◌, true, Result, Ok, Err}
+use Rattle.std.specs.Prelude.{ℕ, ◌≡◌, ◌≢◌, ◌<◌, true, Option, Some, Result, Ok, Err, List}
 use Rattle.term_core.specs.Datum.{Datum}
 use Rattle.term_operand.specs.Operand.{boolean}
 use Rattle.part_core.specs.declared.fault.Fault.{Fault}
@@ -10,8 +10,12 @@ use Rattle.tables.specs.declared.options.Options.{Options}
 use Rattle.tables.specs.Options.{settings_of}
 use Rattle.tables.specs.Turns.{Views}
 use Rattle.tables.specs.OneThread.{TableState}
-use Rattle.tool_script.specs.Command.{Ask}
+use Rattle.walks.specs.declared.continuation.Continuation.{Continuation}
+use Rattle.tool_script.specs.Command.{Ask, Selection}
+use Rattle.tool_script.specs.Continuations.{AreHeld}
+use Rattle.tool_script.specs.Course.{Step, Takes}
 use Rattle.tool_script.specs.Script.{error, asked}
+use Rattle.tool_script.specs.Walks.{Walked, selecting}
 
 -- A table is in a state, by what is seen of it: the histories of its parts leave their states.
 pub record IsAt (o : Options) (sees : Views → Type 0) (t : TableState) : Type 0 where
@@ -24,6 +28,25 @@ pub record IsAt (o : Options) (sees : Views → Type 0) (t : TableState) : Type 
 abbrev pub IsAnswered : Options → ℕ → (Views → Type 0) → (Views → Type 0) → Ask → Datum → Type 0
 IsAnswered o n before now ask reply =
     (t : TableState) → IsAt o before t → (reply ≡ (asked t n ask).0) × IsAt o now (asked t n ask).1
+
+-- A table with the walks of its script is in a state; it is one of so many that were opened.
+pub record AreAt {A : Type 0} (o : Options) (sees : Views → Type 0) (count : ℕ) (walks : List (Option (Continuation A))) (w : Walked) : Type 0
+  where
+    pub table : IsAt o sees w.table
+    pub named : o.name < count
+    pub walks : AreHeld (Some o) count walks w.walks
+
+-- a step is made of whatever state they are in
+abbrev pub IsDone : {A : Type 0} → Options → (before now : Views → Type 0) → (old new : List (Option (Continuation A))) → (Walked → Step Walked) → Datum → Type 0
+IsDone o before now old new go reply =
+    (count : ℕ) (w : Walked) → AreAt o before count old w
+    → (reply ≡ (go w).0) × AreAt o now count new (go w).1
+
+-- a session is replied what it selected, and the table and the walks are in the state behind that
+abbrev pub IsSelected : {A : Type 0} → Options → ℕ → (before now : Views → Type 0) → (old new : List (Option (Continuation A))) → Selection → Datum → Type 0
+IsSelected o n before now old new selection reply =
+    (count : ℕ) (w : Walked) → AreAt o before count old w
+    → Takes (selecting w n selection) reply (AreAt o now count new)
 
 -- the reply to what was done, or refused, if not for want of memory
 abbrev pub IsReplied : {U : Type 0} → Result U Fault → Datum → Type 0

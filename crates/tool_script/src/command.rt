@@ -3,8 +3,9 @@ ghost use Rattle.std.specs.Prelude.{◌≡◌, nat_eq, option_map, MatchOption};
 ghost use Rattle.std.specs.Cmp.Lexicographic.{pointwise};
 ghost use Rattle.term_core.specs.Datum.Datum.{atom};
 ghost use Rattle.tool_script.specs.Command.{command_term, IsNoCommand};
-ghost use Rattle.tool_script.specs.Commands.{ask_of, command_of};
-ghost use Rattle.tool_script.specs.Reading.{IsNoAtom, kind_in, ask_alone, ask_with, asked_by, closed_by, opened_by, command_with, elements_in};
+ghost use Rattle.tool_script.specs.Commands.{ask_of, command_of, selection_of};
+ghost use Rattle.tool_script.specs.Reading.{IsNoAtom, kind_in, ask_alone, ask_with, asked_by, selection_with, selection_within, walked_by};
+ghost use Rattle.tool_script.specs.Reading.{told_by, closed_by, opened_by, command_with, elements_in};
 
 use part_core::TableKind;
 use std::alloc::{Allocator, Global};
@@ -40,6 +41,21 @@ pub enum Ask<'a, A: Allocator = Global> {
     Next(&'a Term<A>),
 }
 
+/// What a session asks by a specification, or of a walk that it began.
+#[derive(Drop)]
+pub enum Selection<'a, A: Allocator = Global> {
+    /// `select`: all answers.
+    Select(&'a Term<A>),
+    /// `select` with a limit: at most so many answers at once.
+    SelectLimit(&'a Term<A>, i64),
+    /// `more`: the answers behind a piece, by the number of its continuation.
+    SelectMore(i64),
+    /// `select_count`: how many objects are answered `true`.
+    SelectCount(&'a Term<A>),
+    /// `select_delete`: the same, and they go.
+    SelectDelete(&'a Term<A>),
+}
+
 /// A command. Its numbers are those that stand there, in no range.
 #[derive(Drop)]
 pub enum Command<'a, A: Allocator = Global> {
@@ -47,6 +63,8 @@ pub enum Command<'a, A: Allocator = Global> {
     Open(TableKind, i64, i64, i64),
     /// A session, by its number, asks something.
     Session(i64, Ask<'a, A>),
+    /// A session, by its number, walks the table.
+    Walk(i64, Selection<'a, A>),
     /// Closes the table.
     Close,
 }
@@ -155,6 +173,66 @@ fn asked_by<'a, A: Allocator>(session: &Term<A>, ask: Option<Ask<'a, A>>) -> Opt
     Some(Command::Session(session, ask?))
 }
 
+/// What a session asks by a name and a term, which is a specification or numbers a continuation.
+fn selection_with<'a, A: Allocator>(name: &[char], term: &'a Term<A>) -> Option<Selection<'a, A>>
+    ensures { option_map selection_of result ≡ selection_with name.now term.now }
+{
+    if is_text(name, "select") {
+        return Some(Selection::Select(term));
+    }
+    if is_text(name, "more") {
+        return Some(Selection::SelectMore(Operand::Term(term).integer()?));
+    }
+    if is_text(name, "select_count") {
+        return Some(Selection::SelectCount(term));
+    }
+    if is_text(name, "select_delete") {
+        return Some(Selection::SelectDelete(term));
+    }
+    None
+}
+
+/// What a session asks by a name, a specification and a limit.
+fn selection_within<'a, A: Allocator>(
+    name: &[char],
+    term: &'a Term<A>,
+    limit: &Term<A>,
+) -> Option<Selection<'a, A>>
+    ensures { option_map selection_of result ≡ selection_within name.now term.now limit.now }
+{
+    if !is_text(name, "select") {
+        return None;
+    }
+    let limit = Operand::Term(limit).integer()?;
+    Some(Selection::SelectLimit(term, limit))
+}
+
+/// The command of a session that a term numbers, where it walks the table.
+fn walked_by<'a, A: Allocator>(
+    session: &Term<A>,
+    selection: Option<Selection<'a, A>>,
+) -> Option<Command<'a, A>>
+    ensures { option_map command_of result
+        ≡ walked_by session.now (option_map selection_of selection.entry) }
+{
+    let session = Operand::Term(session).integer()?;
+    Some(Command::Walk(session, selection?))
+}
+
+/// A session's command by a name and a term.
+fn told_by<'a, A: Allocator>(
+    name: &[char],
+    session: &Term<A>,
+    term: &'a Term<A>,
+) -> Option<Command<'a, A>>
+    ensures { option_map command_of result ≡ told_by name.now session.now term.now }
+{
+    match asked_by(session, ask_with(name, term)) {
+        Some(command) => Some(command),
+        None => walked_by(session, selection_with(name, term)),
+    }
+}
+
 /// The command of a name alone.
 fn closed_by<'a, A: Allocator>(name: &[char]) -> Option<Command<'a, A>>
     ensures { option_map command_of result ≡ closed_by name.now }
@@ -193,7 +271,10 @@ fn command_with<'a, A: Allocator>(name: &[char], arguments: &'a [Term<A>]) -> Op
     match arguments {
         [] => return closed_by(name),
         [session] => return asked_by(session, ask_alone(name)),
-        [session, term] => return asked_by(session, ask_with(name, term)),
+        [session, term] => return told_by(name, session, term),
+        [session, term, limit] => {
+            return walked_by(session, selection_within(name, term, limit));
+        }
         [kind, keypos, parts, sessions] => return opened_by(name, kind, keypos, parts, sessions),
         _ => return None,
     }

@@ -1,20 +1,17 @@
-//! Laws of what a script is replied, each the contract of a function that does nothing.
-ghost use Rattle.tool_script.specs.Laws.{FullRepliesAreOne, RepliesAreOne};
+//! A law of what a script is replied, the contract of a function that does nothing.
+ghost use Rattle.tool_script.specs.Laws.{RepliesAreOne};
 
 use mspec_meaning::one_answer_is_meant;
 use mspec_reader::{one_fault_is_refused, one_specification_is_read};
+use walk_plan::plans_are_one;
 
-/// From a state on, terms have one list of replies.
+/// From a state on, terms have one list of replies: a term is read as one specification or refused for one fault, and a
+/// specification means one answer on each object and names one list of keys.
 pub fn replies_are_one()
     ensures { RepliesAreOne }
-{}
-
-/// Likewise where they walk tables by specifications: a term is read as one specification or refused for one fault, and a
-/// specification means one answer on each object.
-pub fn full_replies_are_one()
-    ensures { FullRepliesAreOne }
 {
     one_specification_is_read();
     one_fault_is_refused();
     one_answer_is_meant();
+    plans_are_one();
 }

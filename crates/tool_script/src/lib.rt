@@ -23,9 +23,10 @@ mod run;
 mod script;
 mod session;
 mod table;
+mod walk;
 
-pub use command::{Ask, Command, read_command};
+pub use command::{Ask, Command, Selection, read_command};
 pub use command_laws::terms_tell_commands;
-pub use laws::{full_replies_are_one, replies_are_one};
+pub use laws::replies_are_one;
 pub use reply::{CommandReply, put_reply};
 pub use run::run_script;

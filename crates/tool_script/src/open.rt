@@ -4,9 +4,10 @@ ghost use Rattle.tool_script.specs.Commands.{ask_of};
 ghost use Rattle.tool_script.specs.Opened.{IsNoted};
 ghost use Rattle.tool_script.specs.Script.{number_within, options_with, is_leaving};
 
-use crate::command::Ask;
+use crate::command::{Ask, Selection};
 use crate::reply::CommandReply;
-use crate::table::{attend, open_at};
+use crate::table::{attend, attend_walk, open_at};
+use crate::walk::Walks;
 use part_core::{MAX_KEYPOS, MAX_PARTS, MAX_SESSIONS, Part, TableKind};
 use std::alloc::{AllocError, Allocator, Global};
 use std::sync::Wait;
@@ -105,15 +106,16 @@ impl<P: Part<A> + Drop, A: Allocator + Copy> OpenTable<P, A> {
     ghost use Rattle.std.specs.Prelude.{◌≡◌, ◌<◌, IfSome, IfOk};
     ghost use Rattle.tables.specs.Options.{IsOpenable};
     ghost use Rattle.walks.specs.OneThread.{table_objects};
-    ghost use Rattle.tool_script.specs.Commands.{ask_of};
+    ghost use Rattle.tool_script.specs.Commands.{ask_of, selection_of};
     ghost use Rattle.tool_script.specs.Replies.{reply_term};
     ghost use Rattle.tool_script.specs.Script.{OpenTable as OpenState, session_number, newly_opened};
-    ghost use Rattle.tool_script.specs.Opened.{IsOpen, IsSessionAnswered};
+    ghost use Rattle.tool_script.specs.Opened.{IsOpen, IsSelectionAnswered, IsSessionAnswered};
 
     /// A table that is opened, which no session has left.
     pub(crate) fn new(alloc: A, options: Options) -> Result<Self, AllocError>
         requires { IsOpenable P.serves options }
-        ensures { IfOk result (λ table. IsOpen table (newly_opened options)) }
+        ensures options { IfOk result (λ table. table.table.options ≡ options) }
+        ensures state { IfOk result (λ table. IsOpen table (newly_opened options)) }
     {
         let table = open_at(alloc, options)?;
         let left = vec![in alloc; false; usize::from(options.sessions)]?;
@@ -143,7 +145,8 @@ impl<P: Part<A> + Drop, A: Allocator + Copy> OpenTable<P, A> {
         number: i64,
         ask: Ask<'_, A>,
     ) -> Result<CommandReply<A>, AllocError>
-        ensures { IfOk result (λ reply.
+        ensures options { IfOk result (λ _. self.new.table.options ≡ self.old.table.options) }
+        ensures answered { IfOk result (λ reply.
             IsSessionAnswered self.old self.new number (ask_of ask.entry) (reply_term reply)) }
     {
         let Some(number) = self.session(number) else {
@@ -153,6 +156,25 @@ impl<P: Part<A> + Drop, A: Allocator + Copy> OpenTable<P, A> {
         let reply = attend(rt, &mut self.table, number, ask)?;
         note_leaving(&mut self.left, number, leaves);
         Ok(reply)
+    }
+
+    /// Admits a session by its number to walk the table, where it is there and hasn't left.
+    pub(crate) fn admit_walk<H: Wait>(
+        &mut self,
+        rt: &H,
+        alloc: A,
+        walks: &mut Walks<A>,
+        number: i64,
+        selection: Selection<'_, A>,
+    ) -> Result<CommandReply<A>, AllocError>
+        ensures options { IfOk result (λ _. self.new.table.options ≡ self.old.table.options) }
+        ensures answered { IfOk result (λ reply. IsSelectionAnswered self.old self.new
+            walks.old.items walks.new.items number (selection_of selection.entry) (reply_term reply)) }
+    {
+        let Some(number) = self.session(number) else {
+            return Ok(CommandReply::Error(STRANGER_SESSION));
+        };
+        attend_walk(rt, alloc, &mut self.table, number, walks, selection)
     }
 
     /// The objects, in the order of a walk; the table is given up.

@@ -1,7 +1,8 @@
 //! A script between two commands.
-use crate::command::{Ask, Command, read_command};
+use crate::command::{Ask, Command, Selection, read_command};
 use crate::open::{OpenTable, options_in};
 use crate::reply::CommandReply;
+use crate::walk::Walks;
 use part_core::{Part, TableKind};
 use std::alloc::{AllocError, Allocator, Global};
 use std::mem;
@@ -29,13 +30,14 @@ impl<S: Part<A> + Drop, O: Part<A> + Drop, A: Allocator + Copy> Current<S, O, A>
     ghost use Rattle.std.specs.Prelude.{◌≡◌, ◌≢◌, IfOk, Option, Some, is_some};
     ghost use Rattle.tables.specs.Options.{IsOpenable};
     ghost use Rattle.tool_script.specs.Script.{OpenTable as OpenState, newly_opened};
-    ghost use Rattle.tool_script.specs.Scripts.{HasTable};
+    ghost use Rattle.tool_script.specs.Scripts.{HasTable, open_options};
 
     /// A table that is opened.
     fn open(alloc: A, options: Options) -> Result<Self, AllocError>
         requires set { options.kind ≡ TableKind.Set → IsOpenable S.serves options }
         requires ordered { options.kind ≢ TableKind.Set → IsOpenable O.serves options }
-        ensures { IfOk result (λ current. HasTable current (Some (newly_opened options))) }
+        ensures table { IfOk result (λ current. HasTable current (Some (newly_opened options))) }
+        ensures options { IfOk result (λ current. open_options current ≡ Some options) }
     {
         match options.kind {
             TableKind::Set => Ok(Current::Set(OpenTable::new(alloc, options)?)),
@@ -58,19 +60,20 @@ impl<S: Part<A> + Drop, O: Part<A> + Drop, A: Allocator + Copy> Current<S, O, A>
     fn let_go(self) {}
 }
 
-/// The table that is open, if one is, and how many were opened so far.
+/// The table that is open, if one is; how many were opened so far; and the walks that can go on.
 #[derive(Drop)]
 pub(crate) struct Script<S: Part<A> + Drop, O: Part<A> + Drop, A: Allocator = Global> {
     alloc: A,
     current: Current<S, O, A>,
     count: u64,
+    walks: Walks<A>,
 }
 
 impl<S: Part<A> + Drop, O: Part<A> + Drop, A: Allocator + Copy> Script<S, O, A> {
     ghost use Rattle.std.specs.Prelude.{◌≡◌, ◌≤◌, ◌<◌, ◌+◌, IfOk, IsTrue};
     ghost use Rattle.part_core.specs.declared.kind.TableKind.TheVariants.{Set, OrderedSet};
-    ghost use Rattle.tool_script.specs.Command.Command.{Open, Session, Close};
-    ghost use Rattle.tool_script.specs.Commands.{ask_of, command_of};
+    ghost use Rattle.tool_script.specs.Command.Command.{Open, Session, Walk, Close};
+    ghost use Rattle.tool_script.specs.Commands.{ask_of, command_of, selection_of};
     ghost use Rattle.tool_script.specs.Replies.{reply_term};
     ghost use Rattle.tool_script.specs.Script.{beginning};
     ghost use Rattle.tool_script.specs.Scripts.{HasState, IsStep, IsTermStep};
@@ -84,6 +87,7 @@ impl<S: Part<A> + Drop, O: Part<A> + Drop, A: Allocator + Copy> Script<S, O, A> 
             alloc,
             current: Current::NoTable,
             count: 0,
+            walks: Vec::new(alloc),
         }
     }
 
@@ -145,6 +149,26 @@ impl<S: Part<A> + Drop, O: Part<A> + Drop, A: Allocator + Copy> Script<S, O, A> 
         }
     }
 
+    /// Has a session walk the table.
+    fn walk<H: Wait>(
+        &mut self,
+        rt: &H,
+        number: i64,
+        selection: Selection<'_, A>,
+    ) -> Result<CommandReply<A>, AllocError>
+        ensures count { self.new.count ≡ self.old.count }
+        ensures answered { IfOk result (λ reply.
+            IsStep self.old self.new (Walk number (selection_of selection.entry)) (reply_term reply)) }
+    {
+        let alloc = self.alloc;
+        let walks = &mut self.walks;
+        match &mut self.current {
+            Current::Set(table) => table.admit_walk(rt, alloc, walks, number, selection),
+            Current::Ordered(table) => table.admit_walk(rt, alloc, walks, number, selection),
+            Current::NoTable => Ok(CommandReply::Error(BAD_INPUT)),
+        }
+    }
+
     /// Does what a command says.
     fn obey<H: Wait>(
         &mut self,
@@ -163,6 +187,7 @@ impl<S: Part<A> + Drop, O: Part<A> + Drop, A: Allocator + Copy> Script<S, O, A> 
                 self.open(kind, keypos, parts, sessions)
             }
             Command::Session(number, ask) => self.forward(rt, number, ask),
+            Command::Walk(number, selection) => self.walk(rt, number, selection),
             Command::Close => self.close(),
         }
     }

@@ -3,13 +3,14 @@ ghost use Rattle.std.specs.Prelude.{◌≡◌, ◌<◌, IfOk};
 ghost use Rattle.tables.specs.Local.{AreAfter};
 ghost use Rattle.tables.specs.OneThread.{opened};
 ghost use Rattle.tables.specs.Options.{IsOpenable};
-ghost use Rattle.tool_script.specs.Commands.{ask_of};
+ghost use Rattle.tool_script.specs.Commands.{ask_of, selection_of};
 ghost use Rattle.tool_script.specs.Replies.{reply_term};
-ghost use Rattle.tool_script.specs.State.{IsAt, IsAnswered};
+ghost use Rattle.tool_script.specs.State.{IsAt, IsAnswered, IsSelected};
 
-use crate::command::Ask;
+use crate::command::{Ask, Selection};
 use crate::reply::CommandReply;
 use crate::session::perform;
+use crate::walk::{Walks, walk};
 use part_core::Part;
 use std::alloc::{AllocError, Allocator};
 use std::sync::Wait;
@@ -30,6 +31,25 @@ pub(crate) fn attend<H: Wait, A: Allocator + Copy, P: Part<A> + Drop>(
 {
     let mut session = table.at(number);
     perform(rt, &mut session, ask)
+}
+
+/// Has a session of a table walk it as it asks, by its number.
+pub(crate) fn attend_walk<H: Wait, A: Allocator + Copy, P: Part<A> + Drop>(
+    rt: &H,
+    alloc: A,
+    table: &mut LocalTable<P, A>,
+    number: u8,
+    walks: &mut Walks<A>,
+    selection: Selection<'_, A>,
+) -> Result<CommandReply<A>, AllocError>
+    requires { number < table.old.options.sessions }
+    ensures options { table.new.options ≡ table.old.options }
+    ensures answered { IfOk result (λ reply. IsSelected table.old.options number
+        (AreAfter P.is_after table.old.parts.items) (AreAfter P.is_after table.new.parts.items)
+        walks.old.items walks.new.items (selection_of selection.entry) (reply_term reply)) }
+{
+    let mut session = table.at(number);
+    walk(rt, alloc, &mut session, walks, selection)
 }
 
 /// A table that is opened, with options that its parts serve.

@@ -1,0 +1,65 @@
+-- The walks that can go on, in memory.
+use Rattle.std.specs.Prelude.{ℕ, ℤ, pos, ◌≡◌, ◌<◌, ◌==◌, ◌&&◌, ◌++◌, if◌then◌else◌, Option, Some, None, IfSome, get_or, set, List, [], ◌∷◌, length}
+use Rattle.term_core.specs.Datum.{Datum}
+use Rattle.mcode.specs.Answer.{answer_of}
+use Rattle.tables.specs.declared.options.Options.{Options}
+use Rattle.walks.specs.declared.continuation.Continuation.{Continuation}
+use Rattle.walks.specs.declared.continuation.Step.{Step}
+use Rattle.walks.specs.declared.continuation.Step.TheVariants as step
+use Rattle.walks.specs.Query.{IsWithin, kept_of, plan_of, position_of}
+use Rattle.tool_script.specs.Held.{Held}
+use Rattle.tool_script.specs.Script.{key_or_end}
+use Rattle.tool_script.specs.Walks.{piece_term}
+
+-- the walk of a continuation, of a table with these options
+abbrev pub held_of : {A : Type 0} → Options → Continuation A → Held
+held_of o c =
+    record { table = c.table; session = c.session; answer = answer_of c.query.code; plan = plan_of c.query o; limit = c.limit; at = position_of c.at; kept = kept_of c.kept }
+
+-- A continuation is one of a table that was opened, and so is the walk. Where that table is the one that is open, the walk
+-- is the continuation's, and it can be where it is.
+pub record IsHeld {A : Type 0} (open_options : Option Options) (count : ℕ) (c : Continuation A) (held : Held) : Type 0 where
+  pub earlier : c.table < count
+  pub table : held.table ≡ c.table
+  pub own : IfSome open_options (λ o. o.name ≡ c.table → (held ≡ held_of o c) × IsWithin o c.query c.at)
+
+-- there is a walk in each place where there is a continuation
+abbrev pub IsPlace : {A : Type 0} → Option Options → ℕ → Option (Continuation A) → Option Held → Type 0
+IsPlace open_options count None None = Unit {0}
+IsPlace open_options count (Some c) (Some held) = IsHeld open_options count c held
+IsPlace open_options count c held = ⊥
+
+-- the continuations of a script are its walks, by what its open table was opened with and how many tables were opened so far
+abbrev pub AreHeld : {A : Type 0} → Option Options → ℕ → List (Option (Continuation A)) → List (Option Held) → Type 0
+AreHeld open_options count [] [] = Unit {0}
+AreHeld open_options count (c ∷ cs) (held ∷ walks) =
+    IsPlace open_options count c held × AreHeld open_options count cs walks
+AreHeld open_options count cs walks = ⊥
+
+-- ---- what goes on is taken out of its place, and kept in a new one
+
+-- the continuation of a place, if it is one of this table and session
+abbrev pub own_by : {A : Type 0} → ℕ → ℕ → Option (Continuation A) → Option (Continuation A)
+own_by table n (Some c) = if c.table == table && c.session == n then Some c else None
+own_by table n None = None
+
+-- what is there when it is spent
+abbrev pub spent_by : {A : Type 0} → ℕ → ℕ → Option (Continuation A) → Option (Continuation A)
+spent_by table n (Some c) = if c.table == table && c.session == n then None else Some c
+spent_by table n None = None
+
+-- that of a number, if it is one of this table and session
+abbrev pub own_at : {A : Type 0} → List (Option (Continuation A)) → ℕ → ℕ → ℤ → Option (Continuation A)
+own_at cs table n (pos c) = own_by table n (get_or cs c None)
+own_at cs table n c = None
+
+-- what is left when it is spent
+abbrev pub spent_at : {A : Type 0} → List (Option (Continuation A)) → ℕ → ℕ → ℤ → List (Option (Continuation A))
+spent_at cs table n (pos c) = set cs c (spent_by table n (get_or cs c None))
+spent_at cs table n c = cs
+
+-- the reply to a step of a walk: a piece, behind which the walk goes on by a new continuation, or the end
+abbrev pub IsKept : {A : Type 0} → Step A → (old new : List (Option (Continuation A))) → Datum → Type 0
+IsKept (step.Piece answers c) old new reply =
+    (reply ≡ piece_term answers.items (length old)) × (new ≡ old ++ Some c ∷ [])
+IsKept (step.End q) old new reply = (reply ≡ key_or_end None) × (new ≡ old)

@@ -1,0 +1,293 @@
+//! What a session is replied that walks its table by a specification, or goes on with a walk that it began.
+ghost use Rattle.std.specs.Prelude.{◌≡◌, ◌≢◌, IsTrue, IfOk, IfErr, Option, List, is_some};
+ghost use Rattle.mcode.specs.Answer.{answer_of};
+ghost use Rattle.mspec_syntax.specs.Faults.{IsRefusal};
+ghost use Rattle.tables.specs.declared.options.Options.{Options};
+ghost use Rattle.walks.specs.Query.{plan_of};
+ghost use Rattle.tool_script.specs.Command.Selection.{Select, SelectLimit, SelectMore, SelectCount, SelectDelete};
+ghost use Rattle.tool_script.specs.Commands.{selection_of};
+ghost use Rattle.tool_script.specs.Continuations.{IsKept, own_at, own_by, spent_at, spent_by};
+ghost use Rattle.tool_script.specs.Replies.{reply_term};
+ghost use Rattle.tool_script.specs.State.{IsDone, IsSelected};
+ghost use Rattle.tool_script.specs.Verdict.{IsMeant};
+ghost use Rattle.tool_script.specs.Walks.{begun, fault_term, limit_in, piece_step};
+
+use crate::command::Selection;
+use crate::reply::CommandReply;
+use mspec_reader::read_spec;
+use mspec_syntax::SpecFault;
+use std::alloc::{AllocError, Allocator};
+use std::mem;
+use std::sync::Wait;
+use tables::Turns;
+use term_core::Term;
+use walks::{
+    Continuation, Query, Step, select, select_count, select_delete, select_limit, select_more,
+};
+
+/// The number of a continuation that isn't there, is spent, or is of another table or session.
+const STRANGER_CONTINUATION: u8 = 62;
+/// The number of a limit below 1.
+const BAD_LIMIT: u8 = 63;
+
+/// The walks that can go on, by the numbers of their continuations; none in the place of one that is spent.
+pub(crate) type Walks<A> = Vec<Option<Continuation<A>>, A>;
+
+/// What a specification asks of the objects of a table with this `keypos`.
+fn query_of<A: Allocator + Copy>(
+    alloc: A,
+    term: &Term<A>,
+    keypos: u16,
+) -> Result<Query<A>, SpecFault>
+    ensures ok { IfOk result (λ query. (o : Options) → o.keypos ≡ keypos
+        → IsMeant o term.now (answer_of query.code) (plan_of query o)) }
+    ensures refused { IfErr result (λ fault. IsRefusal fault term.now) }
+{
+    let specification = read_spec(alloc, term)?;
+    Ok(Query::from_spec(alloc, &specification, keypos)?)
+}
+
+/// The reply to a term that is no specification.
+fn refusal<A: Allocator>(fault: SpecFault) -> Result<CommandReply<A>, AllocError>
+    ensures { IfOk result (λ reply. (fault ≢ SpecFault.Memory)
+        × (reply_term reply ≡ fault_term fault)) }
+{
+    match fault {
+        SpecFault::Memory => Err(AllocError),
+        _ => Ok(CommandReply::Fault(fault)),
+    }
+}
+
+/// All answers.
+fn select_all<H: Wait, A: Allocator + Copy, T: Turns<A>>(
+    rt: &H,
+    alloc: A,
+    turns: &mut T,
+    term: &Term<A>,
+) -> Result<CommandReply<A>, AllocError>
+    requires ready { T.is_ready turns.old }
+    requires alone { IsTrue (T.home turns.old).alone }
+    ensures same { T.home turns.new ≡ T.home turns.old }
+    ensures answered { IfOk result (λ reply. (walks : List (Option (Continuation A)))
+        → IsSelected (T.home turns.old).options (T.home turns.old).number (T.sees turns.old)
+        (T.sees turns.new) walks walks (Select term.now) (reply_term reply)) }
+{
+    match query_of(alloc, term, turns.options().keypos) {
+        Ok(query) => Ok(CommandReply::Objects(select(rt, alloc, turns, &query)?)),
+        Err(fault) => refusal(fault),
+    }
+}
+
+/// How many objects are answered `true`.
+fn count_all<H: Wait, A: Allocator + Copy, T: Turns<A>>(
+    rt: &H,
+    alloc: A,
+    turns: &mut T,
+    term: &Term<A>,
+) -> Result<CommandReply<A>, AllocError>
+    requires ready { T.is_ready turns.old }
+    requires alone { IsTrue (T.home turns.old).alone }
+    ensures same { T.home turns.new ≡ T.home turns.old }
+    ensures answered { IfOk result (λ reply. (walks : List (Option (Continuation A)))
+        → IsSelected (T.home turns.old).options (T.home turns.old).number (T.sees turns.old)
+        (T.sees turns.new) walks walks (SelectCount term.now) (reply_term reply)) }
+{
+    match query_of(alloc, term, turns.options().keypos) {
+        Ok(query) => Ok(CommandReply::Count(select_count(rt, turns, &query)?)),
+        Err(fault) => refusal(fault),
+    }
+}
+
+/// How many there were, and they are gone.
+fn delete_all<H: Wait, A: Allocator + Copy, T: Turns<A>>(
+    rt: &H,
+    alloc: A,
+    turns: &mut T,
+    term: &Term<A>,
+) -> Result<CommandReply<A>, AllocError>
+    requires ready { T.is_ready turns.old }
+    requires alone { IsTrue (T.home turns.old).alone }
+    ensures same { T.home turns.new ≡ T.home turns.old }
+    ensures answered { IfOk result (λ reply. (walks : List (Option (Continuation A)))
+        → IsSelected (T.home turns.old).options (T.home turns.old).number (T.sees turns.old)
+        (T.sees turns.new) walks walks (SelectDelete term.now) (reply_term reply)) }
+{
+    let query = match query_of(alloc, term, turns.options().keypos) {
+        Ok(query) => query,
+        Err(fault) => return refusal(fault),
+    };
+    match select_delete(rt, turns, &query) {
+        Ok(count) => Ok(CommandReply::Count(count)),
+        Err(_) => Err(AllocError),
+    }
+}
+
+/// Replies to a step of a walk: a piece, behind which the walk goes on by a new continuation, or the end.
+fn keep<A: Allocator + Copy>(
+    walks: &mut Walks<A>,
+    step: Step<A>,
+) -> Result<CommandReply<A>, AllocError>
+    ensures { IfOk result (λ reply.
+        IsKept step walks.old.items walks.new.items (reply_term reply)) }
+{
+    match step {
+        Step::Piece(answers, walk) => {
+            let number = walks.as_slice().len() as u64;
+            match walks.push(Some(walk)) {
+                Ok(()) => Ok(CommandReply::Piece(answers, number)),
+                Err(_) => Err(AllocError),
+            }
+        }
+        Step::End(_) => Ok(CommandReply::Key(None)),
+    }
+}
+
+/// Begins a walk in pieces.
+fn begin<H: Wait, A: Allocator + Copy, T: Turns<A>>(
+    rt: &H,
+    alloc: A,
+    turns: &mut T,
+    walks: &mut Walks<A>,
+    query: Query<A>,
+    limit: u64,
+) -> Result<CommandReply<A>, AllocError>
+    requires ready { T.is_ready turns.old }
+    requires alone { IsTrue (T.home turns.old).alone }
+    ensures same { T.home turns.new ≡ T.home turns.old }
+    ensures answered { IfOk result (λ reply. IsDone (T.home turns.old).options (T.sees turns.old)
+        (T.sees turns.new) walks.old.items walks.new.items
+        (λ w. piece_step w (begun w.table.options (T.home turns.old).number limit
+        (answer_of query.code) (plan_of query (T.home turns.old).options))) (reply_term reply)) }
+{
+    match select_limit(rt, alloc, turns, query, limit) {
+        Ok(step) => keep(walks, step),
+        Err(_) => Err(AllocError),
+    }
+}
+
+/// A limit from 1 on.
+fn limit_in(limit: i64) -> Option<u64>
+    ensures { result ≡ limit_in limit }
+{
+    if limit < 1 {
+        return None;
+    }
+    Some(limit as u64)
+}
+
+/// At most so many answers, and how the walk goes on. The limit is looked at before the specification is.
+fn select_some<H: Wait, A: Allocator + Copy, T: Turns<A>>(
+    rt: &H,
+    alloc: A,
+    turns: &mut T,
+    walks: &mut Walks<A>,
+    term: &Term<A>,
+    limit: i64,
+) -> Result<CommandReply<A>, AllocError>
+    requires ready { T.is_ready turns.old }
+    requires alone { IsTrue (T.home turns.old).alone }
+    ensures same { T.home turns.new ≡ T.home turns.old }
+    ensures answered { IfOk result (λ reply. IsSelected (T.home turns.old).options
+        (T.home turns.old).number (T.sees turns.old) (T.sees turns.new)
+        walks.old.items walks.new.items (SelectLimit term.now limit) (reply_term reply)) }
+{
+    let Some(limit) = limit_in(limit) else {
+        return Ok(CommandReply::Error(BAD_LIMIT));
+    };
+    match query_of(alloc, term, turns.options().keypos) {
+        Ok(query) => begin(rt, alloc, turns, walks, query, limit),
+        Err(fault) => refusal(fault),
+    }
+}
+
+/// Whether a walk can go on in this place, and is one of this table and session.
+fn is_own<A: Allocator>(place: &Option<Continuation<A>>, table: u64, session: u8) -> bool
+    ensures { result ≡ is_some (own_by table session place.now) }
+{
+    match place {
+        Some(walk) => walk.table == table && walk.session == session,
+        None => false,
+    }
+}
+
+/// Takes the walk out of its place, if it is one of this table and session.
+fn take_own<A: Allocator>(
+    place: &mut Option<Continuation<A>>,
+    table: u64,
+    session: u8,
+) -> Option<Continuation<A>>
+    ensures found { result ≡ own_by table session place.old }
+    ensures spent { place.new ≡ spent_by table session place.old }
+{
+    if is_own(place, table, session) {
+        return mem::replace(place, None);
+    }
+    None
+}
+
+/// Takes the walk of a continuation's number out of its place, if there is one of this table and session.
+fn take_walk<A: Allocator>(
+    walks: &mut Walks<A>,
+    number: i64,
+    table: u64,
+    session: u8,
+) -> Option<Continuation<A>>
+    ensures found { result ≡ own_at walks.old.items table session number }
+    ensures spent { walks.new.items ≡ spent_at walks.old.items table session number }
+{
+    if number < 0 {
+        return None;
+    }
+    match walks.get_mut(number as usize) {
+        Some(place) => take_own(place, table, session),
+        None => None,
+    }
+}
+
+/// Goes on with the walk of a continuation, which is spent by that.
+fn go_on<H: Wait, A: Allocator + Copy, T: Turns<A>>(
+    rt: &H,
+    alloc: A,
+    turns: &mut T,
+    walks: &mut Walks<A>,
+    number: i64,
+) -> Result<CommandReply<A>, AllocError>
+    requires ready { T.is_ready turns.old }
+    requires alone { IsTrue (T.home turns.old).alone }
+    ensures same { T.home turns.new ≡ T.home turns.old }
+    ensures answered { IfOk result (λ reply. IsSelected (T.home turns.old).options
+        (T.home turns.old).number (T.sees turns.old) (T.sees turns.new)
+        walks.old.items walks.new.items (SelectMore number) (reply_term reply)) }
+{
+    let Some(walk) = take_walk(walks, number, turns.options().name, turns.number()) else {
+        return Ok(CommandReply::Error(STRANGER_CONTINUATION));
+    };
+    match select_more(rt, alloc, turns, walk) {
+        Ok(step) => keep(walks, step),
+        Err(_) => Err(AllocError),
+    }
+}
+
+/// Walks the table as a session asks, and says what it is replied.
+pub(crate) fn walk<H: Wait, A: Allocator + Copy, T: Turns<A>>(
+    rt: &H,
+    alloc: A,
+    turns: &mut T,
+    walks: &mut Walks<A>,
+    selection: Selection<'_, A>,
+) -> Result<CommandReply<A>, AllocError>
+    requires ready { T.is_ready turns.old }
+    requires alone { IsTrue (T.home turns.old).alone }
+    ensures same { T.home turns.new ≡ T.home turns.old }
+    ensures answered { IfOk result (λ reply. IsSelected (T.home turns.old).options
+        (T.home turns.old).number (T.sees turns.old) (T.sees turns.new)
+        walks.old.items walks.new.items (selection_of selection.entry) (reply_term reply)) }
+{
+    match selection {
+        Selection::Select(term) => select_all(rt, alloc, turns, term),
+        Selection::SelectLimit(term, limit) => select_some(rt, alloc, turns, walks, term, limit),
+        Selection::SelectMore(number) => go_on(rt, alloc, turns, walks, number),
+        Selection::SelectCount(term) => count_all(rt, alloc, turns, term),
+        Selection::SelectDelete(term) => delete_all(rt, alloc, turns, term),
+    }
+}
