@@ -3,9 +3,9 @@ ghost use Rattle.std.specs.Prelude.{◌<◌};
 
 use crate::kept::Kept;
 use crate::position::Position;
-use crate::query::Query;
 use std::alloc::{Allocator, Global};
 use term_core::Term;
+use walk_plan::Query;
 
 /// A walk in pieces under way.
 #[derive(Drop)]

@@ -4,23 +4,23 @@ ghost use Rattle.term_core.specs.Datum.{Datum};
 ghost use Rattle.part_core.specs.Acts.Act.{Visit};
 ghost use Rattle.part_core.specs.Acts.Answer.{Replied, Refused};
 ghost use Rattle.part_core.specs.Acts.Said.{Counted};
-ghost use Rattle.part_core.specs.Ops.{act_of, cursor_of, refusal_of, said_of};
+ghost use Rattle.part_core.specs.Ops.{act_of, cursor_of, refusal_of, said_of, scope_of};
 ghost use Rattle.part_core.specs.Replies.{most_counted};
 ghost use Rattle.tables.specs.Turns.{Turned, Views, Follows};
 ghost use Rattle.walk_core.specs.Goes.{way, whole, Visits};
-ghost use Rattle.walk_core.specs.Walk.{IsPosition, part_at, scope_at, scope_from};
+ghost use Rattle.walk_core.specs.Walk.{IsPosition, part_at, scope_at};
 ghost use Rattle.walk_core.specs.Walk.Position.{Over};
 ghost use Rattle.walks.specs.Counting.{purpose_of, CountsTo, StopsAtCount, CountsMore};
 ghost use Rattle.walks.specs.Query.{IsWithin, position_of, walk_of};
 ghost use Rattle.walks.specs.Visits.{is_counted};
 
-use crate::position::{Position, move_on, scope_from};
-use crate::query::Query;
-use part_core::{Cursor, Fault, Look, PartOp, Reply};
+use crate::position::{Position, move_on, next_visit};
+use part_core::{Cursor, Fault, Look, PartOp, Reply, Scope};
 use std::alloc::Allocator;
 use std::sync::Wait;
 use tables::{Turns, turn_at};
 use verifier::Verified;
+use walk_plan::Query;
 
 /// What becomes of the objects that answer true.
 #[derive(Clone, Copy)]
@@ -35,13 +35,13 @@ pub(crate) enum Counting {
 fn count_op<'q, A: Allocator>(
     counting: Counting,
     code: &'q Verified<A>,
-    cursor: &'q Option<Cursor<A>>,
+    scope: Scope<'q, A>,
 ) -> PartOp<'q, A>
-    ensures { act_of result ≡ Visit (purpose_of counting) code.now (scope_from (option_map cursor_of cursor.now)) most_counted }
+    ensures { act_of result ≡ Visit (purpose_of counting) code.now (scope_of scope) most_counted }
 {
     let look = Look {
         code,
-        scope: scope_from(cursor),
+        scope,
         wanted: u64::MAX,
     };
     match counting {
@@ -68,7 +68,7 @@ fn count_at<A: Allocator, T: Turns<A>>(
     counting: Counting,
     part: u8,
     code: &Verified<A>,
-    cursor: &Option<Cursor<A>>,
+    scope: Scope<'_, A>,
 ) -> Result<(u64, Option<Cursor<A>>), Fault>
     requires ready { T.is_ready turns.old }
     requires part { part < (T.home turns.old).options.parts }
@@ -76,14 +76,14 @@ fn count_at<A: Allocator, T: Turns<A>>(
     ensures same { T.home turns.new ≡ T.home turns.old }
     ensures done { IfOk result (λ found. Follows (T.sees turns.old) (T.sees turns.new)
         (Turned (T.home turns.old) part
-        (Visit (purpose_of counting) code.now (scope_from (option_map cursor_of cursor.now)) most_counted)
+        (Visit (purpose_of counting) code.now (scope_of scope) most_counted)
         (Some (Replied (Counted found.0 (option_map cursor_of found.1)))))) }
     ensures refused { IfErr result (λ fault. Follows (T.sees turns.old) (T.sees turns.new)
         (Turned (T.home turns.old) part
-        (Visit (purpose_of counting) code.now (scope_from (option_map cursor_of cursor.now)) most_counted)
+        (Visit (purpose_of counting) code.now (scope_of scope) most_counted)
         (option_map Refused (refusal_of fault)))) }
 {
-    let reply = turn_at(turns, part, count_op(counting, code, cursor))?;
+    let reply = turn_at(turns, part, count_op(counting, code, scope))?;
     Ok(counted(reply))
 }
 
@@ -95,11 +95,11 @@ fn count_next<A: Allocator, T: Turns<A>>(
     at: &mut Position<A>,
 ) -> Result<u64, Fault>
     requires ready { T.is_ready turns.old }
-    requires within { IsWithin (T.home turns.old).options.parts at.old }
+    requires within { IsWithin (T.home turns.old).options query.now at.old }
     requires more { position_of at.old ≢ Over }
     ensures ready { T.is_ready turns.new }
     ensures same { T.home turns.new ≡ T.home turns.old }
-    ensures within { IsWithin (T.home turns.old).options.parts at.new }
+    ensures within { IsWithin (T.home turns.old).options query.now at.new }
     ensures done { IfOk result (λ count. Follows (T.sees turns.old) (T.sees turns.new)
         (CountsMore (T.home turns.old) (walk_of (T.home turns.old) (purpose_of counting) query.now)
         (position_of at.old) (position_of at.new) count)) }
@@ -110,12 +110,9 @@ fn count_next<A: Allocator, T: Turns<A>>(
         (option_map Refused (refusal_of fault)))) }
     ensures back { IfErr result (λ _. at.new ≡ at.old) }
 {
-    let Position::InPart(part, cursor) = &*at else {
-        unreachable!()
-    };
-    let part = *part;
-    let (count, next) = count_at(turns, counting, part, &query.code, cursor)?;
-    move_on(at, part, next, turns.options().parts);
+    let (part, scope) = next_visit(turns, query, at);
+    let (count, next) = count_at(turns, counting, part, &query.code, scope)?;
+    move_on(turns, query, at, next);
     Ok(count)
 }
 
@@ -129,7 +126,7 @@ pub(crate) fn count_on<R: Wait, A: Allocator, T: Turns<A>>(
     total: &mut u64,
 ) -> Result<(), Fault>
     requires ready { T.is_ready turns.old }
-    requires within { IsWithin (T.home turns.old).options.parts at.old }
+    requires within { IsWithin (T.home turns.old).options query.now at.old }
     requires none { total.old ≡ 0 }
     ensures ready { T.is_ready turns.new }
     ensures same { T.home turns.new ≡ T.home turns.old }

@@ -5,7 +5,8 @@
 //! `first` and `next` make turns at the parts in their order until one has a key (`specs/Keys.antt`). Calls that visit take `rt`, since
 //! others may feed a walk through an ordered set for ever.
 //!
-//! - `query`: what is asked; `position`, `kept`, `continuation`: how far a walk has come, and what it keeps.
+//! - `walk_plan::Query`: what is asked, and of which keys alone; `position`, `kept`, `continuation`: how far a walk has come, and what
+//!   it keeps.
 //! - `visit`: visits up to a limit; `counting`: visits that count or delete.
 //! - `pieces`: `select_limit` and `select_more`; `whole`: `select`, `select_count` and `select_delete`; `own`: the fixes that these make.
 //! - `keys`: `first` and `next`.
@@ -21,7 +22,6 @@ mod laws;
 mod own;
 mod pieces;
 mod position;
-mod query;
 mod visit;
 mod whole;
 
@@ -35,5 +35,5 @@ pub use laws::{
 };
 pub use pieces::{select_limit, select_more};
 pub use position::Position;
-pub use query::Query;
+pub use walk_plan::Query;
 pub use whole::{select, select_count, select_delete};

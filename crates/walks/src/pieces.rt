@@ -11,14 +11,14 @@ ghost use Rattle.walks.specs.Visits.{StopsAnywhere};
 use crate::continuation::{Continuation, Step};
 use crate::fault::WalkFault;
 use crate::kept::Kept;
-use crate::position::{Position, at_part};
-use crate::query::Query;
+use crate::position::{Position, named_count, start};
 use crate::visit::visit_up_to;
 use part_core::Fault;
 use std::alloc::Allocator;
 use std::sync::Wait;
 use tables::Turns;
 use term_core::{Refused, Term};
+use walk_plan::Query;
 
 /// What a refused visit comes to: a walk that can't go on where it is was begun at another table.
 fn fault_of(fault: Fault) -> WalkFault
@@ -57,7 +57,7 @@ pub(crate) fn next_piece<R: Wait, A: Allocator + Copy, T: Turns<A>>(
     kept: &mut Kept<A>,
 ) -> Result<Vec<Term<A>, A>, WalkFault>
     requires ready { T.is_ready turns.old }
-    requires within { IsWithin (T.home turns.old).options.parts at.old }
+    requires within { IsWithin (T.home turns.old).options query.now at.old }
     ensures ready { T.is_ready turns.new }
     ensures same { T.home turns.new ≡ T.home turns.old }
     ensures done { IfOk result (λ piece. Follows (T.sees turns.old) (T.sees turns.new)
@@ -89,7 +89,7 @@ fn go_on<R: Wait, A: Allocator + Copy, T: Turns<A>>(
 ) -> Result<Step<A>, Refused<Continuation<A>, WalkFault>>
     requires ready { T.is_ready turns.old }
     requires own { IsOwn (T.home turns.old) walk }
-    requires within { IsWithin (T.home turns.old).options.parts walk.at }
+    requires within { IsWithin (T.home turns.old).options walk.query walk.at }
     ensures ready { T.is_ready turns.new }
     ensures same { T.home turns.new ≡ T.home turns.old }
     ensures done { IfOk result (λ step. Follows (T.sees turns.old) (T.sees turns.new)
@@ -172,13 +172,13 @@ pub fn select_limit<R: Wait, A: Allocator + Copy, T: Turns<A>>(
             fault: WalkFault::BadLimit,
         });
     }
-    let options = turns.options();
+    let at = start(turns, &query);
     let walk = Continuation {
         query,
-        table: options.name,
+        table: turns.options().name,
         session: turns.number(),
         limit,
-        at: at_part(0, options.parts),
+        at,
         kept: Kept::new(alloc),
     };
     match go_on(rt, alloc, turns, walk) {
@@ -217,7 +217,8 @@ pub fn select_more<R: Wait, A: Allocator + Copy, T: Turns<A>>(
             fault: WalkFault::StrangerContinuation,
         });
     }
-    if !walk.at.is_within(options.parts) {
+    let count = named_count(turns, &walk.query);
+    if !walk.at.is_there(options.parts, count) {
         return Err(Refused {
             value: walk,
             fault: WalkFault::StrangerContinuation,

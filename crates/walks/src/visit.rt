@@ -7,20 +7,20 @@ ghost use Rattle.part_core.specs.Acts.Said.{Found};
 ghost use Rattle.part_core.specs.Ops.{cursor_of, refusal_of, said_of, scope_of};
 ghost use Rattle.tables.specs.Turns.{Turned, Views, Follows};
 ghost use Rattle.walk_core.specs.Goes.{way, up_to, Visits, Goes, Stops};
-ghost use Rattle.walk_core.specs.Walk.{IsPosition, part_at, scope_at, scope_from};
+ghost use Rattle.walk_core.specs.Walk.{IsPosition, part_at, scope_at};
 ghost use Rattle.walk_core.specs.Walk.Position.{Over};
 ghost use Rattle.walks.specs.Query.{IsWithin, kept_of, position_of, walk_of};
 ghost use Rattle.walks.specs.Visits.{is_found};
 
 use crate::kept::Kept;
-use crate::position::{Position, move_on, scope_from};
-use crate::query::Query;
-use part_core::{Cursor, Fault, Look, PartOp, Reply};
+use crate::position::{Position, move_on, next_visit};
+use part_core::{Cursor, Fault, Look, PartOp, Reply, Scope};
 use std::alloc::Allocator;
 use std::sync::Wait;
 use tables::{Turns, turn_at};
 use term_core::Term;
 use verifier::Verified;
+use walk_plan::Query;
 
 /// What a visit found, and where the walk goes on.
 fn found<A: Allocator>(reply: Reply<A>) -> (Vec<Term<A>, A>, Option<Cursor<A>>)
@@ -34,29 +34,12 @@ fn found<A: Allocator>(reply: Reply<A>) -> (Vec<Term<A>, A>, Option<Cursor<A>>)
     }
 }
 
-/// What a visit is asked.
-fn look_from<'q, A: Allocator>(
-    code: &'q Verified<A>,
-    cursor: &'q Option<Cursor<A>>,
-    wanted: u64,
-) -> Look<'q, A>
-    ensures code { result.code.now ≡ code.now }
-    ensures scope { scope_of result.scope ≡ scope_from (option_map cursor_of cursor.now) }
-    ensures wanted { result.wanted ≡ wanted }
-{
-    Look {
-        code,
-        scope: scope_from(cursor),
-        wanted,
-    }
-}
-
 /// Visits a part.
 fn visit_at<A: Allocator, T: Turns<A>>(
     turns: &mut T,
     part: u8,
     code: &Verified<A>,
-    cursor: &Option<Cursor<A>>,
+    scope: Scope<'_, A>,
     wanted: u64,
 ) -> Result<(Vec<Term<A>, A>, Option<Cursor<A>>), Fault>
     requires ready { T.is_ready turns.old }
@@ -65,13 +48,18 @@ fn visit_at<A: Allocator, T: Turns<A>>(
     ensures ready { T.is_ready turns.new }
     ensures same { T.home turns.new ≡ T.home turns.old }
     ensures done { IfOk result (λ found. Follows (T.sees turns.old) (T.sees turns.new)
-        (Turned (T.home turns.old) part (Visit Answers code.now (scope_from (option_map cursor_of cursor.now)) wanted)
+        (Turned (T.home turns.old) part (Visit Answers code.now (scope_of scope) wanted)
         (Some (Replied (Found found.0.items (option_map cursor_of found.1)))))) }
     ensures refused { IfErr result (λ fault. Follows (T.sees turns.old) (T.sees turns.new)
-        (Turned (T.home turns.old) part (Visit Answers code.now (scope_from (option_map cursor_of cursor.now)) wanted)
+        (Turned (T.home turns.old) part (Visit Answers code.now (scope_of scope) wanted)
         (option_map Refused (refusal_of fault)))) }
 {
-    let reply = turn_at(turns, part, PartOp::Visit(look_from(code, cursor, wanted)))?;
+    let look = Look {
+        code,
+        scope,
+        wanted,
+    };
+    let reply = turn_at(turns, part, PartOp::Visit(look))?;
     Ok(found(reply))
 }
 
@@ -84,13 +72,13 @@ pub(crate) fn visit_next<A: Allocator, T: Turns<A>>(
     kept: &mut Kept<A>,
 ) -> Result<(), Fault>
     requires ready { T.is_ready turns.old }
-    requires within { IsWithin (T.home turns.old).options.parts at.old }
+    requires within { IsWithin (T.home turns.old).options query.now at.old }
     requires more { position_of at.old ≢ Over }
     requires settled { kept.old.last.items ≡ [] }
     requires wanted { 0 < wanted }
     ensures ready { T.is_ready turns.new }
     ensures same { T.home turns.new ≡ T.home turns.old }
-    ensures within { IsWithin (T.home turns.old).options.parts at.new }
+    ensures within { IsWithin (T.home turns.old).options query.now at.new }
     ensures done { IfOk result (λ _. (by_count : ℕ → ℕ) → wanted ≡ by_count (length (kept_of kept.old))
         → Follows (T.sees turns.old) (T.sees turns.new)
         (λ v w. Visits (T.home turns.old) (walk_of (T.home turns.old) Answers query.now) by_count
@@ -101,13 +89,10 @@ pub(crate) fn visit_next<A: Allocator, T: Turns<A>>(
         (option_map Refused (refusal_of fault)))) }
     ensures back { IfErr result (λ _. (at.new ≡ at.old) × (kept.new ≡ kept.old)) }
 {
-    let Position::InPart(part, cursor) = &*at else {
-        unreachable!()
-    };
-    let part = *part;
-    let (answers, next) = visit_at(turns, part, &query.code, cursor, wanted)?;
+    let (part, scope) = next_visit(turns, query, at);
+    let (answers, next) = visit_at(turns, part, &query.code, scope, wanted)?;
     kept.hold(answers);
-    move_on(at, part, next, turns.options().parts);
+    move_on(turns, query, at, next);
     Ok(())
 }
 
@@ -121,7 +106,7 @@ pub(crate) fn visit_up_to<R: Wait, A: Allocator, T: Turns<A>>(
     kept: &mut Kept<A>,
 ) -> Result<(), Fault>
     requires ready { T.is_ready turns.old }
-    requires within { IsWithin (T.home turns.old).options.parts at.old }
+    requires within { IsWithin (T.home turns.old).options query.now at.old }
     ensures ready { T.is_ready turns.new }
     ensures same { T.home turns.new ≡ T.home turns.old }
     ensures enough { IfOk result (λ _. (kept.new.last.items ≡ [])

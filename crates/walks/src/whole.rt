@@ -16,12 +16,12 @@ use crate::fault::WalkFault;
 use crate::kept::Kept;
 use crate::own::{fix_own, release_own};
 use crate::pieces::next_piece;
-use crate::position::at_part;
-use crate::query::Query;
+use crate::position::start;
 use std::alloc::{AllocError, Allocator};
 use std::sync::Wait;
 use tables::Turns;
 use term_core::{Refused, Term};
+use walk_plan::Query;
 
 /// All answers of a walk.
 fn gather<R: Wait, A: Allocator + Copy, T: Turns<A>>(
@@ -39,8 +39,7 @@ fn gather<R: Wait, A: Allocator + Copy, T: Turns<A>>(
     ensures stopped { IfErr result (λ _. Follows (T.sees turns.old) (T.sees turns.new)
         (StopsAnywhere (T.home turns.old) (walk_of (T.home turns.old) Answers query.now) (up_to most_counted))) }
 {
-    let options = turns.options();
-    let mut at = at_part(0, options.parts);
+    let mut at = start(turns, query);
     let mut kept = Kept::new(alloc);
     next_piece(rt, alloc, turns, query, u64::MAX, &mut at, &mut kept)
 }
@@ -87,7 +86,7 @@ fn tally<R: Wait, A: Allocator, T: Turns<A>>(
         (λ v w. (at : Position) × StopsAtCount (T.home turns.old) (walk_of (T.home turns.old) (purpose_of counting) query.now)
         (start_of (walk_of (T.home turns.old) (purpose_of counting) query.now)) at refused.value v w)) }
 {
-    let mut at = at_part(0, turns.options().parts);
+    let mut at = start(turns, query);
     let mut total = 0;
     match count_on(rt, turns, query, counting, &mut at, &mut total) {
         Ok(()) => Ok(total),
