@@ -6,6 +6,8 @@ mod AskLemmas
 mod WalkLemmas
 mod TableLemmas
 mod OptionLemmas
+mod ContinuationLemmas
+mod SelectLemmas
 mod GatherLemmas
 mod WorkedRows
 mod WorkedWalks

@@ -1,5 +1,5 @@
 -- Worked scripts, computed from the definitions.
-use Rattle.std.proofs.Common.{◌≡◌, ℕ, pos, List, [], ◌∷◌, refl, map, inl, None, ◌∙◌, sym, ap}
+use Rattle.std.proofs.Common.{◌≡◌, ℕ, pos, List, [], ◌∷◌, refl, None, ◌∙◌, sym, ap}
 use Rattle.std.specs.Prelude.{true, false, codes, negsuc}
 use Rattle.std.proofs.lemmas.Option.{none-some}
 use Rattle.term_core.specs.Datum.{Datum, items_of, cells}
@@ -12,22 +12,25 @@ use Rattle.part_core.specs.declared.kind.TableKind.TheVariants.{Set, OrderedSet,
 use Rattle.part_core.specs.Visits.{walk_order}
 use Rattle.part_core.specs.Replies.{reply_of}
 use Rattle.part_core.specs.After.{after}
-use Rattle.tool_script.specs.Command.{Ask, Command, called, command_term, IsNoCommand}
+use Rattle.tool_script.specs.Command.{Ask, Command, called, IsNoCommand}
 use Rattle.tool_script.specs.Command.Ask.{Insert, InsertNew, Lookup, Member, Delete, DeleteObject, Take, Fix, Unfix, Leave, First, Next}
 use Rattle.tool_script.specs.Command.Command.{Open, Session, Close}
-use Rattle.tool_script.specs.Script.{ScriptState, beginning, step, error, AreReplies}
+use Rattle.tool_script.specs.Course.{Course, Step}
+use Rattle.tool_script.specs.Course.Course.{Settled, Judging}
+use Rattle.tool_script.specs.Replied.{course}
+use Rattle.tool_script.specs.Script.{ScriptState, beginning, error}
 use Rattle.tool_script.proofs.ReadingLemmas.{command_in, elements_of, read_back}
+
+-- what a command comes to that judges no term
+abbrev settled : ScriptState → Course ScriptState → Step ScriptState
+settled st (Settled s) = s
+settled st (Judging o d go) = (error 65, st)
 
 -- the replies to commands, from a state on
 abbrev replied : ScriptState → List Command → List Datum
 replied st [] = []
-replied st (c ∷ cs) = (step st st.current c).0 ∷ replied (step st st.current c).1 cs
-
--- these are the replies to the commands' terms
-are_replied : (st : ScriptState) (cs : List Command) → AreReplies st (map command_term cs) (replied st cs)
-are_replied st [] = tt
-are_replied st (c ∷ cs) =
-    ((step st st.current c).1, inl (c, refl, (refl, refl)), are_replied (step st st.current c).1 cs)
+replied st (c ∷ cs) =
+    (settled st (course st st.current c)).0 ∷ replied (settled st (course st st.current c)).1 cs
 
 abbrev replies : List Command → List Datum
 replies = replied beginning
@@ -80,9 +83,13 @@ no_heap : IsNoCommand (called (codes "open") (word (codes "heap") ∷ key 1 ∷ 
 unfolding command_in elements_of
 no_heap = none_read _ refl
 
-no_select : IsNoCommand (called (codes "select") (key 0 ∷ nil ∷ []))
+no_select : IsNoCommand (called (codes "select") (key 0 ∷ nil ∷ nil ∷ []))
 unfolding command_in elements_of
 no_select = none_read _ refl
+
+no_continuation : IsNoCommand (called (codes "more") (key 0 ∷ word (codes "a") ∷ []))
+unfolding command_in elements_of
+no_continuation = none_read _ refl
 
 no_session : IsNoCommand (called (codes "insert") (word (codes "a") ∷ one 1 ∷ []))
 unfolding command_in elements_of

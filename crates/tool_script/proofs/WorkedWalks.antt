@@ -1,11 +1,12 @@
 -- Worked scripts that walk their tables, computed from the definitions.
-use Rattle.std.proofs.Common.{◌≡◌, ℕ, ℤ, pos, List, [], ◌∷◌, ◌++◌, refl, map, inl, inr, None}
-use Rattle.std.specs.Prelude.{true, codes, negsuc}
+use Rattle.std.proofs.Common.{◌≡◌, ℕ, ℤ, pos, List, [], ◌∷◌, ◌++◌, refl, map, inl, None, Some}
+use Rattle.std.specs.Prelude.{true, codes, negsuc, if◌then◌else◌, Option}
 use Rattle.term_core.specs.Datum.{Datum, items_of, cells}
 use Rattle.term_core.specs.Datum.Datum.{integer, atom, tuple, nil}
 use Rattle.term_core.specs.KeyHash.{key_hash}
 use Rattle.term_core.specs.Order.{datum_cmp}
 use Rattle.term_operand.specs.Operand.{boolean}
+use Rattle.term_operand.specs.Order.{is_same}
 use Rattle.prims_table.specs.declared.prim.Function.TheVariants as function
 use Rattle.prims_table.specs.declared.prim.Comparison.TheVariants as comparison
 use Rattle.mcode.specs.Answer.{answer_of}
@@ -18,33 +19,34 @@ use Rattle.part_core.specs.Visits.{walk_order}
 use Rattle.part_core.specs.Replies.{reply_of}
 use Rattle.part_core.specs.After.{after}
 use Rattle.mspec_syntax.specs.declared.fault.SpecFault.TheVariants as fault
-use Rattle.tool_script.specs.Command.{Ask, Command, called, command_term}
+use Rattle.tool_script.specs.Command.{Ask, Selection, Command, called, command_term}
 use Rattle.tool_script.specs.Command.Ask.{Insert, Delete, Fix, Unfix, Leave, Next}
-use Rattle.tool_script.specs.Command.Command.{Open, Session, Close}
-use Rattle.tool_script.specs.Script.{ScriptState, Step, beginning, step, error, key_or_end}
-use Rattle.tool_script.specs.Selection.{Selection, selection_term}
-use Rattle.tool_script.specs.Selection.Selection.{Select, SelectLimit, SelectMore, SelectCount, SelectDelete}
+use Rattle.tool_script.specs.Command.Selection.{Select, SelectLimit, SelectMore, SelectCount, SelectDelete}
+use Rattle.tool_script.specs.Command.Command.{Open, Session, Walk, Close}
+use Rattle.tool_script.specs.Course.{Step, Course, Comes}
+use Rattle.tool_script.specs.Course.Course.{Settled, Judging}
+use Rattle.tool_script.specs.Replied.{course, AreReplies}
+use Rattle.tool_script.specs.Script.{ScriptState, beginning, error, key_or_end}
 use Rattle.tool_script.specs.Verdict.{Verdict, IsVerdict}
 use Rattle.tool_script.specs.Verdict.Verdict.{Meant, Faulty}
-use Rattle.tool_script.specs.Walks.{Course, course, Comes, piece_term, AreFullReplies}
-use Rattle.tool_script.specs.Walks.Course.{Settled, Judging}
+use Rattle.tool_script.specs.Walks.{piece_term}
 
--- a line of a script: a command, or a selection by a session and what its term is as a specification
+-- a command of a script, and what the term in it is as a specification, if one is judged
 data Line : Type 0 where
   plain : Command → Line
-  selects : ℤ → Selection → Verdict → Line
+  judges : Command → Verdict → Line
 
-abbrev term_of : Line → Datum
-term_of (plain c) = command_term c
-term_of (selects s selection v) = selection_term s selection
+abbrev command_in : Line → Command
+command_in (plain c) = c
+command_in (judges c v) = c
 
-abbrev judged_by : Course → Verdict → Step
-judged_by (Settled s) v = s
-judged_by (Judging d go) v = go v
+abbrev step_in : Course ScriptState → Line → Step ScriptState
+step_in (Settled s) l = s
+step_in (Judging o d go) (plain c) = go (Faulty fault.NotAList)
+step_in (Judging o d go) (judges c v) = go v
 
-abbrev step_by : ScriptState → Line → Step
-step_by st (plain c) = step st st.current c
-step_by st (selects s selection v) = judged_by (course st st.current s selection) v
+abbrev step_by : ScriptState → Line → Step ScriptState
+step_by st l = step_in (course st st.current (command_in l)) l
 
 -- the replies to lines, from a state on
 abbrev replied : ScriptState → List Line → List Datum
@@ -54,29 +56,31 @@ replied st (l ∷ ls) = (step_by st l).0 ∷ replied (step_by st l).1 ls
 abbrev replies : List Line → List Datum
 replies = replied beginning
 
--- the term of a selection that is judged is so
-abbrev IsJudged : Course → Verdict → Type 0
-IsJudged (Settled s) v = Unit {0}
-IsJudged (Judging d go) v = IsVerdict d v
+-- the term that is judged is so
+abbrev IsJudged : Course ScriptState → Line → Type 0
+IsJudged (Settled s) l = Unit {0}
+IsJudged (Judging o d go) (plain c) = ⊥
+IsJudged (Judging o d go) (judges c v) = IsVerdict o d v
 
 abbrev AreJudged : ScriptState → List Line → Type 0
 AreJudged st [] = Unit {0}
-AreJudged st (plain c ∷ ls) = AreJudged (step_by st (plain c)).1 ls
-AreJudged st (selects s selection v ∷ ls) =
-    IsJudged (course st st.current s selection) v × AreJudged (step_by st (selects s selection v)).1 ls
+AreJudged st (l ∷ ls) =
+    IsJudged (course st st.current (command_in l)) l × AreJudged (step_by st l).1 ls
 
-comes : (c : Course) (v : Verdict) → IsJudged c v → Comes c (judged_by c v).0 (judged_by c v).1
-comes (Settled s) v judged = (refl, refl)
-comes (Judging d go) v judged = (v, judged, (refl, refl))
+comes : (c : Course ScriptState) (l : Line) → IsJudged c l → Comes c (step_in c l).0 (step_in c l).1
+comes (Settled s) l judged = (refl, refl)
+comes (Judging o d go) (plain c) judged = absurd judged
+comes (Judging o d go) (judges c v) judged = (v, judged, (refl, refl))
 
 -- these are the replies to the lines' terms
-are_replied : (st : ScriptState) (ls : List Line) → AreJudged st ls → AreFullReplies st (map term_of ls) (replied st ls)
+are_replied : (st : ScriptState) (ls : List Line) → AreJudged st ls → AreReplies st (map (λ l. command_term (command_in l)) ls) (replied st ls)
 are_replied st [] judged = tt
-are_replied st (plain c ∷ ls) judged =
-    ((step st st.current c).1, inl (c, refl, (refl, refl)), are_replied (step st st.current c).1 ls judged)
-are_replied st (selects s selection v ∷ ls) judged =
-    let go = course st st.current s selection in
-    ((judged_by go v).1, inr (inl (s, selection, refl, comes go v judged.0)), are_replied (judged_by go v).1 ls judged.1)
+are_replied st (l ∷ ls) judged =
+    let go = course st st.current (command_in l) in
+    ((step_in go l).1, inl (command_in l, refl, comes go l judged.0), are_replied (step_in go l).1 ls judged.1)
+
+abbrev selects : ℤ → Selection → Verdict → Line
+selects s selection v = judges (Walk s selection) v
 
 abbrev key : ℕ → Datum
 key n = integer (pos n)
@@ -114,14 +118,14 @@ query =
     list (tuple (items_of (tuple (items_of (atom (codes "$1") ∷ [])) ∷ nil ∷ list (atom (codes "$1") ∷ []) ∷ [])) ∷ [])
 
 abbrev first_element : Verdict
-first_element = Meant (answer_of (program [] (instr.Load ∷ instr.Field 1 ∷ instr.Answer ∷ [])))
+first_element = Meant (answer_of (program [] (instr.Load ∷ instr.Field 1 ∷ instr.Answer ∷ []))) None
 
 abbrev always : Datum → Verdict
-always d = Meant (answer_of (program (d ∷ []) (instr.Const 0 ∷ instr.Answer ∷ [])))
+always d = Meant (answer_of (program (d ∷ []) (instr.Const 0 ∷ instr.Answer ∷ []))) None
 
 abbrev past : ℕ → Verdict
 past n =
-    Meant (answer_of (program (key n ∷ []) (instr.Load ∷ instr.Field 1 ∷ instr.Const 0 ∷ instr.Call (function.Comparison comparison.Greater) 2 5 ∷ instr.Answer ∷ instr.NoAnswer ∷ [])))
+    Meant (answer_of (program (key n ∷ []) (instr.Load ∷ instr.Field 1 ∷ instr.Const 0 ∷ instr.Call (function.Comparison comparison.Greater) 2 5 ∷ instr.Answer ∷ instr.NoAnswer ∷ []))) None
 
 abbrev selects_some : ℕ → ℕ → Line
 selects_some n limit = selects (pos n) (SelectLimit query (pos limit)) first_element
@@ -180,3 +184,37 @@ removed_in_order = refl
 strangers : replies (opens Set 1 1 2 ∷ (inserts (1 ∷ 2 ∷ []) ++ does 1 Fix ∷ selects_some 1 1 ∷ does 0 (Delete (key 1)) ∷ does 0 (Next (key 1)) ∷ does 1 Leave ∷ does 0 (Next (key 1)) ∷ more 1 0 ∷ more 0 0 ∷ does 0 Unfix ∷ plain Close ∷ opens Set 1 1 2 ∷ more 1 0 ∷ more 1 (1) ∷ selects (pos 1) (SelectMore (negsuc 0)) first_element ∷ [])) ≡ yes ∷ (yes_each (1 ∷ 2 ∷ []) ++ yes ∷ piece_term (key 1 ∷ []) 0 ∷ yes ∷ key 2 ∷ yes ∷ error 53 ∷ error 61 ∷ error 62 ∷ error 52 ∷ list (one 2 ∷ []) ∷ yes ∷ error 62 ∷ error 62 ∷ error 62 ∷ [])
 unfolding reply_of after datum_cmp key_hash answer_of walk_order
 strangers = refl
+
+-- ---- keys that are named
+
+-- the code of [{{2},[],[two]},{{1},[],[one]},{{2},[],[again]}], but for its match of tuples of one element, and what the
+-- specification names
+abbrev word : List ℕ → Datum
+word cs = atom cs
+
+abbrev names : Datum
+names =
+    list
+    (tuple (items_of (one 2 ∷ nil ∷ list (word (codes "two") ∷ []) ∷ []))
+    ∷ tuple (items_of (one 1 ∷ nil ∷ list (word (codes "one") ∷ []) ∷ []))
+    ∷ tuple (items_of (one 2 ∷ nil ∷ list (word (codes "again") ∷ []) ∷ [])) ∷ [])
+
+abbrev answer_named : Datum → Option Datum
+answer_named d =
+    if is_same d (one 2) then Some (word (codes "two")) else if is_same d (one 1) then Some (word (codes "one")) else None
+
+abbrev named : List ℕ → Verdict
+named ns = Meant answer_named (Some (map key ns))
+
+named_in_turn : replies (opens Set 1 1 1 ∷ (inserts (1 ∷ 2 ∷ []) ++ selects (pos 0) (Select names) (named (2 ∷ 1 ∷ [])) ∷ [])) ≡ yes ∷ (yes_each (1 ∷ 2 ∷ []) ++ list (word (codes "two") ∷ word (codes "one") ∷ []) ∷ [])
+unfolding reply_of after datum_cmp key_hash answer_of
+named_in_turn = refl
+
+named_in_order : replies (opens OrderedSet 1 1 1 ∷ (inserts (1 ∷ 2 ∷ []) ++ selects (pos 0) (Select names) (named (1 ∷ 2 ∷ [])) ∷ [])) ≡ yes ∷ (yes_each (1 ∷ 2 ∷ []) ++ list (word (codes "one") ∷ word (codes "two") ∷ []) ∷ [])
+unfolding reply_of after datum_cmp key_hash answer_of
+named_in_order = refl
+
+-- in pieces, and objects that go
+named_in_pieces : replies (opens Set 1 2 1 ∷ (inserts (1 ∷ 2 ∷ 3 ∷ []) ++ selects (pos 0) (SelectLimit names (pos 1)) (named (2 ∷ 1 ∷ [])) ∷ does 0 (Delete (key 1)) ∷ more 0 0 ∷ plain Close ∷ [])) ≡ yes ∷ (yes_each (1 ∷ 2 ∷ 3 ∷ []) ++ piece_term (word (codes "two") ∷ []) 0 ∷ yes ∷ end ∷ list (one 2 ∷ one 3 ∷ []) ∷ [])
+unfolding reply_of after datum_cmp key_hash answer_of walk_order
+named_in_pieces = refl
