@@ -1,11 +1,17 @@
-//! Calls of a session at a table, one for each object.
-ghost use Rattle.std.specs.Prelude.{◌≡◌, ◌<◌};
+//! Calls of a session at a table, one for each object, and walks through the table.
+ghost use Rattle.std.specs.Prelude.{◌≡◌};
 
-use part_core::{Cursor, Fault, Look, PartOp, Reply, Scope, key_in};
+use machine::run;
+use mspec_syntax::Spec;
+use part_core::{Fault, key_in};
 use std::alloc::{AllocError, Global};
-use tables::{Turns, delete, insert, lookup, member, turn_at};
+use std::sync::Wait;
+use tables::{Turns, delete, insert, lookup, member};
 use term_core::{Refused, Term};
-use verifier::Verified;
+use walks::{Query, Step, select, select_count, select_limit, select_more};
+
+/// The most answers of a piece.
+const PIECE: u64 = 100;
 
 /// A call with an object, or at its key.
 #[derive(Clone, Copy)]
@@ -21,15 +27,24 @@ pub(crate) enum Call {
 pub(crate) enum Work {
     /// A call with each object.
     Each(Call),
-    /// Counting all objects by the query.
+    /// The code of the query with conditions runs on each object.
+    Run,
+    /// Counting all objects.
     Count,
+    /// All answers of the query with conditions.
+    Select,
+    /// Its answers in pieces.
+    Pieces,
 }
 
-/// What the work is done on: objects with their keys at the first place, and the query that counts all.
+/// What the work is done on: objects with their keys at the first place, the query that counts all, and one with conditions beside its
+/// specification.
 #[derive(Clone, Copy)]
 pub(crate) struct Load<'a> {
     pub(crate) objects: &'a [Term],
-    pub(crate) query: &'a Verified,
+    pub(crate) all: &'a Query,
+    pub(crate) some: &'a Query,
+    pub(crate) specification: &'a Spec,
 }
 
 /// How many objects an insert puts in.
@@ -78,86 +93,63 @@ fn made_with_each<T: Turns<Global>>(session: &mut T, call: Call, objects: &[Term
     Some(count)
 }
 
-/// What a visit is answered: its count, and where the next goes on.
-fn counted(reply: Result<Reply, Fault>) -> Option<(u64, Option<Cursor>)> {
-    match reply {
-        Ok(Reply::Counted(count, next)) => Some((count, next)),
-        _ => None,
+/// Runs the code of a query on each object, and says on how many it answers.
+fn run_on_each(alloc: Global, query: &Query, objects: &[Term]) -> Option<u64> {
+    let mut count: u64 = 0;
+    for object in objects {
+        let (answer, _steps) = run(alloc, &query.code, object).ok()?;
+        count = count.saturating_add(u64::from(answer.is_some()));
     }
+    Some(count)
 }
 
-/// What one visit of a part counts, and where the next goes on.
-fn visit_count<T: Turns<Global>>(
+/// How many answers the pieces of a walk have, of which there are at most so many.
+fn in_pieces<R: Wait, T: Turns<Global>>(
+    rt: &R,
+    alloc: Global,
     session: &mut T,
-    query: &Verified,
-    part: u8,
-    cursor: Option<&Cursor>,
-) -> Option<(u64, Option<Cursor>)>
-    requires ready { T.is_ready session.old }
-    requires part { part < (T.home session.old).options.parts }
-    ensures ready { T.is_ready session.new }
-    ensures same { T.home session.new ≡ T.home session.old }
-{
-    let look = Look {
-        code: query,
-        scope: match cursor {
-            Some(cursor) => Scope::After(cursor),
-            None => Scope::Begin,
-        },
-        wanted: u64::MAX,
-    };
-    counted(turn_at(session, part, PartOp::VisitCount(look)))
-}
-
-/// What the visits of a part count, of which there are at most so many.
-fn count_part<T: Turns<Global>>(
-    session: &mut T,
-    query: &Verified,
-    part: u8,
-    visits: usize,
+    specification: &Spec,
+    most: usize,
 ) -> Option<u64>
-    requires ready { T.is_ready session.old }
-    requires part { part < (T.home session.old).options.parts }
-    ensures ready { T.is_ready session.new }
-    ensures same { T.home session.new ≡ T.home session.old }
-{
-    let mut sum: u64 = 0;
-    let mut cursor: Option<Cursor> = None;
-    for _visit in 0..visits {
-        let (count, next) = visit_count(session, query, part, cursor.as_ref())?;
-        sum = sum.saturating_add(count);
-        if next.is_none() {
-            return Some(sum);
-        }
-        cursor = next;
-    }
-    None
-}
-
-/// What a query counts in all parts of a table of so many objects.
-fn count_all<T: Turns<Global>>(session: &mut T, query: &Verified, objects: usize) -> Option<u64>
     requires { T.is_ready session.old }
     ensures ready { T.is_ready session.new }
     ensures same { T.home session.new ≡ T.home session.old }
 {
-    let visits = objects
-        .saturating_add(usize::from(u16::MAX))
-        .saturating_add(1);
-    let mut sum: u64 = 0;
-    for part in 0..session.options().parts {
-        sum = sum.saturating_add(count_part(session, query, part, visits)?);
+    let query = Query::from_spec(alloc, specification, 1).ok()?;
+    let mut count: u64 = 0;
+    let mut step = select_limit(rt, alloc, session, query, PIECE).ok()?;
+    for _piece in 0..most {
+        match step {
+            Step::Piece(answers, walk) => {
+                count = count.saturating_add(answers.len() as u64);
+                step = select_more(rt, alloc, session, walk).ok()?;
+            }
+            Step::End(_query) => return Some(count),
+        }
     }
-    Some(sum)
+    None
 }
 
-/// Does the work, and says how many objects it puts in, finds or counts.
-pub(crate) fn done<T: Turns<Global>>(session: &mut T, work: Work, load: Load<'_>) -> Option<u64>
+/// Does the work, and says how many objects it puts in, finds, counts or answers on.
+pub(crate) fn done<R: Wait, T: Turns<Global>>(
+    rt: &R,
+    alloc: Global,
+    session: &mut T,
+    work: Work,
+    load: Load<'_>,
+) -> Option<u64>
     requires { T.is_ready session.old }
     ensures ready { T.is_ready session.new }
     ensures same { T.home session.new ≡ T.home session.old }
 {
     match work {
         Work::Each(call) => Some(made_with_each(session, call, load.objects)? as u64),
-        Work::Count => count_all(session, load.query, load.objects.len()),
+        Work::Run => run_on_each(alloc, load.some, load.objects),
+        Work::Count => select_count(rt, session, load.all).ok(),
+        Work::Select => Some(select(rt, alloc, session, load.some).ok()?.len() as u64),
+        Work::Pieces => {
+            let most = load.objects.len().saturating_add(1);
+            in_pieces(rt, alloc, session, load.specification, most)
+        }
     }
 }

@@ -1,9 +1,10 @@
 //! Times the calls of a session at a table from outside: `bench/tables` runs this program.
 //!
 //! Standard input is objects with their keys at the first place. They are put into a table of a kind and of so many parts, put in once
-//! more, looked up, asked for, counted by a query, and deleted.
+//! more, looked up, asked for, counted by a query, selected by one with two conditions, at once and in pieces of 100, and deleted. The code
+//! of that query runs on each object, too, for what a selection takes beside its runs.
 //!
-//! - `times`: the nanoseconds of a call of each kind, the median of five rounds; a count is divided by the objects.
+//! - `times`: the nanoseconds of a call of each kind, the median of five rounds; those of a walk are divided by the objects.
 //! - `longest`: the nanoseconds of the longest insert.
 //! - `hold`: nothing; the objects are put into as many tables as the last argument says, which are held until the end.
 //! - `found`: what comes of each kind of call.
@@ -13,21 +14,24 @@ mod calls;
 mod times;
 
 use calls::Load;
-use compiler::compile;
 use mspec_reader::read_spec;
+use mspec_syntax::Spec;
 use part_core::{Part, TableKind};
 use part_hash::HashPart;
 use part_order::OrderPart;
 use std::alloc::Global;
 use std::io::{Read, Write};
 use std::process::ExitCode;
+use std::sync::Wait;
 use tables::Options;
 use term_core::Term;
 use term_text::read_terms;
-use verifier::Verified;
+use walks::Query;
 
-/// The query that counts all objects.
-const QUERY: &[u8] = b"[{'_',[],[true]}].";
+/// The specification that is true of all objects.
+const ALL: &[u8] = b"[{'_',[],[true]}].";
+/// One with two conditions.
+const SOME: &[u8] = b"[{{'$1','$2','_'},[{'>=','$1',1},{'<','$2',900000}],['$2']}].";
 
 /// What is done at which table, and at how many.
 #[derive(Clone, Copy)]
@@ -44,10 +48,15 @@ fn input(rt: &HostRuntime) -> Option<Vec<Term>> {
     read_terms(rt.alloc(), input.as_slice()).ok()
 }
 
-/// The code of the query.
-fn query(alloc: Global) -> Option<Verified> {
-    let terms = read_terms(alloc, QUERY).ok()?;
-    compile(alloc, &read_spec(alloc, terms.first()?).ok()?).ok()
+/// The specification of a text.
+fn specification(alloc: Global, text: &[u8]) -> Option<Spec> {
+    let terms = read_terms(alloc, text).ok()?;
+    read_spec(alloc, terms.first()?).ok()
+}
+
+/// The query of a specification.
+fn query(alloc: Global, specification: &Spec) -> Option<Query> {
+    Query::from_spec(alloc, specification, 1).ok()
 }
 
 /// The kind of a name.
@@ -83,45 +92,60 @@ fn task_of(arguments: &[String]) -> Option<Task<'_>> {
 }
 
 /// Writes the lines of a task at tables of a kind of part. There are none where there is no such task or it can't be done.
-fn write_at<P: Part<Global> + Drop>(
+fn write_at<H: Wait, P: Part<Global> + Drop>(
     rt: &HostRuntime,
+    handle: &H,
     task: Task<'_>,
     load: Load<'_>,
     lines: &mut String,
 ) -> Option<()> {
     match task.word {
-        "times" => times::write::<P>(rt, task.options, load, lines),
-        "hold" => times::hold::<P>(rt, task.options, task.tables, load),
-        "longest" => times::write_longest::<P>(rt, task.options, load, lines),
-        "found" => times::write_found::<P>(rt, task.options, load, lines),
+        "times" => times::write::<H, P>(rt, handle, task.options, load, lines),
+        "hold" => times::hold::<H, P>(rt, handle, task.options, task.tables, load),
+        "longest" => times::write_longest::<H, P>(rt, handle, task.options, load, lines),
+        "found" => times::write_found::<H, P>(rt, handle, task.options, load, lines),
         _ => None,
     }
 }
 
 /// Writes the lines of a task with the objects of standard input.
-fn write_task(rt: &HostRuntime, task: Task<'_>, lines: &mut String) -> Option<()> {
+fn write_task<H: Wait>(
+    rt: &HostRuntime,
+    handle: &H,
+    task: Task<'_>,
+    lines: &mut String,
+) -> Option<()> {
     let objects = input(rt)?;
-    let query = query(rt.alloc())?;
+    let all = query(rt.alloc(), &specification(rt.alloc(), ALL)?)?;
+    let specification = specification(rt.alloc(), SOME)?;
+    let some = query(rt.alloc(), &specification)?;
     let load = Load {
         objects: objects.as_slice(),
-        query: &query,
+        all: &all,
+        some: &some,
+        specification: &specification,
     };
     if task.options.kind.is_ordered() {
-        write_at::<OrderPart<Global>>(rt, task, load, lines)
+        write_at::<H, OrderPart<Global>>(rt, handle, task, load, lines)
     } else {
-        write_at::<HashPart<Global>>(rt, task, load, lines)
+        write_at::<H, HashPart<Global>>(rt, handle, task, load, lines)
     }
 }
 
 /// Writes the lines of what the arguments ask for. There are none where they ask for nothing.
-fn write_lines(rt: &HostRuntime, arguments: &[String], lines: &mut String) -> Option<()> {
-    write_task(rt, task_of(arguments)?, lines)
+fn write_lines<H: Wait>(
+    rt: &HostRuntime,
+    handle: &H,
+    arguments: &[String],
+    lines: &mut String,
+) -> Option<()> {
+    write_task(rt, handle, task_of(arguments)?, lines)
 }
 
 fn main(rt: HostRuntime) -> anyhow::Result<ExitCode> {
     let arguments: Vec<String> = std::env::args(&rt)?.collect(rt.alloc())?;
     let mut lines = String::new(rt.alloc());
-    match write_lines(&rt, arguments.as_slice(), &mut lines) {
+    match write_lines(&rt, &rt, arguments.as_slice(), &mut lines) {
         Some(()) => {
             rt.stdout().write_all(lines.as_bytes())?;
             Ok(ExitCode::SUCCESS)

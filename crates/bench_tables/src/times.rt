@@ -5,13 +5,14 @@ use crate::calls::{Call, Load, Work, done};
 use part_core::Part;
 use std::alloc::Global;
 use std::slice;
+use std::sync::Wait;
 use std::time::Instant;
 use tables::{LocalTable, Options};
 
 /// How many rounds are timed.
 const ROUNDS: usize = 5;
 /// How many kinds of work a round has.
-const WORKS: usize = 7;
+const WORKS: usize = 10;
 /// The work of a round, in its order. The second insert puts each object in the place of the first, and the last lookup finds what was
 /// left.
 const ROUND: [Work; WORKS] = [
@@ -20,17 +21,22 @@ const ROUND: [Work; WORKS] = [
     Work::Each(Call::Lookup),
     Work::Each(Call::Member),
     Work::Count,
+    Work::Select,
+    Work::Pieces,
+    Work::Run,
     Work::Each(Call::Delete),
     Work::Each(Call::Lookup),
 ];
 /// What the work is called of which times are written: all but the last.
-const NAMES: [&str; WORKS - 1] = ["insert", "replace", "lookup", "member", "count", "delete"];
+const NAMES: [&str; WORKS - 1] = [
+    "insert", "replace", "lookup", "member", "count", "select", "pieces", "run", "delete",
+];
 
 /// What came of work.
 #[derive(Clone, Copy)]
 struct Outcome {
     nanoseconds: u64,
-    /// How many objects were put in, found or counted.
+    /// How many objects were put in, found, counted or answered on.
     objects: u64,
 }
 
@@ -42,8 +48,9 @@ fn opened<P: Part<Global> + Drop>(alloc: Global, options: Options) -> Option<Loc
 }
 
 /// Does the work in a session at a table, and times it.
-fn timed<P: Part<Global> + Drop>(
+fn timed<H: Wait, P: Part<Global> + Drop>(
     rt: &HostRuntime,
+    handle: &H,
     table: &mut LocalTable<P>,
     work: Work,
     load: Load<'_>,
@@ -53,7 +60,7 @@ fn timed<P: Part<Global> + Drop>(
 {
     let mut session = table.at(0);
     let began = Instant::now(rt).ok()?;
-    let objects = done(&mut session, work, load)?;
+    let objects = done(handle, rt.alloc(), &mut session, work, load)?;
     let took = began.elapsed(rt).ok()?;
     Some(Outcome {
         nanoseconds: u64::try_from(took.as_nanos()).ok()?,
@@ -62,8 +69,9 @@ fn timed<P: Part<Global> + Drop>(
 }
 
 /// What comes of a round at an empty table.
-fn round<P: Part<Global> + Drop>(
+fn round<H: Wait, P: Part<Global> + Drop>(
     rt: &HostRuntime,
+    handle: &H,
     options: Options,
     load: Load<'_>,
 ) -> Option<[Outcome; WORKS]> {
@@ -73,20 +81,21 @@ fn round<P: Part<Global> + Drop>(
         objects: 0,
     }; WORKS];
     for work in 0..WORKS {
-        outcomes[work] = timed(rt, &mut table, ROUND[work], load)?;
+        outcomes[work] = timed(rt, handle, &mut table, ROUND[work], load)?;
     }
     Some(outcomes)
 }
 
 /// The nanoseconds of each work in each round.
-fn rounds<P: Part<Global> + Drop>(
+fn rounds<H: Wait, P: Part<Global> + Drop>(
     rt: &HostRuntime,
+    handle: &H,
     options: Options,
     load: Load<'_>,
 ) -> Option<[[u64; ROUNDS]; WORKS]> {
     let mut times = [[0; ROUNDS]; WORKS];
     for number in 0..ROUNDS {
-        let outcomes = round::<P>(rt, options, load)?;
+        let outcomes = round::<H, P>(rt, handle, options, load)?;
         for work in 0..WORKS {
             times[work][number] = outcomes[work].nanoseconds;
         }
@@ -101,13 +110,14 @@ fn median(mut rounds: [u64; ROUNDS]) -> u64 {
 }
 
 /// Writes the nanoseconds of a call of each kind, the median of the rounds.
-pub(crate) fn write<P: Part<Global> + Drop>(
+pub(crate) fn write<H: Wait, P: Part<Global> + Drop>(
     rt: &HostRuntime,
+    handle: &H,
     options: Options,
     load: Load<'_>,
     lines: &mut String,
 ) -> Option<()> {
-    let times = rounds::<P>(rt, options, load)?;
+    let times = rounds::<H, P>(rt, handle, options, load)?;
     let count = u64::try_from(load.objects.len()).ok()?.max(1);
     for work in 0..NAMES.len() {
         let name = NAMES[work];
@@ -118,8 +128,9 @@ pub(crate) fn write<P: Part<Global> + Drop>(
 }
 
 /// The nanoseconds of the longest insert.
-fn longest_insert<P: Part<Global> + Drop>(
+fn longest_insert<H: Wait, P: Part<Global> + Drop>(
     rt: &HostRuntime,
+    handle: &H,
     table: &mut LocalTable<P>,
     load: Load<'_>,
 ) -> Option<u64>
@@ -129,63 +140,74 @@ fn longest_insert<P: Part<Global> + Drop>(
     for object in load.objects {
         let one = Load {
             objects: slice::from_ref(object),
-            query: load.query,
+            ..load
         };
-        let outcome = timed(rt, table, Work::Each(Call::Insert), one)?;
+        let outcome = timed(rt, handle, table, Work::Each(Call::Insert), one)?;
         longest = outcome.nanoseconds.max(longest);
     }
     Some(longest)
 }
 
 /// Writes what the longest insert takes: that which doubles the most slots.
-pub(crate) fn write_longest<P: Part<Global> + Drop>(
+pub(crate) fn write_longest<H: Wait, P: Part<Global> + Drop>(
     rt: &HostRuntime,
+    handle: &H,
     options: Options,
     load: Load<'_>,
     lines: &mut String,
 ) -> Option<()> {
     let mut table = opened::<P>(rt.alloc(), options)?;
-    let longest = longest_insert(rt, &mut table, load)?;
+    let longest = longest_insert(rt, handle, &mut table, load)?;
     writeln!(lines, "longest insert {longest} ns").ok()
 }
 
 /// Writes how many objects each work of a round finds.
-pub(crate) fn write_found<P: Part<Global> + Drop>(
+pub(crate) fn write_found<H: Wait, P: Part<Global> + Drop>(
     rt: &HostRuntime,
+    handle: &H,
     options: Options,
     load: Load<'_>,
     lines: &mut String,
 ) -> Option<()> {
-    let [insert, replace, lookup, member, count, _delete, last] = round::<P>(rt, options, load)?;
+    let [insert, replace, lookup, member, count, select, pieces, run, _delete, last] =
+        round::<H, P>(rt, handle, options, load)?;
     writeln!(
         lines,
-        "{} inserted, {} once more, {} found, {} there, {} counted, {} left",
-        insert.objects, replace.objects, lookup.objects, member.objects, count.objects, last.objects
+        "{} inserted, {} once more, {} found, {} there",
+        insert.objects, replace.objects, lookup.objects, member.objects
+    )
+    .ok()?;
+    writeln!(
+        lines,
+        "{} counted, {} selected, {} in pieces, {} by runs, {} left",
+        count.objects, select.objects, pieces.objects, run.objects, last.objects
     )
     .ok()
 }
 
 /// A table with the objects.
-fn filled<P: Part<Global> + Drop>(
+fn filled<H: Wait, P: Part<Global> + Drop>(
     rt: &HostRuntime,
+    handle: &H,
     options: Options,
     load: Load<'_>,
 ) -> Option<LocalTable<P>> {
     let mut table = opened::<P>(rt.alloc(), options)?;
-    let _outcome = timed(rt, &mut table, Work::Each(Call::Insert), load)?;
+    let _outcome = timed(rt, handle, &mut table, Work::Each(Call::Insert), load)?;
     Some(table)
 }
 
 /// Puts the objects into so many tables, and holds them all.
-pub(crate) fn hold<P: Part<Global> + Drop>(
+pub(crate) fn hold<H: Wait, P: Part<Global> + Drop>(
     rt: &HostRuntime,
+    handle: &H,
     options: Options,
     tables: u8,
     load: Load<'_>,
 ) -> Option<()> {
     let mut held: Vec<LocalTable<P>> = Vec::new(rt.alloc());
     for _table in 0..tables {
-        held.push(filled::<P>(rt, options, load)?).ok()?;
+        held.push(filled::<H, P>(rt, handle, options, load)?).ok()?;
     }
     Some(())
 }

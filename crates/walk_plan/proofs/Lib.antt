@@ -2,3 +2,5 @@ pub mod NamedLemmas
 pub mod SpelledLemmas
 pub mod KeyLemmas
 pub mod WorkedKeys
+pub mod OrderLemmas
+pub mod PlanLemmas

@@ -6,7 +6,7 @@ ghost use Rattle.term_operand.specs.Order.{is_same};
 ghost use Rattle.mcode.specs.Answer.{answer_of};
 ghost use Rattle.mspec_meaning.specs.Meaning.{Means};
 ghost use Rattle.walk_plan.specs.Named.{named_by};
-ghost use Rattle.walk_plan.specs.Plan.{IsSilent};
+ghost use Rattle.walk_plan.specs.Plan.{IsPlanned, IsSilent};
 
 use crate::keys::named_keys;
 use crate::laws::{named_keys_differ, unnamed_keys_mean_nothing};
@@ -51,7 +51,7 @@ impl<A: Allocator> NamedKeys<A> {
     where
         A: Copy,
         requires { IsDistinct is_same keys.items }
-        ensures { IfOk result (λ p. (p.keypos ≡ keypos) × (p.keys ≡ keys.items)) }
+        ensures { IfOk result (λ p. (p.keypos ≡ keypos) × (p.keys ≡ keys.items) × IsPlanned p) }
     {
         let mut rising = copy_all(alloc, keys.as_slice())?;
         rising.sort_unstable();
@@ -89,6 +89,7 @@ fn plan_of<A: Allocator + Copy>(
     ensures keys { IfOk result (λ plan. option_map (λ p. p.keys) plan
         ≡ named_by keypos specification.now) }
     ensures keypos { IfOk result (λ plan. IfSome plan (λ p. p.keypos ≡ keypos)) }
+    ensures planned { IfOk result (λ plan. IfSome plan IsPlanned) }
 {
     named_keys_differ();
     match named_keys(alloc, specification, keypos)? {
@@ -110,6 +111,7 @@ pub fn compile_named<A: Allocator + Copy>(
     ensures keys { IfOk result (λ made. option_map (λ p. p.keys) made.1
         ≡ named_by keypos specification.now) }
     ensures keypos { IfOk result (λ made. IfSome made.1 (λ p. p.keypos ≡ keypos)) }
+    ensures planned { IfOk result (λ made. IfSome made.1 IsPlanned) }
 {
     unnamed_keys_mean_nothing();
     let plan = plan_of(alloc, specification, keypos)?;

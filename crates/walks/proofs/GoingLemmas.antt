@@ -1,7 +1,14 @@
 -- Visits one behind the other, by what the session sees.
-use Rattle.std.proofs.Common.{arith, ◌≢◌, ℕ, ◌<◌, refl, sym, ◌∙◌, option_map, None, List}
+use Rattle.std.proofs.Common.{arith, ◌≡◌, ◌≢◌, ℕ, ◌<◌, refl, sym, ◌∙◌, option_map, Option, Some, None, List, is_some}
+use Rattle.std.specs.Prelude.{IsTrue, IsFalse, unwrap_or}
 use Rattle.std.proofs.lemmas.Bool.{true≢false}
 use Rattle.term_core.specs.Datum.{Datum}
+use Rattle.term_core.specs.Datum.Datum.{nil}
+use Rattle.mcode.specs.Answer.{answer_of}
+use Rattle.mcode.specs.Machine.{field_of}
+use Rattle.mcode.specs.Program.{Program}
+use Rattle.part_core.specs.Settings.{is_object, is_ordered, key_of}
+use Rattle.tables.specs.Options.{settings_of}
 use Rattle.part_core.specs.declared.fault.Fault.{Fault}
 use Rattle.part_core.specs.declared.fault.Fault.TheVariants as fault
 use Rattle.part_core.specs.Acts.{Act, Purpose}
@@ -13,11 +20,12 @@ use Rattle.tables.specs.Turns.{Home, Views, Turned, Follows}
 use Rattle.walk_core.specs.Goes.{way, IsAt, Visits, Goes, Stops}
 use Rattle.walk_core.specs.Goes.Goes.{stays, goes}
 use Rattle.walk_core.specs.Moments.{AreLegal}
-use Rattle.walk_core.specs.Walk.{Walk, Position, IsWalk, IsPosition, part_at, scope_at}
+use Rattle.walk_core.specs.Walk.{Walk, Position, IsPlan, IsWalk, IsPosition, is_all, is_in_parts, part_at, scope_at}
 use Rattle.walk_core.specs.Walk.Position.{Over}
 use Rattle.walk_core.proofs.GoesLemmas.{goes_position}
 use Rattle.walk_plan.specs.declared.query.Query.{Query}
-use Rattle.walks.specs.Query.{walk_of}
+use Rattle.walk_plan.specs.Plan.{AreVisited}
+use Rattle.walks.specs.Query.{plan_of, walk_of}
 use Rattle.walk_core.proofs.TurnLemmas.{turned_drifts, drifts_nowhere, never_outside}
 
 -- a walk by what the session sees: visits from where it began to where it is
@@ -62,11 +70,27 @@ no_stranger h w wanted first at begun gained before now then n f is_at walk open
     of fault.BadKey other u t y there = never_outside h w at n _ u BadKey is_at walk open_still there t
     of fault.CursorOutside other u t y there = never_outside h w at n _ u CursorOutside is_at walk open_still there t
 
+-- ---- the walk of a query
+
+plan_differs : (p : Program) (keypos : ℕ) (plan : Option (List Datum)) → AreVisited p keypos plan → IsPlan plan
+plan_differs p keypos None visited = tt
+plan_differs p keypos (Some ks) visited = visited.0
+
+there_is : (found : Option Datum) → IsTrue (is_some found) → found ≡ Some (unwrap_or found nil)
+there_is None some = absurd (true≢false (sym some))
+there_is (Some k) some = refl
+
+-- on an object that the walk passes over nothing is answered
+plan_silent : (w : Walk) (plan : Option (List Datum)) (t : Datum) → AreVisited w.program w.options.keypos plan → IsTrue (is_object (settings_of w.options) t) → IsTrue (is_in_parts w w.to (key_of (settings_of w.options) t)) → IsFalse (is_all w plan (key_of (settings_of w.options) t)) → answer_of w.program t ≡ None
+plan_silent w None t visited object inside other = absurd (true≢false (sym inside ∙ other))
+plan_silent w (Some ks) t visited object inside other =
+    visited.1 t (key_of (settings_of w.options) t) (there_is (field_of w.options.keypos t) object) other
+
 -- a query makes a walk of a session
 pub is_walk : {A : Type 0} (h : Home) (purpose : Purpose) (q : Query A) → (0 < h.options.parts) × (h.number < h.options.sessions) → IsWalk (walk_of h purpose q)
 is_walk h purpose q fits = record {
   parts = (fits.0, omega arith);
   number = fits.1;
-  plan = tt;
-  silent = λ t object inside other. absurd (true≢false (sym inside ∙ other));
+  plan = plan_differs q.code h.options.keypos (plan_of q h.options) (q.kept h.options.keypos (is_ordered h.options.kind));
+  silent = λ t object inside other. plan_silent (walk_of h purpose q) (plan_of q h.options) t (q.kept h.options.keypos (is_ordered h.options.kind)) object inside other;
 }

@@ -110,9 +110,10 @@ only_scarce h q at fault.StrangerContinuation before seen well other =
 only_scarce h q at fault.BadLimit before seen well other =
     absurd (∥∥₁_elim seen (hlevel props) (λ s. (other (λ e. cc)).1 s.0 s.1 (well s.0 s.1)))
 
--- a walk that can go on is in one of the parts
-pub within_by : {A : Type 0} (h : Home) (q : Query A) (at : walk_position.Position A) (v : Views) → IsPosition (walk_of h Answers q) v (position_of at) → IsWithin h.options.parts at
+-- a walk that can go on is in one of the parts, or at one of the named keys
+pub within_by : {A : Type 0} (h : Home) (q : Query A) (at : walk_position.Position A) (v : Views) → IsPosition (walk_of h Answers q) v (position_of at) → IsWithin h.options q at
 within_by h q (position.InPart part cursor) v well = well.2
+within_by h q (position.AtNamed n) v well = well
 within_by h q position.Over v well = tt
 
 pub err_both : {X Y : Type 0} (r : Result X Y) (P Q R : Y → Type 0) → ((y : Y) → P y → Q y → R y) → IfErr r P → IfErr r Q → IfErr r R

@@ -18,8 +18,7 @@ use Rattle.tables.specs.Options.{settings_of}
 use Rattle.tables.specs.Turns.{Home, Views, Turned, Follows}
 use Rattle.tables.proofs.TurnLemmas.{answered_so}
 use Rattle.walk_core.specs.Goes.{way, whole, Visits}
-use Rattle.walk_core.specs.Walk.{Position, position_in, scope_from}
-use Rattle.walk_core.specs.Walk.Position.{InPart}
+use Rattle.walk_core.specs.Walk.{Position, next_position, part_at, scope_at}
 use Rattle.walk_core.proofs.TurnLemmas.{turn_visits}
 use Rattle.walk_plan.specs.declared.query.Query.{Query}
 use Rattle.walks.specs.Query.{walk_of}
@@ -58,38 +57,43 @@ said_count : (c : Counting) (found : List Datum) (count : ℕ) (next : Option Cu
 said_count counting.Count found count next is = cc
 said_count counting.Delete found count next is = cc
 
--- such a turn is a visit of the walk, which gains what was counted
-pub visit_more : {A : Type 0} (h : Home) (q : Query A) (c : Counting) (part count : ℕ) (cursor next : Option Cursor) (at later : Position) (before now : Views → Type 0) → at ≡ InPart part cursor → later ≡ position_in h.options.parts part next → Follows before now (Turned h part (Visit (purpose_of c) q.code (scope_from cursor) most_counted) (Some (Replied (Counted count next)))) → Follows before now (CountsMore h (walk_of h (purpose_of c) q) at later count)
-visit_more h q c part count cursor next at later before now at_is later_is follows =
-    subst (λ (p : Position). Follows before now (CountsMore h (walk_of h (purpose_of c) q) p later count)) (sym at_is)
-    (subst (λ (p : Position). Follows before now (CountsMore h (walk_of h (purpose_of c) q) (InPart part cursor) p count)) (sym later_is)
-    (λ v b. let f = follows v b in (
+-- a turn where the walk is, is a visit of the walk, which gains what was counted
+pub visit_more : {A : Type 0} (h : Home) (q : Query A) (c : Counting) (part count : ℕ) (scope : Scope) (next : Option Cursor) (at later : Position) (before now : Views → Type 0) → part ≡ part_at (walk_of h (purpose_of c) q) at → scope ≡ scope_at (walk_of h (purpose_of c) q) at → later ≡ next_position (walk_of h (purpose_of c) q) at next → Follows before now (Turned h part (Visit (purpose_of c) q.code scope most_counted) (Some (Replied (Counted count next)))) → Follows before now (CountsMore h (walk_of h (purpose_of c) q) at later count)
+visit_more h q c part count scope next at later before now part_is scope_is later_is follows =
+    let w = walk_of h (purpose_of c) q in
+    let turned = subst (λ (n : ℕ). Follows before now (Turned h n (Visit (purpose_of c) q.code (scope_at w at) most_counted) (Some (Replied (Counted count next))))) part_is
+    (subst (λ (x : Scope). Follows before now (Turned h part (Visit (purpose_of c) q.code x most_counted) (Some (Replied (Counted count next))))) scope_is follows) in
+    subst (λ (p : Position). Follows before now (CountsMore h w at p count)) (sym later_is)
+    (λ v b. let f = turned v b in (
       f.0,
       f.1,
       λ gained.
-          let made = turn_visits h (walk_of h (purpose_of c) q) whole (InPart part cursor) gained v f.0 (Counted count next) (record { options = refl; number = refl }) f.2 in
+          let made = turn_visits h w whole at gained v f.0 (Counted count next) (record { options = refl; number = refl }) f.2 in
           (made.0, made.1, said_count c made.0 count next made.2),
-    )))
+    ))
 
 found_same : (xs ys : List Datum) (next : Option Cursor) → Found xs next ≡ Found ys next → xs ≡ ys
 found_same xs ys next e = cc
 
 -- such a turn is a visit of the walk, which gains what was found
-pub visit_made : {A : Type 0} (h : Home) (q : Query A) (by_count : ℕ → ℕ) (part wanted : ℕ) (cursor next : Option Cursor) (gained found : List Datum) (before now : Views → Type 0) → wanted ≡ by_count (length gained) → Follows before now (Turned h part (Visit Answers q.code (scope_from cursor) wanted) (Some (Replied (Found found next)))) → Follows before now (λ v w. Visits h (walk_of h Answers q) by_count (way v (InPart part cursor) gained) (way w (position_in h.options.parts part next) (gained ++ found)))
-visit_made h q by_count part wanted cursor next gained found before now is follows v b =
+visit_made : {A : Type 0} (h : Home) (q : Query A) (by_count : ℕ → ℕ) (wanted : ℕ) (at : Position) (next : Option Cursor) (gained found : List Datum) (before now : Views → Type 0) → wanted ≡ by_count (length gained) → Follows before now (Turned h (part_at (walk_of h Answers q) at) (Visit Answers q.code (scope_at (walk_of h Answers q) at) wanted) (Some (Replied (Found found next)))) → Follows before now (λ v w. Visits h (walk_of h Answers q) by_count (way v at gained) (way w (next_position (walk_of h Answers q) at next) (gained ++ found)))
+visit_made h q by_count wanted at next gained found before now is follows v b =
+    let w = walk_of h Answers q in
     let f = follows v b in
-    let made = turn_visits h (walk_of h Answers q) by_count (InPart part cursor) gained v f.0 (Found found next) (record { options = refl; number = refl }) (subst (λ (n : ℕ). Turned h part (Visit Answers q.code (scope_from cursor) n) (Some (Replied (Found found next))) v f.0) is f.2) in (
+    let made = turn_visits h w by_count at gained v f.0 (Found found next) (record { options = refl; number = refl }) (subst (λ (n : ℕ). Turned h (part_at w at) (Visit Answers q.code (scope_at w at) n) (Some (Replied (Found found next))) v f.0) is f.2) in (
       f.0,
       f.1,
-      subst (λ (ys : List Datum). Visits h (walk_of h Answers q) by_count (way v (InPart part cursor) gained) (way f.0 (position_in h.options.parts part next) (gained ++ ys))) (sym (found_same found made.0 next made.2)) made.1,
+      subst (λ (ys : List Datum). Visits h w by_count (way v at gained) (way f.0 (next_position w at next) (gained ++ ys))) (sym (found_same found made.0 next made.2)) made.1,
     )
 
-pub visit_kept : {A : Type 0} (h : Home) (q : Query A) (by_count : ℕ → ℕ) (part wanted : ℕ) (cursor next : Option Cursor) (gained found more : List Datum) (at later : Position) (before now : Views → Type 0) → at ≡ InPart part cursor → later ≡ position_in h.options.parts part next → more ≡ gained ++ found → wanted ≡ by_count (length gained) → Follows before now (Turned h part (Visit Answers q.code (scope_from cursor) wanted) (Some (Replied (Found found next)))) → Follows before now (λ v w. Visits h (walk_of h Answers q) by_count (way v at gained) (way w later more))
-visit_kept h q by_count part wanted cursor next gained found more at later before now at_is later_is more_is is follows =
-    subst (λ (p : Position). Follows before now (λ v w. Visits h (walk_of h Answers q) by_count (way v p gained) (way w later more))) (sym at_is)
-    (subst (λ (p : Position). Follows before now (λ v w. Visits h (walk_of h Answers q) by_count (way v (InPart part cursor) gained) (way w p more))) (sym later_is)
-    (subst (λ (ys : List Datum). Follows before now (λ v w. Visits h (walk_of h Answers q) by_count (way v (InPart part cursor) gained) (way w (position_in h.options.parts part next) ys))) (sym more_is)
-    (visit_made h q by_count part wanted cursor next gained found before now is follows)))
+pub visit_kept : {A : Type 0} (h : Home) (q : Query A) (by_count : ℕ → ℕ) (part wanted : ℕ) (scope : Scope) (next : Option Cursor) (gained found more : List Datum) (at later : Position) (before now : Views → Type 0) → part ≡ part_at (walk_of h Answers q) at → scope ≡ scope_at (walk_of h Answers q) at → later ≡ next_position (walk_of h Answers q) at next → more ≡ gained ++ found → wanted ≡ by_count (length gained) → Follows before now (Turned h part (Visit Answers q.code scope wanted) (Some (Replied (Found found next)))) → Follows before now (λ v w. Visits h (walk_of h Answers q) by_count (way v at gained) (way w later more))
+visit_kept h q by_count part wanted scope next gained found more at later before now part_is scope_is later_is more_is is follows =
+    let w = walk_of h Answers q in
+    let turned = subst (λ (n : ℕ). Follows before now (Turned h n (Visit Answers q.code (scope_at w at) wanted) (Some (Replied (Found found next))))) part_is
+    (subst (λ (x : Scope). Follows before now (Turned h part (Visit Answers q.code x wanted) (Some (Replied (Found found next))))) scope_is follows) in
+    subst (λ (p : Position). Follows before now (λ v u. Visits h w by_count (way v at gained) (way u p more))) (sym later_is)
+    (subst (λ (ys : List Datum). Follows before now (λ v u. Visits h w by_count (way v at gained) (way u (next_position w at next) ys))) (sym more_is)
+    (visit_made h q by_count wanted at next gained found before now is turned))
 
 -- a limit's rest, by the answers that are kept
 pub rest_wanted : (limit n : ℕ) (earlier last : List Datum) → n ≡ length earlier → last ≡ [] → limit - n ≡ limit - length (earlier ++ last)

@@ -116,6 +116,13 @@ fn count_next<A: Allocator, T: Turns<A>>(
     Ok(count)
 }
 
+/// Two counts together, at most 2^64 - 1.
+fn capped_sum(total: u64, count: u64) -> u64
+    ensures { result ≡ min (total + count) most_counted }
+{
+    total.saturating_add(count)
+}
+
 /// Makes visits from where a walk is to its end, and adds up what they count.
 pub(crate) fn count_on<R: Wait, A: Allocator, T: Turns<A>>(
     rt: &R,
@@ -144,7 +151,7 @@ pub(crate) fn count_on<R: Wait, A: Allocator, T: Turns<A>>(
             return Ok(());
         }
         let count = count_next(turns, query, counting, at)?;
-        *total = total.saturating_add(count);
+        *total = capped_sum(*total, count);
     }
     unreachable!()
 }

@@ -34,11 +34,11 @@ loop-visit-preserved g c =
     let later = g.T.Turns.sees c.count_next.new.turns in
     let at = position_of c.loop-visit.at in
     let visit = subst (λ (home : Home). Follows now later (CountsMore home (walk_of home purpose q) at (position_of c.count_next.new.at) c.in_ok-count.count)) c.loop-visit.invariant.1 c.in_ok-count.ensures.done in
-    let sum : c.saturating_add.result ≡ min (c.loop-visit.total + c.in_ok-count.count) most_counted = search rules in (
+    (
       c.count_next.ensures.ready,
       c.count_next.ensures.same ∙ c.loop-visit.invariant.1,
-      subst (λ (home : Home). IsWithin home.options.parts c.count_next.new.at) c.loop-visit.invariant.1 c.count_next.ensures.within,
-      counts_once h (walk_of h purpose q) (position_of c.args.at.now) at (position_of c.count_next.new.at) c.loop-visit.total c.in_ok-count.count c.saturating_add.result before now later c.if-is_over.ensures sum c.loop-visit.invariant.3 visit,
+      subst (λ (home : Home). IsWithin home.options q c.count_next.new.at) c.loop-visit.invariant.1 c.count_next.ensures.within,
+      counts_once h (walk_of h purpose q) (position_of c.args.at.now) at (position_of c.count_next.new.at) c.loop-visit.total c.in_ok-count.count c.capped_sum.result before now later c.if-is_over.ensures c.capped_sum.ensures c.loop-visit.invariant.3 visit,
     )
 
 pub returns-in_err-count-clause-stopped : goal.returns-in_err-count-clause-stopped

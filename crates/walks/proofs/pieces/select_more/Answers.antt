@@ -1,20 +1,24 @@
-use Rattle.std.proofs.Common.{◌≡◌, ◌≢◌, refl, subst, sym}
+use Rattle.std.proofs.Common.{◌≡◌, ◌≢◌, ℕ, refl, subst, sym}
 use Rattle.std.proofs.lemmas.Result.{IfOk-weaker, IfErr-weaker}
 use Rattle.part_core.specs.Acts.Purpose.{Answers}
 use Rattle.tables.specs.declared.options.Options.{Options}
 use Rattle.tables.specs.Turns.{Views, Follows}
 use Rattle.walk_core.specs.Goes.{way, up_to, Stops}
-use Rattle.walk_core.specs.Walk.{IsPosition}
+use Rattle.walk_core.specs.Walk.{IsPosition, named_count}
 use Rattle.walks.specs.declared.fault.WalkFault.TheVariants.{Memory, StrangerContinuation}
 use Rattle.walks.specs.Pieces.{Steps, Continues, Keeps, IsOwn, IsWalkOf}
-use Rattle.walks.specs.Query.{IsWithin, kept_of, position_of, walk_of}
+use Rattle.walks.specs.Query.{IsThere, kept_of, plan_of, position_of, walk_of}
 use Rattle.walks.proofs.PieceLemmas.{continues_by, keeps_by, within_by, err_both}
 use Rattle.walks.proofs.pieces.select_more.Goals as goal
 
-pub returns-then-not-is_within-clause-foreign : goal.returns-then-not-is_within-clause-foreign
-returns-then-not-is_within-clause-foreign g c = λ other. (
+pub returns-then-not-is_there-clause-foreign : goal.returns-then-not-is_there-clause-foreign
+returns-then-not-is_there-clause-foreign g c = λ other. (
   refl,
-  λ own v b position. c.if-not-is_within.ensures (subst (λ (o : Options). IsWithin o.parts c.args.walk.at) (sym c.options-options.ensures) (within_by (g.T.Turns.home c.args.turns.now) c.args.walk.query c.args.walk.at v position)),
+  λ own v b position.
+      let h = g.T.Turns.home c.args.turns.now in
+      let walk = c.args.walk in
+      let there = within_by h walk.query walk.at v position in
+      c.if-not-is_there.ensures (subst (λ (n : ℕ). IsThere c.options-options.result.parts n (position_of walk.at)) (sym c.named_count-count.ensures) (subst (λ (o : Options). IsThere o.parts (named_count (plan_of walk.query h.options)) (position_of walk.at)) (sym c.options-options.ensures) there)),
 )
 
 pub returns-clause-done : goal.returns-clause-done

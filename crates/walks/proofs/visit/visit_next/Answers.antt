@@ -1,23 +1,23 @@
-use Rattle.std.proofs.Common.{◌∙◌, ap, option_map}
-use Rattle.part_core.specs.Ops.{cursor_of}
-use Rattle.tables.specs.declared.options.Options.{Options}
+use Rattle.std.proofs.Common.{◌∙◌, ap, option_map, subst}
+use Rattle.part_core.specs.Acts.Purpose.{Answers}
+use Rattle.part_core.specs.Ops.{cursor_of, scope_of}
 use Rattle.tables.specs.Turns.{Home}
-use Rattle.walk_core.specs.Walk.{position_in}
-use Rattle.walks.specs.Query.{kept_of, position_of}
+use Rattle.walk_core.specs.Walk.{next_position}
+use Rattle.walks.specs.Query.{kept_of, position_of, walk_of}
 use Rattle.walks.proofs.VisitLemmas.{visit_kept}
 use Rattle.walks.proofs.visit.visit_next.Goals as goal
 
 pub returns-clause-done : goal.returns-clause-done
 returns-clause-done g c =
     let h = g.T.Turns.home c.args.turns.now in
-    let cursor = option_map cursor_of c.in-InPart.cursor in
+    let q = c.args.query.now in
+    let at = position_of c.args.at.now in
     let next = option_map cursor_of c.in_ok-answers.next in
-    let part = c.in-InPart.part in
-    let parts = ap (λ (o : Options). position_in o.parts part next) (c.options.ensures ∙ ap (λ (home : Home). home.options) c.visit_at.ensures.same) in
-    λ by_count is. visit_kept h c.args.query.now by_count part c.args.wanted cursor next (kept_of c.args.kept.now) c.in_ok-answers.answers.items (kept_of c.hold.new.self) (position_of c.args.at.now) (position_of c.move_on.new.at)
+    λ by_count is. visit_kept h q by_count c.next_visit-part.part c.args.wanted (scope_of c.next_visit-part.scope) next (kept_of c.args.kept.now) c.in_ok-answers.answers.items (kept_of c.hold.new.self) at (position_of c.move_on.new.at)
     (g.T.Turns.sees c.args.turns.now) (g.T.Turns.sees c.visit_at.new.turns)
-    (ap position_of c.in-InPart.is)
-    (c.move_on.ensures.at ∙ parts)
+    (c.next_visit-part.ensures.part Answers)
+    (c.next_visit-part.ensures.scope Answers)
+    (c.move_on.ensures.at Answers ∙ ap (λ (home : Home). next_position (walk_of home Answers q) at next) c.visit_at.ensures.same)
     c.hold.ensures
     is
     c.in_ok-answers.ensures.done

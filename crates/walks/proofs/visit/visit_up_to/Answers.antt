@@ -38,7 +38,7 @@ loop-visit-preserved g c =
     let visit = subst (λ (home : Home). Follows now later (λ v w. Visits home (walk_of home Answers q) (up_to c.args.limit) (way v at gained) (way w (position_of c.visit_next.new.at) (kept_of c.visit_next.new.kept)))) c.loop-visit.invariant.1 (c.in_ok-visit_next.ensures.done (up_to c.args.limit) (rest_wanted c.args.limit c.len-found.result c.settle.new.self.earlier.items c.settle.new.self.last.items c.len-found.ensures.length c.in_ok-settle.ensures.settled)) in (
       c.visit_next.ensures.ready,
       c.visit_next.ensures.same ∙ c.loop-visit.invariant.1,
-      subst (λ (home : Home). IsWithin home.options.parts c.visit_next.new.at) c.loop-visit.invariant.1 c.visit_next.ensures.within,
+      subst (λ (home : Home). IsWithin home.options q c.visit_next.new.at) c.loop-visit.invariant.1 c.visit_next.ensures.within,
       goes_once h (walk_of h Answers q) (up_to c.args.limit) (position_of c.args.at.now) at (position_of c.visit_next.new.at) (kept_of c.args.kept.now) gained (kept_of c.visit_next.new.kept) before now later c.if-is_over.ensures so_far visit,
     )
 

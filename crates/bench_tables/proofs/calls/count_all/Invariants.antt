@@ -1,6 +1,0 @@
-use Rattle.std.proofs.Common.{◌≡◌}
-use Rattle.bench_tables.proofs.calls.count_all.Given as goal
-
-abbrev pub invariant-loop-part : goal.invariant-loop-part
-invariant-loop-part g l =
-    g.T.Turns.is_ready l.session × (g.T.Turns.home l.session ≡ g.T.Turns.home l.initial.session)

@@ -1,0 +1,168 @@
+//! Calls of walks with each request for memory refused in turn: asked again, each gives what it gives undisturbed.
+use crate::plays::{Call, Play, played};
+use part_core::{Part, TableKind};
+use part_hash::HashPart;
+use part_order::OrderPart;
+use part_plain::PlainPart;
+use std::alloc::{Allocator, Global};
+use std::sync::Wait;
+use std::test::*;
+use test_alloc::{Failing, SweepOutcome, sweep};
+
+/// The most requests of a play.
+const MOST_REQUESTS: u64 = 20_000;
+
+/// What is played at which table, and what comes of it.
+#[derive(Clone, Copy, Debug)]
+struct Case<'a> {
+    play: Play<'a>,
+    wanted: &'a str,
+}
+
+/// Keys of three classes, two of them in one, in two parts.
+const KEYS: &str = "{0,a}. {1,b}. {16,c}. {32,d}. {3,e}. {48,f}.";
+/// Each object's second element.
+const SECOND: &str = "[{{'_','$1'},[],['$1']}].";
+/// Objects with a key of at least 16 answer true.
+const LARGE: &str = "[{{'$1','_'},[{'>=','$1',16}],[true]}].";
+/// Keys that are named, one of them twice, and one that isn't there.
+const NAMED: &str = "[{{32,'$1'},[],['$1']},{{5,'$1'},[],['$1']},{{0,'$1'},[],['$1']},{{32,'_'},[],[again]}].";
+
+const SET_CASES: [Case<'static>; 5] = [
+    Case {
+        play: Play {
+            kind: TableKind::Set,
+            parts: 2,
+            objects: KEYS,
+            specification: SECOND,
+            call: Call::Pieces(2),
+        },
+        wanted: "[a,c]\n[d,f]\n[b,e]\n",
+    },
+    Case {
+        play: Play {
+            kind: TableKind::Set,
+            parts: 2,
+            objects: KEYS,
+            specification: NAMED,
+            call: Call::Pieces(1),
+        },
+        wanted: "[d]\n[a]\n",
+    },
+    Case {
+        play: Play {
+            kind: TableKind::Set,
+            parts: 2,
+            objects: KEYS,
+            specification: SECOND,
+            call: Call::Select,
+        },
+        wanted: "[a,c,d,f,b,e]",
+    },
+    Case {
+        play: Play {
+            kind: TableKind::Set,
+            parts: 2,
+            objects: KEYS,
+            specification: LARGE,
+            call: Call::Count,
+        },
+        wanted: "3",
+    },
+    Case {
+        play: Play {
+            kind: TableKind::Set,
+            parts: 2,
+            objects: KEYS,
+            specification: LARGE,
+            call: Call::Delete,
+        },
+        wanted: "3",
+    },
+];
+
+const ORDERED_CASES: [Case<'static>; 4] = [
+    Case {
+        play: Play {
+            kind: TableKind::OrderedSet,
+            parts: 1,
+            objects: KEYS,
+            specification: SECOND,
+            call: Call::Pieces(4),
+        },
+        wanted: "[a,b,e,c]\n[d,f]\n",
+    },
+    Case {
+        play: Play {
+            kind: TableKind::OrderedSet,
+            parts: 1,
+            objects: KEYS,
+            specification: NAMED,
+            call: Call::Pieces(1),
+        },
+        wanted: "[a]\n[d]\n",
+    },
+    Case {
+        play: Play {
+            kind: TableKind::OrderedSet,
+            parts: 1,
+            objects: KEYS,
+            specification: SECOND,
+            call: Call::Select,
+        },
+        wanted: "[a,b,e,c,d,f]",
+    },
+    Case {
+        play: Play {
+            kind: TableKind::OrderedSet,
+            parts: 1,
+            objects: KEYS,
+            specification: LARGE,
+            call: Call::Delete,
+        },
+        wanted: "3",
+    },
+];
+
+/// Whether what comes of a case is right, none where there is no memory for the table and the query.
+fn is_right<P: Part<A> + Drop, R: Wait, A: Allocator + Copy>(
+    rt: &R,
+    alloc: Global,
+    heap: A,
+    case: Case<'_>,
+) -> Option<bool> {
+    let came = played::<P, R, A>(rt, alloc, heap, case.play)?;
+    Some(came.as_slice() == case.wanted.as_bytes())
+}
+
+macro_rules! swept {
+    ($part:ident, $rt:expr, $alloc:expr, $case:expr) => {
+        sweep($alloc, MOST_REQUESTS, |heap| {
+            match is_right::<$part<&Failing<Global>>, _, &Failing<Global>>($rt, $alloc, heap, $case) {
+                Some(is_right) => is_right,
+                None => heap.was_refused(),
+            }
+        })
+    };
+}
+
+#[test]
+fn sets_asked_again_answer_as_undisturbed(rt: HostRuntime) {
+    let alloc = rt.alloc();
+    for case in SET_CASES {
+        assert_eq!(rt; is_right::<HashPart<Global>, _, Global>(&rt, alloc, alloc, case), Some(true), "{case:?}");
+        assert_eq!(rt; is_right::<PlainPart<Global>, _, Global>(&rt, alloc, alloc, case), Some(true), "{case:?}");
+        let outcome = swept!(HashPart, &rt, alloc, case);
+        assert!(rt; outcome.is_complete(), "{case:?} {outcome:?}");
+    }
+}
+
+#[test]
+fn ordered_sets_asked_again_answer_as_undisturbed(rt: HostRuntime) {
+    let alloc = rt.alloc();
+    for case in ORDERED_CASES {
+        assert_eq!(rt; is_right::<OrderPart<Global>, _, Global>(&rt, alloc, alloc, case), Some(true), "{case:?}");
+        let outcome = swept!(OrderPart, &rt, alloc, case);
+        assert!(rt; outcome.is_complete(), "{case:?} {outcome:?}");
+    }
+}
