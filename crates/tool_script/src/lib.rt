@@ -1,17 +1,18 @@
-//! Scripts of ets commands on one thread: tables are opened, sessions ask of them, tables are closed.
+//! Scripts of ets commands on one thread: tables are opened, sessions ask of them and walk them, tables are closed.
 //!
 //! The one contract: the lines that are written are those of the replies to the script's terms (`AreReplies` of
-//! `specs/Script.antt`), for want of memory those of a beginning of them (`specs/Run.antt`). Which parts the tables are made of is the
-//! caller's choice: any that keep the trait `Part`.
+//! `specs/Replied.antt`), for want of memory those of a beginning of them (`specs/Run.antt`). Which parts the tables are
+//! made of is the caller's choice: any that keep the trait `Part`.
 //!
 //! - `command`: the commands that stand in memory (`specs/Commands.antt`), and how they are read from terms
 //!   (`specs/Reading.antt`); `command_laws`: terms tell commands (`command_term` of `specs/Command.antt`).
-//! - What a session asks goes this way: `script` interprets a term, obeys its command and forwards what is asked to the table that is
-//!   open; `open` admits the session; `table` has it attend; `session` performs the call. `specs/Scripts.antt`, `Opened.antt` and
-//!   `State.antt` say which state each is in.
+//! - What a session asks goes this way: `script` interprets a term, obeys its command and forwards what is asked to the
+//!   table that is open; `open` admits the session; `table` has it attend; `session` performs the call.
+//!   `specs/Scripts.antt`, `Opened.antt` and `State.antt` say which state each is in.
+//! - What it asks by a specification goes the same way, with the walks that can go on, to `walk`
+//!   (`specs/Verdict.antt`, `Walks.antt`); these walks: `specs/Held.antt`, in memory `Continuations.antt`.
 //! - `reply`: replies and their lines, `specs/Replies.antt`; `run`: from a reader to a writer, `specs/Input.antt`.
-//! - `laws`: replies are one, `specs/Laws.antt`, also those to what walks tables by specifications (`specs/Selection.antt`,
-//!   `Walks.antt`), which no call answers yet.
+//! - `laws`: replies are one, `specs/Laws.antt`.
 #![tactic(auto)]
 
 mod command;
