@@ -16,4 +16,6 @@ visited_prop code keypos None = hlevel
 visited_prop code keypos (Some ks) = hlevel (IsDistinct-prop is_same ks, answers_set)
 
 pub plan_prop : (code : Program) (named : Option Plan) → IsProp (IsPlanFor code named)
-plan_prop code named = hlevel (λ keypos ordered. visited_prop code keypos (plan_at named keypos ordered))
+plan_prop code named =
+    let each : (keypos : ℕ) (ordered : Bool) → IsProp (AreVisited code keypos (plan_at named keypos ordered)) = λ keypos ordered. visited_prop code keypos (plan_at named keypos ordered) in
+    hlevel each
