@@ -1,5 +1,5 @@
 -- What a visit of a walk that deletes looks at, where objects are gone already, and which keys are done behind it.
-use Rattle.std.proofs.Common.{◌≡◌, ◌≢◌, ◌<◌, ◌∙◌, ℕ, Option, Some, None, List, [], ◌∷◌, refl, sym, ap, arith, get_or}
+use Rattle.std.proofs.Common.{◌≡◌, ◌≢◌, ◌<◌, ◌+◌, ◌∙◌, ℕ, Option, Some, None, List, [], ◌∷◌, refl, sym, ap, arith, get_or}
 use Rattle.std.proofs.Math.Path.{fun_ext}
 use Rattle.std.specs.Prelude.{IsTrue, Bool, true, false, ◌&&◌, ◌||◌, ◌==◌, if◌then◌else◌, nat_lt}
 use Rattle.std.proofs.lemmas.Bool.{le-ltb}
@@ -18,7 +18,7 @@ use Rattle.part_core.specs.States.{IsState}
 use Rattle.part_core.specs.Visits.{is_inside}
 use Rattle.tables.specs.Options.{settings_of}
 use Rattle.tables.specs.Turns.{Home}
-use Rattle.walk_core.specs.Walk.{IsPlan, Position, at_key, at_part, is_passed, named_count, next_position, part_at, position_in, scope_at, scope_from}
+use Rattle.walk_core.specs.Walk.{IsPlan, Position, at_key, at_part, is_passed, named_count, next_position, part_at, scope_at, scope_from}
 use Rattle.walk_core.specs.Walk.Position.{InPart, AtNamed, Over}
 use Rattle.part_core.proofs.KeyLemmas.{by_test}
 use Rattle.walks.specs.Query.{IsThere}
@@ -95,7 +95,7 @@ pub more_at : (h : Home) (p : Program) (base : ℕ) (old : History) (next : Opti
 more_at h p base old next (InPart part cursor) None way there more inside leads =
     let o = settings_of h.options in
     done_more o h.options.parts part cursor next (λ j. left_more h.options p base cursor next old j inside leads)
-    ∙ ap (λ (d : Datum → Bool) (j : Datum). d j || covers o (scope_from cursor) next j) (sym (done_at o None part cursor))
+    ∙ ap {B = Datum → Bool} (λ (d : Datum → Bool) (j : Datum). d j || covers o (scope_from cursor) next j) (sym (done_at o None part cursor))
 more_at h p base old next (InPart part cursor) (Some ks) way there more inside leads = absurd (unnamed ks way)
 more_at h p base old next (AtNamed n) None way there more inside leads = absurd (omega (arith, there))
 more_at h p base old next (AtNamed n) (Some ks) way there more inside leads = named_more (settings_of h.options) ks n there

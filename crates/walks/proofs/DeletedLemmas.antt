@@ -47,7 +47,7 @@ use Rattle.walks.proofs.AloneLemmas.{seen_table}
 use Rattle.walks.proofs.AnewLemmas.{IsOnWay, elsewhere_at, first_on_way, more_at, next_on_way, none_done, same_at}
 use Rattle.walks.proofs.CutLemmas.{cut, cut_length, cut_nowhere, cut_shows, cut_state, deleted_after}
 use Rattle.walks.proofs.DoneLemmas.{done_in, inside_same, met_in}
-use Rattle.walks.proofs.GoneLemmas.{Looked, Told, goes_along, visit_told}
+use Rattle.walks.proofs.GoneLemmas.{Looked, Told, goes_along, gone_whole, visit_told}
 use Rattle.walks.proofs.LookLemmas.{Looks}
 use Rattle.walks.proofs.PlainLemmas.{first_there, part_inside, plain, starts, table_of, there_next, walk_looks}
 use Rattle.walks.proofs.WhollyLemmas.{fixed_once, held_state, held_where, held_whole, those_that, turn_right}
@@ -57,7 +57,7 @@ use Rattle.walks.proofs.WhollyLemmas.{fixed_once, held_state, held_where, held_w
 -- the walk can have come there, and the parts are as they were, without the objects that answer true at the keys that are done
 pub record AreCut (h : Home) (p : Program) (states : ℕ → PartState) (plan : Option (List Datum)) (at : Position) (v : Views) : Type 0 where
   pub way : IsOnWay plan at
-  pub states : (k : ℕ) → k < h.options.parts → state_after (settings_of h.options) (v k) ≡ cut_state (settings_of h.options) p (done_in (settings_of h.options) plan at k) (states k)
+  pub left : (k : ℕ) → k < h.options.parts → state_after (settings_of h.options) (v k) ≡ cut_state (settings_of h.options) p (done_in (settings_of h.options) plan at k) (states k)
 
 abbrev pub AllStates : Home → (ℕ → PartState) → Type 0
 AllStates h states = (k : ℕ) → k < h.options.parts → IsState (settings_of h.options) (states k)
@@ -75,7 +75,7 @@ cut_visit f h p states plan wanted a b same alone some distinct all are there mo
     let s : PartState = states part in
     let x : PartState = state_after o (a.views part) in
     let told : Told h Deletes p scope n visit.said (b.views part) (state_after o (a.views part)) = visit_told h Deletes p scope n visit.said (a.views part) (b.views part) alone visit.turned.here in
-    let is : x ≡ cut_state o p (done_in o plan a.at part) s = are.states part inside in
+    let is : x ≡ cut_state o p (done_in o plan a.at part) s = are.left part inside in
     let alike = same_at h p states x n a.at plan distinct there more (all part inside) is in
     let leads : LeadsTo o s.base scope (next_of o s Deletes p scope n) = subst (λ (base : ℕ). LeadsTo o base scope (next_of o s Deletes p scope n)) alike.base (subst (LeadsTo o x.base scope) alike.next told.leads) in
     let met : state_after o (a.views part ++ visit.turned.here.between) ≡ x = ap (λ (es : History). state_after o (a.views part ++ es)) (visit.turned.here.others.alone alone) ∙ ap (state_after o) (append-nil (a.views part)) in
@@ -94,10 +94,10 @@ cut_visit f h p states plan wanted a b same alone some distinct all are there mo
       },
       record {
         way = subst (IsOnWay plan) (sym visit.at) (next_on_way h p plan a.at (next_in visit.said) are.way);
-        states = λ k within.
+        left = λ k within.
             by_test (k == part) (state_after o (b.views k) ≡ cut_state o p (done_in o plan b.at k) (states k))
             (λ here. subst (λ (i : ℕ). state_after o (b.views i) ≡ cut_state o p (done_in o plan b.at i) (states i)) (sym (eqb-true k part here)) left)
-            (λ other. ap (state_after o) (visit.turned.rest k (eqb-false k part other)) ∙ are.states k within
+            (λ other. ap (state_after o) (visit.turned.rest k (eqb-false k part other)) ∙ are.left k within
             ∙ ap (λ (d : Datum → Bool). cut_state o p d (states k)) (sym (elsewhere_at h p k (next_in visit.said) a.at plan are.way there more within (eqb-false k part other)))
             ∙ ap (λ (later : Position). cut_state o p (done_in o plan later k) (states k)) (sym visit.at));
       },
@@ -109,7 +109,7 @@ cut_first h p states plan v all are =
     let o = settings_of h.options in
     record {
       way = first_on_way plan;
-      states = λ k inside.
+      left = λ k inside.
           sym (are k inside) ∙ sym (cut_nowhere o p (states k) (all k inside)) ∙ ap (λ (d : Datum → Bool). cut_state o p d (states k)) (sym (none_done o plan k));
     }
 
@@ -176,13 +176,13 @@ removed_states f h p states plan wanted gained v u same alone some distinct are 
     let front : IsLegal o (x.fixed k) = legal_front_from o (opening o) (x.fixed k) (longer.0 ++ drift.0) (subst (IsLegal o) (drift.2 ∙ ap (λ (es : History). es ++ drift.0) longer.1 ∙ append_assoc (x.fixed k) longer.0 drift.0) drift.3) in
     subst (IsState o) (sym (are_held k inside)) (state_of o (x.fixed k) front) in
     let gone = goes_along f h w held plan wanted (λ (y : Way). AreCut h p held plan y.at y.views) _ _ (λ a b known there more visit. cut_visit f h p held plan wanted a b same alone some distinct all known there more visit) (cut_first h p held plan x.fixed all are_held) (first_there h.options.parts plan some) went in (
-      gone.0.gains ∙ ap (answers_in f) (sym (gone.0.splits ∙ append-nil gone.0.front) ∙ held_whole h v states plan),
+      gone_whole f h held plan wanted x.fixed x.visits.0 gained gone.0 ∙ ap (answers_in f) (held_whole h v states plan),
       λ k inside.
           let drift = x.visits.2 k inside in
           let stays_so : x.last k ≡ x.visits.0 k = drift.2 ∙ ap (λ (es : History). x.visits.0 k ++ es) (drift.1.alone alone) ∙ append-nil (x.visits.0 k) in
           cut_where h p (met_in o plan k) (is_fixed_first h v k) (v k) (x.fixed k) (x.last k) (u k) (states k) alone (are k inside) (x.fixes k inside).1
           (subst (λ (b : Bool). ChangedWhere h Unfix b (x.last k) (u k)) (x.fixes k inside).0 (x.releases k inside))
-          (all k inside) (ap (state_after o) stays_so ∙ gone.1.states k inside),
+          (all k inside) (ap (state_after o) stays_so ∙ gone.1.left k inside),
     )
 
 -- the keys that the walk meets, in a table

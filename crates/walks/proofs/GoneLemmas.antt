@@ -30,7 +30,7 @@ use Rattle.walk_core.specs.Goes.Goes.{stays, goes}
 use Rattle.walk_core.specs.Walk.{Walk, Position, named_count, next_position, part_at, scope_at}
 use Rattle.walk_core.specs.Walk.Position.{Over}
 use Rattle.walks.specs.Query.{IsThere}
-use Rattle.walks.specs.Sights.{Sight, answers_in, made, rows_seen, sights_from}
+use Rattle.walks.specs.Sights.{Sight, answers_in, first_position, made, rows_seen, sights_from, whole}
 use Rattle.walks.proofs.OneThreadLemmas.{AreStates}
 use Rattle.walks.proofs.LookLemmas.{Looks}
 use Rattle.walks.proofs.PlainLemmas.{part_inside, plain, table_of, there_next, walk_looks}
@@ -146,6 +146,11 @@ gone_on f h states plan wanted a b c g visit =
       last = fold-append (λ (before : Position) (v : Sight). v.behind) a.at g.front looks.front ∙ ap (λ (at : Position). fold (λ (before : Position) (v : Sight). v.behind) at looks.front) g.last ∙ looks.last;
       there = visit.there;
     }
+
+-- a walk from its beginning to its end
+pub gone_whole : (f : Datum → Option Datum) (h : Home) (states : ℕ → PartState) (plan : Option (List Datum)) (wanted : ℕ → ℕ) (v u : Views) (gained : List Datum) → Gone f h states plan wanted (way v (first_position plan) []) (way u Over gained)
+    → gained ≡ answers_in f (whole (table_of h states) plan)
+gone_whole f h states plan wanted v u gained g = g.gains ∙ ap (answers_in f) (sym (g.splits ∙ append-nil g.front))
 
 -- where each visit is so, and carries on what is known of the views
 pub goes_along : (f : Datum → Option Datum) (h : Home) (w : Walk) (states : ℕ → PartState) (plan : Option (List Datum)) (wanted : ℕ → ℕ) (Known : Way → Type 0) (a b : Way)

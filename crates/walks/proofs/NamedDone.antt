@@ -30,7 +30,7 @@ named_next o ks n k within = first ∙ fun_ext more
         (λ further. let there : at_key (n + 1) (length ks) ≡ AtNamed (n + 1) = rw further refl in ap (λ (at : Position). done_in o (Some ks) at k) there)
         (λ last. let over : at_key (n + 1) (length ks) ≡ Over = rw last refl in
         ap (λ (at : Position). done_in o (Some ks) at k) over
-        ∙ ap (λ (js : List Datum) (j : Datum). (part_of o j == k) && list_any (is_same j) js) (sym (take_all (n + 1) ks (ltb-false (n + 1) (length ks) last))))
+        ∙ ap {B = Datum → Bool} (λ (js : List Datum) (j : Datum). (part_of o j == k) && list_any (is_same j) js) (sym (take_all (n + 1) ks (ltb-false (n + 1) (length ks) last))))
 
     more : (j : Datum) → ((part_of o j == k) && list_any (is_same j) (take (n + 1) ks)) ≡ ((part_of o j == k) && (list_any (is_same j) (take n ks) || is_same (get_or ks n nil) j))
     more j =

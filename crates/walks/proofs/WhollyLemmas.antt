@@ -39,7 +39,7 @@ use Rattle.walks.specs.Whole.{Finishes, Wholly}
 use Rattle.walks.proofs.OneThreadLemmas.{AreStates}
 use Rattle.walks.specs.Alone.{IsSeen}
 use Rattle.walks.proofs.AloneLemmas.{seen_table}
-use Rattle.walks.proofs.GoneLemmas.{Reads, goes_gone}
+use Rattle.walks.proofs.GoneLemmas.{Reads, goes_gone, gone_whole}
 use Rattle.walks.proofs.NamedLemmas.{key_sight}
 use Rattle.walks.proofs.PlainLemmas.{first_there, plain, starts, table_of}
 
@@ -137,7 +137,7 @@ wholly_states f h purpose p states plan wanted gained v u same reads alone some 
     let are_held : AreStates h (table_of h held) x.fixed = λ k inside. held_where h (is_fixed_first h v k) (v k) (x.fixed k) (states k) alone (are k inside) (x.fixes k inside).1 in
     let went : Goes h (plain h purpose p plan) wanted (way x.fixed first []) (way x.visits.0 Over gained) = subst (λ (at : Position). Goes h (plain h purpose p plan) wanted (way x.fixed at []) (way x.visits.0 Over gained)) (starts h purpose p plan some) x.visits.1 in
     let gone = goes_gone f h purpose p held plan wanted (way x.fixed first []) (way x.visits.0 Over gained) same reads alone some are_held (first_there h.options.parts plan some) went in (
-      gone.0.gains ∙ ap (answers_in f) (sym (gone.0.splits ∙ append-nil gone.0.front) ∙ held_whole h v states plan),
+      gone_whole f h held plan wanted x.fixed x.visits.0 gained gone.0 ∙ ap (answers_in f) (held_whole h v states plan),
       λ k inside.
           let drift = x.visits.2 k inside in
           let stays : x.last k ≡ x.visits.0 k = drift.2 ∙ ap (λ (es : History). x.visits.0 k ++ es) (drift.1.alone alone) ∙ append-nil (x.visits.0 k) in

@@ -60,4 +60,5 @@ abbrev pub WholeWalksRemove : Type 0 → Type 0
 WholeWalksRemove A =
     (h : Home) (t : TableState) (q : Query A) (count : ℕ) (v u : Views)
     → IsTrue h.alone → 0 < h.options.parts → IsSeen h t v → FinishesCount h (walk_of h Deletes q) count v u
-    → (count ≡ number_true t (plan_of q h.options) (answer_of q.code)) × IsSeen h (after_removal t (plan_of q h.options) (answer_of q.code)) u
+    → (count ≡ number_true t (plan_of q h.options) (answer_of q.code))
+    × IsSeen h (after_removal t (plan_of q h.options) (answer_of q.code)) u
