@@ -54,7 +54,8 @@ use Rattle.walks.proofs.WhollyLemmas.{fixed_once, held_state, held_where, held_w
 
 -- ---- visits that delete
 
--- the walk can have come there, and the parts are as they were, without the objects that answer true at the keys that are done
+-- the walk can have come there, and the parts are as they were, without the objects that answer true at the keys that
+-- are done
 pub record AreCut (h : Home) (p : Program) (states : ℕ → PartState) (plan : Option (List Datum)) (at : Position) (v : Views) : Type 0 where
   pub way : IsOnWay plan at
   pub left : (k : ℕ) → k < h.options.parts → state_after (settings_of h.options) (v k) ≡ cut_state (settings_of h.options) p (done_in (settings_of h.options) plan at k) (states k)

@@ -32,8 +32,8 @@ found_on f rows = flat_map (λ r. filter_map f r.1) rows
 abbrev pub gives : (Datum → Option Datum) → Row → ℕ
 gives f r = length (filter_map f r.1)
 
--- A visit looks at some of the visits that are left, and the others are those from where the walk is then. It looks at no visit
--- that isn't made where so many answers are wanted.
+-- A visit looks at some of the visits that are left, and the others are those from where the walk is then. It looks at
+-- no visit that isn't made where so many answers are wanted.
 pub record Looks (f : Datum → Option Datum) (t : TableState) (plan : Option (List Datum)) (wanted : ℕ) (at next : Position) (found : List Datum) : Type 0 where
   pub front : List Sight
   pub splits : sights_from t plan at ≡ front ++ sights_from t plan next

@@ -1,4 +1,4 @@
--- The walk of a session through all parts of its table or through named keys, and what a visit looks at from where it is.
+-- The walk of a session through all parts of its table or through named keys, and what a visit of it looks at.
 use Rattle.std.proofs.Common.{◌≡◌, ◌≢◌, ◌<◌, ◌+◌, ℕ, Option, Some, None, List, [], ◌∷◌, refl, subst, sym, arith, length, lt-ltb}
 use Rattle.std.specs.Prelude.{IsTrue, true, nat_lt, filter_map}
 use Rattle.std.proofs.lemmas.Bool.{ltb-true}

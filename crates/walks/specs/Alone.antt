@@ -33,7 +33,8 @@ IsPieceOf p (step.Piece answers c) =
     (0 < length p.given) × (answers.items ≡ p.given) × (kept_of c.kept ≡ p.kept) × (position_of c.at ≡ p.at)
 IsPieceOf p (step.End q) = (p.given ≡ []) × (p.kept ≡ []) × (p.at ≡ Over)
 
--- A step of a walk in pieces gives out the piece of the definitions, and changes no state. The walk can be where it is then.
+-- A step of a walk in pieces gives out the piece of the definitions, and changes no state. The walk can be where it is
+-- then.
 abbrev pub StepsArePieces : Type 0 → Type 0
 StepsArePieces A =
     (h : Home) (t : TableState) (q : Query A) (limit : ℕ) (at : Position) (kept : List Datum) (s : Step A) (v u : Views)
