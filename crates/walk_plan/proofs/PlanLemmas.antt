@@ -1,6 +1,6 @@
 -- The keys that a query keeps, as a walk visits them.
 use Rattle.std.proofs.Common.{◌≡◌, ◌≢◌, ℕ, ◌==◌, Bool, true, false, if◌then◌else◌, Option, Some, None, List, refl, sym, ap, subst, ◌∙◌, option_map, IfSome}
-use Rattle.std.specs.List.{IsDistinct, list_any}
+use Rattle.std.specs.List.{IsDistinct}
 use Rattle.std.proofs.lemmas.Bool.{eqb-true, eqb-false}
 use Rattle.std.proofs.lemmas.Cmp.{eq_by_cmp_equiv}
 use Rattle.std.proofs.lemmas.List.Sorted.{list_any-IsPermutation}
@@ -9,7 +9,6 @@ use Rattle.std.proofs.lemmas.Option.{none-some, same_Some}
 use Rattle.term_core.specs.Datum.{Datum}
 use Rattle.term_core.specs.OrderLaws.{datum_cmp_total}
 use Rattle.term_operand.specs.Order.{is_same}
-use Rattle.mcode.specs.Answer.{answer_of}
 use Rattle.mcode.specs.Machine.{field_of}
 use Rattle.mcode.specs.Program.{Program}
 use Rattle.mspec_syntax.specs.Specification.{Specification}
@@ -26,11 +25,10 @@ rising_differ : (p : Plan) → IsPlanned p → IsDistinct is_same p.rising
 rising_differ p planned = IsDistinct-IsPermutation is_same same_flips p.keys p.rising planned.moved planned.distinct
 
 visited : (code : Program) (p : Plan) (keypos : ℕ) (ordered : Bool) → IsPlanned p → IsSilent code p → p.keypos ≡ keypos → AreVisited code keypos (Some (if ordered then p.rising else p.keys))
-visited code p keypos true planned silent at =
-    (
-      rising_differ p planned,
-      λ o k here unnamed. silent o k (subst (λ (n : ℕ). field_of n o ≡ Some k) (sym at) here) (list_any-IsPermutation (is_same k) p.keys p.rising planned.moved ∙ unnamed),
-    )
+visited code p keypos true planned silent at = (
+  rising_differ p planned,
+  λ o k here unnamed. silent o k (subst (λ (n : ℕ). field_of n o ≡ Some k) (sym at) here) (list_any-IsPermutation (is_same k) p.keys p.rising planned.moved ∙ unnamed),
+)
 visited code p keypos false planned silent at =
     (planned.distinct, λ o k here unnamed. silent o k (subst (λ (n : ℕ). field_of n o ≡ Some k) (sym at) here) unnamed)
 

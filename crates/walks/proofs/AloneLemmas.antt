@@ -1,5 +1,5 @@
 -- Walks in pieces of a session that is alone.
-use Rattle.std.proofs.Common.{◌≡◌, ◌<◌, ◌≤◌, ◌-◌, ℕ, zero, suc, None, List, [], ◌∷◌, ◌++◌, refl, sym, subst, ◌∙◌, ap, arith, length, fold, take, drop, Option}
+use Rattle.std.proofs.Common.{◌≡◌, ◌<◌, ◌≤◌, ◌-◌, ℕ, zero, suc, List, [], ◌∷◌, ◌++◌, refl, sym, subst, ◌∙◌, ap, arith, length, fold, take, drop, Option}
 use Rattle.std.specs.Prelude.{IsTrue, nat_lt}
 use Rattle.std.proofs.lemmas.Bool.{ltb-true, ltb-false}
 use Rattle.std.proofs.lemmas.List.{append-nil, length-append}
@@ -13,17 +13,17 @@ use Rattle.tables.specs.OneThread.{TableState}
 use Rattle.tables.specs.Turns.{Home, Views}
 use Rattle.walk_core.specs.Goes.{way, up_to}
 use Rattle.walk_core.specs.Walk.{Position, start_of}
-use Rattle.walk_core.specs.Walk.Position.{InPart, Over}
+use Rattle.walk_core.specs.Walk.Position.{Over}
 use Rattle.walk_plan.specs.declared.query.Query.{Query}
 use Rattle.walks.specs.declared.continuation.Step.{Step}
 use Rattle.walks.specs.declared.continuation.Step.TheVariants as step
 use Rattle.walks.specs.Pieces.{IsPiece, Steps}
 use Rattle.walks.specs.declared.position.Position as walk_position
-use Rattle.walks.specs.declared.position.Position.TheVariants as position
-use Rattle.walks.specs.Query.{IsWithin, kept_of, position_of, walk_of}
+use Rattle.walks.specs.Query.{IsWithin, kept_of, plan_of, position_of, walk_of}
 use Rattle.walks.specs.Sights.{Piece, Sight, answers_in, made, piece_of, sights_from, first_position, whole}
-use Rattle.walks.specs.Alone.{IsSeen, IsPieceOf, IsUnnamed}
-use Rattle.walks.proofs.GoneLemmas.{Gone, goes_gone, starts, table_of}
+use Rattle.walks.specs.Alone.{IsAlong, IsPieceOf, IsSeen}
+use Rattle.walks.proofs.GoneLemmas.{Gone, goes_gone}
+use Rattle.walks.proofs.PlainLemmas.{first_there, starts, table_of}
 
 -- a table by the session's options
 pub seen_table : (h : Home) (t : TableState) (v : Views) → IsSeen h t v → t ≡ table_of h t.states
@@ -41,23 +41,23 @@ none_made f [] = refl
 none_made f (v ∷ vs) = refl
 
 -- no visit is made behind a piece
-none_left : (f : Datum → Option Datum) (t : TableState) (limit : ℕ) (given kept : List Datum) (at : Position) → IsPiece limit given at kept → made f (limit - length (given ++ kept)) (sights_from t None at) ≡ []
-none_left f t limit given kept at piece =
+none_left : (f : Datum → Option Datum) (t : TableState) (plan : Option (List Datum)) (limit : ℕ) (given kept : List Datum) (at : Position) → IsPiece limit given at kept → made f (limit - length (given ++ kept)) (sights_from t plan at) ≡ []
+none_left f t plan limit given kept at piece =
     by_test (nat_lt (length given) limit) _
-    (λ less. let over = (piece.fewer (ltb-true (length given) limit less)).0 in ap (λ (p : Position). made f (limit - length (given ++ kept)) (sights_from t None p)) over)
+    (λ less. let over = (piece.fewer (ltb-true (length given) limit less)).0 in ap (λ (p : Position). made f (limit - length (given ++ kept)) (sights_from t plan p)) over)
     (λ full. let none : limit - length (given ++ kept) ≡ 0 = omega (arith, ltb-false (length given) limit full, length-append given kept) in
-    ap (λ (n : ℕ). made f n (sights_from t None at)) none ∙ none_made f (sights_from t None at))
+    ap (λ (n : ℕ). made f n (sights_from t plan at)) none ∙ none_made f (sights_from t plan at))
 
 abbrev piece_by : (f : Datum → Option Datum) → ℕ → List Datum → Position → List Sight → Piece
 piece_by f limit kept at visits =
     record { given = take limit (kept ++ answers_in f visits); kept = drop limit (kept ++ answers_in f visits); at = fold (λ before v. v.behind) at visits }
 
 -- what visits came to, as a piece
-piece_gone : (f : Datum → Option Datum) (h : Home) (states : ℕ → PartState) (limit : ℕ) (v u : Views) (at later : Position) (kept given rest : List Datum)
-    → Gone f h states (up_to limit) (way v at kept) (way u later (given ++ rest)) → IsPiece limit given later rest
-    → piece_of f limit kept at (sights_from (table_of h states) None at) ≡ record { given = given; kept = rest; at = later }
-piece_gone f h states limit v u at later kept given rest g piece =
-    let visits : made f (limit - length kept) (sights_from (table_of h states) None at) ≡ g.front = g.picks limit (λ n. refl) ∙ ap (λ (vs : List Sight). g.front ++ vs) (none_left f (table_of h states) limit given rest later piece) ∙ append-nil g.front in
+piece_gone : (f : Datum → Option Datum) (h : Home) (states : ℕ → PartState) (plan : Option (List Datum)) (limit : ℕ) (v u : Views) (at later : Position) (kept given rest : List Datum)
+    → Gone f h states plan (up_to limit) (way v at kept) (way u later (given ++ rest)) → IsPiece limit given later rest
+    → piece_of f limit kept at (sights_from (table_of h states) plan at) ≡ record { given = given; kept = rest; at = later }
+piece_gone f h states plan limit v u at later kept given rest g piece =
+    let visits : made f (limit - length kept) (sights_from (table_of h states) plan at) ≡ g.front = g.picks limit (λ n. refl) ∙ ap (λ (vs : List Sight). g.front ++ vs) (none_left f (table_of h states) plan limit given rest later piece) ∙ append-nil g.front in
     let cut = taken limit given rest piece.most (λ less. (piece.fewer less).1) in
     ap (piece_by f limit kept at) visits
     ∙ ap (λ (xs : List Datum). record { given = take limit xs; kept = drop limit xs; at = fold (λ (before : Position) (w : Sight). w.behind) at g.front }) (sym g.gains)
@@ -67,45 +67,47 @@ piece_gone f h states limit v u at later kept given rest g piece =
 
 -- one step
 step_of_states : {A : Type 0} (h : Home) (states : ℕ → PartState) (q : Query A) (limit : ℕ) (at : Position) (kept : List Datum) (s : Step A) (v u : Views)
-    → IsTrue h.alone → IsSeen h (table_of h states) v → IsUnnamed h.options.parts at → Steps h q limit at kept s v u
-    → IsPieceOf (piece_of (answer_of q.code) limit kept at (sights_from (table_of h states) None at)) s
-    × IsUnnamed h.options.parts (piece_of (answer_of q.code) limit kept at (sights_from (table_of h states) None at)).at × IsSeen h (table_of h states) u
-step_of_states h states q limit at kept (step.Piece answers c) v u alone seen there steps =
+    → IsTrue h.alone → 0 < h.options.parts → IsSeen h (table_of h states) v → IsAlong h q at → Steps h q limit at kept s v u
+    → IsPieceOf (piece_of (answer_of q.code) limit kept at (sights_from (table_of h states) (plan_of q h.options) at)) s
+    × IsAlong h q (piece_of (answer_of q.code) limit kept at (sights_from (table_of h states) (plan_of q h.options) at)).at × IsSeen h (table_of h states) u
+step_of_states h states q limit at kept (step.Piece answers c) v u alone some seen there steps =
     let f = answer_of q.code in
-    let gone = goes_gone f h Answers q.code states (up_to limit) _ _ refl (λ s scope wanted. refl) alone seen.states there steps.0 in
-    let is = sym (piece_gone f h states limit v u at (position_of c.at) kept answers.items (kept_of c.kept) gone.0 steps.2) in (
+    let plan : Option (List Datum) = plan_of q h.options in
+    let gone = goes_gone f h Answers q.code states plan (up_to limit) _ _ refl (λ s scope wanted. refl) alone some seen.states there steps.0 in
+    let is = sym (piece_gone f h states plan limit v u at (position_of c.at) kept answers.items (kept_of c.kept) gone.0 steps.2) in (
       subst (λ (p : Piece). IsPieceOf p (step.Piece answers c)) is (steps.1, refl, refl, refl),
-      subst (λ (p : Piece). IsUnnamed h.options.parts p.at) is gone.0.there,
+      subst (λ (p : Piece). IsAlong h q p.at) is gone.0.there,
       record { options = refl; states = gone.1 },
     )
-step_of_states h states q limit at kept (step.End p) v u alone seen there steps =
+step_of_states h states q limit at kept (step.End p) v u alone some seen there steps =
     let f = answer_of q.code in
-    let gone = goes_gone f h Answers q.code states (up_to limit) _ _ refl (λ s scope wanted. refl) alone seen.states there steps.0 in
-    let is = sym (piece_gone f h states limit v u at Over kept [] [] gone.0 (record { most = omega arith; fewer = λ less. (refl, refl) })) in (
+    let plan : Option (List Datum) = plan_of q h.options in
+    let gone = goes_gone f h Answers q.code states plan (up_to limit) _ _ refl (λ s scope wanted. refl) alone some seen.states there steps.0 in
+    let is = sym (piece_gone f h states plan limit v u at Over kept [] [] gone.0 (record { most = omega arith; fewer = λ less. (refl, refl) })) in (
       subst (λ (x : Piece). IsPieceOf x (step.End p)) is (refl, refl, refl),
-      subst (λ (x : Piece). IsUnnamed h.options.parts x.at) is tt,
+      subst (λ (x : Piece). IsAlong h q x.at) is tt,
       record { options = refl; states = gone.1 },
     )
 
 pub steps_alone : {A : Type 0} (h : Home) (t : TableState) (q : Query A) (limit : ℕ) (at : Position) (kept : List Datum) (s : Step A) (v u : Views)
-    → IsTrue h.alone → IsSeen h t v → IsUnnamed h.options.parts at → Steps h q limit at kept s v u
-    → IsPieceOf (piece_of (answer_of q.code) limit kept at (sights_from t None at)) s
-    × IsUnnamed h.options.parts (piece_of (answer_of q.code) limit kept at (sights_from t None at)).at × IsSeen h t u
-steps_alone h t q limit at kept s v u alone seen there steps =
+    → IsTrue h.alone → 0 < h.options.parts → IsSeen h t v → IsAlong h q at → Steps h q limit at kept s v u
+    → IsPieceOf (piece_of (answer_of q.code) limit kept at (sights_from t (plan_of q h.options) at)) s
+    × IsAlong h q (piece_of (answer_of q.code) limit kept at (sights_from t (plan_of q h.options) at)).at × IsSeen h t u
+steps_alone h t q limit at kept s v u alone some seen there steps =
     let is = seen_table h t v seen in
-    subst (λ (x : TableState). IsPieceOf (piece_of (answer_of q.code) limit kept at (sights_from x None at)) s × IsUnnamed h.options.parts (piece_of (answer_of q.code) limit kept at (sights_from x None at)).at × IsSeen h x u) (sym is)
-    (step_of_states h t.states q limit at kept s v u alone (subst (λ (x : TableState). IsSeen h x v) is seen) there steps)
+    subst (λ (x : TableState). IsPieceOf (piece_of (answer_of q.code) limit kept at (sights_from x (plan_of q h.options) at)) s × IsAlong h q (piece_of (answer_of q.code) limit kept at (sights_from x (plan_of q h.options) at)).at × IsSeen h x u) (sym is)
+    (step_of_states h t.states q limit at kept s v u alone some (subst (λ (x : TableState). IsSeen h x v) is seen) there steps)
 
 -- where the walk of a continuation can be
-pub within_unnamed : {A : Type 0} (parts : ℕ) (at : walk_position.Position A) → IsWithin parts at → IsUnnamed parts (position_of at)
-within_unnamed parts (position.InPart part cursor) within = within
-within_unnamed parts position.Over within = tt
+pub within_along : {A B : Type 0} (h : Home) (q : Query A) (at : walk_position.Position B) → IsWithin h.options q at → IsAlong h q (position_of at)
+within_along h q at within = within
 
 -- the first step of a walk
 pub begun_alone : {A : Type 0} (h : Home) (t : TableState) (q : Query A) (limit : ℕ) (s : Step A) (v u : Views)
     → IsTrue h.alone → 0 < h.options.parts → IsSeen h t v → Steps h q limit (start_of (walk_of h Answers q)) [] s v u
-    → IsPieceOf (piece_of (answer_of q.code) limit [] (first_position None) (whole t None)) s
-    × IsUnnamed h.options.parts (piece_of (answer_of q.code) limit [] (first_position None) (whole t None)).at × IsSeen h t u
+    → IsPieceOf (piece_of (answer_of q.code) limit [] (first_position (plan_of q h.options)) (whole t (plan_of q h.options))) s
+    × IsAlong h q (piece_of (answer_of q.code) limit [] (first_position (plan_of q h.options)) (whole t (plan_of q h.options))).at × IsSeen h t u
 begun_alone h t q limit s v u alone some seen steps =
-    steps_alone h t q limit (InPart 0 None) [] s v u alone seen some
-    (subst (λ (at : Position). Steps h q limit at [] s v u) (starts h Answers q.code some) steps)
+    let plan : Option (List Datum) = plan_of q h.options in
+    steps_alone h t q limit (first_position plan) [] s v u alone some seen (first_there h.options.parts plan some)
+    (subst (λ (at : Position). Steps h q limit at [] s v u) (starts h Answers q.code plan some) steps)

@@ -14,7 +14,7 @@ use Rattle.part_core.specs.Acts.{Cursor}
 use Rattle.part_core.specs.Acts.Cursor.{Behind}
 use Rattle.part_core.specs.Rows.{Row}
 use Rattle.part_core.specs.Covers.{is_up_to}
-use Rattle.part_core.specs.Visits.{in_class, is_behind, most_rows, next_class, next_key, rows_behind, rows_up_to}
+use Rattle.part_core.specs.Visits.{is_behind, most_rows, next_key, rows_behind, rows_up_to}
 use Rattle.part_core.proofs.KeyLemmas.{by_test, not_behind_itself, below_not_behind}
 use Rattle.part_core.proofs.VisitLemmas.{filter_all, up_to_next}
 use Rattle.tables.specs.Options.{settings_of}
@@ -32,39 +32,35 @@ found_on f rows = flat_map (λ r. filter_map f r.1) rows
 abbrev pub gives : (Datum → Option Datum) → Row → ℕ
 gives f r = length (filter_map f r.1)
 
--- A visit looks at some of the visits that are left, and the others are those from where the walk is then. It looks at no visit
--- that isn't made where so many answers are wanted.
-pub record Looks (f : Datum → Option Datum) (t : TableState) (wanted : ℕ) (at next : Position) (found : List Datum) : Type 0 where
+-- A visit looks at some of the visits that are left, and the others are those from where the walk is then. It looks at
+-- no visit that isn't made where so many answers are wanted.
+pub record Looks (f : Datum → Option Datum) (t : TableState) (plan : Option (List Datum)) (wanted : ℕ) (at next : Position) (found : List Datum) : Type 0 where
   pub front : List Sight
-  pub splits : sights_from t None at ≡ front ++ sights_from t None next
+  pub splits : sights_from t plan at ≡ front ++ sights_from t plan next
   pub gains : answers_in f front ≡ found
-  pub picks : made f wanted (sights_from t None at) ≡ front ++ made f (wanted - length found) (sights_from t None next)
+  pub picks : made f wanted (sights_from t plan at) ≡ front ++ made f (wanted - length found) (sights_from t plan next)
   pub last : fold (λ before v. v.behind) at front ≡ next
 
--- ---- a class
-
-abbrev class_sight : TableState → ℕ → ℕ → ℕ → Sight
-class_sight t part base class =
-    record { rows = in_class (settings_of t.options) base class (t.states part).rows; behind = goes_on t part (next_class base class) }
+-- ---- one visit
 
 none_zero : (n : ℕ) → 0 < n → (n == 0) ≡ false
 none_zero n h = ne_eqb n 0 (λ e. omega (arith, h, e))
 
-pub class_looks : (f : Datum → Option Datum) (t : TableState) (wanted part base class : ℕ) (at : Position) → 0 < wanted
-    → sights_from t None at ≡ class_sight t part base class ∷ sights_from t None (goes_on t part (next_class base class))
-    → Looks f t wanted at (goes_on t part (next_class base class)) (found_on f (in_class (settings_of t.options) base class (t.states part).rows))
-class_looks f t wanted part base class at some is =
-    let v = class_sight t part base class in
+-- one visit of the visits that are left
+pub one_looks : (f : Datum → Option Datum) (t : TableState) (plan : Option (List Datum)) (wanted : ℕ) (at : Position) (v : Sight) → 0 < wanted
+    → sights_from t plan at ≡ v ∷ sights_from t plan v.behind
+    → Looks f t plan wanted at v.behind (found_on f v.rows)
+one_looks f t plan wanted at v some is =
     let all : answers_in f (v ∷ []) ≡ found_on f v.rows = ap (found_on f) (append-nil v.rows) in
     record {
       front = v ∷ [];
       splits = is;
       gains = all;
-      picks = ap (made f wanted) is ∙ first (wanted == 0) (none_zero wanted some) ∙ ap (λ (xs : List Datum). v ∷ made f (wanted - length xs) (sights_from t None (goes_on t part (next_class base class)))) all;
+      picks = ap (made f wanted) is ∙ first (wanted == 0) (none_zero wanted some) ∙ ap (λ (xs : List Datum). v ∷ made f (wanted - length xs) (sights_from t plan v.behind)) all;
       last = refl;
     }
   where
-    first : (b : Bool) → b ≡ false → (if b then [] else class_sight t part base class ∷ made f (wanted - length (answers_in f (class_sight t part base class ∷ []))) (sights_from t None (goes_on t part (next_class base class)))) ≡ class_sight t part base class ∷ made f (wanted - length (answers_in f (class_sight t part base class ∷ []))) (sights_from t None (goes_on t part (next_class base class)))
+    first : (b : Bool) → b ≡ false → (if b then [] else v ∷ made f (wanted - length (answers_in f (v ∷ []))) (sights_from t plan v.behind)) ≡ v ∷ made f (wanted - length (answers_in f (v ∷ []))) (sights_from t plan v.behind)
     first false h = refl
     first true h = cc
 
@@ -131,12 +127,12 @@ abbrev pub later_parts : TableState → ℕ → List Sight
 later_parts t part = flat_map (λ k. part_sights t k None) (range_with_len (part + 1) (t.options.parts - (part + 1)))
 
 -- a visit that goes on behind its last row
-stopped_looks : (f : Datum → Option Datum) (t : TableState) (part wanted : ℕ) (at : Position) (rows : List Row) (r : Row) (rs left : List Row) → 0 < wanted
-    → sights_from t None at ≡ row_sights t part rows ++ later_parts t part
+stopped_looks : (f : Datum → Option Datum) (t : TableState) (plan : Option (List Datum)) (part wanted : ℕ) (at : Position) (rows : List Row) (r : Row) (rs left : List Row) → 0 < wanted
+    → sights_from t plan at ≡ row_sights t part rows ++ later_parts t part
     → r ∷ rs ≡ rows_up_to (gives f) wanted most_rows rows → rows ≡ (r ∷ rs) ++ left
     → rows_behind (last_of r rs).0 (t.states part).rows ≡ left
-    → Looks f t wanted at (InPart part (Some (Behind (last_of r rs).0))) (found_on f (r ∷ rs))
-stopped_looks f t part wanted at rows r rs left some from is splits behind = record {
+    → Looks f t plan wanted at (InPart part (Some (Behind (last_of r rs).0))) (found_on f (r ∷ rs))
+stopped_looks f t plan part wanted at rows r rs left some from is splits behind = record {
   front = map (row_sight part) (r ∷ rs);
   splits = from ∙ ap (λ (xs : List Row). row_sights t part xs ++ later_parts t part) splits ∙ joined t part (r ∷ rs) left (later_parts t part)
       ∙ ap (λ (xs : List Row). map (row_sight part) (r ∷ rs) ++ (row_sights t part xs ++ later_parts t part)) (sym behind);
@@ -162,12 +158,12 @@ end_on t part [] ws = refl
 end_on t part (v ∷ vs) ws = ap (λ (xs : List Sight). v ∷ xs) (end_on t part vs ws)
 
 -- one that finds no row left
-ended_looks : (f : Datum → Option Datum) (t : TableState) (part wanted : ℕ) (at : Position) (rows : List Row) → 0 < wanted
-    → sights_from t None at ≡ row_sights t part rows ++ later_parts t part
+ended_looks : (f : Datum → Option Datum) (t : TableState) (plan : Option (List Datum)) (part wanted : ℕ) (at : Position) (rows : List Row) → 0 < wanted
+    → sights_from t plan at ≡ row_sights t part rows ++ later_parts t part
     → rows ≡ rows_up_to (gives f) wanted most_rows rows → sum_by (gives f) rows < wanted
-    → Looks f t wanted at (behind_part t part) (found_on f rows)
-ended_looks f t part wanted at rows some from is few =
-    let rest = sights_from t None (behind_part t part) in
+    → Looks f t plan wanted at (behind_part t part) (found_on f rows)
+ended_looks f t plan part wanted at rows some from is few =
+    let rest = sights_from t plan (behind_part t part) in
     let number : length (found_on f rows) ≡ sum_by (gives f) rows = length-flat_map (λ (r : Row). filter_map f r.1) rows in
     let left : ℕ = wanted - length (found_on f rows) in
     let more : 0 < left = omega (arith, few, number) in
@@ -175,17 +171,17 @@ ended_looks f t part wanted at rows some from is few =
     record {
       front = map (row_sight part) rows ++ end_sight t part ∷ [];
       splits = from ∙ ap (λ (xs : List Row). row_sights t part xs ++ later_parts t part) (sym (append-nil rows)) ∙ joined t part rows [] (later_parts t part)
-          ∙ ap (λ (xs : List Sight). map (row_sight part) rows ++ xs) (rows_end t None part)
+          ∙ ap (λ (xs : List Sight). map (row_sight part) rows ++ xs) (rows_end t plan part)
           ∙ end_on t part (map (row_sight part) rows) rest;
       gains = ap (found_on f) (seen_end t part (map (row_sight part) rows) ∙ rows_in part rows);
       picks = ap (made f wanted) from ∙ visit_picks f t part wanted rows rows [] (later_parts t part) some is (sym (append-nil rows))
-          ∙ ap (λ (xs : List Sight). map (row_sight part) rows ++ made f left xs) (rows_end t None part)
+          ∙ ap (λ (xs : List Sight). map (row_sight part) rows ++ made f left xs) (rows_end t plan part)
           ∙ ap (λ (xs : List Sight). map (row_sight part) rows ++ xs) (first (left == 0) (none_zero left more) (left - 0) ∙ ap (λ (n : ℕ). end_sight t part ∷ made f n rest) same)
           ∙ end_on t part (map (row_sight part) rows) (made f left rest);
       last = fold_end t part at (map (row_sight part) rows);
     }
   where
-    first : (b : Bool) → b ≡ false → (n : ℕ) → (if b then [] else end_sight t part ∷ made f n (sights_from t None (behind_part t part))) ≡ end_sight t part ∷ made f n (sights_from t None (behind_part t part))
+    first : (b : Bool) → b ≡ false → (n : ℕ) → (if b then [] else end_sight t part ∷ made f n (sights_from t plan (behind_part t part))) ≡ end_sight t part ∷ made f n (sights_from t plan (behind_part t part))
     first false h n = refl
     first true h n = cc
 
@@ -198,19 +194,19 @@ second_of false h x y = refl
 second_of true h x y = cc
 
 -- a visit of rows in order
-pub rows_looks : (f : Datum → Option Datum) (t : TableState) (part wanted : ℕ) (at : Position) (rows : List Row) → 0 < wanted
-    → sights_from t None at ≡ row_sights t part rows ++ later_parts t part
+pub rows_looks : (f : Datum → Option Datum) (t : TableState) (plan : Option (List Datum)) (part wanted : ℕ) (at : Position) (rows : List Row) → 0 < wanted
+    → sights_from t plan at ≡ row_sights t part rows ++ later_parts t part
     → IsStrictlySortedBy datum_cmp (keys_of rows)
     → ((k : Datum) → next_key (gives f) wanted (rows_up_to (gives f) wanted most_rows rows) ≡ Some (Behind k) → rows_behind k (t.states part).rows ≡ rows_behind k rows)
-    → Looks f t wanted at (goes_on t part (next_key (gives f) wanted (rows_up_to (gives f) wanted most_rows rows))) (found_on f (rows_up_to (gives f) wanted most_rows rows))
-rows_looks f t part wanted at rows some from sorted leads =
+    → Looks f t plan wanted at (goes_on t part (next_key (gives f) wanted (rows_up_to (gives f) wanted most_rows rows))) (found_on f (rows_up_to (gives f) wanted most_rows rows))
+rows_looks f t plan part wanted at rows some from sorted leads =
     by_test (nat_le wanted (sum_by (gives f) vs) || length vs == most_rows) _
     (λ stops. stopped vs refl stops)
     (λ goes. let parts = or_parts (nat_le wanted (sum_by (gives f) vs)) _ goes in
     let all : vs ≡ rows = up_to_next (settings_of t.options) (gives f) wanted most_rows rows (omega arith) sorted ∙ ap (λ (next : Option Cursor). filter (λ r. is_up_to (settings_of t.options) next r.0) rows) (second_of _ goes _ _) ∙ filter_all rows in
-    subst (λ (next : Option Cursor). Looks f t wanted at (goes_on t part next) (found_on f vs)) (sym (second_of _ goes _ _))
-    (subst (λ (xs : List Row). Looks f t wanted at (behind_part t part) (found_on f xs)) (sym all)
-    (ended_looks f t part wanted at rows some from (sym all) (subst (λ (xs : List Row). sum_by (gives f) xs < wanted) all (leb-false wanted _ parts.0)))))
+    subst (λ (next : Option Cursor). Looks f t plan wanted at (goes_on t part next) (found_on f vs)) (sym (second_of _ goes _ _))
+    (subst (λ (xs : List Row). Looks f t plan wanted at (behind_part t part) (found_on f xs)) (sym all)
+    (ended_looks f t plan part wanted at rows some from (sym all) (subst (λ (xs : List Row). sum_by (gives f) xs < wanted) all (leb-false wanted _ parts.0)))))
   where
     vs : List Row
     vs = rows_up_to (gives f) wanted most_rows rows
@@ -223,12 +219,12 @@ rows_looks f t part wanted at rows some from sorted leads =
     none_wanted false h = h
 
     stopped : (xs : List Row) → xs ≡ rows_up_to (gives f) wanted most_rows rows → (nat_le wanted (sum_by (gives f) xs) || length xs == most_rows) ≡ true
-        → Looks f t wanted at (goes_on t part (next_key (gives f) wanted xs)) (found_on f xs)
+        → Looks f t plan wanted at (goes_on t part (next_key (gives f) wanted xs)) (found_on f xs)
     stopped [] is stops = absurd (omega (arith, some, leb-true wanted 0 (none_wanted (nat_le wanted 0) stops)))
     stopped (r ∷ rs) is stops =
         let next : next_key (gives f) wanted (r ∷ rs) ≡ Some (Behind (last_of r rs).0) = first_of _ stops _ _ ∙ ap (option_map (λ (v : Row). Behind v.0)) (last_is r rs) in
         let splits : rows ≡ (r ∷ rs) ++ over.0 = over.1 ∙ ap (λ (xs : List Row). xs ++ over.0) (sym is) in
         let behind : rows_behind (last_of r rs).0 (t.states part).rows ≡ over.0 = leads (last_of r rs).0 (ap (next_key (gives f) wanted) (sym is) ∙ next) ∙ ap (rows_behind (last_of r rs).0) splits
         ∙ rest_behind r rs over.0 (subst (λ (xs : List Row). IsStrictlySortedBy datum_cmp (keys_of xs)) splits sorted) in
-        subst (λ (c : Option Cursor). Looks f t wanted at (goes_on t part c) (found_on f (r ∷ rs))) (sym next)
-        (stopped_looks f t part wanted at rows r rs over.0 some from is splits behind)
+        subst (λ (c : Option Cursor). Looks f t plan wanted at (goes_on t part c) (found_on f (r ∷ rs))) (sym next)
+        (stopped_looks f t plan part wanted at rows r rs over.0 some from is splits behind)

@@ -37,7 +37,7 @@ part_step t plan part =
     (λ fails. rw fails (ap (flat_map (λ k. part_sights t k None)) (range_none (part + 1) t.options.parts (ltb-false (part + 1) t.options.parts fails))))
 
 -- a visit of a class
-abbrev class_sight : TableState → ℕ → ℕ → ℕ → Sight
+abbrev pub class_sight : TableState → ℕ → ℕ → ℕ → Sight
 class_sight t part base class =
     record { rows = in_class (settings_of t.options) base class (t.states part).rows; behind = goes_on t part (next_class base class) }
 

@@ -26,8 +26,8 @@ use Rattle.tables.specs.OneThread.{TableState}
 use Rattle.walk_core.specs.Walk.{scope_from}
 use Rattle.walk_core.specs.Walk.Position.{InPart}
 use Rattle.walks.specs.Sights.{goes_on, row_sights, sights_from}
-use Rattle.walks.proofs.LookLemmas.{Looks, class_looks, gives, later_parts, rows_looks}
-use Rattle.walks.proofs.SightLemmas.{class_step, first_class_step}
+use Rattle.walks.proofs.LookLemmas.{Looks, gives, later_parts, one_looks, rows_looks}
+use Rattle.walks.proofs.SightLemmas.{class_sight, class_step, first_class_step}
 
 -- ---- rows behind a key, and behind a further one
 
@@ -56,17 +56,17 @@ further_rows j k rows first =
 -- ---- a visit
 
 -- a visit that wants some answers, of a part where a walk is
-pub visit_looks : (f : Datum → Option Datum) (purpose : Purpose) (p : Program) (t : TableState) (part wanted : ℕ) (cursor : Option Cursor) → yields purpose p ≡ filter_map f → 0 < wanted
+pub visit_looks : (f : Datum → Option Datum) (purpose : Purpose) (p : Program) (t : TableState) (plan : Option (List Datum)) (part wanted : ℕ) (cursor : Option Cursor) → yields purpose p ≡ filter_map f → 0 < wanted
     → IsState (settings_of t.options) (t.states part)
     → IsTrue (is_inside (settings_of t.options) (t.states part) (scope_from cursor))
     → LeadsTo (settings_of t.options) (t.states part).base (scope_from cursor) (next_of (settings_of t.options) (t.states part) purpose p (scope_from cursor) wanted)
-    → Looks f t wanted (InPart part cursor) (goes_on t part (next_of (settings_of t.options) (t.states part) purpose p (scope_from cursor) wanted)) (yield_of (settings_of t.options) (t.states part) purpose p (scope_from cursor) wanted)
-visit_looks f purpose p t part wanted (Some (Class base class)) same some state inside leads =
-    subst (λ (g : List Datum → List Datum). Looks f t wanted (InPart part (Some (Class base class))) (goes_on t part (next_class base class)) (flat_map (λ (r : Row). g r.1) (in_class (settings_of t.options) base class (t.states part).rows))) (sym same)
-    (class_looks f t wanted part base class (InPart part (Some (Class base class))) some (class_step t None part base class leads.0))
-visit_looks f purpose p t part wanted (Some (Behind j)) same some state inside leads =
-    subst (λ (g : List Datum → List Datum). Looks f t wanted (InPart part (Some (Behind j))) (goes_on t part (next_key (λ (r : Row). length (g r.1)) wanted (rows_up_to (λ (r : Row). length (g r.1)) wanted most_rows (rows_behind j (t.states part).rows)))) (flat_map (λ (r : Row). g r.1) (rows_up_to (λ (r : Row). length (g r.1)) wanted most_rows (rows_behind j (t.states part).rows)))) (sym same)
-    (rows_looks f t part wanted (InPart part (Some (Behind j))) (rows_behind j (t.states part).rows) some refl
+    → Looks f t plan wanted (InPart part cursor) (goes_on t part (next_of (settings_of t.options) (t.states part) purpose p (scope_from cursor) wanted)) (yield_of (settings_of t.options) (t.states part) purpose p (scope_from cursor) wanted)
+visit_looks f purpose p t plan part wanted (Some (Class base class)) same some state inside leads =
+    subst (λ (g : List Datum → List Datum). Looks f t plan wanted (InPart part (Some (Class base class))) (goes_on t part (next_class base class)) (flat_map (λ (r : Row). g r.1) (in_class (settings_of t.options) base class (t.states part).rows))) (sym same)
+    (one_looks f t plan wanted (InPart part (Some (Class base class))) (class_sight t part base class) some (class_step t plan part base class leads.0))
+visit_looks f purpose p t plan part wanted (Some (Behind j)) same some state inside leads =
+    subst (λ (g : List Datum → List Datum). Looks f t plan wanted (InPart part (Some (Behind j))) (goes_on t part (next_key (λ (r : Row). length (g r.1)) wanted (rows_up_to (λ (r : Row). length (g r.1)) wanted most_rows (rows_behind j (t.states part).rows)))) (flat_map (λ (r : Row). g r.1) (rows_up_to (λ (r : Row). length (g r.1)) wanted most_rows (rows_behind j (t.states part).rows)))) (sym same)
+    (rows_looks f t plan part wanted (InPart part (Some (Behind j))) (rows_behind j (t.states part).rows) some refl
     ((filtered_rows (settings_of t.options) (λ (r : Row). is_behind j r.0) (t.states part).rows state.rows).rising inside)
     (λ k stops. of k stops (subst (λ (g : List Datum → List Datum). LeadsTo (settings_of t.options) (t.states part).base (After (Behind j)) (next_key (λ (r : Row). length (g r.1)) wanted (rows_up_to (λ (r : Row). length (g r.1)) wanted most_rows (rows_behind j (t.states part).rows)))) same leads)))
   where
@@ -83,19 +83,19 @@ visit_looks f purpose p t part wanted (Some (Behind j)) same some state inside l
       where
         same_key : Some (Behind l) ≡ Some (Behind k) → l ≡ k
         same_key e = cc
-visit_looks f purpose p t part wanted None same some state inside leads = of (is_ordered t.options.kind) refl
+visit_looks f purpose p t plan part wanted None same some state inside leads = of (is_ordered t.options.kind) refl
   where
     of : (b : Bool) → is_ordered t.options.kind ≡ b
-        → Looks f t wanted (InPart part None)
+        → Looks f t plan wanted (InPart part None)
         (goes_on t part (if b then next_key (λ (r : Row). length (yields purpose p r.1)) wanted (if b then rows_up_to (λ (r : Row). length (yields purpose p r.1)) wanted most_rows (t.states part).rows else in_class (settings_of t.options) (t.states part).base 0 (t.states part).rows) else next_class (t.states part).base 0))
         (flat_map (λ (r : Row). yields purpose p r.1) (if b then rows_up_to (λ (r : Row). length (yields purpose p r.1)) wanted most_rows (t.states part).rows else in_class (settings_of t.options) (t.states part).base 0 (t.states part).rows))
     of true ordered =
-        subst (λ (g : List Datum → List Datum). Looks f t wanted (InPart part None) (goes_on t part (next_key (λ (r : Row). length (g r.1)) wanted (rows_up_to (λ (r : Row). length (g r.1)) wanted most_rows (t.states part).rows))) (flat_map (λ (r : Row). g r.1) (rows_up_to (λ (r : Row). length (g r.1)) wanted most_rows (t.states part).rows))) (sym same)
-        (rows_looks f t part wanted (InPart part None) (t.states part).rows some (first ordered) (state.rows.rising ordered) (λ k stops. refl))
+        subst (λ (g : List Datum → List Datum). Looks f t plan wanted (InPart part None) (goes_on t part (next_key (λ (r : Row). length (g r.1)) wanted (rows_up_to (λ (r : Row). length (g r.1)) wanted most_rows (t.states part).rows))) (flat_map (λ (r : Row). g r.1) (rows_up_to (λ (r : Row). length (g r.1)) wanted most_rows (t.states part).rows))) (sym same)
+        (rows_looks f t plan part wanted (InPart part None) (t.states part).rows some (first ordered) (state.rows.rising ordered) (λ k stops. refl))
       where
-        first : is_ordered t.options.kind ≡ true → sights_from t None (InPart part None) ≡ row_sights t part (t.states part).rows ++ later_parts t part
+        first : is_ordered t.options.kind ≡ true → sights_from t plan (InPart part None) ≡ row_sights t part (t.states part).rows ++ later_parts t part
         first holds = rw holds refl
     of false unordered =
-        subst (λ (g : List Datum → List Datum). Looks f t wanted (InPart part None) (goes_on t part (next_class (t.states part).base 0)) (flat_map (λ (r : Row). g r.1) (in_class (settings_of t.options) (t.states part).base 0 (t.states part).rows))) (sym same)
-        (class_looks f t wanted part (t.states part).base 0 (InPart part None) some
-        (first_class_step t None part unordered ∙ class_step t None part (t.states part).base 0 (omega (arith, base_least (t.states part).base state.base.0))))
+        subst (λ (g : List Datum → List Datum). Looks f t plan wanted (InPart part None) (goes_on t part (next_class (t.states part).base 0)) (flat_map (λ (r : Row). g r.1) (in_class (settings_of t.options) (t.states part).base 0 (t.states part).rows))) (sym same)
+        (one_looks f t plan wanted (InPart part None) (class_sight t part (t.states part).base 0) some
+        (first_class_step t plan part unordered ∙ class_step t plan part (t.states part).base 0 (omega (arith, base_least (t.states part).base state.base.0))))

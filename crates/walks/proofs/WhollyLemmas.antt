@@ -16,7 +16,7 @@ use Rattle.part_core.specs.Acts.Said.{Nothing}
 use Rattle.part_core.specs.After.{state_with}
 use Rattle.part_core.specs.Legal.{state_after, IsLegal, IsRight}
 use Rattle.part_core.specs.Replies.{most_counted}
-use Rattle.part_core.specs.Rows.{Row, PartState, is_fixed, is_live, opening}
+use Rattle.part_core.specs.Rows.{Row, PartState, is_empty, is_fixed, is_live, opening}
 use Rattle.part_core.specs.States.{IsState}
 use Rattle.part_core.specs.Visits.{is_true, yields}
 use Rattle.part_core.proofs.AfterLemmas.{counted_after, same_state}
@@ -29,17 +29,19 @@ use Rattle.tables.specs.Turns.{Home, Views, TurnedAt}
 use Rattle.tables.proofs.TurnLemmas.{turned_alone}
 use Rattle.walk_core.specs.Goes.{way, Goes}
 use Rattle.walk_core.specs.Walk.{Position}
-use Rattle.walk_core.specs.Walk.Position.{InPart, Over}
+use Rattle.walk_core.specs.Walk.Position.{AtNamed, Over}
 use Rattle.walk_plan.specs.declared.query.Query.{Query}
 use Rattle.walks.specs.Counting.{FinishesCount}
 use Rattle.walks.specs.Own.{ChangedWhere, is_fixed_first}
-use Rattle.walks.specs.Query.{walk_of}
-use Rattle.walks.specs.Sights.{answers_in, number_true, rows_seen, selected, whole}
+use Rattle.walks.specs.Query.{plan_of, walk_of}
+use Rattle.walks.specs.Sights.{Sight, answers_in, first_position, key_sights, number_true, rows_seen, selected, whole}
 use Rattle.walks.specs.Whole.{Finishes, Wholly}
 use Rattle.walks.proofs.OneThreadLemmas.{AreStates}
 use Rattle.walks.specs.Alone.{IsSeen}
 use Rattle.walks.proofs.AloneLemmas.{seen_table}
-use Rattle.walks.proofs.GoneLemmas.{Reads, goes_gone, plain, starts, table_of}
+use Rattle.walks.proofs.GoneLemmas.{Reads, goes_gone, gone_whole}
+use Rattle.walks.proofs.NamedLemmas.{key_sight}
+use Rattle.walks.proofs.PlainLemmas.{first_there, plain, starts, table_of}
 
 -- ---- own fixes
 
@@ -99,6 +101,17 @@ held_state h v states k = record {
   base = (states k).base;
 }
 
+-- which are nothing to visits
+held_keys : (h : Home) (v : Views) (states : ℕ → PartState) (n : ℕ) (ks : List Datum) → key_sights (table_of h (held_state h v states)) n ks ≡ key_sights (table_of h states) n ks
+held_keys h v states n [] = refl
+held_keys h v states n (k ∷ ks) =
+    ap (λ (rest : List Sight). key_sight (table_of h states) k (if is_empty ks then Over else AtNamed (n + 1)) ∷ rest) (held_keys h v states (n + 1) ks)
+
+pub held_whole : (h : Home) (v : Views) (states : ℕ → PartState) (plan : Option (List Datum)) → whole (table_of h (held_state h v states)) plan ≡ whole (table_of h states) plan
+held_whole h v states None = refl
+held_whole h v states (Some []) = refl
+held_whole h v states (Some (k ∷ ks)) = held_keys h v states 0 (k ∷ ks)
+
 pub held_where : (h : Home) (b : Bool) (old new : History) (s : PartState) → IsTrue h.alone → s ≡ state_after (settings_of h.options) old → ChangedWhere h Fix b old new
     → ◌≡◌ {A = PartState} (record { rows = s.rows; fixes = if b then set s.fixes h.number (get_or s.fixes h.number 0 + 1) else s.fixes; slots = s.slots; base = s.base }) (state_after (settings_of h.options) new)
 held_where h true old new s alone is t = ap (fixed_once h.number) is ∙ sym (fixed_alone h old new alone t)
@@ -115,15 +128,16 @@ back_where h false old fixed last new s alone is t r held = held ∙ ap (state_a
 
 -- ---- a whole walk
 
-wholly_states : (f : Datum → Option Datum) (h : Home) (purpose : Purpose) (p : Program) (states : ℕ → PartState) (wanted : ℕ → ℕ) (gained : List Datum) (v u : Views) → yields purpose p ≡ filter_map f → Reads h purpose p → IsTrue h.alone → 0 < h.options.parts → AreStates h (table_of h states) v
-    → Wholly h (plain h purpose p) wanted Over gained v u → (gained ≡ answers_in f (whole (table_of h states) None)) × AreStates h (table_of h states) u
-wholly_states f h purpose p states wanted gained v u same reads alone some are x =
+wholly_states : (f : Datum → Option Datum) (h : Home) (purpose : Purpose) (p : Program) (states : ℕ → PartState) (plan : Option (List Datum)) (wanted : ℕ → ℕ) (gained : List Datum) (v u : Views) → yields purpose p ≡ filter_map f → Reads h purpose p → IsTrue h.alone → 0 < h.options.parts → AreStates h (table_of h states) v
+    → Wholly h (plain h purpose p plan) wanted Over gained v u → (gained ≡ answers_in f (whole (table_of h states) plan)) × AreStates h (table_of h states) u
+wholly_states f h purpose p states plan wanted gained v u same reads alone some are x =
     let o = settings_of h.options in
     let held : ℕ → PartState = held_state h v states in
+    let first : Position = first_position plan in
     let are_held : AreStates h (table_of h held) x.fixed = λ k inside. held_where h (is_fixed_first h v k) (v k) (x.fixed k) (states k) alone (are k inside) (x.fixes k inside).1 in
-    let went : Goes h (plain h purpose p) wanted (way x.fixed (InPart 0 None) []) (way x.visits.0 Over gained) = subst (λ (at : Position). Goes h (plain h purpose p) wanted (way x.fixed at []) (way x.visits.0 Over gained)) (starts h purpose p some) x.visits.1 in
-    let gone = goes_gone f h purpose p held wanted (way x.fixed (InPart 0 None) []) (way x.visits.0 Over gained) same reads alone are_held some went in (
-      gone.0.gains ∙ ap (answers_in f) (sym (gone.0.splits ∙ append-nil gone.0.front)),
+    let went : Goes h (plain h purpose p plan) wanted (way x.fixed first []) (way x.visits.0 Over gained) = subst (λ (at : Position). Goes h (plain h purpose p plan) wanted (way x.fixed at []) (way x.visits.0 Over gained)) (starts h purpose p plan some) x.visits.1 in
+    let gone = goes_gone f h purpose p held plan wanted (way x.fixed first []) (way x.visits.0 Over gained) same reads alone some are_held (first_there h.options.parts plan some) went in (
+      gone_whole f h held plan wanted x.fixed x.visits.0 gained gone.0 ∙ ap (answers_in f) (held_whole h v states plan),
       λ k inside.
           let drift = x.visits.2 k inside in
           let stays : x.last k ≡ x.visits.0 k = drift.2 ∙ ap (λ (es : History). x.visits.0 k ++ es) (drift.1.alone alone) ∙ append-nil (x.visits.0 k) in
@@ -132,18 +146,18 @@ wholly_states f h purpose p states wanted gained v u same reads alone some are x
           (gone.1 k inside ∙ ap (state_after o) (sym stays)),
     )
 
-wholly_alone : (f : Datum → Option Datum) (h : Home) (t : TableState) (purpose : Purpose) (p : Program) (wanted : ℕ → ℕ) (gained : List Datum) (v u : Views) → yields purpose p ≡ filter_map f → Reads h purpose p → IsTrue h.alone → 0 < h.options.parts → IsSeen h t v
-    → Wholly h (plain h purpose p) wanted Over gained v u → (gained ≡ answers_in f (whole t None)) × IsSeen h t u
-wholly_alone f h t purpose p wanted gained v u same reads alone some seen x =
+wholly_alone : (f : Datum → Option Datum) (h : Home) (t : TableState) (purpose : Purpose) (p : Program) (plan : Option (List Datum)) (wanted : ℕ → ℕ) (gained : List Datum) (v u : Views) → yields purpose p ≡ filter_map f → Reads h purpose p → IsTrue h.alone → 0 < h.options.parts → IsSeen h t v
+    → Wholly h (plain h purpose p plan) wanted Over gained v u → (gained ≡ answers_in f (whole t plan)) × IsSeen h t u
+wholly_alone f h t purpose p plan wanted gained v u same reads alone some seen x =
     let is = seen_table h t v seen in
-    let done = wholly_states f h purpose p t.states wanted gained v u same reads alone some seen.states x in
-    (done.0 ∙ ap (λ (y : TableState). answers_in f (whole y None)) (sym is), record { options = seen.options; states = done.1 })
+    let done = wholly_states f h purpose p t.states plan wanted gained v u same reads alone some seen.states x in
+    (done.0 ∙ ap (λ (y : TableState). answers_in f (whole y plan)) (sym is), record { options = seen.options; states = done.1 })
 
 pub selected_alone : {A : Type 0} (h : Home) (t : TableState) (q : Query A) (wanted : ℕ → ℕ) (gained : List Datum) (v u : Views)
     → IsTrue h.alone → 0 < h.options.parts → IsSeen h t v → Finishes h (walk_of h Answers q) wanted gained v u
-    → (gained ≡ selected t None (answer_of q.code)) × IsSeen h t u
+    → (gained ≡ selected t (plan_of q h.options) (answer_of q.code)) × IsSeen h t u
 selected_alone h t q wanted gained v u alone some seen done =
-    wholly_alone (answer_of q.code) h t Answers q.code wanted gained v u refl (λ s scope n. refl) alone some seen done.0
+    wholly_alone (answer_of q.code) h t Answers q.code (plan_of q h.options) wanted gained v u refl (λ s scope n. refl) alone some seen done.0
 
 -- ---- one that counts
 
@@ -154,11 +168,11 @@ those_that p (x ∷ xs) =
 
 pub counted_alone : {A : Type 0} (h : Home) (t : TableState) (q : Query A) (count : ℕ) (v u : Views)
     → IsTrue h.alone → 0 < h.options.parts → IsSeen h t v → FinishesCount h (walk_of h Counts q) count v u
-    → (count ≡ number_true t None (answer_of q.code)) × IsSeen h t u
+    → (count ≡ number_true t (plan_of q h.options) (answer_of q.code)) × IsSeen h t u
 counted_alone h t q count v u alone some seen (found, counts, done) =
     let p = q.code in
     let same : yields Counts p ≡ filter_map (λ x. if is_true p x then Some x else None) = fun_ext (those_that (is_true p)) in
-    let all = wholly_alone (λ x. if is_true p x then Some x else None) h t Counts p _ found v u same (λ s scope n. refl) alone some seen done.0 in (
-      counts ∙ ap (λ (xs : List Datum). min (length xs) most_counted) (all.0 ∙ ap (λ (g : List Datum → List Datum). flat_map (λ (r : Row). g r.1) (rows_seen (whole t None))) (sym same)),
+    let all = wholly_alone (λ x. if is_true p x then Some x else None) h t Counts p (plan_of q h.options) _ found v u same (λ s scope n. refl) alone some seen done.0 in (
+      counts ∙ ap (λ (xs : List Datum). min (length xs) most_counted) (all.0 ∙ ap (λ (g : List Datum → List Datum). flat_map (λ (r : Row). g r.1) (rows_seen (whole t (plan_of q h.options)))) (sym same)),
       all.1,
     )

@@ -21,7 +21,7 @@ use Rattle.tables.specs.declared.options.Options.{Options}
 use Rattle.tables.specs.Options.{settings_of}
 use Rattle.tables.specs.OneThread.{TableState, opened, after_at}
 use Rattle.walk_core.specs.Walk.{Position}
-use Rattle.walks.specs.Sights.{Piece, first_position, sights_from, piece_of, selected, number_true, after_removal}
+use Rattle.walks.specs.Sights.{Piece, first_position, sights_from, piece_of, selected, number_true, after_removal, whole}
 use Rattle.walk_core.specs.Walk.Position.{InPart, AtNamed, Over}
 
 abbrev key : ℕ → Datum
@@ -129,6 +129,15 @@ all_of_four = refl
 named : selected four (Some (key 3 ∷ key 7 ∷ key 2 ∷ [])) (answer_of first_element) ≡ key 3 ∷ key 2 ∷ []
 unfolding reply_of after datum_cmp key_hash answer_of
 named = refl
+
+named_two : selected (with_keys Set 1 (1 ∷ 2 ∷ [])) (Some (key 2 ∷ key 1 ∷ [])) (answer_of first_element) ≡ key 2 ∷ key 1 ∷ []
+unfolding reply_of after datum_cmp key_hash answer_of
+named_two = refl
+
+named_sights : whole (with_keys Set 1 (1 ∷ 2 ∷ [])) (Some (key 2 ∷ key 1 ∷ []))
+    ≡ record { rows = (key 2, one 2 ∷ []) ∷ []; behind = AtNamed 1 } ∷ record { rows = (key 1, one 1 ∷ []) ∷ []; behind = Over } ∷ []
+unfolding reply_of after datum_cmp key_hash answer_of
+named_sights = refl
 
 first_named : piece_of (answer_of first_element) 1 [] (AtNamed 0) (sights_from four (Some (key 3 ∷ key 7 ∷ key 2 ∷ [])) (AtNamed 0)) ≡ record { given = key 3 ∷ []; kept = []; at = AtNamed 1 }
 unfolding reply_of after datum_cmp key_hash answer_of

@@ -33,11 +33,12 @@ IsPieceOf p (step.Piece answers c) =
     (0 < length p.given) × (answers.items ≡ p.given) × (kept_of c.kept ≡ p.kept) × (position_of c.at ≡ p.at)
 IsPieceOf p (step.End q) = (p.given ≡ []) × (p.kept ≡ []) × (p.at ≡ Over)
 
--- A step of a walk in pieces gives out the piece of the definitions, and changes no state. The walk can be where it is then.
+-- A step of a walk in pieces gives out the piece of the definitions, and changes no state. The walk can be where it is
+-- then.
 abbrev pub StepsArePieces : Type 0 → Type 0
 StepsArePieces A =
     (h : Home) (t : TableState) (q : Query A) (limit : ℕ) (at : Position) (kept : List Datum) (s : Step A) (v u : Views)
-    → IsTrue h.alone → IsSeen h t v → IsAlong h q at → Steps h q limit at kept s v u
+    → IsTrue h.alone → 0 < h.options.parts → IsSeen h t v → IsAlong h q at → Steps h q limit at kept s v u
     → IsPieceOf (piece_of (answer_of q.code) limit kept at (sights_from t (plan_of q h.options) at)) s
     × IsAlong h q (piece_of (answer_of q.code) limit kept at (sights_from t (plan_of q h.options) at)).at × IsSeen h t u
 
@@ -60,4 +61,5 @@ abbrev pub WholeWalksRemove : Type 0 → Type 0
 WholeWalksRemove A =
     (h : Home) (t : TableState) (q : Query A) (count : ℕ) (v u : Views)
     → IsTrue h.alone → 0 < h.options.parts → IsSeen h t v → FinishesCount h (walk_of h Deletes q) count v u
-    → (count ≡ number_true t (plan_of q h.options) (answer_of q.code)) × IsSeen h (after_removal t (plan_of q h.options) (answer_of q.code)) u
+    → (count ≡ number_true t (plan_of q h.options) (answer_of q.code))
+    × IsSeen h (after_removal t (plan_of q h.options) (answer_of q.code)) u

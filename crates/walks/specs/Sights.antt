@@ -49,7 +49,8 @@ row_sights t part rows =
     map (λ r. record { rows = r ∷ []; behind = InPart part (Some (Behind r.0)) }) rows
     ++ record { rows = []; behind = behind_part t part } ∷ []
 
--- a part from its beginning, a set by the base that it has now; or from where the cursor says, a set by the base that it names
+-- a part from its beginning, a set by the base that it has now; or from where the cursor says, a set by the base that
+-- it names
 abbrev pub part_sights : TableState → ℕ → Option Cursor → List Sight
 part_sights t part None =
     if is_ordered t.options.kind then row_sights t part (t.states part).rows
@@ -65,7 +66,8 @@ key_sights t n (k ∷ ks) =
     record { rows = filter (λ r. is_same k r.0) (t.states part).rows; behind = if is_empty ks then Over else AtNamed (n + 1) }
     ∷ key_sights t (n + 1) ks
 
--- the visits that are left of a walk: the rest of its part and then the parts behind it, or the named keys that are left
+-- the visits that are left of a walk: the rest of its part and then the parts behind it, or the named keys that are
+-- left
 abbrev pub sights_from : TableState → Option (List Datum) → Position → List Sight
 sights_from t plan (InPart part cursor) =
     part_sights t part cursor
@@ -94,8 +96,8 @@ pub record Piece : Type 0 where
   pub kept : List Datum
   pub at : Position
 
--- A piece: visits are made as long as there are fewer answers than the limit, of which some were kept before. No more are
--- given out than the limit says, and the rest is kept.
+-- A piece: visits are made as long as there are fewer answers than the limit, of which some were kept before. No more
+-- are given out than the limit says, and the rest is kept.
 abbrev pub piece_of : (Datum → Option Datum) → ℕ → List Datum → Position → List Sight → Piece
 piece_of answer limit kept at sights =
     let visits = made answer (limit - length kept) sights in
@@ -130,8 +132,8 @@ abbrev pub rows_left : TableState → Option (List Datum) → (Datum → Option 
 rows_left t plan answer part =
     map (λ r. (r.0, if is_met t plan part r.0 then filter (λ object. not (is_answered_true answer object)) r.1 else r.1)) (t.states part).rows
 
--- The table without them (ets:select_delete/2). A row of which no object is left goes, or stays as a dead one while its part is
--- fixed.
+-- The table without them (ets:select_delete/2). A row of which no object is left goes, or stays as a dead one while its
+-- part is fixed.
 abbrev pub after_removal : TableState → Option (List Datum) → (Datum → Option Datum) → TableState
 after_removal t plan answer =
     record { options = t.options; states = λ part. state_with (settings_of t.options) (t.states part) (rows_left t plan answer part) (t.states part).fixes }
