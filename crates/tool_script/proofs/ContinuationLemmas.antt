@@ -1,7 +1,7 @@
 -- The continuations of a script are its walks.
-use Rattle.std.proofs.Common.{◌≡◌, ℕ, zero, suc, ◌+◌, ◌<◌, ◌==◌, List, [], ◌∷◌, ◌++◌, refl, ap, sym, subst, ◌∙◌, Option, Some, None, arith, length, get_or, set, option_map}
-use Rattle.std.specs.Prelude.{Bool, true, false, ◌&&◌, if◌then◌else◌}
-use Rattle.std.proofs.lemmas.Bool.{eqb-true, and_parts}
+use Rattle.std.proofs.Common.{◌≡◌, ℕ, zero, suc, ◌+◌, ◌<◌, ◌≤◌, ◌==◌, List, [], ◌∷◌, ◌++◌, refl, ap, sym, subst, ◌∙◌, Option, Some, None, arith, length, get_or, set, option_map}
+use Rattle.std.specs.Prelude.{Bool, true, false, ◌&&◌, if◌then◌else◌, nat_lt}
+use Rattle.std.proofs.lemmas.Bool.{eqb-true, ltb-true, ltb-false, and_parts, false≢true}
 use Rattle.std.proofs.lemmas.Option.{none-some, same_Some}
 use Rattle.part_core.proofs.KeyLemmas.{by_test}
 use Rattle.tables.specs.declared.options.Options.{Options}
@@ -111,3 +111,15 @@ own_there table n (Some d) c e = by (d.table == table && d.session == n) refl e
         let same = same_Some d c e in
         record { there = e; table_is = subst (λ x. x.table ≡ table) same (eqb-true d.table table parts.0); session_is = subst (λ x. x.session ≡ n) same (eqb-true d.session n parts.1); spent = rw holds refl }
     by false fails e = absurd (none-some c e)
+
+-- where no place is, nothing is spent
+absent : {A : Type 0} (cs : List (Option (Continuation A))) (table n i : ℕ) → length cs ≤ i → cs ≡ set cs i (spent_by table n (get_or cs i None))
+absent [] table n i few = refl
+absent (c ∷ cs) table n zero few = absurd (omega (arith, few))
+absent (c ∷ cs) table n (suc i) few = ap (λ rest. c ∷ rest) (absent cs table n i (omega (arith, few)))
+
+pub none_spent : {A : Type 0} (cs : List (Option (Continuation A))) (table n i count : ℕ) → count ≡ length cs → (i < count → false ≡ true) → cs ≡ set cs i (spent_by table n (get_or cs i None))
+none_spent cs table n i count is outside =
+    by_test (nat_lt i count) (cs ≡ set cs i (spent_by table n (get_or cs i None)))
+    (λ inside. absurd (false≢true (outside (ltb-true i count inside))))
+    (λ few. absent cs table n i (omega (arith, is, ltb-false i count few)))

@@ -7,6 +7,8 @@ mod WalkLemmas
 mod TableLemmas
 mod OptionLemmas
 mod ContinuationLemmas
+mod CourseLemmas
+mod ScriptLemmas
 mod SelectLemmas
 mod GatherLemmas
 mod WorkedRows

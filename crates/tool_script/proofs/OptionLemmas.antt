@@ -22,6 +22,7 @@ number_in low high (negsuc m) n e = absurd (none-some n e)
 
 -- what options are made of
 record AreFrom (name : ℕ) (kind : TableKind) (keypos parts sessions : Option ℕ) (o : Options) : Type 0 where
+  named : o.name ≡ name
   keypos_is : keypos ≡ Some o.keypos
   parts_is : parts ≡ Some o.parts
   sessions_is : sessions ≡ Some o.sessions
@@ -37,7 +38,7 @@ made_from name kind (Some keypos) (Some parts) (Some sessions) o e = by (is_set 
     by : (b : Bool) → (is_set kind && (not (is_ordered kind) || parts == 1)) ≡ b → (if b then Some (record { name = name; kind = kind; keypos = keypos; parts = parts; sessions = sessions }) else None) ≡ Some o → AreFrom name kind (Some keypos) (Some parts) (Some sessions) o
     by true holds e =
         let facts = and_parts (is_set kind) (not (is_ordered kind) || parts == 1) holds in
-        subst (AreFrom name kind (Some keypos) (Some parts) (Some sessions)) (same_Some _ o e) (record { keypos_is = refl; parts_is = refl; sessions_is = refl; set = facts.0; whole = facts.1 })
+        subst (AreFrom name kind (Some keypos) (Some parts) (Some sessions)) (same_Some _ o e) (record { named = refl; keypos_is = refl; parts_is = refl; sessions_is = refl; set = facts.0; whole = facts.1 })
     by false fails e = absurd (none-some o e)
 made_from name kind keypos parts sessions o e = absurd (none-some o e)
 
@@ -50,6 +51,9 @@ openable serves name kind x y z o served from = record {
 pub set_openable : (serves : TableKind → Bool) (name : ℕ) (kind : TableKind) (x y z : ℤ) (o : Options) → IsTrue (serves Set) → options_with name kind (number_within 1 65535 x) (number_within 1 64 y) (number_within 1 16 z) ≡ Some o → o.kind ≡ Set → IsOpenable serves o
 set_openable serves name kind x y z o served made is =
     openable serves name kind x y z o (ap serves is ∙ served) (made_from name kind _ _ _ o made)
+
+pub options_named : (name : ℕ) (kind : TableKind) (keypos parts sessions : Option ℕ) (o : Options) → options_with name kind keypos parts sessions ≡ Some o → o.name ≡ name
+options_named name kind keypos parts sessions o made = (made_from name kind keypos parts sessions o made).named
 
 ordered_there : (kind : TableKind) → IsTrue (is_set kind) → kind ≢ Set → kind ≡ OrderedSet
 ordered_there Set set other = absurd (other refl)

@@ -41,10 +41,10 @@ use Rattle.tool_script.proofs.ContinuationLemmas.{held_length, held_more, held_p
 -- ---- what a term is
 
 -- one that is no specification is replied its fault, and nothing is done
-pub faulty : {A : Type 0} (o : Options) (n : ℕ) (sees : Views → Type 0) (walks : List (Option (Continuation A))) (d : Datum) (f : SpecFault) (go : Walked → (Datum → Option Datum) → Option (List Datum) → Step Walked) (count : ℕ) (w : Walked)
-    → f ≢ spec_fault.Memory → IsRefusal f d → AreAt o sees count walks w
-    → Takes (Judging w.table.options d (judged w (go w))) (fault_term f) (AreAt o sees count walks)
-faulty o n sees walks d f go count w other refused at = (Faulty f, (other, refused), refl, at)
+pub faulty : {A : Type 0} (o : Options) (sees : Views → Type 0) (walks : List (Option (Continuation A))) (d : Datum) (f : SpecFault) (go : Walked → (Datum → Option Datum) → Option (List Datum) → Step Walked) (reply : Datum) (count : ℕ) (w : Walked)
+    → (f ≢ spec_fault.Memory) × (reply ≡ fault_term f) → IsRefusal f d → AreAt o sees count walks w
+    → Takes (Judging w.table.options d (judged w (go w))) reply (AreAt o sees count walks)
+faulty o sees walks d f go reply count w told refused at = (Faulty f, (told.0, refused), told.1, at)
 
 -- one that is, is replied what is done by what it means
 pub meant : {A : Type 0} (o : Options) (before now : Views → Type 0) (old new : List (Option (Continuation A))) (d : Datum) (answer : Datum → Option Datum) (plan : Option (List Datum)) (go : Walked → (Datum → Option Datum) → Option (List Datum) → Step Walked) (reply : Datum) (count : ℕ) (w : Walked)
@@ -167,7 +167,8 @@ piece_done law h before now old new q limit at kept s reply alone along follows 
 starts_by : (plan : Option (List Datum)) (parts : ℕ) → 0 < parts → start_by plan 0 parts ≡ first_position plan
 starts_by None parts some = ap (λ b. if b then Position.InPart 0 None else Position.Over) (lt-ltb 0 parts some)
 starts_by (Some []) parts some = refl
-starts_by (Some (k ∷ ks)) parts some = refl
+starts_by (Some (k ∷ ks)) parts some =
+    ap (λ b. if b then Position.AtNamed 0 else Position.Over) (lt-ltb 0 (length (k ∷ ks)) (omega arith))
 
 first_there : (plan : Option (List Datum)) (parts : ℕ) → 0 < parts → IsThere parts (named_count plan) (first_position plan)
 first_there None parts some = some

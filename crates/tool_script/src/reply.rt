@@ -1,5 +1,5 @@
 //! Replies to commands, and their lines.
-ghost use Rattle.std.specs.Prelude.{◌≡◌, ◌++◌, pos, OnOk, OnErr};
+ghost use Rattle.std.specs.Prelude.{◌≡◌, ◌++◌, ◌∷◌, pos, OnOk, OnErr};
 ghost use Rattle.std.specs.Option.{option_copied};
 ghost use Rattle.term_core.specs.Datum.{cells};
 ghost use Rattle.term_core.specs.Datum.Datum.{integer, nil};
@@ -151,9 +151,21 @@ fn put_list<A: Allocator + Copy>(
 ) -> Result<(), AllocError>
     ensures { OnOk result (text.new.items ≡ text.old.items ++ text_of (cells objects.now nil)) }
 {
-    let [first, rest @ ..] = objects else {
-        return text.extend_from_slice(b"[]");
-    };
+    match objects {
+        [] => text.extend_from_slice(b"[]"),
+        [first, rest @ ..] => put_elements(first, rest, text),
+    }
+}
+
+/// Puts a list that has these elements at the end.
+fn put_elements<A: Allocator + Copy>(
+    first: &Term<A>,
+    rest: &[Term<A>],
+    text: &mut Vec<u8, A>,
+) -> Result<(), AllocError>
+    ensures { OnOk result (text.new.items
+        ≡ text.old.items ++ text_of (cells (first.now ∷ rest.now) nil)) }
+{
     put_line(b"[", first, b"", text)?;
     put_more(rest, text)?;
     text.extend_from_slice(b"]")

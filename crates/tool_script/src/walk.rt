@@ -1,5 +1,5 @@
 //! What a session is replied that walks its table by a specification, or goes on with a walk that it began.
-ghost use Rattle.std.specs.Prelude.{◌≡◌, ◌≢◌, IsTrue, IfOk, IfErr, Option, List, is_some};
+ghost use Rattle.std.specs.Prelude.{◌≡◌, ◌≢◌, IsTrue, IfOk, IfErr, Option, None, List, is_some, get_or, set};
 ghost use Rattle.mcode.specs.Answer.{answer_of};
 ghost use Rattle.mspec_syntax.specs.Faults.{IsRefusal};
 ghost use Rattle.tables.specs.declared.options.Options.{Options};
@@ -23,6 +23,7 @@ use tables::Turns;
 use term_core::Term;
 use walks::{
     Continuation, Query, Step, select, select_count, select_delete, select_limit, select_more,
+    steps_are_pieces, whole_walks_count, whole_walks_remove, whole_walks_select,
 };
 
 /// The number of a continuation that isn't there, is spent, or is of another table or session.
@@ -72,6 +73,7 @@ fn select_all<H: Wait, A: Allocator + Copy, T: Turns<A>>(
         → IsSelected (T.home turns.old).options (T.home turns.old).number (T.sees turns.old)
         (T.sees turns.new) walks walks (Select term.now) (reply_term reply)) }
 {
+    whole_walks_select::<A>();
     match query_of(alloc, term, turns.options().keypos) {
         Ok(query) => Ok(CommandReply::Objects(select(rt, alloc, turns, &query)?)),
         Err(fault) => refusal(fault),
@@ -92,6 +94,7 @@ fn count_all<H: Wait, A: Allocator + Copy, T: Turns<A>>(
         → IsSelected (T.home turns.old).options (T.home turns.old).number (T.sees turns.old)
         (T.sees turns.new) walks walks (SelectCount term.now) (reply_term reply)) }
 {
+    whole_walks_count::<A>();
     match query_of(alloc, term, turns.options().keypos) {
         Ok(query) => Ok(CommandReply::Count(select_count(rt, turns, &query)?)),
         Err(fault) => refusal(fault),
@@ -112,6 +115,7 @@ fn delete_all<H: Wait, A: Allocator + Copy, T: Turns<A>>(
         → IsSelected (T.home turns.old).options (T.home turns.old).number (T.sees turns.old)
         (T.sees turns.new) walks walks (SelectDelete term.now) (reply_term reply)) }
 {
+    whole_walks_remove::<A>();
     let query = match query_of(alloc, term, turns.options().keypos) {
         Ok(query) => query,
         Err(fault) => return refusal(fault),
@@ -159,6 +163,7 @@ fn begin<H: Wait, A: Allocator + Copy, T: Turns<A>>(
         (λ w. piece_step w (begun w.table.options (T.home turns.old).number limit
         (answer_of query.code) (plan_of query (T.home turns.old).options))) (reply_term reply)) }
 {
+    steps_are_pieces::<A>();
     match select_limit(rt, alloc, turns, query, limit) {
         Ok(step) => keep(walks, step),
         Err(_) => Err(AllocError),
@@ -225,6 +230,23 @@ fn take_own<A: Allocator>(
     None
 }
 
+/// Takes the walk out of this place, if there is one of this table and session.
+fn take_at<A: Allocator>(
+    walks: &mut Walks<A>,
+    place: usize,
+    table: u64,
+    session: u8,
+) -> Option<Continuation<A>>
+    ensures found { result ≡ own_by table session (get_or walks.old.items place None) }
+    ensures spent { walks.new.items
+        ≡ set walks.old.items place (spent_by table session (get_or walks.old.items place None)) }
+{
+    match walks.get_mut(place) {
+        Some(place) => take_own(place, table, session),
+        None => None,
+    }
+}
+
 /// Takes the walk of a continuation's number out of its place, if there is one of this table and session.
 fn take_walk<A: Allocator>(
     walks: &mut Walks<A>,
@@ -238,10 +260,7 @@ fn take_walk<A: Allocator>(
     if number < 0 {
         return None;
     }
-    match walks.get_mut(number as usize) {
-        Some(place) => take_own(place, table, session),
-        None => None,
-    }
+    take_at(walks, number as usize, table, session)
 }
 
 /// Goes on with the walk of a continuation, which is spent by that.
@@ -259,6 +278,7 @@ fn go_on<H: Wait, A: Allocator + Copy, T: Turns<A>>(
         (T.home turns.old).number (T.sees turns.old) (T.sees turns.new)
         walks.old.items walks.new.items (SelectMore number) (reply_term reply)) }
 {
+    steps_are_pieces::<A>();
     let Some(walk) = take_walk(walks, number, turns.options().name, turns.number()) else {
         return Ok(CommandReply::Error(STRANGER_CONTINUATION));
     };

@@ -5,4 +5,4 @@ use Rattle.tool_script.proofs.reply.put_more.Given as goal
 
 abbrev pub invariant-loop-object : goal.invariant-loop-object
 invariant-loop-object g l =
-    l.lines.items ++ behind_commas (drop l.object-index l.objects) ≡ l.initial.lines.items ++ behind_commas l.objects
+    l.text.items ++ behind_commas (drop l.object-index l.objects) ≡ l.initial.text.items ++ behind_commas l.objects

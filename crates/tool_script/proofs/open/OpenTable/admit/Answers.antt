@@ -9,8 +9,8 @@ use Rattle.tool_script.specs.Commands.{ask_of}
 use Rattle.tool_script.specs.State.{IsAt}
 use Rattle.tool_script.proofs.open.OpenTable.admit.Goals as goal
 
-pub returns : goal.returns
-returns g c = λ state before.
+pub returns-clause-answered : goal.returns-clause-answered
+returns-clause-answered g c = λ state before.
     let fits : FitsSigned w64 c.args.number = search rules in
     let number = to_z-of_z w64 c.args.number fits in
     let is : session_number state c.args.number ≡ Some c.in-Some.number = ap (session_number state) (sym number) ∙ sym (c.session.ensures.found state before) ∙ c.in-Some.is in
