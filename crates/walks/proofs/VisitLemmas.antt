@@ -5,7 +5,7 @@ use Rattle.std.proofs.lemmas.List.{append-nil}
 use Rattle.term_core.specs.Datum.{Datum}
 use Rattle.mcode.specs.Program.{Program}
 use Rattle.part_core.specs.declared.settings.Settings.{Settings}
-use Rattle.part_core.specs.Acts.{Cursor, Scope, Said, is_refused}
+use Rattle.part_core.specs.Acts.{Answer, Cursor, Purpose, Scope, Said, is_refused}
 use Rattle.part_core.specs.Acts.Act.{Visit}
 use Rattle.part_core.specs.Acts.Answer.{Replied}
 use Rattle.part_core.specs.Acts.Purpose.{Answers}
@@ -18,7 +18,7 @@ use Rattle.tables.specs.Options.{settings_of}
 use Rattle.tables.specs.Turns.{Home, Views, Turned, Follows}
 use Rattle.tables.proofs.TurnLemmas.{answered_so}
 use Rattle.walk_core.specs.Goes.{way, whole, Visits}
-use Rattle.walk_core.specs.Walk.{Position, next_position, part_at, scope_at}
+use Rattle.walk_core.specs.Walk.{Walk, Position, next_position, part_at, scope_at}
 use Rattle.walk_core.proofs.TurnLemmas.{turn_visits}
 use Rattle.walk_plan.specs.declared.query.Query.{Query}
 use Rattle.walks.specs.Query.{walk_of}
@@ -57,12 +57,17 @@ said_count : (c : Counting) (found : List Datum) (count : ℕ) (next : Option Cu
 said_count counting.Count found count next is = cc
 said_count counting.Delete found count next is = cc
 
+-- a turn where the walk is
+pub turned_there : (h : Home) (w : Walk) (at : Position) (part : ℕ) (purpose : Purpose) (p : Program) (scope : Scope) (wanted : ℕ) (answer : Option Answer) (before now : Views → Type 0) → part ≡ part_at w at → scope ≡ scope_at w at → Follows before now (Turned h part (Visit purpose p scope wanted) answer) → Follows before now (Turned h (part_at w at) (Visit purpose p (scope_at w at) wanted) answer)
+turned_there h w at part purpose p scope wanted answer before now part_is scope_is follows =
+    subst (λ (n : ℕ). Follows before now (Turned h n (Visit purpose p (scope_at w at) wanted) answer)) part_is
+    (subst (λ (x : Scope). Follows before now (Turned h part (Visit purpose p x wanted) answer)) scope_is follows)
+
 -- a turn where the walk is, is a visit of the walk, which gains what was counted
 pub visit_more : {A : Type 0} (h : Home) (q : Query A) (c : Counting) (part count : ℕ) (scope : Scope) (next : Option Cursor) (at later : Position) (before now : Views → Type 0) → part ≡ part_at (walk_of h (purpose_of c) q) at → scope ≡ scope_at (walk_of h (purpose_of c) q) at → later ≡ next_position (walk_of h (purpose_of c) q) at next → Follows before now (Turned h part (Visit (purpose_of c) q.code scope most_counted) (Some (Replied (Counted count next)))) → Follows before now (CountsMore h (walk_of h (purpose_of c) q) at later count)
 visit_more h q c part count scope next at later before now part_is scope_is later_is follows =
     let w = walk_of h (purpose_of c) q in
-    let turned = subst (λ (n : ℕ). Follows before now (Turned h n (Visit (purpose_of c) q.code (scope_at w at) most_counted) (Some (Replied (Counted count next))))) part_is
-    (subst (λ (x : Scope). Follows before now (Turned h part (Visit (purpose_of c) q.code x most_counted) (Some (Replied (Counted count next))))) scope_is follows) in
+    let turned = turned_there h w at part (purpose_of c) q.code scope most_counted (Some (Replied (Counted count next))) before now part_is scope_is follows in
     subst (λ (p : Position). Follows before now (CountsMore h w at p count)) (sym later_is)
     (λ v b. let f = turned v b in (
       f.0,
@@ -89,8 +94,7 @@ visit_made h q by_count wanted at next gained found before now is follows v b =
 pub visit_kept : {A : Type 0} (h : Home) (q : Query A) (by_count : ℕ → ℕ) (part wanted : ℕ) (scope : Scope) (next : Option Cursor) (gained found more : List Datum) (at later : Position) (before now : Views → Type 0) → part ≡ part_at (walk_of h Answers q) at → scope ≡ scope_at (walk_of h Answers q) at → later ≡ next_position (walk_of h Answers q) at next → more ≡ gained ++ found → wanted ≡ by_count (length gained) → Follows before now (Turned h part (Visit Answers q.code scope wanted) (Some (Replied (Found found next)))) → Follows before now (λ v w. Visits h (walk_of h Answers q) by_count (way v at gained) (way w later more))
 visit_kept h q by_count part wanted scope next gained found more at later before now part_is scope_is later_is more_is is follows =
     let w = walk_of h Answers q in
-    let turned = subst (λ (n : ℕ). Follows before now (Turned h n (Visit Answers q.code (scope_at w at) wanted) (Some (Replied (Found found next))))) part_is
-    (subst (λ (x : Scope). Follows before now (Turned h part (Visit Answers q.code x wanted) (Some (Replied (Found found next))))) scope_is follows) in
+    let turned = turned_there h w at part Answers q.code scope wanted (Some (Replied (Found found next))) before now part_is scope_is follows in
     subst (λ (p : Position). Follows before now (λ v u. Visits h w by_count (way v at gained) (way u p more))) (sym later_is)
     (subst (λ (ys : List Datum). Follows before now (λ v u. Visits h w by_count (way v at gained) (way u (next_position w at next) ys))) (sym more_is)
     (visit_made h q by_count wanted at next gained found before now is turned))

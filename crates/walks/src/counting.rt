@@ -1,5 +1,5 @@
 //! Walks that count, and walks that delete.
-ghost use Rattle.std.specs.Prelude.{ℕ, ◌≡◌, ◌≢◌, ◌<◌, [], ◌++◌, List, Some, None, IsTrue, IfOk, IfErr, IsErrOf, option_map, length, min};
+ghost use Rattle.std.specs.Prelude.{ℕ, ◌≡◌, ◌≢◌, ◌+◌, ◌<◌, [], ◌++◌, List, Some, None, IsTrue, IfOk, IfErr, IsErrOf, option_map, length, min};
 ghost use Rattle.term_core.specs.Datum.{Datum};
 ghost use Rattle.part_core.specs.Acts.Act.{Visit};
 ghost use Rattle.part_core.specs.Acts.Answer.{Replied, Refused};
@@ -37,7 +37,7 @@ fn count_op<'q, A: Allocator>(
     code: &'q Verified<A>,
     scope: Scope<'q, A>,
 ) -> PartOp<'q, A>
-    ensures { act_of result ≡ Visit (purpose_of counting) code.now (scope_of scope) most_counted }
+    ensures { act_of result ≡ Visit (purpose_of counting) code.now (scope_of scope.entry) most_counted }
 {
     let look = Look {
         code,
@@ -76,11 +76,11 @@ fn count_at<A: Allocator, T: Turns<A>>(
     ensures same { T.home turns.new ≡ T.home turns.old }
     ensures done { IfOk result (λ found. Follows (T.sees turns.old) (T.sees turns.new)
         (Turned (T.home turns.old) part
-        (Visit (purpose_of counting) code.now (scope_of scope) most_counted)
+        (Visit (purpose_of counting) code.now (scope_of scope.entry) most_counted)
         (Some (Replied (Counted found.0 (option_map cursor_of found.1)))))) }
     ensures refused { IfErr result (λ fault. Follows (T.sees turns.old) (T.sees turns.new)
         (Turned (T.home turns.old) part
-        (Visit (purpose_of counting) code.now (scope_of scope) most_counted)
+        (Visit (purpose_of counting) code.now (scope_of scope.entry) most_counted)
         (option_map Refused (refusal_of fault)))) }
 {
     let reply = turn_at(turns, part, count_op(counting, code, scope))?;

@@ -163,6 +163,15 @@ fn behind<A: Allocator>(part: u8, next: Option<Cursor<A>>, parts: u8) -> Positio
     }
 }
 
+/// Where a walk is behind the visit of a key, of so many.
+fn behind_key<A: Allocator>(number: usize, count: usize) -> Position<A>
+    requires { number < count }
+    ensures at { position_of result ≡ at_key (number + 1) count }
+    ensures there { (parts : ℕ) → IsThere parts count (position_of result) }
+{
+    at_key(number + 1, count)
+}
+
 /// Where a walk is behind the visit of where it was.
 fn behind_visit<A: Allocator, T: Turns<A>>(
     turns: &T,
@@ -177,7 +186,7 @@ fn behind_visit<A: Allocator, T: Turns<A>>(
 {
     match at {
         Position::InPart(part, _) => behind(*part, next, turns.options().parts),
-        Position::AtNamed(number) => at_key(*number + 1, named_count(turns, query)),
+        Position::AtNamed(number) => behind_key(*number, named_count(turns, query)),
         Position::Over => Position::Over,
     }
 }

@@ -48,10 +48,10 @@ fn visit_at<A: Allocator, T: Turns<A>>(
     ensures ready { T.is_ready turns.new }
     ensures same { T.home turns.new ≡ T.home turns.old }
     ensures done { IfOk result (λ found. Follows (T.sees turns.old) (T.sees turns.new)
-        (Turned (T.home turns.old) part (Visit Answers code.now (scope_of scope) wanted)
+        (Turned (T.home turns.old) part (Visit Answers code.now (scope_of scope.entry) wanted)
         (Some (Replied (Found found.0.items (option_map cursor_of found.1)))))) }
     ensures refused { IfErr result (λ fault. Follows (T.sees turns.old) (T.sees turns.new)
-        (Turned (T.home turns.old) part (Visit Answers code.now (scope_of scope) wanted)
+        (Turned (T.home turns.old) part (Visit Answers code.now (scope_of scope.entry) wanted)
         (option_map Refused (refusal_of fault)))) }
 {
     let look = Look {
