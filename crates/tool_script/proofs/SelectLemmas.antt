@@ -154,11 +154,11 @@ kept_step h now old new q limit at kept (step.End p) v u reply count w (d ∷ ds
     absurd (omega (arith, ap length is.0))
 
 pub piece_done : {A : Type 0} (law : StepsArePieces A) (h : Home) (before now : Views → Type 0) (old new : List (Option (Continuation A))) (q : Query A) (limit : ℕ) (at : Position) (kept : List Datum) (s : step_type.Step A) (reply : Datum)
-    → IsTrue h.alone → IsAlong h q at → Follows before now (Steps h q limit at kept s) → IsKept s old new reply
+    → IsTrue h.alone → 0 < h.options.parts → IsAlong h q at → Follows before now (Steps h q limit at kept s) → IsKept s old new reply
     → IsDone h.options before now old new (λ w. piece_step w (walk_held h q limit at kept)) reply
-piece_done law h before now old new q limit at kept s reply alone along follows kept_is = λ count w there.
+piece_done law h before now old new q limit at kept s reply alone some along follows kept_is = λ count w there.
     let next = follows there.table.views there.table.seen in
-    let done = law h w.table q limit at kept s there.table.views next.0 alone (seen_of h before w.table there.table) along next.2 in
+    let done = law h w.table q limit at kept s there.table.views next.0 alone some (seen_of h before w.table there.table) along next.2 in
     let piece = piece_of (answer_of q.code) limit kept at (sights_from w.table (plan_of q h.options) at) in
     kept_step h now old new q limit at kept s there.table.views next.0 reply count w piece.given piece.kept piece.at next.2 done.0 done.1 kept_is (at_seen h now w.table next.0 next.1 done.2) there.named there.walks
 
@@ -181,7 +181,7 @@ pub begun_done : {A : Type 0} (law : StepsArePieces A) (h : Home) (before now : 
 begun_done law h before now old new q limit s reply alone some follows kept_is = λ count w there.
     let plan = plan_of q h.options in
     let start = starts_by plan h.options.parts some in
-    let done = piece_done law h before now old new q limit (first_position plan) [] s reply alone (first_there plan h.options.parts some) (subst (λ (at : Position). Follows before now (Steps h q limit at [] s)) start follows) kept_is count w there in
+    let done = piece_done law h before now old new q limit (first_position plan) [] s reply alone some (first_there plan h.options.parts some) (subst (λ (at : Position). Follows before now (Steps h q limit at [] s)) start follows) kept_is count w there in
     subst (λ (o : Options). (reply ≡ (piece_step w (begun o h.number limit (answer_of q.code) plan)).0) × AreAt h.options now count new (piece_step w (begun o h.number limit (answer_of q.code) plan)).1) (sym there.table.options) done
 
 -- ---- one that goes on
@@ -209,11 +209,11 @@ own_held h c table_is session_is =
     λ i. record { table = table_is i; session = session_is i; answer = answer_of c.query.code; plan = plan_of c.query h.options; limit = c.limit; at = position_of c.at; kept = kept_of c.kept }
 
 pub gone_on : {A : Type 0} (law : StepsArePieces A) (h : Home) (before now : Views → Type 0) (old mid new : List (Option (Continuation A))) (number : ℤ) (c : Continuation A) (s : step_type.Step A) (reply : Datum)
-    → IsTrue h.alone → own_at old h.options.name h.number number ≡ Some c → mid ≡ spent_at old h.options.name h.number number
+    → IsTrue h.alone → 0 < h.options.parts → own_at old h.options.name h.number number ≡ Some c → mid ≡ spent_at old h.options.name h.number number
     → Follows before now (Steps h c.query c.limit (position_of c.at) (kept_of c.kept) s) → IsKept s mid new reply
     → IsSelected h.options h.number before now old new (SelectMore number) reply
-gone_on law h before now old mid new (negsuc i) c s reply alone own spent follows kept_is = absurd (none-some c own)
-gone_on law h before now old mid new (pos i) c s reply alone own spent follows kept_is = λ count w at.
+gone_on law h before now old mid new (negsuc i) c s reply alone some own spent follows kept_is = absurd (none-some c own)
+gone_on law h before now old mid new (pos i) c s reply alone some own spent follows kept_is = λ count w at.
     let o = h.options in
     let n : ℕ = h.number in
     let place = get_or old i None in
@@ -226,4 +226,4 @@ gone_on law h before now old mid new (pos i) c s reply alone own spent follows k
     let gone : mid ≡ set old i None = spent ∙ ap (set old i) is.spent in
     let left : Walked = record { table = w.table; walks = set w.walks i None } in
     let between : AreAt o before count mid left = record { table = at.table; named = at.named; walks = subst (λ cs. AreHeld (Some o) count cs (set w.walks i None)) (sym gone) (held_set (Some o) count old w.walks i None None at.walks tt) } in
-    rw named (piece_done law h before now mid new c.query c.limit (position_of c.at) (kept_of c.kept) s reply alone within follows kept_is count left between)
+    rw named (piece_done law h before now mid new c.query c.limit (position_of c.at) (kept_of c.kept) s reply alone some within follows kept_is count left between)

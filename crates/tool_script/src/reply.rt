@@ -151,10 +151,10 @@ fn put_list<A: Allocator + Copy>(
 ) -> Result<(), AllocError>
     ensures { OnOk result (text.new.items ≡ text.old.items ++ text_of (cells objects.now nil)) }
 {
-    match objects {
-        [] => text.extend_from_slice(b"[]"),
-        [first, rest @ ..] => put_elements(first, rest, text),
-    }
+    let [first, rest @ ..] = objects else {
+        return text.extend_from_slice(b"[]");
+    };
+    put_elements(first, rest, text)
 }
 
 /// Puts a list that has these elements at the end.

@@ -31,6 +31,6 @@ returns-in-Ok-clause-answered g c =
     let name = ap (λ (x : Options). x.name) c.options.ensures in
     let own = ap (own_at old h.options.name h.number) (sym number) ∙ sym (c.take_walk.ensures.found ∙ ap (λ x. own_at old x c.number.result (to_z w64 (of_z w64 c.args.number))) name ∙ ap (λ n. own_at old h.options.name n (to_z w64 (of_z w64 c.args.number))) c.number.ensures) ∙ c.in-Some.is in
     let spent = c.take_walk.ensures.spent ∙ ap (λ x. spent_at old x c.number.result (to_z w64 (of_z w64 c.args.number))) name ∙ ap (λ n. spent_at old h.options.name n (to_z w64 (of_z w64 c.args.number))) c.number.ensures ∙ ap (spent_at old h.options.name h.number) number in
-    IfOk-weaker c.keep.result _ _ (λ reply kept. gone_on c.steps_are_pieces.ensures h (turns.sees c.args.turns.now) (turns.sees c.select_more.new.turns) old c.take_walk.new.walks.items c.keep.new.walks.items c.args.number c.in-Some.walk c.in-Ok.step (reply_term reply) c.requires.alone own spent
+    IfOk-weaker c.keep.result _ _ (λ reply kept. gone_on c.steps_are_pieces.ensures h (turns.sees c.args.turns.now) (turns.sees c.select_more.new.turns) old c.take_walk.new.walks.items c.keep.new.walks.items c.args.number c.in-Some.walk c.in-Ok.step (reply_term reply) c.requires.alone (g.met.T.Turns.fits c.args.turns.now c.requires.ready).0 own spent
     (λ v before. ((c.in-Ok.ensures.done v before).0, (c.in-Ok.ensures.done v before).1, (c.in-Ok.ensures.done v before).2.0)) kept)
     c.keep.ensures
