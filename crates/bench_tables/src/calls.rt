@@ -37,8 +37,8 @@ pub(crate) enum Work {
     Pieces,
 }
 
-/// What the work is done on: objects with their keys at the first place, the query that counts all, and one with conditions beside its
-/// specification.
+/// What the work is done on: objects with their keys at the first place, the query that counts all, and one with
+/// conditions beside its specification.
 #[derive(Clone, Copy)]
 pub(crate) struct Load<'a> {
     pub(crate) objects: &'a [Term],

@@ -1,10 +1,12 @@
 //! Times the calls of a session at a table from outside: `bench/tables` runs this program.
 //!
-//! Standard input is objects with their keys at the first place. They are put into a table of a kind and of so many parts, put in once
-//! more, looked up, asked for, counted by a query, selected by one with two conditions, at once and in pieces of 100, and deleted. The code
-//! of that query runs on each object, too, for what a selection takes beside its runs.
+//! Standard input is objects with their keys at the first place. They are put into a table of a kind and of so many
+//! parts, put in once more, looked up, asked for, counted by a query, selected by one with two conditions, at once and
+//! in pieces of 100, and deleted. The code of that query runs on each object, too, for what a selection takes beside
+//! its runs.
 //!
-//! - `times`: the nanoseconds of a call of each kind, the median of five rounds; those of a walk are divided by the objects.
+//! - `times`: the nanoseconds of a call of each kind, the median of five rounds; those of a walk are divided by the
+//!   objects.
 //! - `longest`: the nanoseconds of the longest insert.
 //! - `hold`: nothing; the objects are put into as many tables as the last argument says, which are held until the end.
 //! - `found`: what comes of each kind of call.
@@ -91,7 +93,8 @@ fn task_of(arguments: &[String]) -> Option<Task<'_>> {
     })
 }
 
-/// Writes the lines of a task at tables of a kind of part. There are none where there is no such task or it can't be done.
+/// Writes the lines of a task at tables of a kind of part. There are none where there is no such task or it can't be
+/// done.
 fn write_at<H: Wait, P: Part<Global> + Drop>(
     rt: &HostRuntime,
     handle: &H,

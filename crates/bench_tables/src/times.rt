@@ -13,8 +13,8 @@ use tables::{LocalTable, Options};
 const ROUNDS: usize = 5;
 /// How many kinds of work a round has.
 const WORKS: usize = 10;
-/// The work of a round, in its order. The second insert puts each object in the place of the first, and the last lookup finds what was
-/// left.
+/// The work of a round, in its order. The second insert puts each object in the place of the first, and the last lookup
+/// finds what was left.
 const ROUND: [Work; WORKS] = [
     Work::Each(Call::Insert),
     Work::Each(Call::Insert),
@@ -169,8 +169,18 @@ pub(crate) fn write_found<H: Wait, P: Part<Global> + Drop>(
     load: Load<'_>,
     lines: &mut String,
 ) -> Option<()> {
-    let [insert, replace, lookup, member, count, select, pieces, run, _delete, last] =
-        round::<H, P>(rt, handle, options, load)?;
+    let [
+        insert,
+        replace,
+        lookup,
+        member,
+        count,
+        select,
+        pieces,
+        run,
+        _delete,
+        last,
+    ] = round::<H, P>(rt, handle, options, load)?;
     writeln!(
         lines,
         "{} inserted, {} once more, {} found, {} there",

@@ -110,12 +110,10 @@ fn gone_on<R: Wait, A: Allocator + Copy, T: Turns<A>>(
 }
 
 /// Puts the line of a piece at the end.
-fn put_piece<A: Allocator>(
-    alloc: Global,
-    piece: &[Term<A>],
-    lines: &mut Vec<u8>,
-) -> Option<()> {
-    lines.extend_from_slice(listed(alloc, piece)?.as_slice()).ok()?;
+fn put_piece<A: Allocator>(alloc: Global, piece: &[Term<A>], lines: &mut Vec<u8>) -> Option<()> {
+    lines
+        .extend_from_slice(listed(alloc, piece)?.as_slice())
+        .ok()?;
     lines.push(b'\n').ok()
 }
 

@@ -26,7 +26,8 @@ const SECOND: &str = "[{{'_','$1'},[],['$1']}].";
 /// Objects with a key of at least 16 answer true.
 const LARGE: &str = "[{{'$1','_'},[{'>=','$1',16}],[true]}].";
 /// Keys that are named, one of them twice, and one that isn't there.
-const NAMED: &str = "[{{32,'$1'},[],['$1']},{{5,'$1'},[],['$1']},{{0,'$1'},[],['$1']},{{32,'_'},[],[again]}].";
+const NAMED: &str =
+    "[{{32,'$1'},[],['$1']},{{5,'$1'},[],['$1']},{{0,'$1'},[],['$1']},{{32,'_'},[],[again]}].";
 
 const SET_CASES: [Case<'static>; 5] = [
     Case {
@@ -150,8 +151,16 @@ macro_rules! swept {
 fn sets_asked_again_answer_as_undisturbed(rt: HostRuntime) {
     let alloc = rt.alloc();
     for case in SET_CASES {
-        assert_eq!(rt; is_right::<HashPart<Global>, _, Global>(&rt, alloc, alloc, case), Some(true), "{case:?}");
-        assert_eq!(rt; is_right::<PlainPart<Global>, _, Global>(&rt, alloc, alloc, case), Some(true), "{case:?}");
+        assert_eq!(rt;
+            is_right::<HashPart<Global>, _, Global>(&rt, alloc, alloc, case),
+            Some(true),
+            "{case:?}"
+        );
+        assert_eq!(rt;
+            is_right::<PlainPart<Global>, _, Global>(&rt, alloc, alloc, case),
+            Some(true),
+            "{case:?}"
+        );
         let outcome = swept!(HashPart, &rt, alloc, case);
         assert!(rt; outcome.is_complete(), "{case:?} {outcome:?}");
     }
@@ -161,7 +170,11 @@ fn sets_asked_again_answer_as_undisturbed(rt: HostRuntime) {
 fn ordered_sets_asked_again_answer_as_undisturbed(rt: HostRuntime) {
     let alloc = rt.alloc();
     for case in ORDERED_CASES {
-        assert_eq!(rt; is_right::<OrderPart<Global>, _, Global>(&rt, alloc, alloc, case), Some(true), "{case:?}");
+        assert_eq!(rt;
+            is_right::<OrderPart<Global>, _, Global>(&rt, alloc, alloc, case),
+            Some(true),
+            "{case:?}"
+        );
         let outcome = swept!(OrderPart, &rt, alloc, case);
         assert!(rt; outcome.is_complete(), "{case:?} {outcome:?}");
     }

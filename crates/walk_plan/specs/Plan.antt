@@ -56,8 +56,8 @@ abbrev pub AreInOrder : Bool → List Datum → List Datum → Type 0
 AreInOrder true named ks = IsPermutation named ks × IsSorted datum_cmp ks
 AreInOrder false named ks = ks ≡ named
 
--- the keys that a walk by a specification visits, of a table with this keypos, ordered or not: those that it names, if each
--- of its heads names one
+-- the keys that a walk by a specification visits, of a table with this keypos, ordered or not: those that it names, if
+-- each of its heads names one
 abbrev pub IsPlanOf : ℕ → Bool → Specification → Option (List Datum) → Type 0
 IsPlanOf keypos ordered spec None = named_by keypos spec ≡ None
 IsPlanOf keypos ordered spec (Some ks) =

@@ -88,8 +88,8 @@ fn keys_of<A: Allocator + Copy>(
     Ok(Some(keys))
 }
 
-/// The keys that a specification names at this position, which is counted from 1: each once, in the order in which they are
-/// first named. None where a head names none. An `Err` is want of memory.
+/// The keys that a specification names at this position, which is counted from 1: each once, in the order in which they
+/// are first named. None where a head names none. An `Err` is want of memory.
 pub fn named_keys<A: Allocator + Copy>(
     alloc: A,
     specification: &Spec<A>,

@@ -62,8 +62,8 @@ impl<A: Allocator> NamedKeys<A> {
         })
     }
 
-    /// The keys that a walk visits, one after the other, of a table with this `keypos`: in an ordered one by rising key, else
-    /// in the order in which they are first named. None at another position than theirs.
+    /// The keys that a walk visits, one after the other, of a table with this `keypos`: in an ordered one by rising
+    /// key, else in the order in which they are first named. None at another position than theirs.
     pub fn keys_at(&self, keypos: u16, ordered: bool) -> Option<&[Term<A>]>
         ensures keys { option_map (λ ks. ks.now) result ≡ keys_at self.now keypos ordered }
         ensures planned { IsPlanned self.now }
@@ -79,8 +79,8 @@ impl<A: Allocator> NamedKeys<A> {
     }
 }
 
-/// The plan of the keys that a specification names at this position, if each of its heads names one. An `Err` is want of
-/// memory.
+/// The plan of the keys that a specification names at this position, if each of its heads names one. An `Err` is want
+/// of memory.
 fn plan_of<A: Allocator + Copy>(
     alloc: A,
     specification: &Spec<A>,
@@ -98,8 +98,8 @@ fn plan_of<A: Allocator + Copy>(
     }
 }
 
-/// The code of a specification, verified, and the keys that the specification names at this position, if each of its heads
-/// names one. An `Err` is want of memory.
+/// The code of a specification, verified, and the keys that the specification names at this position, if each of its
+/// heads names one. An `Err` is want of memory.
 pub fn compile_named<A: Allocator + Copy>(
     alloc: A,
     specification: &Spec<A>,

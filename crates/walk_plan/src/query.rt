@@ -33,8 +33,8 @@ impl<A: Allocator> Query<A> {
         Query { code, named: None }
     }
 
-    /// A query that asks what a specification means. In a table with this `keypos` it is asked at the keys alone that the
-    /// specification names there, if each of its heads names one. An `Err` is want of memory.
+    /// A query that asks what a specification means. In a table with this `keypos` it is asked at the keys alone that
+    /// the specification names there, if each of its heads names one. An `Err` is want of memory.
     pub fn from_spec(alloc: A, specification: &Spec<A>, keypos: u16) -> Result<Self, AllocError>
     where
         A: Copy,
@@ -49,8 +49,8 @@ impl<A: Allocator> Query<A> {
         Ok(Query { code, named })
     }
 
-    /// The keys that a walk visits, one after the other, of a table with this `keypos`: of an ordered one by rising key, else
-    /// in the order in which they are first named. None where all objects are visited.
+    /// The keys that a walk visits, one after the other, of a table with this `keypos`: of an ordered one by rising
+    /// key, else in the order in which they are first named. None where all objects are visited.
     pub fn keys_at(&self, keypos: u16, ordered: bool) -> Option<&[Term<A>]>
         ensures { option_map (λ ks. ks.now) result ≡ plan_at self.now.named keypos ordered }
     {

@@ -31,8 +31,8 @@ abbrev pub IsStepOf : {A : Type 0} → Continuation A → List Datum → Step A 
 IsStepOf c piece (step.Piece answers d) = (answers.items ≡ piece) × (0 < length piece) × (d ≡ c)
 IsStepOf c piece (step.End q) = (piece ≡ []) × (q ≡ c.query)
 
--- A call that was answered made visits: up to a piece, which has an answer, and what is kept behind it; or up to the end,
--- with no answer.
+-- A call that was answered made visits: up to a piece, which has an answer, and what is kept behind it; or up to the
+-- end, with no answer.
 abbrev pub Steps : {A : Type 0} → Home → Query A → ℕ → Position → List Datum → Step A → Views → Views → Type 0
 Steps h q limit at kept (step.Piece answers c) v w =
     Goes h (walk_of h Answers q) (up_to limit) (way v at kept) (way w (position_of c.at) (answers.items ++ kept_of c.kept))

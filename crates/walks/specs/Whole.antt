@@ -9,8 +9,8 @@ use Rattle.walk_core.specs.Walk.{Walk, Position, is_done, start_of}
 use Rattle.walk_core.specs.Walk.Position.{Over}
 use Rattle.walks.specs.Own.{FixesFirst, Releases}
 
--- A whole walk: the parts of a set that the session doesn't fix are fixed, visits are made from the beginning of the walk
--- on, and these parts are released.
+-- A whole walk: the parts of a set that the session doesn't fix are fixed, visits are made from the beginning of the
+-- walk on, and these parts are released.
 pub record Wholly (h : Home) (w : Walk) (wanted : ℕ → ℕ) (at : Position) (gained : List Datum) (v u : Views) : Type 0 where
   pub own : List Bool
   pub fixed : Views

@@ -4,7 +4,8 @@ use std::collections::VecDeque;
 use std::mem;
 use term_core::Term;
 
-/// Answers that were not given out yet; those of the last visit apart, so that no memory is needed to keep what a visit found.
+/// Answers that were not given out yet; those of the last visit apart, so that no memory is needed to keep what a visit
+/// found.
 #[derive(Drop)]
 pub struct Kept<A: Allocator = Global> {
     /// Those before.

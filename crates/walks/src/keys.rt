@@ -107,8 +107,8 @@ pub fn first<A: Allocator, T: Turns<A>>(turns: &mut T) -> Result<Option<Term<A>>
     first_from(turns, 0)
 }
 
-/// The key behind another in the order of a walk, none at the end (ets:next/2). In a set the other must have a row, dead or live,
-/// else it is refused (`BadKey`); in an ordered set it can be any term.
+/// The key behind another in the order of a walk, none at the end (ets:next/2). In a set the other must have a row,
+/// dead or live, else it is refused (`BadKey`); in an ordered set it can be any term.
 pub fn next<A: Allocator, T: Turns<A>>(
     turns: &mut T,
     key: &Term<A>,

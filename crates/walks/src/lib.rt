@@ -1,16 +1,18 @@
 //! Walks through tables, over any session.
 //!
-//! The one contract: a call makes visits, one behind the other, and over every interleaving its answers are those of `walk_core`: for
-//! each key once, what the query answers on the key's objects at one moment of the walk (`specs/Pieces.antt`, `specs/Whole.antt`).
-//! `first` and `next` make turns at the parts in their order until one has a key (`specs/Keys.antt`). Calls that visit take `rt`, since
-//! others may feed a walk through an ordered set for ever.
+//! The one contract: a call makes visits, one behind the other, and over every interleaving its answers are those of
+//! `walk_core`: for each key once, what the query answers on the key's objects at one moment of the walk
+//! (`specs/Pieces.antt`, `specs/Whole.antt`). `first` and `next` make turns at the parts in their order until one has a
+//! key (`specs/Keys.antt`). Calls that visit take `rt`, since others may feed a walk through an ordered set for ever.
 //!
-//! - `walk_plan::Query`: what is asked, and of which keys alone; `position`, `kept`, `continuation`: how far a walk has come, and what
-//!   it keeps.
+//! - `walk_plan::Query`: what is asked, and of which keys alone; `position`, `kept`, `continuation`: how far a walk has
+//!   come, and what it keeps.
 //! - `visit`: visits up to a limit; `counting`: visits that count or delete.
-//! - `pieces`: `select_limit` and `select_more`; `whole`: `select`, `select_count` and `select_delete`; `own`: the fixes that these make.
+//! - `pieces`: `select_limit` and `select_more`; `whole`: `select`, `select_count` and `select_delete`; `own`: the
+//!   fixes that these make.
 //! - `keys`: `first` and `next`.
-//! - `laws`: what walks come to where a session is alone (`specs/Alone.antt`), by what walks visit on one thread (`specs/Sights.antt`).
+//! - `laws`: what walks come to where a session is alone (`specs/Alone.antt`), by what walks visit on one thread
+//!   (`specs/Sights.antt`).
 #![tactic(auto)]
 
 mod continuation;

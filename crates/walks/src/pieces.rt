@@ -146,8 +146,8 @@ fn is_own<A: Allocator>(walk: &Continuation<A>, table: u64, session: u8) -> bool
     walk.table == table && walk.session == session
 }
 
-/// Begins a walk in pieces of at most so many answers each (ets:select/3). A limit of 0 is refused before any turn; what is
-/// refused is handed back.
+/// Begins a walk in pieces of at most so many answers each (ets:select/3). A limit of 0 is refused before any turn;
+/// what is refused is handed back.
 pub fn select_limit<R: Wait, A: Allocator + Copy, T: Turns<A>>(
     rt: &R,
     alloc: A,

@@ -44,8 +44,8 @@ fn gather<R: Wait, A: Allocator + Copy, T: Turns<A>>(
     next_piece(rt, alloc, turns, query, u64::MAX, &mut at, &mut kept)
 }
 
-/// The answers of a query on the objects of a table (ets:select/2). The parts of a set that the session doesn't fix are fixed
-/// first and released at the end, also where the call is refused.
+/// The answers of a query on the objects of a table (ets:select/2). The parts of a set that the session doesn't fix are
+/// fixed first and released at the end, also where the call is refused.
 pub fn select<R: Wait, A: Allocator + Copy, T: Turns<A>>(
     rt: &R,
     alloc: A,
@@ -118,8 +118,8 @@ fn count_table<R: Wait, A: Allocator, T: Turns<A>>(
     counted
 }
 
-/// How many objects of a table answer `true` to a query, at most 2^64 - 1 (ets:select_count/2). The parts of a set that the
-/// session doesn't fix are fixed first and released at the end, also where the call is refused.
+/// How many objects of a table answer `true` to a query, at most 2^64 - 1 (ets:select_count/2). The parts of a set that
+/// the session doesn't fix are fixed first and released at the end, also where the call is refused.
 pub fn select_count<R: Wait, A: Allocator, T: Turns<A>>(
     rt: &R,
     turns: &mut T,
@@ -139,9 +139,9 @@ pub fn select_count<R: Wait, A: Allocator, T: Turns<A>>(
     }
 }
 
-/// Deletes the objects of a table that answer `true` to a query, each in the turn in which it was asked, and answers how many,
-/// at most 2^64 - 1 (ets:select_delete/2); a refusal has the number until then. The parts of a set that the session doesn't
-/// fix are fixed first and released at the end, also where the call is refused.
+/// Deletes the objects of a table that answer `true` to a query, each in the turn in which it was asked, and answers
+/// how many, at most 2^64 - 1 (ets:select_delete/2); a refusal has the number until then. The parts of a set that the
+/// session doesn't fix are fixed first and released at the end, also where the call is refused.
 pub fn select_delete<R: Wait, A: Allocator, T: Turns<A>>(
     rt: &R,
     turns: &mut T,

@@ -1,5 +1,5 @@
-use Rattle.std.proofs.Common.{rules, ◌≡◌, ◌∙◌, ◌+◌, refl, subst, option_map}
-use Rattle.std.specs.Prelude.{Err, Result, min}
+use Rattle.std.proofs.Common.{◌≡◌, ◌∙◌, refl, subst, option_map}
+use Rattle.std.specs.Prelude.{Err, Result}
 use Rattle.std.proofs.lemmas.Result.{err_from_is_err_and}
 use Rattle.part_core.specs.declared.fault.Fault.{Fault}
 use Rattle.part_core.specs.declared.fault.Fault.TheVariants.{Memory}
@@ -33,8 +33,7 @@ loop-visit-preserved g c =
     let now = g.T.Turns.sees c.loop-visit.turns in
     let later = g.T.Turns.sees c.count_next.new.turns in
     let at = position_of c.loop-visit.at in
-    let visit = subst (λ (home : Home). Follows now later (CountsMore home (walk_of home purpose q) at (position_of c.count_next.new.at) c.in_ok-count.count)) c.loop-visit.invariant.1 c.in_ok-count.ensures.done in
-    (
+    let visit = subst (λ (home : Home). Follows now later (CountsMore home (walk_of home purpose q) at (position_of c.count_next.new.at) c.in_ok-count.count)) c.loop-visit.invariant.1 c.in_ok-count.ensures.done in (
       c.count_next.ensures.ready,
       c.count_next.ensures.same ∙ c.loop-visit.invariant.1,
       subst (λ (home : Home). IsWithin home.options q c.count_next.new.at) c.loop-visit.invariant.1 c.count_next.ensures.within,

@@ -1,4 +1,4 @@
-use Rattle.std.proofs.Common.{◌≡◌, ◌≢◌, ◌∙◌, [], List, ap, subst}
+use Rattle.std.proofs.Common.{◌≡◌, ◌≢◌, ◌∙◌, [], List, subst}
 use Rattle.term_core.specs.Datum.{Datum}
 use Rattle.part_core.specs.Acts.Purpose.{Answers}
 use Rattle.tables.specs.Turns.{Views, Follows}

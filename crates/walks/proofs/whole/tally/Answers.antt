@@ -1,4 +1,4 @@
-use Rattle.std.proofs.Common.{◌≡◌, ◌≢◌, ◌∙◌, ap, subst}
+use Rattle.std.proofs.Common.{◌≡◌, ◌≢◌, ap, subst}
 use Rattle.std.specs.Prelude.{Err}
 use Rattle.part_core.specs.declared.fault.Fault.TheVariants.{Memory}
 use Rattle.tables.specs.Turns.{Views, Follows}
