@@ -1,14 +1,13 @@
 -- The continuations of a script are its walks.
-use Rattle.std.proofs.Common.{◌≡◌, ℕ, zero, suc, ◌+◌, ◌<◌, ◌≤◌, ◌==◌, List, [], ◌∷◌, ◌++◌, refl, ap, sym, subst, ◌∙◌, Option, Some, None, arith, length, get_or, set, option_map}
+use Rattle.std.proofs.Common.{◌≡◌, ℕ, zero, suc, ◌+◌, ◌<◌, ◌≤◌, ◌==◌, List, [], ◌∷◌, ◌++◌, refl, ap, sym, subst, Option, Some, None, arith, length, get_or, set, option_map}
 use Rattle.std.specs.Prelude.{Bool, true, false, ◌&&◌, if◌then◌else◌, nat_lt}
 use Rattle.std.proofs.lemmas.Bool.{eqb-true, ltb-true, ltb-false, and_parts, false≢true}
 use Rattle.std.proofs.lemmas.Option.{none-some, same_Some}
 use Rattle.part_core.proofs.KeyLemmas.{by_test}
 use Rattle.tables.specs.declared.options.Options.{Options}
 use Rattle.walks.specs.declared.continuation.Continuation.{Continuation}
-use Rattle.walks.specs.Query.{IsWithin}
 use Rattle.tool_script.specs.Held.{Held, held_by}
-use Rattle.tool_script.specs.Continuations.{held_of, IsHeld, IsPlace, AreHeld, own_by, spent_by}
+use Rattle.tool_script.specs.Continuations.{held_of, IsPlace, AreHeld, own_by, spent_by}
 
 -- ---- tables that are opened and closed
 

@@ -1,5 +1,5 @@
 -- Courses that are taken.
-use Rattle.std.proofs.Common.{◌≡◌, refl}
+use Rattle.std.proofs.Common.{refl}
 use Rattle.std.specs.Prelude.{Result, Ok, Err, IfOk}
 use Rattle.term_core.specs.Datum.{Datum}
 use Rattle.tool_script.specs.Course.{Course, Comes, Takes, course_in}

@@ -1,6 +1,6 @@
 -- What commands make of the state of a script.
 use Rattle.std.proofs.Common.{◌≡◌, ℕ, ℤ, ◌+◌, ◌<◌, List, refl, ap, sym, subst, ◌∙◌, Option, Some, None, arith}
-use Rattle.std.specs.Prelude.{Bool, true, false, is_some, IfSome}
+use Rattle.std.specs.Prelude.{true, false, is_some, IfSome}
 use Rattle.std.proofs.lemmas.Bool.{true≢false}
 use Rattle.term_core.specs.Datum.{Datum, cells}
 use Rattle.term_core.specs.Datum.Datum.{nil}
@@ -14,15 +14,15 @@ use Rattle.tool_script.specs.declared.open.OpenTable as open_type
 use Rattle.tool_script.specs.declared.script.Current.{Current}
 use Rattle.tool_script.specs.declared.script.Current.TheVariants as current
 use Rattle.tool_script.specs.declared.script.Script as script_type
-use Rattle.tool_script.specs.Command.{Ask, Selection}
-use Rattle.tool_script.specs.Command.Command.{Open, Session, Walk, Close}
+use Rattle.tool_script.specs.Command.{Selection}
+use Rattle.tool_script.specs.Command.Command.{Open, Walk, Close}
 use Rattle.tool_script.specs.Continuations.{AreHeld}
 use Rattle.tool_script.specs.Course.{Takes}
 use Rattle.tool_script.specs.Opened.{IsOpen}
 use Rattle.tool_script.specs.Replied.{course, script_with}
-use Rattle.tool_script.specs.Script.{OpenTable, ScriptState, answered_in, newly_opened, number_within, opening_of, options_with, session_number}
+use Rattle.tool_script.specs.Script.{OpenTable, ScriptState, newly_opened, number_within, opening_of, options_with, session_number}
 use Rattle.tool_script.specs.Scripts.{HasState, HasTable, open_options}
-use Rattle.tool_script.specs.Walks.{Walked, selecting_by}
+use Rattle.tool_script.specs.Walks.{selecting_by}
 use Rattle.tool_script.proofs.ContinuationLemmas.{held_closed, held_opened}
 use Rattle.tool_script.proofs.CourseLemmas.{takes_in}
 use Rattle.tool_script.proofs.OptionLemmas.{options_named}
@@ -62,7 +62,7 @@ module _ {S O A : Type 0} {s : Ghosts S A} {o : Ghosts O A} where
       subst (λ x. Takes (course st x Close) (cells objects nil) (HasState new)) (sym there) (
         ap (λ xs. cells xs nil) are,
         has_state new (record { current = None; count = st.count; walks = st.walks }) current.NoTable old.count old.walks.items now_is count_is walks_is has.count tt tt
-        (held_closed old.count (open_options old.current) old.walks.items st.walks has.walks),
+            (held_closed old.count (open_options old.current) old.walks.items st.walks has.walks),
       )
 
   -- a table is opened
@@ -87,22 +87,7 @@ module _ {S O A : Type 0} {s : Ghosts S A} {o : Ghosts O A} where
       opened_by made is state =
           subst (λ x. (boolean true ≡ (opening_of st x).0) × HasState new (opening_of st x).1) (sym is) (refl, state)
 
-  -- a session is replied what it asked
-  pub asked_step : (old new : script_type.Script S O A s o) (st : ScriptState) (t : OpenTable) (x : Options) (IsNow : OpenTable → Type 0) (number : ℤ) (ask : Ask) (reply : Datum)
-      → HasState old st → st.current ≡ Some t → open_options old.current ≡ Some x → open_options new.current ≡ Some x
-      → new.count ≡ old.count → new.walks.items ≡ old.walks.items → ((u : OpenTable) → IsNow u → HasTable new.current (Some u))
-      → (reply ≡ (answered_in t ask (session_number t number)).0) × IsNow (answered_in t ask (session_number t number)).1
-      → Takes (course st st.current (Session number ask)) reply (HasState new)
-  asked_step old new st t x IsNow number ask reply has there old_is new_is count_is walks_is shows done =
-      let same = old_is ∙ sym new_is in
-      subst (λ y. Takes (course st y (Session number ask)) reply (HasState new)) (sym there) (
-        done.0,
-        has_state new _ new.current old.count old.walks.items refl count_is walks_is has.count (shows _ done.1)
-        (subst (λ y. IfSome y (λ p. p.name < old.count)) same has.named)
-        (subst (λ y. AreHeld y old.count old.walks.items st.walks) same has.walks),
-      )
-
-  -- or selected
+  -- a session is replied what it selected
   pub walked_step : (old new : script_type.Script S O A s o) (st : ScriptState) (t : OpenTable) (x y : Options) (IsNow : OpenTable → Type 0) (number : ℤ) (selection : Selection) (reply : Datum)
       → HasState old st → st.current ≡ Some t → open_options old.current ≡ Some x → open_options new.current ≡ Some y → y ≡ x
       → new.count ≡ old.count → ((u : OpenTable) → IsNow u → HasTable new.current (Some u))

@@ -1,8 +1,8 @@
 -- What a session is replied that walks its table.
 use Rattle.std.proofs.Common.{◌≡◌, ◌≢◌, ℕ, ℤ, pos, ◌<◌, List, [], ◌∷◌, ◌++◌, refl, ap, sym, subst, ◌∙◌, Option, Some, None, arith, length, get_or, set, option_map}
-use Rattle.std.specs.Prelude.{IsTrue, Bool, true, false, negsuc, if◌then◌else◌}
+use Rattle.std.specs.Prelude.{IsTrue, negsuc, if◌then◌else◌}
 use Rattle.std.proofs.lemmas.List.{set-get_or}
-use Rattle.std.proofs.lemmas.Option.{none-some, same_Some}
+use Rattle.std.proofs.lemmas.Option.{none-some}
 use Rattle.std.proofs.lemmas.Bool.{lt-ltb}
 use Rattle.term_core.specs.Datum.{Datum, cells}
 use Rattle.term_core.specs.Datum.Datum.{integer, nil}
@@ -22,20 +22,20 @@ use Rattle.walks.specs.Counting.{FinishesCount}
 use Rattle.walks.specs.declared.continuation.Continuation.{Continuation}
 use Rattle.walks.specs.declared.continuation.Step as step_type
 use Rattle.walks.specs.declared.continuation.Step.TheVariants as step
-use Rattle.walks.specs.Pieces.{IsOwn, IsWalkOf, Steps}
+use Rattle.walks.specs.Pieces.{IsWalkOf, Steps}
 use Rattle.walks.specs.Query.{IsThere, IsWithin, kept_of, plan_of, position_of, walk_of}
-use Rattle.walks.specs.Sights.{Piece, Sight, first_position, piece_of, sights_from}
+use Rattle.walks.specs.Sights.{Piece, first_position, piece_of, sights_from}
 use Rattle.walks.specs.Whole.{Finishes}
-use Rattle.tool_script.specs.Command.Selection.{Select, SelectLimit, SelectMore, SelectCount, SelectDelete}
-use Rattle.tool_script.specs.Continuations.{held_of, IsHeld, IsPlace, AreHeld, IsKept, own_at, own_by, spent_at, spent_by}
+use Rattle.tool_script.specs.Command.Selection.{Select, SelectMore, SelectCount, SelectDelete}
+use Rattle.tool_script.specs.Continuations.{held_of, IsPlace, AreHeld, IsKept, own_at, spent_at}
 use Rattle.tool_script.specs.Course.{Step, Takes}
 use Rattle.tool_script.specs.Course.Course.{Judging}
-use Rattle.tool_script.specs.Held.{Held, held_at, held_by}
+use Rattle.tool_script.specs.Held.{Held, held_by}
 use Rattle.tool_script.specs.Script.{error, key_or_end}
 use Rattle.tool_script.specs.State.{AreAt, IsAt, IsDone, IsSelected}
 use Rattle.tool_script.specs.Verdict.{IsMeant}
 use Rattle.tool_script.specs.Verdict.Verdict.{Meant, Faulty}
-use Rattle.tool_script.specs.Walks.{Walked, begun, behind_piece, fault_term, judged, limit_in, more_step, piece_step, piece_term, selecting}
+use Rattle.tool_script.specs.Walks.{Walked, begun, behind_piece, fault_term, judged, piece_step, piece_term}
 use Rattle.tool_script.proofs.ContinuationLemmas.{held_length, held_more, held_place, held_set, not_spent, own_is, own_there, Own}
 
 -- ---- what a term is
@@ -123,8 +123,8 @@ behind_place h q limit at kept piece c count own kept_is at_is along named =
       earlier = subst (λ n. n < count) table_is named;
       table = table_is;
       own = λ same. (
-          λ i. record { table = table_is i; session = session_is i; answer = answer_of (query_is i).code; plan = plan_of (query_is i) h.options; limit = limit_is i; at = there i; kept = rest i },
-          subst (λ (x : Query _). IsThere h.options.parts (named_count (plan_of x h.options)) (position_of c.at)) query_is (subst (IsThere h.options.parts (named_count (plan_of q h.options))) there along),
+        λ i. record { table = table_is i; session = session_is i; answer = answer_of (query_is i).code; plan = plan_of (query_is i) h.options; limit = limit_is i; at = there i; kept = rest i },
+        subst (λ (x : Query _). IsThere h.options.parts (named_count (plan_of x h.options)) (position_of c.at)) query_is (subst (IsThere h.options.parts (named_count (plan_of q h.options))) there along),
       );
     }
 

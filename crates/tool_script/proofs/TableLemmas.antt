@@ -1,23 +1,13 @@
 -- A table that is opened, and its objects.
-use Rattle.std.proofs.Common.{◌≡◌, ℕ, zero, suc, ◌+◌, ◌-◌, ◌<◌, ◌≤◌, List, [], ◌∷◌, ◌++◌, refl, ap, sym, ◌∙◌, Some, All, arith, slice_get, flat_map, append_assoc}
+use Rattle.std.proofs.Common.{◌≡◌, ℕ, zero, suc, ◌+◌, ◌-◌, ◌<◌, ◌≤◌, List, [], ◌∷◌, ◌++◌, refl, ap, sym, ◌∙◌, arith, flat_map}
 use Rattle.std.specs.Prelude.{Result, Ok, Err, IfErr, IsErrOf}
 use Rattle.std.specs.List.{range_with_len}
-use Rattle.std.specs.Coded.{codes}
-use Rattle.std.proofs.Props.{props}
-use Rattle.std.proofs.Math.Logic.{∥∥₁_elim}
-use Rattle.std.proofs.lemmas.List.{append-nil}
-use Rattle.std.proofs.lemmas.List.Elements.{All-get_or}
 use Rattle.std.proofs.lemmas.List.Concat.{flat_map-append}
-use Rattle.std.proofs.lemmas.Option.{slice_get_within, get_or_from_slice_get}
 use Rattle.term_core.specs.Datum.{Datum}
-use Rattle.term_core.specs.DatumCode.{datum_code}
 use Rattle.part_core.specs.declared.fault.OpenFault.{OpenFault}
 use Rattle.part_core.specs.declared.fault.OpenFault.TheVariants as open_fault
-use Rattle.part_core.specs.declared.settings.Settings.{Settings}
-use Rattle.part_core.specs.Acts.{History}
 use Rattle.part_core.specs.Rows.{Row, PartState, opening}
 use Rattle.part_core.specs.Visits.{walk_order, walked_objects}
-use Rattle.part_core.specs.Legal.{state_after}
 use Rattle.tables.specs.declared.options.Options.{Options}
 use Rattle.tables.specs.Options.{settings_of}
 use Rattle.tables.specs.Turns.{Views}

@@ -187,11 +187,10 @@ strangers = refl
 
 -- ---- keys that are named
 
--- the code of [{{2},[],[two]},{{1},[],[one]},{{2},[],[again]}], but for its match of tuples of one element, and what the
--- specification names
 abbrev word : List ℕ → Datum
 word cs = atom cs
 
+-- a specification that names keys, and what it means on objects, of which all have one element here
 abbrev names : Datum
 names =
     list

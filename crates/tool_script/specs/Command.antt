@@ -20,9 +20,9 @@ pub data Ask : Type 0 where
   First : Ask
   Next : Datum → Ask
 
--- What a session asks by a specification, or of a walk that it began: all answers (ets:select/2); at most so many at once
--- (ets:select/3); those that go on behind a piece, by the number of its continuation (ets:select/1); how many objects are
--- answered true (ets:select_count/2); that these go (ets:select_delete/2).
+-- What a session asks by a specification, or of a walk that it began: all answers (ets:select/2); at most so many at
+-- once (ets:select/3); those that go on behind a piece, by the number of its continuation (ets:select/1); how many
+-- objects are answered true (ets:select_count/2); that these go (ets:select_delete/2).
 pub data Selection : Type 0 where
   Select : Datum → Selection
   SelectLimit : Datum → ℤ → Selection
@@ -30,8 +30,8 @@ pub data Selection : Type 0 where
   SelectCount : Datum → Selection
   SelectDelete : Datum → Selection
 
--- A table is opened, of a kind, with a place of the key, parts and sessions; a session, by its number, asks something, or
--- walks the table; the table is closed.
+-- A table is opened, of a kind, with a place of the key, parts and sessions; a session, by its number, asks something,
+-- or walks the table; the table is closed.
 pub data Command : Type 0 where
   Open : TableKind → ℤ → ℤ → ℤ → Command
   Session : ℤ → Ask → Command

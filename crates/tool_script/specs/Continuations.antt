@@ -1,5 +1,6 @@
 -- The walks that can go on, in memory.
-use Rattle.std.specs.Prelude.{ℕ, ℤ, pos, ◌≡◌, ◌<◌, ◌==◌, ◌&&◌, ◌++◌, if◌then◌else◌, Option, Some, None, IfSome, get_or, set, List, [], ◌∷◌, length}
+use Rattle.std.specs.Prelude.{ℕ, ℤ, pos, ◌≡◌, ◌<◌, ◌==◌, ◌&&◌, ◌++◌, if◌then◌else◌}
+use Rattle.std.specs.Prelude.{Option, Some, None, IfSome, get_or, set, List, [], ◌∷◌, length}
 use Rattle.term_core.specs.Datum.{Datum}
 use Rattle.mcode.specs.Answer.{answer_of}
 use Rattle.tables.specs.declared.options.Options.{Options}
@@ -14,14 +15,23 @@ use Rattle.tool_script.specs.Walks.{piece_term}
 -- the walk of a continuation, of a table with these options
 abbrev pub held_of : {A : Type 0} → Options → Continuation A → Held
 held_of o c =
-    record { table = c.table; session = c.session; answer = answer_of c.query.code; plan = plan_of c.query o; limit = c.limit; at = position_of c.at; kept = kept_of c.kept }
+    record {
+      table = c.table;
+      session = c.session;
+      answer = answer_of c.query.code;
+      plan = plan_of c.query o;
+      limit = c.limit;
+      at = position_of c.at;
+      kept = kept_of c.kept;
+    }
 
--- A continuation is one of a table that was opened, and so is the walk. Where that table is the one that is open, the walk
--- is the continuation's, and it can be where it is.
-pub record IsHeld {A : Type 0} (open_options : Option Options) (count : ℕ) (c : Continuation A) (held : Held) : Type 0 where
-  pub earlier : c.table < count
-  pub table : held.table ≡ c.table
-  pub own : IfSome open_options (λ o. o.name ≡ c.table → (held ≡ held_of o c) × IsWithin o c.query c.at)
+-- A continuation is one of a table that was opened, and so is the walk. Where that table is the one that is open, the
+-- walk is the continuation's, and it can be where it is.
+pub record IsHeld {A : Type 0} (open_options : Option Options) (count : ℕ) (c : Continuation A) (held : Held) : Type 0
+  where
+    pub earlier : c.table < count
+    pub table : held.table ≡ c.table
+    pub own : IfSome open_options (λ o. o.name ≡ c.table → (held ≡ held_of o c) × IsWithin o c.query c.at)
 
 -- there is a walk in each place where there is a continuation
 abbrev pub IsPlace : {A : Type 0} → Option Options → ℕ → Option (Continuation A) → Option Held → Type 0
@@ -29,7 +39,8 @@ IsPlace open_options count None None = Unit {0}
 IsPlace open_options count (Some c) (Some held) = IsHeld open_options count c held
 IsPlace open_options count c held = ⊥
 
--- the continuations of a script are its walks, by what its open table was opened with and how many tables were opened so far
+-- The continuations of a script are its walks: by what its open table was opened with, and how many tables were opened
+-- so far.
 abbrev pub AreHeld : {A : Type 0} → Option Options → ℕ → List (Option (Continuation A)) → List (Option Held) → Type 0
 AreHeld open_options count [] [] = Unit {0}
 AreHeld open_options count (c ∷ cs) (held ∷ walks) =

@@ -11,7 +11,7 @@ use Rattle.tool_script.specs.Course.{Takes}
 use Rattle.tool_script.specs.Held.{Held}
 use Rattle.tool_script.specs.Script.{OpenTable, answered_in, session_number}
 use Rattle.tool_script.specs.State.{IsAt}
-use Rattle.tool_script.specs.Walks.{Walked, selecting_by}
+use Rattle.tool_script.specs.Walks.{selecting_by}
 
 -- the table is in its state, and of each session it is known whether it has left
 pub record IsOpen {P A : Type 0} {p : Ghosts P A} (t : open_type.OpenTable P A p) (state : OpenTable) : Type 0 where
@@ -31,9 +31,11 @@ IsSessionAnswered old new number ask reply =
     × IsOpen new (answered_in state ask (session_number state number)).1
 
 -- the same of what it selects, and of the walks of the script
-abbrev pub IsSelectionAnswered : {P A : Type 0} {p : Ghosts P A} → open_type.OpenTable P A p → open_type.OpenTable P A p → (old new : List (Option (Continuation A))) → ℤ → Selection → Datum → Type 0
+abbrev pub IsSelectionAnswered : {P A : Type 0} {p : Ghosts P A} → open_type.OpenTable P A p → open_type.OpenTable P A p
+    → (old new : List (Option (Continuation A))) → ℤ → Selection → Datum → Type 0
 IsSelectionAnswered before now old new number selection reply =
-    (count : ℕ) (state : OpenTable) (walks : List (Option Held)) → before.table.options.name < count → IsOpen before state
-    → AreHeld (Some before.table.options) count old walks
+    (count : ℕ) (state : OpenTable) (walks : List (Option Held)) → before.table.options.name < count
+    → IsOpen before state → AreHeld (Some before.table.options) count old walks
     → Takes (selecting_by (record { table = state.table; walks = walks }) selection (session_number state number)) reply
-    (λ w. IsOpen now (record { table = w.table; left = state.left }) × AreHeld (Some now.table.options) count new w.walks)
+    (λ w. IsOpen now (record { table = w.table; left = state.left })
+    × AreHeld (Some now.table.options) count new w.walks)

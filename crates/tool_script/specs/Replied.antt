@@ -7,7 +7,8 @@ use Rattle.tool_script.specs.Command.{Command, command_term, IsNoCommand}
 use Rattle.tool_script.specs.Command.Command.{Open, Session, Walk, Close}
 use Rattle.tool_script.specs.Course.{Course, Comes, Gives, course_in}
 use Rattle.tool_script.specs.Course.Course.{Settled}
-use Rattle.tool_script.specs.Script.{OpenTable, ScriptState, error, number_within, options_with, opening_of, session_number, session_step}
+use Rattle.tool_script.specs.Script.{OpenTable, ScriptState, error, number_within, options_with, opening_of}
+use Rattle.tool_script.specs.Script.{session_number, session_step}
 use Rattle.tool_script.specs.Walks.{Walked, selecting_by}
 
 -- the script when its open table, and the walks that can go on, are these
@@ -15,10 +16,12 @@ abbrev pub script_with : ScriptState → OpenTable → Walked → ScriptState
 script_with st o w =
     record { current = Some (record { table = w.table; left = o.left }); count = st.count; walks = w.walks }
 
--- How a command is replied, and the script behind it. While a table is open none is opened, and else nothing is asked of one.
+-- How a command is replied, and the script behind it. While a table is open none is opened, and else nothing is asked
+-- of one.
 abbrev pub course : ScriptState → Option OpenTable → Command → Course ScriptState
 course st None (Open kind keypos parts sessions) =
-    let options = options_with st.count kind (number_within 1 65535 keypos) (number_within 1 64 parts) (number_within 1 16 sessions) in
+    let place = number_within 1 65535 keypos in
+    let options = options_with st.count kind place (number_within 1 64 parts) (number_within 1 16 sessions) in
     Settled (opening_of st options)
 course st (Some o) (Session s ask) = Settled (session_step st o ask (session_number o s))
 course st (Some o) (Walk s selection) =

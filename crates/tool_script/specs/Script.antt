@@ -1,5 +1,6 @@
 -- A script on one thread: its state, and what it is replied that opens a table or has a session ask something of it.
-use Rattle.std.specs.Prelude.{ℕ, ℤ, pos, ◌+◌, ◌==◌, Bool, true, false, not, ◌&&◌, ◌||◌, if◌then◌else◌, nat_le, nat_lt, Option, Some, None, List, [], ◌∷◌, codes}
+use Rattle.std.specs.Prelude.{ℕ, ℤ, pos, ◌+◌, ◌==◌, Bool, true, false, not, ◌&&◌, ◌||◌, if◌then◌else◌, nat_le, nat_lt}
+use Rattle.std.specs.Prelude.{Option, Some, None, List, [], ◌∷◌, codes}
 use Rattle.term_core.specs.Datum.{Datum, cells}
 use Rattle.term_core.specs.Datum.Datum.{integer, atom, nil}
 use Rattle.term_operand.specs.Operand.{boolean}

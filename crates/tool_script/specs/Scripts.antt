@@ -26,7 +26,8 @@ open_options current.NoTable = None
 open_options (current.Set t) = Some t.table.options
 open_options (current.Ordered t) = Some t.table.options
 
--- A script is in its state: how many tables were opened, one of which is the one that is open; its table; and its walks.
+-- A script is in its state: how many tables were opened, one of which is the one that is open; its table; and its
+-- walks.
 pub record HasState {S O A : Type 0} {s : Ghosts S A} {o : Ghosts O A} (script : script_type.Script S O A s o) (st : ScriptState) : Type 0
   where
     pub count : st.count ≡ script.count

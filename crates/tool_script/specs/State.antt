@@ -30,20 +30,23 @@ IsAnswered o n before now ask reply =
     (t : TableState) → IsAt o before t → (reply ≡ (asked t n ask).0) × IsAt o now (asked t n ask).1
 
 -- A table with the walks of its script is in a state; it is one of so many that were opened.
-pub record AreAt {A : Type 0} (o : Options) (sees : Views → Type 0) (count : ℕ) (cs : List (Option (Continuation A))) (w : Walked) : Type 0
+pub record AreAt {A : Type 0} (o : Options) (sees : Views → Type 0) (count : ℕ) (cs : List (Option (Continuation A)))
+    (w : Walked) : Type 0
   where
     pub table : IsAt o sees w.table
     pub named : o.name < count
     pub walks : AreHeld (Some o) count cs w.walks
 
 -- a step is made of whatever state they are in
-abbrev pub IsDone : {A : Type 0} → Options → (before now : Views → Type 0) → (old new : List (Option (Continuation A))) → (Walked → Step Walked) → Datum → Type 0
+abbrev pub IsDone : {A : Type 0} → Options → (before now : Views → Type 0) → (old new : List (Option (Continuation A)))
+    → (Walked → Step Walked) → Datum → Type 0
 IsDone o before now old new go reply =
     (count : ℕ) (w : Walked) → AreAt o before count old w
     → (reply ≡ (go w).0) × AreAt o now count new (go w).1
 
 -- a session is replied what it selected, and the table and the walks are in the state behind that
-abbrev pub IsSelected : {A : Type 0} → Options → ℕ → (before now : Views → Type 0) → (old new : List (Option (Continuation A))) → Selection → Datum → Type 0
+abbrev pub IsSelected : {A : Type 0} → Options → ℕ → (before now : Views → Type 0)
+    → (old new : List (Option (Continuation A))) → Selection → Datum → Type 0
 IsSelected o n before now old new selection reply =
     (count : ℕ) (w : Walked) → AreAt o before count old w
     → Takes (selecting w n selection) reply (AreAt o now count new)

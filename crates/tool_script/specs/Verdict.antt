@@ -16,8 +16,8 @@ pub data Verdict : Type 0 where
   Meant : (Datum → Option Datum) → Option (List Datum) → Verdict
   Faulty : SpecFault → Verdict
 
--- A specification that the term is read as, within its limits; what it means on each object; and the keys that a walk by it
--- visits, of a table with these options.
+-- A specification that the term is read as, within its limits; what it means on each object; and the keys that a walk
+-- by it visits, of a table with these options.
 pub record IsMeant (o : Options) (d : Datum) (answer : Datum → Option Datum) (plan : Option (List Datum)) : Type 0 where
   pub specification : Specification
   pub read : IsSpecification d specification

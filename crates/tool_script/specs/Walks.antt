@@ -1,6 +1,6 @@
 -- What a session is replied that walks a table by a specification, on one thread.
-use Rattle.std.specs.Prelude.{ℕ, ℤ, pos, ◌++◌, if◌then◌else◌, nat_le, Option, Some, None, set, map, List, [], ◌∷◌, length}
-use Rattle.std.specs.Prelude.{codes}
+use Rattle.std.specs.Prelude.{ℕ, ℤ, pos, ◌++◌, if◌then◌else◌, nat_le, Option, Some, None, set, map}
+use Rattle.std.specs.Prelude.{List, [], ◌∷◌, length, codes}
 use Rattle.std.specs.Option.{option_to_list}
 use Rattle.term_core.specs.Datum.{Datum, cells, items_of}
 use Rattle.term_core.specs.Datum.Datum.{integer, tuple, nil}
@@ -55,7 +55,15 @@ piece_step w held =
 -- a walk that begins
 abbrev pub begun : Options → ℕ → ℕ → (Datum → Option Datum) → Option (List Datum) → Held
 begun o n limit answer plan =
-    record { table = o.name; session = n; answer = answer; plan = plan; limit = limit; at = first_position plan; kept = [] }
+    record {
+      table = o.name;
+      session = n;
+      answer = answer;
+      plan = plan;
+      limit = limit;
+      at = first_position plan;
+      kept = [];
+    }
 
 -- A continuation's walk goes on, and the continuation is spent; there may be none such.
 abbrev pub more_step : Walked → ℤ → Option Held → Step Walked

@@ -4,8 +4,9 @@ ghost use Rattle.std.specs.Cmp.Lexicographic.{pointwise};
 ghost use Rattle.term_core.specs.Datum.Datum.{atom};
 ghost use Rattle.tool_script.specs.Command.{command_term, IsNoCommand};
 ghost use Rattle.tool_script.specs.Commands.{ask_of, command_of, selection_of};
-ghost use Rattle.tool_script.specs.Reading.{IsNoAtom, kind_in, ask_alone, ask_with, asked_by, selection_with, selection_within, walked_by};
-ghost use Rattle.tool_script.specs.Reading.{told_by, closed_by, opened_by, command_with, elements_in};
+ghost use Rattle.tool_script.specs.Reading.{IsNoAtom, kind_in, ask_alone, ask_with, asked_by, selection_with};
+ghost use Rattle.tool_script.specs.Reading.{selection_within, walked_by, told_by, closed_by, opened_by};
+ghost use Rattle.tool_script.specs.Reading.{command_with, elements_in};
 
 use part_core::TableKind;
 use std::alloc::{Allocator, Global};

@@ -1,8 +1,8 @@
 //! Scripts of ets commands on one thread: tables are opened, sessions ask of them and walk them, tables are closed.
 //!
 //! The one contract: the lines that are written are those of the replies to the script's terms (`AreReplies` of
-//! `specs/Replied.antt`), for want of memory those of a beginning of them (`specs/Run.antt`). Which parts the tables are
-//! made of is the caller's choice: any that keep the trait `Part`.
+//! `specs/Replied.antt`), for want of memory those of a beginning of them (`specs/Run.antt`). Which parts the tables
+//! are made of is the caller's choice: any that keep the trait `Part`.
 //!
 //! - `command`: the commands that stand in memory (`specs/Commands.antt`), and how they are read from terms
 //!   (`specs/Reading.antt`); `command_laws`: terms tell commands (`command_term` of `specs/Command.antt`).

@@ -201,10 +201,7 @@ fn put_pair<A: Allocator + Copy>(
 }
 
 /// Puts the line of a fault's number, and of what stands behind it, at the end.
-fn put_arguments<A: Allocator>(
-    fault: SpecFault,
-    text: &mut Vec<u8, A>,
-) -> Result<(), AllocError>
+fn put_arguments<A: Allocator>(fault: SpecFault, text: &mut Vec<u8, A>) -> Result<(), AllocError>
     ensures { OnOk result (text.new.items ≡ text.old.items ++ line (fault_term fault)) }
 {
     text.extend_from_slice(b"{error")?;
