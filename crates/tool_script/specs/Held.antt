@@ -3,8 +3,8 @@ use Rattle.std.specs.Prelude.{ℕ, ℤ, pos, ◌==◌, ◌&&◌, if◌then◌els
 use Rattle.term_core.specs.Datum.{Datum}
 use Rattle.walk_core.specs.Walk.{Position}
 
--- A walk that can go on: of which table, by its name, and of which session it is; what is answered on an object; the named
--- keys, if it has any; how many answers a piece has at most; where the walk is; and which answers are kept.
+-- A walk that can go on: of which table, by its name, and of which session it is; what is answered on an object; the
+-- named keys, if it has any; how many answers a piece has at most; where the walk is; and which answers are kept.
 pub record Held : Type 0 where
   pub table : ℕ
   pub session : ℕ

@@ -24,8 +24,8 @@ pub record OpenTable : Type 0 where
   pub table : TableState
   pub left : ℕ → Bool
 
--- The table that is open, if one is; how many were opened so far, by which tables are named; and the walks that can go on, by
--- the numbers of their continuations, none where one is spent.
+-- The table that is open, if one is; how many were opened so far, by which tables are named; and the walks that can go
+-- on, by the numbers of their continuations, none where one is spent.
 pub record ScriptState : Type 0 where
   pub current : Option OpenTable
   pub count : ℕ
@@ -79,8 +79,8 @@ at_object t n object act =
     if is_object (settings_of t.options) object then at_key t n (key_of (settings_of t.options) object) act
     else (error 50, t)
 
--- What a session is replied, and the table behind it. A fix is counted at each part, or at none where one has as many as
--- there may be; likewise a fix is released at each part or at none.
+-- What a session is replied, and the table behind it. A fix is counted at each part, or at none where one has as many
+-- as there may be; likewise a fix is released at each part or at none.
 abbrev pub asked : TableState → ℕ → Ask → Datum × TableState
 asked t n (Insert object) = at_object t n object (Act.Insert object)
 asked t n (InsertNew object) = at_object t n object (Act.InsertNew object)
@@ -117,7 +117,8 @@ abbrev pub number_within : ℕ → ℕ → ℤ → Option ℕ
 number_within low high (pos n) = if nat_le low n && nat_le n high then Some n else None
 number_within low high z = None
 
--- the options of a table that can be opened: a set or an ordered set, with numbers in their ranges, and an ordered set in one part
+-- the options of a table that can be opened: a set or an ordered set, with numbers in their ranges, and an ordered set
+-- in one part
 abbrev pub options_with : ℕ → TableKind → Option ℕ → Option ℕ → Option ℕ → Option Options
 options_with name kind (Some keypos) (Some parts) (Some sessions) =
     if is_set kind && (not (is_ordered kind) || parts == 1)

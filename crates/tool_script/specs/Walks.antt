@@ -42,7 +42,8 @@ abbrev pub behind_piece : Held → Piece → Held
 behind_piece held piece =
     record { table = held.table; session = held.session; answer = held.answer; plan = held.plan; limit = held.limit; at = piece.at; kept = piece.kept }
 
--- A walk goes on by a piece, which is replied with a new continuation. Where there is no answer left the walk is at its end.
+-- A walk goes on by a piece, which is replied with a new continuation. Where there is no answer left the walk is at its
+-- end.
 abbrev pub piece_step : Walked → Held → Step Walked
 piece_step w held =
     let piece = piece_of held.answer held.limit held.kept held.at (sights_from w.table held.plan held.at) in

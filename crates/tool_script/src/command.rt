@@ -216,8 +216,8 @@ fn walked_by<'a, A: Allocator>(
     ensures { option_map command_of result
         ≡ walked_by session.now (option_map selection_of selection.entry) }
 {
-    let session = Operand::Term(session).integer()?;
-    Some(Command::Walk(session, selection?))
+    let number = Operand::Term(session).integer()?;
+    Some(Command::Walk(number, selection?))
 }
 
 /// A session's command by a name and a term.

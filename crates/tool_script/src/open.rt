@@ -37,8 +37,8 @@ fn small_in(value: i64, most: u8) -> Option<u8>
     Some(value as u8)
 }
 
-/// The options of a table that can be opened, none where the numbers are outside their ranges, an ordered set has more than one part, or
-/// the table may hold more than one object a key.
+/// The options of a table that can be opened, none where the numbers are outside their ranges, an ordered set has more
+/// than one part, or the table may hold more than one object a key.
 pub(crate) fn options_in(
     name: u64,
     kind: TableKind,

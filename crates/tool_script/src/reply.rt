@@ -90,7 +90,8 @@ fn put_error<A: Allocator + Copy>(number: u8, lines: &mut Vec<u8, A>) -> Result<
     put_line(b"{error,", &number, b"}.\n", lines)
 }
 
-/// Puts the line of a list of objects at the end. There may be more objects than a term may have, and as deep as a term may be.
+/// Puts the line of a list of objects at the end. There may be more objects than a term may have, and as deep as a term
+/// may be.
 fn put_objects<A: Allocator + Copy>(
     objects: &[Term<A>],
     lines: &mut Vec<u8, A>,

@@ -95,9 +95,9 @@ pub(crate) fn run_with<
     run_terms(rt, alloc, script, terms.as_slice(), writer)
 }
 
-/// Reads a script, to the reader's end, and writes the line of the reply to each of its terms: tables of kind `set` are made of parts `S`,
-/// ordered sets of parts `O`. A text that is refused writes nothing; where memory runs out, the lines of the replies to a beginning of the
-/// terms are written.
+/// Reads a script, to the reader's end, and writes the line of the reply to each of its terms: tables of kind `set` are
+/// made of parts `S`, ordered sets of parts `O`. A text that is refused writes nothing; where memory runs out, the
+/// lines of the replies to a beginning of the terms are written.
 pub fn run_script<
     H: Wait,
     S: Part<A> + Drop,
