@@ -1,0 +1,3 @@
+mod HistoryLemmas
+mod SeatLemmas
+mod StepLemmas

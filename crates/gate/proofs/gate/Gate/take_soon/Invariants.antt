@@ -1,0 +1,5 @@
+use Rattle.std.proofs.Common.{◌≡◌}
+use Rattle.gate.proofs.gate.Gate.take_soon.Given as goal
+
+abbrev pub invariant-loop-look : goal.invariant-loop-look
+invariant-loop-look g l = (l.seat.table_id ≡ l.initial.seat.table_id) × (l.seat.me ≡ l.initial.seat.me)
