@@ -38,8 +38,8 @@ seer v log = record { settings = v.settings; role = Session (number_of v.role); 
 abbrev pub holder : View → History → View
 holder v log = record { settings = v.settings; role = Holder (number_of v.role); seen = log; told = v.told }
 
--- A view is true to the part's history: who has a number knows what is settled, what was seen and what was told of begin the
--- history, and each session whose number stands in the view has all its entries in what was seen.
+-- A view is true to the part's history: who has a number knows what is settled, what was seen and what was told of
+-- begin the history, and each session whose number stands in the view has all its entries in what was seen.
 pub record Fits (o : Settings) (log : History) (v : View) : Type 0 where
   pub knows : (n : ℕ) → Has v.role n → v.settings ≡ o
   pub seen : GoesOn v.seen log

@@ -12,7 +12,8 @@ use Rattle.gate.specs.Views.{own, GoesOn}
 use Rattle.gate.specs.Rule.{number_of, seer, holder}
 
 module _ {P : Type 0} (settings : P → Settings) (IsAfter : P → History → Type 0) where
-  -- The part was taken: it is in the state after a history that goes on what was seen, with entries of other sessions alone.
+  -- The part was taken: it is in the state after a history that goes on what was seen, with entries of other sessions
+  -- alone.
   pub record IsTaken (me now : Me P View) : Type 0 where
     pub part : P
     pub between : History

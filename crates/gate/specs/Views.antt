@@ -18,8 +18,8 @@ GoesOn old new = (rest : History) × (new ≡ old ++ rest)
 abbrev pub GateId : Type 0
 GateId = TableId
 
--- A session's pass: the gate that it was made with, what is settled of the part there, the session's number, and the history of
--- the part up to the session's last turn.
+-- A session's pass: the gate that it was made with, what is settled of the part there, the session's number, and the
+-- history of the part up to the session's last turn.
 pub record Ticket : Type 0 where
   pub gate : GateId
   pub settings : Settings
@@ -34,8 +34,8 @@ ticket_with t log = record { gate = t.gate; settings = t.settings; number = t.nu
 abbrev pub first_ticket : GateId → Settings → ℕ → Ticket
 first_ticket gate o n = record { gate = gate; settings = o; number = n; log = [] }
 
--- A turn, as the history tells it: behind what the pass had seen stand entries of other sessions, and then the turn's, if it was
--- answered; for want of memory there is none. The whole is legal.
+-- A turn, as the history tells it: behind what the pass had seen stand entries of other sessions, and then the turn's,
+-- if it was answered; for want of memory there is none. The whole is legal.
 pub record IsTurn (o : Settings) (n : ℕ) (old : History) (act : Act) (answer : Option Answer) (new : History) : Type 0 where
   pub between : History
   pub others : own n between ≡ []

@@ -145,8 +145,8 @@ impl<P: Part<A> + Drop, A: Allocator> Gate<P, A> {
         }
     }
 
-    /// Takes the part out, does an operation on it for the session and puts it back. Waits while other sessions have it. What is
-    /// refused stays as it was, and want of memory leaves no entry.
+    /// Takes the part out, does an operation on it for the session and puts it back. Waits while other sessions have
+    /// it. What is refused stays as it was, and want of memory leaves no entry.
     pub fn turn<'a, R: Wait>(
         &self,
         rt: &R,

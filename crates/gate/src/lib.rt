@@ -1,9 +1,9 @@
 //! The gate of one part, through which sessions on threads of their own take turns at it.
 //!
-//! The one contract: each `turn` answers what the part answers at that point of one legal history, which begins with all
-//! that the session's pass had seen, goes on with entries of other sessions alone, and ends with the turn's
-//! (`IsTurn` of `specs/Views.antt`). Of what two passes have seen, one begins with the other (`meet`), and the part that
-//! is left at the end is in the state after a history that begins with what the last pass had seen (`close`).
+//! The one contract: each `turn` answers what the part answers at that point of one legal history, which begins with
+//! all that the session's pass had seen, goes on with entries of other sessions alone, and ends with the turn's
+//! (`IsTurn` of `specs/Views.antt`). Of what two passes have seen, one begins with the other (`meet`), and the part
+//! that is left at the end is in the state after a history that begins with what the last pass had seen (`close`).
 //!
 //! - `gate`: the gate and its calls. `pass`: what a session goes through it with. `lost`: why a gate can't give the
 //!   part out.

@@ -6,8 +6,8 @@ use crate::view::View;
 use atomic_table::Seat;
 use std::marker::Model;
 
-/// A session's pass through one gate. Contracts see the gate that it was made with, the session's number, and the history of the
-/// part up to the session's last turn.
+/// A session's pass through one gate. Contracts see the gate that it was made with, the session's number, and the
+/// history of the part up to the session's last turn.
 #[derive(Drop)]
 pub struct Pass<P> {
     pub(crate) seat: Seat<P, View>,

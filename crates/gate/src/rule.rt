@@ -6,7 +6,8 @@ use std::alloc::Allocator;
 use std::marker::{Brand, PhantomData};
 use std::snapshot::Snapshot;
 
-/// The word is 0 while the part is at home in the slot, 1 while it is out, and 2 while it is out and a thread may wait for it.
+/// The word is 0 while the part is at home in the slot, 1 while it is out, and 2 while it is out and a thread may wait
+/// for it.
 pub struct GateRule<A> {
     parts: PhantomData<A>,
 }
