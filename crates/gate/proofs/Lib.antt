@@ -1,3 +1,4 @@
-mod HistoryLemmas
+pub mod HistoryLemmas
+mod ClosedLemmas
 mod SeatLemmas
 mod StepLemmas

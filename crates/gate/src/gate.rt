@@ -27,7 +27,7 @@ const LOOKS: u32 = 100;
 /// The gate of one part: sessions on threads of their own take the part out, do one operation on it and put it back.
 #[derive(Drop)]
 pub struct Gate<P: Part<A> + Drop, A: Allocator = Global> {
-    table: Table<P, View, Snapshot<P>, GateRule<A>, A>,
+    pub(crate) table: Table<P, View, Snapshot<P>, GateRule<A>, A>,
 }
 
 impl<P: Part<A> + Drop, A: Allocator> Model for Gate<P, A> {

@@ -5,18 +5,20 @@
 //! (`IsTurn` of `specs/Views.antt`). Of what two passes have seen, one begins with the other (`meet`), and the part
 //! that is left at the end is in the state after a history that begins with what the last pass had seen (`close`).
 //!
-//! - `gate`: the gate and its calls. `pass`: what a session goes through it with. `lost`: why a gate can't give the
-//!   part out.
+//! - `gate`: the gate and its calls. `pass`: what a session goes through it with. `closed`: gates that were given up
+//!   together. `lost`: why a gate can't give the part out.
 //! - `view`, `rule`: what each pass knows, as the rule sees it that holds between any two steps at the gate
 //!   (`specs/Rule.antt`), and what each step tells (`specs/Steps.antt`).
 #![tactic(auto)]
 
+mod closed;
 mod gate;
 mod lost;
 mod pass;
 mod rule;
 mod view;
 
+pub use closed::Closed;
 pub use gate::Gate;
 pub use lost::Lost;
 pub use pass::Pass;
