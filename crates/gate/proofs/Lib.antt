@@ -1,4 +1,4 @@
 pub mod HistoryLemmas
-mod ClosedLemmas
+pub mod ClosedLemmas
 mod SeatLemmas
 mod StepLemmas

@@ -3,3 +3,5 @@ pub mod TurnLemmas
 mod LocalLemmas
 mod FixLemmas
 mod ObjectLemmas
+mod OpeningLemmas
+mod SessionLemmas

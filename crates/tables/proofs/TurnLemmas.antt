@@ -19,8 +19,9 @@ use Rattle.part_core.specs.Legal.{state_after, IsLegal, fix_count, fixes_after}
 use Rattle.part_core.specs.Ops.{answer_in, refusal_of}
 use Rattle.part_core.proofs.KeyLemmas.{by_test}
 use Rattle.part_core.proofs.HistoryLemmas.{legal_front_from, legal_rest_from, state_more}
+use Rattle.gate.specs.Views.{own}
 use Rattle.tables.specs.Options.{settings_of}
-use Rattle.tables.specs.Turns.{Home, Views, TurnedAt, Turned, Follows, own}
+use Rattle.tables.specs.Turns.{Home, Views, TurnedAt, Turned, Follows}
 
 -- the state before a turn, behind the entries of others
 abbrev pub met : (h : Home) (old new : History) (act : Act) (answer : Option Answer) → TurnedAt h old act answer new → PartState

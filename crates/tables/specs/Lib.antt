@@ -5,3 +5,7 @@ pub mod Fixing
 pub mod Local
 pub mod LocalFacts
 pub mod OneThread
+pub mod Sessions
+pub mod SessionFacts
+pub mod Opened
+pub mod Laws

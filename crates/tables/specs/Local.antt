@@ -1,5 +1,5 @@
 -- A table on one thread.
-use Rattle.std.specs.Prelude.{ℕ, ◌≡◌, Some, true, slice_get, flat_map, List}
+use Rattle.std.specs.Prelude.{ℕ, ◌≡◌, Some, true, slice_get, flat_map, List, []}
 use Rattle.std.specs.List.{range_with_len}
 use Rattle.term_core.specs.Datum.{Datum}
 use Rattle.part_core.specs.Acts.{History}
@@ -15,7 +15,7 @@ AreAfter IsAfter parts v = (k : ℕ) (p : _) → slice_get parts k ≡ Some p �
 
 -- where a session of such a table is: alone with it
 abbrev pub local_home : Options → ℕ → ℕ → Home
-local_home o number table = record { options = o; number = number; table = table; alone = true }
+local_home o number table = record { options = o; gates = []; number = number; table = table; alone = true }
 
 -- the objects of a part, in the order of a walk
 abbrev pub part_objects : Options → Views → ℕ → List Datum

@@ -1,17 +1,19 @@
 -- What a session sees of a table, and what a turn at one part makes of it.
-use Rattle.std.specs.Prelude.{ℕ, ◌≡◌, ◌≢◌, ◌<◌, ◌==◌, Bool, IsTrue, Option, filter, [], ◌++◌}
+use Rattle.std.specs.Prelude.{ℕ, ◌≡◌, ◌≢◌, ◌<◌, Bool, IsTrue, Option, List, [], ◌++◌}
 use Rattle.term_core.specs.Datum.{Datum}
 use Rattle.part_core.specs.Settings.{part_of}
 use Rattle.part_core.specs.Acts.{Act, Answer, History}
 use Rattle.part_core.specs.Legal.{IsLegal}
 use Rattle.part_core.specs.Ops.{entries_of}
+use Rattle.gate.specs.Views.{own, GateId}
 use Rattle.tables.specs.declared.options.Options.{Options}
 use Rattle.tables.specs.Options.{settings_of}
 
--- Where a session is: what its table was opened with, its number, the name by which it borrows the table, and whether no other
--- session can make a turn meanwhile.
+-- Where a session is: what its table was opened with, the table's gates, where it has any, the session's number, the name by
+-- which what turns change is borrowed, and whether no other session can make a turn meanwhile.
 pub record Home : Type 0 where
   pub options : Options
+  pub gates : List GateId
   pub number : ℕ
   pub table : ℕ
   pub alone : Bool
@@ -19,10 +21,6 @@ pub record Home : Type 0 where
 -- a view of a table: of each part, by its number, a history
 abbrev pub Views : Type 0
 Views = ℕ → History
-
--- the entries of one session
-abbrev pub own : ℕ → History → History
-own n log = filter (λ e. e.session == n) log
 
 -- entries that may come between two turns of a session: none of its own, and none at all where it is alone
 pub record IsBetween (h : Home) (log : History) : Type 0 where

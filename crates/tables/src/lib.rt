@@ -11,15 +11,24 @@
 //! - `replies`: what a turn answered.
 #![tactic(auto)]
 
+mod at;
 mod calls;
 mod fixing;
+mod laws;
 mod local;
+mod opening;
 mod options;
 mod replies;
+mod session;
+mod table;
 mod turns;
 
+pub use at::At;
 pub use calls::{delete, delete_object, insert, insert_new, lookup, member, part_of_key, take};
 pub use fixing::{fix, fix_at, release, unfix, unfix_at};
-pub use local::{Closed, LocalAt, LocalTable};
+pub use laws::inserts_are_seen;
+pub use local::{LocalAt, LocalParts, LocalTable};
 pub use options::Options;
+pub use session::Session;
+pub use table::Table;
 pub use turns::{Turns, turn_at};

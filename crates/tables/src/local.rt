@@ -13,6 +13,7 @@ ghost use Rattle.tables.specs.Options.{settings_of, IsOpenable};
 ghost use Rattle.tables.specs.Turns.{Views, Follows, Turned, TurnedEach};
 
 use crate::fixing::release;
+use crate::opening::{is_split_order, made};
 use crate::options::Options;
 use crate::turns::Turns;
 use part_core::{Fault, OpenFault, Part, PartOp, Reply};
@@ -30,41 +31,6 @@ pub struct LocalTable<P: Part<A> + Drop, A: Allocator = Global> {
     ghost count: { length parts.items ≡ options.parts },
     ghost same: { ∥ (All (λ p. P.settings p ≡ settings_of options) parts.items) ∥₁ },
     ghost seen: { ∥ ((v : Views) × AreAfter P.is_after parts.items v) ∥₁ },
-}
-
-/// Whether it would be an ordered set of more parts than one.
-fn is_split_order(options: Options) -> bool
-    ensures { result ≡ (is_ordered options.kind && not (options.parts == 1)) }
-{
-    options.kind.is_ordered() && options.parts != 1
-}
-
-/// Parts without rows for a table.
-fn made<A: Allocator + Copy, P: Part<A> + Drop>(
-    alloc: A,
-    options: Options,
-) -> Result<Vec<P, A>, OpenFault>
-    ensures count { IfOk result (λ parts. length parts.items ≡ options.parts) }
-    ensures each { IfOk result (λ parts. All (λ p. IsServed P.serves (settings_of options)
-        × (P.settings p ≡ settings_of options) × P.is_after p []) parts.items) }
-    ensures refused { IsErrOf result OpenFault.BadOptions → ¬ (IsServed P.serves (settings_of options)) }
-    ensures scarce { IsErrOf result OpenFault.Memory → IsServed P.serves (settings_of options) }
-{
-    let mut parts = Vec::new(alloc);
-    for _part in 0..options.parts {
-        let part = P::make(
-            alloc,
-            options.kind,
-            options.keypos,
-            options.parts,
-            options.sessions,
-        )?;
-        match parts.push(part) {
-            Ok(()) => {}
-            Err(_) => return Err(OpenFault::Memory),
-        }
-    }
-    Ok(parts)
 }
 
 impl<P: Part<A> + Drop, A: Allocator + Copy> LocalTable<P, A> {
@@ -142,10 +108,10 @@ impl<P: Part<A> + Drop, A: Allocator> LocalTable<P, A> {
     }
 
     /// Gives the table up: its parts are handed out, from the last to the first.
-    pub fn close(self) -> Closed<P, A>
+    pub fn close(self) -> LocalParts<P, A>
         ensures { result.parts.items ≡ self.parts.items }
     {
-        Closed { parts: self.parts }
+        LocalParts { parts: self.parts }
     }
 }
 
@@ -214,14 +180,14 @@ impl<'t, A: Allocator, P: Part<A> + Drop> Turns<A> for LocalAt<'t, P, A> {
     }
 }
 
-/// A table that was given up.
+/// The parts of a table that was given up.
 #[derive(Drop)]
-pub struct Closed<P: Drop, A: Allocator = Global> {
+pub struct LocalParts<P: Drop, A: Allocator = Global> {
     /// The parts that are not handed out yet.
     pub parts: Vec<P, A>,
 }
 
-impl<P: Drop, A: Allocator> Closed<P, A> {
+impl<P: Drop, A: Allocator> LocalParts<P, A> {
     ghost use Rattle.std.specs.Prelude.{◌≡◌, [], ◌∷◌, ◌++◌, MatchOption};
 
     /// The last part that is not handed out yet, none when all are.

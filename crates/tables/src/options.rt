@@ -1,4 +1,7 @@
 //! What a table is opened with.
+ghost use Rattle.std.specs.Prelude.{◌≡◌};
+ghost use Rattle.tables.specs.Options.{settings_of};
+
 use part_core::{Settings, TableKind};
 
 /// What a table is opened with (STDLIB Reference Manual, ets:new/2).
@@ -14,4 +17,18 @@ pub struct Options {
     pub parts: u8,
     /// How many sessions use the table, numbered from 0: 1 to 16.
     pub sessions: u8,
+}
+
+impl Options {
+    /// What all parts of the table have in common.
+    pub fn settings(&self) -> Settings
+        ensures { result ≡ settings_of self.now }
+    {
+        Settings {
+            kind: self.kind,
+            keypos: self.keypos,
+            parts: self.parts,
+            sessions: self.sessions,
+        }
+    }
 }

@@ -1,7 +1,7 @@
 use Rattle.std.proofs.Common.{◌≡◌, All, [], length}
 use Rattle.part_core.specs.Served.{IsServed}
 use Rattle.tables.specs.Options.{settings_of}
-use Rattle.tables.proofs.local.made.Given as goal
+use Rattle.tables.proofs.opening.made.Given as goal
 
 abbrev pub invariant-loop-part : goal.invariant-loop-part
 invariant-loop-part g l =

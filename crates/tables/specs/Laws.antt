@@ -1,0 +1,35 @@
+-- What holds of every session.
+use Rattle.std.specs.Prelude.{◌≡◌, ◌++◌, Some, All, List, []}
+use Rattle.std.specs.List.{Contains}
+use Rattle.term_core.specs.Datum.{Datum}
+use Rattle.part_core.specs.declared.settings.Settings.{Settings}
+use Rattle.part_core.specs.Settings.{key_of, part_of}
+use Rattle.part_core.specs.Acts.{Entry, History}
+use Rattle.part_core.specs.Acts.Act.{Insert, Lookup}
+use Rattle.part_core.specs.Acts.Answer.{Replied}
+use Rattle.part_core.specs.Acts.Said.{Nothing, Objects}
+use Rattle.part_core.specs.Content.{written, content}
+use Rattle.gate.specs.Views.{own}
+use Rattle.tables.specs.Options.{settings_of}
+use Rattle.tables.specs.Turns.{Home, Views, TurnedByKey}
+use Rattle.tables.specs.Calls.{TurnedByObject}
+
+-- an entry leaves an object among those of its key
+abbrev pub Leaves : Settings → Datum → Entry → Type 0
+Leaves o t e = (os : List Datum) → Contains os t → Contains (written o (key_of o t) os e.act e.answer) t
+
+-- What a look-up finds of a key behind a history and entries of others: the content there. An object that was put in last of all
+-- that the history has is among it, where each of these entries leaves it.
+pub record IsSeen (h : Home) (t : Datum) (past : History) (found : List Datum) : Type 0 where
+  pub between : History
+  pub others : own h.number between ≡ []
+  pub found : found ≡ content (settings_of h.options) (key_of (settings_of h.options) t) (past ++ between)
+  pub there : All (Leaves (settings_of h.options) t) between → Contains found t
+
+-- what a session has put in, it finds, unless others took it away meanwhile
+abbrev pub InsertsAreSeen : Type 0
+InsertsAreSeen =
+    (h : Home) (t : Datum) (v w x : Views) (found : List Datum)
+    → TurnedByObject h t (Insert t) (Some (Replied Nothing)) v w
+    → TurnedByKey h (key_of (settings_of h.options) t) (Lookup (key_of (settings_of h.options) t)) (Some (Replied (Objects found))) w x
+    → IsSeen h t (w (part_of (settings_of h.options) (key_of (settings_of h.options) t))) found
