@@ -1,11 +1,14 @@
 -- Passes that are dealt to the sessions of a table.
 use Rattle.std.proofs.Common.{ℕ, zero, suc, ◌+◌, ◌≡◌, ◌≢◌, ◌<◌, ◌≤◌, ◌⊎◌, inl, inr, ◌++◌, List, [], ◌∷◌, length, map, refl, ap, sym, subst, ◌∙◌, arith, Some, None, slice_get, slice_set}
 use Rattle.std.proofs.lemmas.Bool.{false≢true}
-use Rattle.std.proofs.lemmas.List.{map-append}
+use Rattle.std.proofs.lemmas.List.{map-append, length-append}
 use Rattle.std.proofs.lemmas.Option.{slice_get_within}
+use Rattle.std.specs.List.{range_with_len}
 use Rattle.std.specs.Option.{is_some}
 use Rattle.part_core.specs.declared.settings.Settings.{Settings}
 use Rattle.gate.specs.Views.{GateId, Ticket, first_ticket}
+use Rattle.gate.proofs.HistoryLemmas.{numbered_more}
+use Rattle.gate.proofs.ClosedLemmas.{last_two}
 use Rattle.tables.specs.declared.options.Options.{Options}
 use Rattle.tables.specs.declared.session.Session.{Session}
 use Rattle.tables.specs.Options.{settings_of}
@@ -33,6 +36,17 @@ got_map f (x ∷ xs) (suc k) y e = got_map f xs k y e
 gates_back : (o : Settings) (n : ℕ) (gates : List GateId) → map (λ (pass : Ticket). pass.gate) (first_passes o gates n) ≡ gates
 gates_back o n [] = refl
 gates_back o n (gate ∷ gates) = ap (λ (gs : List GateId). gate ∷ gs) (gates_back o n gates)
+
+-- passes that are numbered from 0 on, and the last of them
+module _ (f : ℕ → Ticket) (n m : ℕ) (passes rest : List Ticket) (next : n ≡ m + 1) (are : passes ≡ map f (range_with_len 0 n)) where
+  more : passes ≡ map f (range_with_len 0 m) ++ f m ∷ []
+  more = are ∙ ap (λ (k : ℕ). map f (range_with_len 0 k)) next ∙ numbered_more f m
+
+  pub some_left : 0 < length passes
+  some_left = omega (arith, ap length more, length-append (map f (range_with_len 0 m)) (f m ∷ []))
+
+  pub last_left : (pass : Ticket) → passes ≡ rest ++ pass ∷ [] → (rest ≡ map f (range_with_len 0 m)) × (pass ≡ f m)
+  last_left pass last = last_two rest (map f (range_with_len 0 m)) pass (f m) (sym last ∙ more)
 
 -- ---- sessions
 

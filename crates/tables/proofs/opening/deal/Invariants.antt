@@ -9,6 +9,6 @@ use Rattle.tables.proofs.opening.deal.Given as goal
 abbrev pub invariant-loop-number : goal.invariant-loop-number
 invariant-loop-number g l =
     (length l.sessions.items ≡ length l.initial.sessions.items)
-    × (l.passes.items ≡ map (first_ticket l._gate (settings_of l.options)) (range_with_len 0 l.number))
-    × ((gates : List GateId) → AreDealt (settings_of l.options) gates l.initial.sessions.items
-        → AreDealtFrom (settings_of l.options) gates l._gate l.number l.sessions.items)
+    × (l.passes.items ≡ map (first_ticket l._gate (settings_of l.fn.options)) (range_with_len 0 l.number))
+    × ((gates : List GateId) → AreDealt (settings_of l.fn.options) gates l.initial.sessions.items
+        → AreDealtFrom (settings_of l.fn.options) gates l._gate l.number l.sessions.items)
