@@ -5,3 +5,4 @@ mod FixLemmas
 mod ObjectLemmas
 mod OpeningLemmas
 mod SessionLemmas
+mod LawLemmas

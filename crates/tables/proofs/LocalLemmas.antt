@@ -5,14 +5,17 @@ use Rattle.std.proofs.lemmas.Bool.{eqb-true, eqb-false, false≢true}
 use Rattle.std.proofs.lemmas.Option.{slice_get_within, slice_get-get_or, get_or_from_slice_get}
 use Rattle.std.proofs.lemmas.List.{append-nil, length-set}
 use Rattle.std.proofs.lemmas.List.Elements.{All-get_or, All-head}
+use Rattle.part_core.specs.declared.kind.TableKind.{TableKind}
 use Rattle.part_core.specs.declared.settings.Settings.{Settings}
+use Rattle.part_core.specs.Settings.{is_ordered}
+use Rattle.part_core.specs.Served.{IsServed}
 use Rattle.part_core.specs.Acts.{Act, Answer, History}
 use Rattle.part_core.specs.Legal.{IsLegal}
 use Rattle.part_core.specs.LegalFacts.{legal_prop}
 use Rattle.part_core.specs.Ops.{entries_of}
 use Rattle.part_core.proofs.KeyLemmas.{by_test}
 use Rattle.tables.specs.declared.options.Options.{Options}
-use Rattle.tables.specs.Options.{settings_of}
+use Rattle.tables.specs.Options.{settings_of, IsOpenable}
 use Rattle.tables.specs.Turns.{Views, Turned, Follows}
 use Rattle.tables.specs.Local.{AreAfter, local_home}
 
@@ -88,3 +91,12 @@ all_said S Q R (p ∷ ps) some all = (All-head (λ p. S × Q p × R p) p ps all)
 pub one_part : (ordered : Bool) (parts : ℕ) → (ordered && not (parts == 1)) ≡ false → IsTrue ordered → parts ≡ 1
 one_part true parts whole is = by_test (parts == 1) (parts ≡ 1) (eqb-true parts 1) (λ other. absurd (false≢true (sym whole ∙ ap not other)))
 one_part false parts whole is = absurd (false≢true is)
+
+-- options that parts were made for are those of a table
+pub openable : {P : Type 0} (serves : TableKind → Bool) (settings : P → Settings) (IsAfter : P → History → Type 0) (o : Options) (parts : List P)
+    → 0 < o.parts → length parts ≡ o.parts → (is_ordered o.kind && not (o.parts == 1)) ≡ false
+    → All (λ p. IsServed serves (settings_of o) × (settings p ≡ settings_of o) × IsAfter p []) parts → IsOpenable serves o
+openable serves settings IsAfter o parts some count whole all = record {
+  served = all_said (IsServed serves (settings_of o)) (λ p. settings p ≡ settings_of o) (λ p. IsAfter p []) parts (omega (arith, some, count)) all;
+  whole = one_part (is_ordered o.kind) o.parts whole;
+}

@@ -23,7 +23,7 @@ Leaves o t e = (os : List Datum) → Contains os t → Contains (written o (key_
 pub record IsSeen (h : Home) (t : Datum) (past : History) (found : List Datum) : Type 0 where
   pub between : History
   pub others : own h.number between ≡ []
-  pub found : found ≡ content (settings_of h.options) (key_of (settings_of h.options) t) (past ++ between)
+  pub says : found ≡ content (settings_of h.options) (key_of (settings_of h.options) t) (past ++ between)
   pub there : All (Leaves (settings_of h.options) t) between → Contains found t
 
 -- what a session has put in, it finds, unless others took it away meanwhile
