@@ -1,5 +1,5 @@
 -- What a session has put in is found by it.
-use Rattle.std.proofs.Common.{◌≡◌, ◌<◌, ◌++◌, List, [], ◌∷◌, length, fold, refl, ap, sym, subst, ◌∙◌, arith, Bool, true, false, if◌then◌else◌, All, Some}
+use Rattle.std.proofs.Common.{◌≡◌, ◌++◌, List, [], ◌∷◌, fold, refl, ap, sym, subst, ◌∙◌, arith, All, Some}
 use Rattle.std.specs.List.{Contains, list_any}
 use Rattle.std.proofs.lemmas.List.Elements.{All-head, All-tail, Contains-append_right}
 use Rattle.std.proofs.lemmas.List.Sums.{fold-append}
@@ -10,7 +10,7 @@ use Rattle.part_core.specs.declared.kind.TableKind.{TableKind}
 use Rattle.part_core.specs.declared.kind.TableKind.TheVariants as kind
 use Rattle.part_core.specs.declared.settings.Settings.{Settings}
 use Rattle.part_core.specs.Settings.{key_of, part_of}
-use Rattle.part_core.specs.Acts.{Answer, Entry, History}
+use Rattle.part_core.specs.Acts.{Entry, History}
 use Rattle.part_core.specs.Acts.Act.{Insert, Lookup}
 use Rattle.part_core.specs.Acts.Answer.{Replied}
 use Rattle.part_core.specs.Acts.Said.{Nothing, Objects}
@@ -23,7 +23,7 @@ use Rattle.part_core.proofs.HistoryLemmas.{content_of}
 use Rattle.tables.specs.Options.{settings_of}
 use Rattle.tables.specs.Turns.{Home, Views, TurnedAt, TurnedByKey}
 use Rattle.tables.specs.Laws.{Leaves, IsSeen}
-use Rattle.tables.proofs.TurnLemmas.{met, turned_right, turned_front}
+use Rattle.tables.proofs.TurnLemmas.{turned_right, turned_front}
 
 alone : (t : Datum) → Contains (t ∷ []) t
 alone t = (0, omega arith, refl)

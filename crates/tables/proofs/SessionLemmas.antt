@@ -1,5 +1,5 @@
 -- Turns of a session at a table whose parts have gates.
-use Rattle.std.proofs.Common.{ℕ, ◌+◌, ◌==◌, ◌≡◌, ◌≢◌, ◌<◌, ◌≤◌, ◌⊎◌, inl, inr, ◌++◌, List, [], length, map, get_or, refl, ap, sym, subst, ◌∙◌, arith, Option, option_map, Some, None, slice_get, slice_set, append_assoc}
+use Rattle.std.proofs.Common.{ℕ, ◌+◌, ◌==◌, ◌≡◌, ◌≢◌, ◌<◌, ◌≤◌, ◌⊎◌, inl, inr, ◌++◌, List, [], length, map, get_or, ap, sym, subst, ◌∙◌, arith, Option, option_map, Some, None, slice_get, append_assoc}
 use Rattle.std.proofs.lemmas.Bool.{eqb-true, eqb-false, false≢true}
 use Rattle.std.proofs.lemmas.List.{length-map}
 use Rattle.std.proofs.lemmas.Option.{slice_get_cases, slice_get_within, slice_get-map, get_or_from_slice_get}

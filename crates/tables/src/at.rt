@@ -11,12 +11,12 @@ use crate::session::Session;
 use crate::table::Table;
 use crate::turns::Turns;
 use part_core::{Fault, Part, PartOp, Reply};
-use std::alloc::{Allocator, Global};
+use std::alloc::Allocator;
 use std::sync::Wait;
 
 /// A session at a table, which may wait there while others make their turns.
 #[derive(Drop)]
-pub struct At<'t, P: Part<A> + Drop, R, A: Allocator = Global> {
+pub struct At<'t, P: Part<A> + Drop, A: Allocator, R> {
     /// The table.
     pub table: &'t Table<P, A>,
     /// The session.
@@ -25,7 +25,7 @@ pub struct At<'t, P: Part<A> + Drop, R, A: Allocator = Global> {
     pub rt: &'t R,
 }
 
-impl<'t, A: Allocator, P: Part<A> + Drop, R: Wait> Turns<A> for At<'t, P, R, A> {
+impl<'t, A: Allocator, P: Part<A> + Drop, R: Wait> Turns<A> for At<'t, P, A, R> {
     ghost use Rattle.tables.specs.SessionFacts.{session_seen, session_legal};
 
     ghost home = { λ s. session_home s.table.now.options s.table.now.gates.items s.session.now.number s.session.ghost_name };

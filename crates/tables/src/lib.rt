@@ -7,8 +7,10 @@
 //! - `options`: what a table is opened with; `turns`: the trait `Turns`, a session at a table.
 //! - `local`: `LocalTable`, whose parts are used by one thread, and `LocalAt`, a session at it; `specs/OneThread.antt` says what the
 //!   calls make of the states of its parts.
+//! - `table`: `Table`, whose parts have gates, for sessions on threads of their own; `session`: `Session`, a session with its passes
+//!   (`specs/Sessions.antt`); `at`: `At`, a session at such a table. `opening`: how tables are opened (`specs/Opened.antt`).
 //! - `calls`: insert, lookup and the others at the part of a key; `fixing`: those at each part.
-//! - `replies`: what a turn answered.
+//! - `replies`: what a turn answered. `laws`: that a session finds what it has put in (`specs/Laws.antt`).
 #![tactic(auto)]
 
 mod at;

@@ -28,10 +28,7 @@ pub struct Table<P: Part<A> + Drop, A: Allocator = Global> {
 impl<P: Part<A> + Drop, A: Allocator + Copy> Table<P, A> {
     /// A table without objects, and its sessions, by their numbers. The options are refused exactly where a number is outside its
     /// range, an ordered set has more than one part, or the parts don't serve the kind, also where there is no memory.
-    pub fn open(
-        alloc: A,
-        options: Options,
-    ) -> Result<(Self, Vec<Session<P, A>, A>), OpenFault>
+    pub fn open(alloc: A, options: Options) -> Result<(Self, Vec<Session<P, A>, A>), OpenFault>
         ensures opened { IfOk result (λ made. IsOpenable P.serves options × (made.0.options ≡ options)
             × AreOpened options made.0.gates.items made.1.items) }
         ensures refused { IsErrOf result OpenFault.BadOptions → ¬ (IsOpenable P.serves options) }
@@ -75,7 +72,7 @@ impl<P: Part<A> + Drop, A: Allocator + Copy> Table<P, A> {
 
 impl<P: Part<A> + Drop, A: Allocator> Table<P, A> {
     /// A session at the table.
-    pub fn at<'t, R: Wait>(&'t self, rt: &'t R, session: &'t mut Session<P, A>) -> At<'t, P, R, A>
+    pub fn at<'t, R: Wait>(&'t self, rt: &'t R, session: &'t mut Session<P, A>) -> At<'t, P, A, R>
         requires { IsOpened self.now.options self.now.gates.items session.old.number session.old.passes.items }
         ensures table { result.table.now ≡ self.now }
         ensures same_reference { result.session.ghost_name ≡ session.entry.ghost_name }

@@ -23,7 +23,8 @@ use Rattle.part_core.specs.Covers.{covers}
 use Rattle.part_core.specs.Visits.{is_true, yields}
 use Rattle.tables.specs.Options.{settings_of}
 use Rattle.tables.specs.declared.options.Options.{Options}
-use Rattle.tables.specs.Turns.{Home, Views, TurnedAt, own}
+use Rattle.gate.specs.Views.{own}
+use Rattle.tables.specs.Turns.{Home, Views, TurnedAt}
 use Rattle.walk_core.specs.Walk.{Walk, Position, IsWalk, IsPosition, is_done, is_covered, start_of, part_at, scope_at}
 use Rattle.walk_core.specs.Walk.Position.{Over}
 use Rattle.walk_core.specs.Goes.{Way, IsAt, Visits, Goes, Drifted, Stops, past_of}

@@ -40,7 +40,7 @@ abbrev table : Options
 table = record { name = 0; kind = Set; keypos = 1; parts = 2; sessions = 2 }
 
 abbrev home : Home
-home = record { options = table; number = 0; table = 0; alone = false }
+home = record { options = table; gates = []; number = 0; table = 0; alone = false }
 
 abbrev views : History → History → Views
 views even odd zero = even

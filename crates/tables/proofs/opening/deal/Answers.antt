@@ -1,4 +1,4 @@
-use Rattle.std.proofs.Common.{ℕ, ◌≡◌, ◌+◌, ◌-◌, ◌<◌, [], ◌∷◌, ◌++◌, List, Some, slice_get, slice_set, length, ap, subst, sym, ◌∙◌, arith, refl, rules}
+use Rattle.std.proofs.Common.{ℕ, ◌≡◌, ◌+◌, ◌-◌, ◌<◌, [], ◌∷◌, ◌++◌, Some, slice_get, slice_set, length, ap, subst, sym, ◌∙◌, arith, refl, rules}
 use Rattle.std.proofs.lemmas.List.{length-set}
 use Rattle.std.proofs.lemmas.Option.{slice_get_read}
 use Rattle.gate.specs.Views.{Ticket, first_ticket}
@@ -41,10 +41,10 @@ loop-number-preserved g c =
       last.0,
       (λ gates dealt. subst (λ (k : ℕ). AreDealtFrom o gates gate m (slice_set c.loop-number.sessions.items k c.give.new.self)) (sym at)
           (deal_step o gates gate c.loop-number.sessions.items c.loop-number.number m c.index_mut.result.now c.give.new.self next
-              (subst (λ (k : ℕ). slice_get c.loop-number.sessions.items k ≡ Some c.index_mut.result.now) at there)
-              c.give.ensures.number
-              (c.in_ok-give.ensures.given ∙ ap (λ (t : Ticket). c.index_mut.result.now.passes.items ++ t ∷ []) last.1)
-              (c.loop-number.invariant.2 gates dealt))),
+          (subst (λ (k : ℕ). slice_get c.loop-number.sessions.items k ≡ Some c.index_mut.result.now) at there)
+          c.give.ensures.number
+          (c.in_ok-give.ensures.given ∙ ap (λ (t : Ticket). c.index_mut.result.now.passes.items ++ t ∷ []) last.1)
+          (c.loop-number.invariant.2 gates dealt))),
     )
 
 pub returns-clause-dealt : goal.returns-clause-dealt

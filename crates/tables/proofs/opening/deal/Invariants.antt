@@ -11,4 +11,4 @@ invariant-loop-number g l =
     (length l.sessions.items ≡ length l.initial.sessions.items)
     × (l.passes.items ≡ map (first_ticket l._gate (settings_of l.fn.options)) (range_with_len 0 l.number))
     × ((gates : List GateId) → AreDealt (settings_of l.fn.options) gates l.initial.sessions.items
-        → AreDealtFrom (settings_of l.fn.options) gates l._gate l.number l.sessions.items)
+    → AreDealtFrom (settings_of l.fn.options) gates l._gate l.number l.sessions.items)

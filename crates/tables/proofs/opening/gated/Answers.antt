@@ -1,4 +1,4 @@
-use Rattle.std.proofs.Common.{ap, refl, sym, ◌∙◌, rules}
+use Rattle.std.proofs.Common.{refl, ◌∙◌}
 use Rattle.tables.specs.Options.{settings_of}
 use Rattle.tables.proofs.OpeningLemmas.{all_opened}
 use Rattle.tables.proofs.opening.gated.Goals as goal

@@ -13,7 +13,7 @@ pub invariant_of-self-2 : goal.invariant_of-self-2
 invariant_of-self-2 g c = record {
   made = ∥∥₁_map c.args.self.now.made (λ made.
       made_still (λ (t : Ticket). t.gate) _ _ _ _ c.in-Some.gate made c.in-Some.ensures.items c.pop-2.result c.pop-2.ensures.items
-          (λ some. c.pop-2.ensures.variant.1 (subst (λ (n : ℕ). 0 < n) (sym c.args.self.now.passes.ok.0) some)));
+      (λ some. c.pop-2.ensures.variant.1 (subst (λ (n : ℕ). 0 < n) (sym c.args.self.now.passes.ok.0) some)));
 }
 
 pub unreachable-requires : goal.unreachable-requires
@@ -37,8 +37,8 @@ returns-then-is_home g c =
       c.in-Some.ensures.items ∙ ap (λ (gate : GateId). c.pop.new.self.items ++ gate ∷ []) (sym same),
       c.in-Some-pop.ensures.items,
       rw (← c.pass.view_is)
-      (closes g.P.Part.settings g.P.Part.is_after _ _ c.pass.inside.seat.me.0 c.pass.inside.number _ _ c.take-part.result c.pass.invariant.1
-      c.close_with-closed.ensures.values.2 (c.word-is_home.ensures ∙ ap some c.if-is_home.true) c.take-part.ensures.value),
+          (closes g.P.Part.settings g.P.Part.is_after _ _ c.pass.inside.seat.me.0 c.pass.inside.number _ _ c.take-part.result c.pass.invariant.1
+          c.close_with-closed.ensures.values.2 (c.word-is_home.ensures ∙ ap some c.if-is_home.true) c.take-part.ensures.value),
     )
 
 pub returns-else-is_home : goal.returns-else-is_home

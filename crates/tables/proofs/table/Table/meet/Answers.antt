@@ -1,7 +1,7 @@
-use Rattle.std.proofs.Common.{ℕ, ◌≡◌, ◌<◌, List, Some, slice_get, length, refl, subst, ap, sym, ◌∙◌, arith}
+use Rattle.std.proofs.Common.{ℕ, ◌≡◌, ◌<◌, List, Some, slice_get, length, refl, subst, ap, ◌∙◌, arith}
 use Rattle.std.proofs.lemmas.Option.{slice_get_read}
 use Rattle.gate.specs.Views.{Ticket}
-use Rattle.tables.proofs.SessionLemmas.{pass_at, met_more, HaveMet}
+use Rattle.tables.proofs.SessionLemmas.{pass_at, met_more}
 use Rattle.tables.proofs.table.Table.meet.Goals as goal
 
 pub meet_at-requires-clause-made : goal.meet_at-requires-clause-made

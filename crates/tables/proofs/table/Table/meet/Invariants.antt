@@ -9,4 +9,4 @@ invariant-loop-part g l =
     ((l.one.number ≡ l.initial.one.number) × (l.one.passes.items ≡ l.initial.one.passes.items))
     × ((l.other.number ≡ l.initial.other.number) × (l.other.passes.items ≡ l.initial.other.passes.items))
     × ((part : ℕ) (v w : Views) → part < l.part → Sees l.initial.one.passes.items v → Sees l.initial.other.passes.items w
-        → GoesOn (v part) (w part) ⊎ GoesOn (w part) (v part))
+    → GoesOn (v part) (w part) ⊎ GoesOn (w part) (v part))
