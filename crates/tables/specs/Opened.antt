@@ -26,7 +26,7 @@ AreDealt o gates sessions =
     (k : ℕ) (s : Session _ _) → slice_get sessions k ≡ Some s → (s.number ≡ k) × (s.passes.items ≡ first_passes o gates k)
 
 -- options that so many parts fit: each number is in its range, they are as many, and an ordered set has one
-pub record AreFit (o : Options) (size : ℕ) : Type 0 where
+pub record AreForParts (o : Options) (size : ℕ) : Type 0 where
   pub ranges : AreInRange (settings_of o)
   pub count : size ≡ o.parts
   pub whole : IsTrue (is_ordered o.kind) → o.parts ≡ 1

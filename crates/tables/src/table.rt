@@ -1,7 +1,7 @@
 //! Tables whose parts have gates, for sessions on threads of their own.
 ghost use Rattle.std.specs.Prelude.{ℕ, ◌≡◌, ◌<◌, ◌⊎◌, All, IfOk, IsErrOf, [], length};
 ghost use Rattle.gate.specs.Views.{GoesOn};
-ghost use Rattle.tables.specs.Opened.{AreOpened, AreFit};
+ghost use Rattle.tables.specs.Opened.{AreOpened, AreForParts};
 ghost use Rattle.tables.specs.Options.{settings_of, IsOpenable};
 ghost use Rattle.tables.specs.Sessions.{IsOpened, Sees};
 ghost use Rattle.tables.specs.Turns.{Views};
@@ -52,10 +52,10 @@ impl<P: Part<A> + Drop, A: Allocator + Copy> Table<P, A> {
         parts: Vec<P, A>,
     ) -> Result<(Self, Vec<Session<P, A>, A>), OpenFault>
         requires opening { All (λ p. (P.settings p ≡ settings_of options) × P.is_after p []) parts.items }
-        ensures opened { IfOk result (λ made. AreFit options (length parts.items) × (made.0.options ≡ options)
+        ensures opened { IfOk result (λ made. AreForParts options (length parts.items) × (made.0.options ≡ options)
             × AreOpened options made.0.gates.items made.1.items) }
-        ensures refused { IsErrOf result OpenFault.BadOptions → ¬ (AreFit options (length parts.items)) }
-        ensures scarce { IsErrOf result OpenFault.Memory → AreFit options (length parts.items) }
+        ensures refused { IsErrOf result OpenFault.BadOptions → ¬ (AreForParts options (length parts.items)) }
+        ensures scarce { IsErrOf result OpenFault.Memory → AreForParts options (length parts.items) }
     {
         if !options.settings().are_in_range() {
             return Err(OpenFault::BadOptions);
