@@ -4,5 +4,6 @@ mod LocalLemmas
 mod FixLemmas
 mod ObjectLemmas
 mod OpeningLemmas
+pub mod OpenedLemmas
 mod SessionLemmas
 mod LawLemmas

@@ -9,11 +9,16 @@ use Rattle.tables.specs.declared.session.Session.{Session}
 use Rattle.tables.specs.Options.{settings_of}
 use Rattle.tables.specs.Sessions.{IsOpened, Sees}
 
+-- each session was opened with the table
+abbrev pub AllOpened : {P A : Type 0} → Options → List GateId → List (Session P A) → Type 0
+AllOpened o gates sessions =
+    (k : ℕ) (s : Session _ _) → slice_get sessions k ≡ Some s → IsOpened o gates s.number s.passes.items
+
 -- each session has its own number and was opened with the table, and has seen nothing
 pub record AreOpened {P A : Type 0} (o : Options) (gates : List GateId) (sessions : List (Session P A)) : Type 0 where
   pub count : length sessions ≡ o.sessions
   pub numbered : (k : ℕ) (s : Session P A) → slice_get sessions k ≡ Some s → s.number ≡ k
-  pub opened : (k : ℕ) (s : Session P A) → slice_get sessions k ≡ Some s → IsOpened o gates s.number s.passes.items
+  pub opened : AllOpened o gates sessions
   pub seen : (k : ℕ) (s : Session P A) → slice_get sessions k ≡ Some s → Sees s.passes.items (λ part. [])
 
 -- the passes of a session at so many gates, which have seen nothing
