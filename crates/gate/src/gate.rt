@@ -22,7 +22,7 @@ use std::snapshot::Snapshot;
 use std::sync::Wait;
 
 /// How often a session looks for the part before it parks.
-const LOOKS: u32 = 100;
+const LOOKS: u32 = 1_000;
 
 /// The gate of one part: sessions on threads of their own take the part out, do one operation on it and put it back.
 #[derive(Drop)]
