@@ -1,0 +1,169 @@
+//! All sessions together: what is left of the table at the end, beside what each did and was answered.
+use crate::event::Event;
+use crate::keys::{COUNTED, KEYS, OPEN, Object};
+use crate::replay::{LastWrite, Puts, Replay};
+use crate::worker::Worker;
+use crate::wrong::{Failure, Wrong};
+use std::alloc::{AllocError, Global};
+
+/// Which objects of each session were taken, by their sequence numbers.
+#[derive(Drop)]
+struct Taken {
+    sessions: Vec<Vec<bool>>,
+}
+
+impl Taken {
+    /// None, of so many objects of each session.
+    fn none(alloc: Global, all: &[Puts]) -> Result<Taken, AllocError> {
+        let mut sessions = Vec::new(alloc);
+        for puts in all {
+            sessions.push(Vec::from_elem(alloc, false, puts.len())?)?;
+        }
+        Ok(Taken { sessions })
+    }
+
+    /// An object was taken, for the first time.
+    fn takes(&mut self, object: Object) -> Result<(), Wrong> {
+        let Some(objects) = self.sessions.get_mut(usize::from(object.session)) else {
+            return Err(Wrong::NeverPut(object));
+        };
+        match objects.get_mut(object.sequence as usize) {
+            Some(is_taken) if !*is_taken => {
+                *is_taken = true;
+                Ok(())
+            }
+            _ => Err(Wrong::TakenTwice(object)),
+        }
+    }
+
+    /// All that a session took.
+    fn takes_all(&mut self, events: &[Event]) -> Result<(), Wrong> {
+        for event in events {
+            if let Event::Taken(_, Some(object)) = *event {
+                self.takes(object)?;
+            }
+        }
+        Ok(())
+    }
+}
+
+/// By keys, how many objects were put in by `insert_new`, less those that were taken.
+fn add_balance(events: &[Event], balances: &mut [i64]) {
+    for event in events {
+        let (key, more) = match *event {
+            Event::PutNew(object, true) => (object.key, 1),
+            Event::Taken(key, Some(_)) => (key, -1),
+            _ => continue,
+        };
+        if let Some(balance) = balances.get_mut(key as usize) {
+            *balance = balance.saturating_add(more);
+        }
+    }
+}
+
+/// At each key whose objects are counted, as many are left as were put in and not taken.
+fn are_balanced(alloc: Global, workers: &[Worker], left: &[Option<Object>]) -> Result<(), Failure> {
+    let mut balances: Vec<i64> = Vec::from_elem(alloc, 0, KEYS as usize)?;
+    for worker in workers {
+        add_balance(worker.events.as_slice(), balances.as_mut_slice());
+    }
+    for key in COUNTED..KEYS {
+        let there = left_at(left, key).is_some();
+        if balances.get(key as usize) != Some(&i64::from(there)) {
+            return Err(Failure::Left(Wrong::Unbalanced(key)));
+        }
+    }
+    Ok(())
+}
+
+/// What is left at a key.
+fn left_at(left: &[Option<Object>], key: u32) -> Option<Object> {
+    left.get(key as usize).copied().flatten()
+}
+
+/// Some session's last write at the key leaves what is left there.
+fn is_last(replays: &[Replay<'_>], key: u32, left: Option<Object>) -> bool {
+    match left {
+        Some(object) => match replays.get(usize::from(object.session)) {
+            Some(replay) => replay.last_write(key) == LastWrite::Put(object.sequence),
+            None => false,
+        },
+        None => {
+            let mut is_put = false;
+            for replay in replays {
+                match replay.last_write(key) {
+                    LastWrite::Removal => return true,
+                    LastWrite::Put(_) => is_put = true,
+                    LastWrite::Nothing => {}
+                }
+            }
+            !is_put
+        }
+    }
+}
+
+/// That holds at each key at which all sessions write in every way.
+fn are_last(replays: &[Replay<'_>], left: &[Option<Object>]) -> Result<(), Wrong> {
+    for key in OPEN..COUNTED {
+        if !is_last(replays, key, left_at(left, key)) {
+            return Err(Wrong::NotLast(key));
+        }
+    }
+    Ok(())
+}
+
+/// A session goes through its record, and looks at all keys once more at the end.
+fn go_through(
+    replay: &mut Replay<'_>,
+    events: &[Event],
+    left: &[Option<Object>],
+) -> Result<(), Wrong> {
+    replay.goes_through(events)?;
+    for key in 0..KEYS {
+        replay.looks(key, left_at(left, key))?;
+    }
+    Ok(())
+}
+
+/// A session's replay.
+fn replayed<'a>(
+    alloc: Global,
+    worker: &Worker,
+    all: &'a [Puts],
+    left: &[Option<Object>],
+) -> Result<Replay<'a>, Failure> {
+    let mut replay = Replay::new(alloc, worker.number, all)?;
+    match go_through(&mut replay, worker.events.as_slice(), left) {
+        Ok(()) => Ok(replay),
+        Err(wrong) => Err(Failure::Answered(worker.number, wrong)),
+    }
+}
+
+/// What each session put in.
+fn puts_of(alloc: Global, workers: &[Worker]) -> Result<Vec<Puts>, AllocError> {
+    let mut all = Vec::new(alloc);
+    for worker in workers {
+        all.push(Puts::of_events(alloc, worker.events.as_slice())?)?;
+    }
+    Ok(all)
+}
+
+/// Judges what the sessions of a table recorded, which stand in their order, and what is left by keys.
+pub(crate) fn judge(
+    alloc: Global,
+    workers: &[Worker],
+    left: &[Option<Object>],
+) -> Result<(), Failure> {
+    let all = puts_of(alloc, workers)?;
+    let mut taken = Taken::none(alloc, all.as_slice())?;
+    let mut replays = Vec::new(alloc);
+    for worker in workers {
+        taken.takes_all(worker.events.as_slice())?;
+        match replays.push(replayed(alloc, worker, all.as_slice(), left)?) {
+            Ok(()) => {}
+            Err(_) => return Err(Failure::Refused),
+        }
+    }
+    are_last(replays.as_slice(), left)?;
+    are_balanced(alloc, workers, left)
+}

@@ -1,0 +1,227 @@
+//! A table of many sessions, each on a thread of its own.
+ghost use Rattle.std.specs.Prelude.{◌≡◌, ◌<◌, IfSome};
+ghost use Rattle.tables.specs.Opened.{AllOpened};
+ghost use Rattle.tables.specs.Sessions.{IsOpened};
+
+use crate::judge::judge;
+use crate::keys::{KEYS, Object, key_term};
+use crate::worker::Worker;
+use crate::wrong::{Failure, Wrong};
+use gate::Closed;
+use part_core::Part;
+use std::alloc::Global;
+use std::sync::Wait;
+use std::thread::{self, Threads, join};
+use tables::{Options, Session, Table, part_of_key};
+use term_core::Term;
+
+/// A run: what the table is opened with, and the calls of each session.
+#[derive(Clone, Copy, Debug)]
+pub(crate) struct Run {
+    pub(crate) options: Options,
+    pub(crate) seed: u64,
+    pub(crate) calls: u32,
+}
+
+/// A session makes its calls.
+fn played<R: Wait, P: Part<Global> + Drop>(
+    rt: &R,
+    alloc: Global,
+    table: &Table<P>,
+    session: &mut Session<P>,
+    run: Run,
+) -> Option<Worker>
+    requires { IsOpened table.now.options table.now.gates.items session.old.number session.old.passes.items }
+    ensures { IsOpened table.now.options table.now.gates.items session.new.number session.new.passes.items }
+{
+    let mut worker = Worker::new(alloc, run.seed, session.number);
+    let mut at = table.at(rt, session);
+    worker.run(rt, alloc, &mut at, run.calls)?;
+    Some(worker)
+}
+
+/// A session makes its calls and leaves the table.
+fn played_and_left<R: Wait, P: Part<Global> + Drop>(
+    rt: &R,
+    alloc: Global,
+    table: &Table<P>,
+    session: Session<P>,
+    run: Run,
+) -> Option<Worker>
+    requires { IsOpened table.now.options table.now.gates.items session.number session.passes.items }
+{
+    let mut session = session;
+    let worker = played(rt, alloc, table, &mut session, run);
+    table.leave(rt, session);
+    worker
+}
+
+/// Whether a part among so many is that of a key.
+fn is_part_of(key: u32, part: u8, parts: u8) -> bool
+    requires { 0 < parts }
+{
+    let key = key_term(key);
+    part_of_key(&key, parts) == part
+}
+
+/// Keeps an object by its key.
+fn keep_left(object: Object, left: &mut [Option<Object>]) -> Result<(), Wrong> {
+    match left.get_mut(object.key as usize) {
+        Some(place) => {
+            *place = Some(object);
+            Ok(())
+        }
+        None => Err(Wrong::NoKey(object.key)),
+    }
+}
+
+/// Puts an object by its key, where it stands in its key's part.
+fn put_left(object: Object, part: u8, parts: u8, left: &mut [Option<Object>]) -> Result<(), Wrong> {
+    if parts == 0 {
+        return Err(Wrong::Misplaced(object.key));
+    }
+    if !is_part_of(object.key, part, parts) {
+        return Err(Wrong::Misplaced(object.key));
+    }
+    keep_left(object, left)
+}
+
+/// Puts the objects of a part by their keys.
+fn put_all_left(
+    objects: &[Term],
+    part: u8,
+    parts: u8,
+    left: &mut [Option<Object>],
+) -> Result<(), Failure> {
+    for term in objects {
+        let Some(object) = Object::of_term(term) else {
+            return Err(Failure::Refused);
+        };
+        put_left(object, part, parts, left)?;
+    }
+    Ok(())
+}
+
+/// What is left in a table that was given up, by keys.
+fn left_in<P: Part<Global> + Drop>(
+    alloc: Global,
+    mut closed: Closed<P>,
+    parts: u8,
+) -> Result<Vec<Option<Object>>, Failure> {
+    let mut left: Vec<Option<Object>> = Vec::from_elem(alloc, None, KEYS as usize)?;
+    for part in (0..parts).rev() {
+        match closed.next_part() {
+            Some(Ok(there)) => {
+                let objects = there.objects(alloc)?;
+                put_all_left(objects.as_slice(), part, parts, left.as_mut_slice())?;
+            }
+            Some(Err(_lost)) => return Err(Failure::Lost),
+            None => return Err(Failure::Lost),
+        }
+    }
+    Ok(left)
+}
+
+/// All but the last session make their calls and leave, each on a thread of its own.
+fn others_played<R: Threads + Wait + Sync, P: Part<Global> + Drop + Send>(
+    rt: &R,
+    alloc: Global,
+    table: &Table<P>,
+    sessions: Vec<Session<P>>,
+    run: Run,
+) -> Option<Vec<Option<Worker>>>
+    requires { AllOpened table.now.options table.now.gates.items sessions.items }
+{
+    thread::map_vec(
+        rt,
+        sessions,
+        &|session: Session<P>| -> Option<Worker>
+            requires { IsOpened table.now.options table.now.gates.items session.number session.passes.items }
+        { played_and_left(rt, alloc, table, session, run) },
+    )
+    .ok()
+}
+
+/// The last session makes its calls, and comes back.
+fn last_played<R: Wait, P: Part<Global> + Drop>(
+    rt: &R,
+    alloc: Global,
+    table: &Table<P>,
+    session: Session<P>,
+    run: Run,
+) -> Option<(Session<P>, Worker)>
+    requires { IsOpened table.now.options table.now.gates.items session.number session.passes.items }
+    ensures { IfSome result (λ r. IsOpened table.now.options table.now.gates.items r.0.number r.0.passes.items) }
+{
+    let mut session = session;
+    let worker = played(rt, alloc, table, &mut session, run)?;
+    Some((session, worker))
+}
+
+/// The records of all sessions, by their numbers.
+fn all_workers(
+    alloc: Global,
+    others: Vec<Option<Worker>>,
+    last: Worker,
+) -> Result<Vec<Worker>, Failure> {
+    let mut workers = Vec::new(alloc);
+    for other in others {
+        let Some(other) = other else {
+            return Err(Failure::Refused);
+        };
+        match workers.push(other) {
+            Ok(()) => {}
+            Err(_) => return Err(Failure::Refused),
+        }
+    }
+    match workers.push(last) {
+        Ok(()) => Ok(workers),
+        Err(_) => Err(Failure::Refused),
+    }
+}
+
+/// All but the last session make their calls and leave, and beside them the last makes its own.
+fn all_played<R: Threads + Wait + Sync, P: Part<Global> + Drop + Send>(
+    rt: &R,
+    alloc: Global,
+    table: &Table<P>,
+    sessions: Vec<Session<P>>,
+    last: Session<P>,
+    run: Run,
+) -> (Option<Vec<Option<Worker>>>, Option<(Session<P>, Worker)>)
+    requires others { AllOpened table.now.options table.now.gates.items sessions.items }
+    requires last { IsOpened table.now.options table.now.gates.items last.number last.passes.items }
+    ensures { IfSome result.1 (λ r. IsOpened table.now.options table.now.gates.items r.0.number r.0.passes.items) }
+{
+    join(
+        rt,
+        || -> Option<Vec<Option<Worker>>>
+            requires { AllOpened table.now.options table.now.gates.items sessions.items }
+        { others_played(rt, alloc, table, sessions, run) },
+        || -> Option<(Session<P>, Worker)>
+            requires { IsOpened table.now.options table.now.gates.items last.number last.passes.items }
+            ensures { IfSome result (λ r. IsOpened table.entry.now.options table.entry.now.gates.items r.0.number r.0.passes.items) }
+        { last_played(rt, alloc, table, last, run) },
+    )
+}
+
+/// All sessions make their calls, and what is left is judged beside what they recorded.
+pub(crate) fn judged<R: Threads + Wait + Sync, P: Part<Global> + Drop + Send>(
+    rt: &R,
+    alloc: Global,
+    run: Run,
+) -> Result<(), Failure> {
+    let Ok((table, mut sessions)) = Table::<P>::open(alloc, run.options) else {
+        return Err(Failure::Refused);
+    };
+    let Some(last) = sessions.pop() else {
+        return Err(Failure::Refused);
+    };
+    let (others, last) = all_played(rt, alloc, &table, sessions, last, run);
+    let (Some(others), Some((session, worker))) = (others, last) else {
+        return Err(Failure::Refused);
+    };
+    let left = left_in(alloc, table.close(session), run.options.parts)?;
+    let workers = all_workers(alloc, others, worker)?;
+    judge(alloc, workers.as_slice(), left.as_slice())
+}

@@ -1,0 +1,295 @@
+//! A session that makes random calls and records what it is answered.
+ghost use Rattle.std.specs.Prelude.{◌≡◌};
+
+use crate::event::Event;
+use crate::keys::{COUNTED, KEYS, OPEN, OWN, Object, key_term, object_of};
+use crate::walking::walk;
+use rand::RngExt;
+use rand_pcg::Pcg32;
+use std::alloc::Global;
+use std::sync::Wait;
+use tables::{Turns, delete, delete_object, insert, insert_new, lookup, member, take};
+
+/// How many calls come to one walk.
+const CALLS_OF_A_WALK: u32 = 64;
+
+/// A call at one key.
+#[derive(Clone, Copy)]
+enum Call {
+    Put,
+    PutNew,
+    Find,
+    Ask,
+    Delete,
+    DeleteObject,
+    Take,
+}
+
+/// The calls at keys that are written in every way, as often as they are made.
+const CALLS: [Call; 16] = [
+    Call::Put,
+    Call::Put,
+    Call::Put,
+    Call::Put,
+    Call::Put,
+    Call::PutNew,
+    Call::PutNew,
+    Call::Find,
+    Call::Find,
+    Call::Find,
+    Call::Find,
+    Call::Ask,
+    Call::Delete,
+    Call::DeleteObject,
+    Call::DeleteObject,
+    Call::Take,
+];
+
+/// What a session needs for its calls, and what it recorded.
+#[derive(Drop)]
+pub(crate) struct Worker {
+    pub(crate) number: u8,
+    random: Pcg32,
+    /// The sequence number of the next object.
+    sequence: u32,
+    pub(crate) events: Vec<Event>,
+}
+
+impl Worker {
+    /// One that has made no call. Its calls follow from the seed and its number.
+    pub(crate) fn new(alloc: Global, seed: u64, number: u8) -> Worker {
+        Worker {
+            number,
+            random: Pcg32::new(seed, u64::from(number)),
+            sequence: 0,
+            events: Vec::new(alloc),
+        }
+    }
+
+    /// A random number below another.
+    pub(crate) fn below(&mut self, bound: u32) -> u32 {
+        self.random.random_range(0..bound.max(1))
+    }
+
+    /// Records an event.
+    pub(crate) fn record(&mut self, event: Event) -> Option<()> {
+        self.events.push(event).ok()
+    }
+
+    /// A new object at a key.
+    fn object(&mut self, key: u32) -> Object {
+        let sequence = self.sequence;
+        self.sequence = sequence.saturating_add(1);
+        Object {
+            key,
+            session: self.number,
+            sequence,
+        }
+    }
+
+    /// An object of the session's that may be there.
+    fn earlier(&mut self, key: u32) -> Object {
+        let back = self.below(200);
+        Object {
+            key,
+            session: self.number,
+            sequence: self.sequence.saturating_sub(back),
+        }
+    }
+
+    /// One of the session's own keys.
+    pub(crate) fn own_key(&mut self) -> u32 {
+        let place = self.below(OWN);
+        u32::from(self.number)
+            .saturating_mul(OWN)
+            .saturating_add(place)
+    }
+
+    /// One of the keys at which all sessions write.
+    fn open_key(&mut self) -> u32 {
+        OPEN.saturating_add(self.below(COUNTED - OPEN))
+    }
+
+    /// One of those whose objects are counted.
+    fn counted_key(&mut self) -> u32 {
+        COUNTED.saturating_add(self.below(KEYS - COUNTED))
+    }
+
+    /// Makes a call at a key.
+    fn call<T: Turns<Global>>(
+        &mut self,
+        alloc: Global,
+        turns: &mut T,
+        call: Call,
+        key: u32,
+    ) -> Option<()>
+        requires { T.is_ready turns.old }
+        ensures ready { T.is_ready turns.new }
+        ensures same { T.home turns.new ≡ T.home turns.old }
+    {
+        match call {
+            Call::Put => self.put(alloc, turns, key),
+            Call::PutNew => self.put_new(alloc, turns, key),
+            Call::Find => self.find(turns, key),
+            Call::Ask => self.ask(turns, key),
+            Call::Delete => self.delete(turns, key),
+            Call::DeleteObject => self.delete_object(alloc, turns, key),
+            Call::Take => self.take(turns, key),
+        }
+    }
+
+    fn put<T: Turns<Global>>(&mut self, alloc: Global, turns: &mut T, key: u32) -> Option<()>
+        requires { T.is_ready turns.old }
+        ensures ready { T.is_ready turns.new }
+        ensures same { T.home turns.new ≡ T.home turns.old }
+    {
+        let object = self.object(key);
+        let term = object.term(alloc)?;
+        insert(turns, term).ok()?;
+        self.record(Event::Put(object))
+    }
+
+    fn put_new<T: Turns<Global>>(&mut self, alloc: Global, turns: &mut T, key: u32) -> Option<()>
+        requires { T.is_ready turns.old }
+        ensures ready { T.is_ready turns.new }
+        ensures same { T.home turns.new ≡ T.home turns.old }
+    {
+        let object = self.object(key);
+        let term = object.term(alloc)?;
+        let fresh = insert_new(turns, term).ok()?;
+        self.record(Event::PutNew(object, fresh))
+    }
+
+    fn find<T: Turns<Global>>(&mut self, turns: &mut T, key: u32) -> Option<()>
+        requires { T.is_ready turns.old }
+        ensures ready { T.is_ready turns.new }
+        ensures same { T.home turns.new ≡ T.home turns.old }
+    {
+        let term = key_term(key);
+        let found = lookup(turns, &term).ok()?;
+        self.record(Event::Found(key, object_of(found.as_slice())?))
+    }
+
+    fn ask<T: Turns<Global>>(&mut self, turns: &mut T, key: u32) -> Option<()>
+        requires { T.is_ready turns.old }
+        ensures ready { T.is_ready turns.new }
+        ensures same { T.home turns.new ≡ T.home turns.old }
+    {
+        let term = key_term(key);
+        let there = member(turns, &term);
+        self.record(Event::Asked(key, there))
+    }
+
+    fn delete<T: Turns<Global>>(&mut self, turns: &mut T, key: u32) -> Option<()>
+        requires { T.is_ready turns.old }
+        ensures ready { T.is_ready turns.new }
+        ensures same { T.home turns.new ≡ T.home turns.old }
+    {
+        let term = key_term(key);
+        delete(turns, &term);
+        self.record(Event::Deleted(key))
+    }
+
+    fn delete_object<T: Turns<Global>>(
+        &mut self,
+        alloc: Global,
+        turns: &mut T,
+        key: u32,
+    ) -> Option<()>
+        requires { T.is_ready turns.old }
+        ensures ready { T.is_ready turns.new }
+        ensures same { T.home turns.new ≡ T.home turns.old }
+    {
+        let object = self.earlier(key);
+        let term = object.term(alloc)?;
+        delete_object(turns, &term).ok()?;
+        self.record(Event::DeletedObject(object))
+    }
+
+    fn take<T: Turns<Global>>(&mut self, turns: &mut T, key: u32) -> Option<()>
+        requires { T.is_ready turns.old }
+        ensures ready { T.is_ready turns.new }
+        ensures same { T.home turns.new ≡ T.home turns.old }
+    {
+        let term = key_term(key);
+        let taken = take(turns, &term).ok()?;
+        self.record(Event::Taken(key, object_of(taken.as_slice())?))
+    }
+
+    /// A call of those that are made at keys which are written in every way.
+    fn any_call(&mut self) -> Call {
+        let choice = self.below(16) as usize;
+        match CALLS.get(choice) {
+            Some(call) => *call,
+            None => Call::Find,
+        }
+    }
+
+    /// A call at a key at which other sessions write, too.
+    pub(crate) fn call_at_shared_key<T: Turns<Global>>(
+        &mut self,
+        alloc: Global,
+        turns: &mut T,
+    ) -> Option<()>
+        requires { T.is_ready turns.old }
+        ensures ready { T.is_ready turns.new }
+        ensures same { T.home turns.new ≡ T.home turns.old }
+    {
+        match self.below(8) {
+            0 => {
+                let key = self.counted_key();
+                self.put_new(alloc, turns, key)
+            }
+            1 => {
+                let key = self.counted_key();
+                self.take(turns, key)
+            }
+            2 => {
+                let key = self.below(KEYS);
+                self.find(turns, key)
+            }
+            _ => {
+                let call = self.any_call();
+                let key = self.open_key();
+                self.call(alloc, turns, call, key)
+            }
+        }
+    }
+
+    /// A call at a key, of the session's own or of all.
+    fn call_at_key<T: Turns<Global>>(&mut self, alloc: Global, turns: &mut T) -> Option<()>
+        requires { T.is_ready turns.old }
+        ensures ready { T.is_ready turns.new }
+        ensures same { T.home turns.new ≡ T.home turns.old }
+    {
+        if self.below(2) == 0 {
+            let call = self.any_call();
+            let key = self.own_key();
+            self.call(alloc, turns, call, key)
+        } else {
+            self.call_at_shared_key(alloc, turns)
+        }
+    }
+
+    /// Makes so many random calls.
+    pub(crate) fn run<R: Wait, T: Turns<Global>>(
+        &mut self,
+        rt: &R,
+        alloc: Global,
+        turns: &mut T,
+        calls: u32,
+    ) -> Option<()>
+        requires { T.is_ready turns.old }
+        ensures ready { T.is_ready turns.new }
+        ensures same { T.home turns.new ≡ T.home turns.old }
+    {
+        for _call in 0..calls {
+            if self.below(CALLS_OF_A_WALK) == 0 {
+                walk(rt, alloc, turns, self)?;
+            } else {
+                self.call_at_key(alloc, turns)?;
+            }
+        }
+        Some(())
+    }
+}
