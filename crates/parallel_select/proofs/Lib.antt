@@ -1,0 +1,12 @@
+mod Sent
+mod RunLemmas
+mod VisitLemmas
+mod KeyLemmas
+mod GainLemmas
+mod WalkLemmas
+mod PartLemmas
+mod WorkLemmas
+mod QuerySent
+mod WorkersLemmas
+mod ListLemmas
+mod LawLemmas

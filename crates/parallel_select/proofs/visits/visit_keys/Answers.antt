@@ -1,0 +1,116 @@
+use Rattle.std.proofs.Common.{◌≡◌, ◌∙◌, ◌<◌, ◌==◌, Option, refl, ap, sym, subst, arith, length, rules}
+use Rattle.std.specs.Prelude.{Bool, true, false, filter, get_or, ℕ, ◌%◌}
+use Rattle.std.proofs.lemmas.Bool.{eq-eqb, eqb-true}
+use Rattle.term_core.specs.Datum.{Datum}
+use Rattle.term_core.specs.Datum.Datum.{nil}
+use Rattle.term_core.specs.KeyHash.{key_hash}
+use Rattle.part_core.specs.Acts.{Cursor}
+use Rattle.part_core.specs.Settings.{part_of}
+use Rattle.part_core.proofs.KeyLemmas.{by_test}
+use Rattle.tables.specs.Options.{settings_of}
+use Rattle.part_core.specs.Acts.Scope.{Named}
+use Rattle.tables.specs.declared.options.Options.{Options}
+use Rattle.tables.specs.Turns.{Home, Views, Follows}
+use Rattle.walk_core.specs.Moments.{AreLegal}
+use Rattle.walk_core.specs.Walk.{Position, at_key, start_of}
+use Rattle.walk_core.specs.Walk.Position.{Over}
+use Rattle.walks.specs.Query.{plan_of}
+use Rattle.parallel_select.specs.Gained.{purpose_of}
+use Rattle.parallel_select.specs.Parts.{part_walk, stands_in, Visited, Missed, GoesGaining}
+use Rattle.parallel_select.proofs.GainLemmas.{gains_nothing, gains_key, misses_key}
+use Rattle.parallel_select.proofs.KeyLemmas.{count_first, none_yet, key_skipped, key_taken, all_there, there}
+use Rattle.parallel_select.proofs.WalkLemmas.{part_is_walk, starts_named, named_plan, behind_keys}
+use Rattle.parallel_select.proofs.visits.visit_keys.Goals as goal
+
+pub loop-number-init : goal.loop-number-init
+loop-number-init g c =
+    let h = g.T.Turns.home c.args.turns.now in
+    let q = c.args.query.now in
+    let w = part_walk h (purpose_of c.args.asking) q c.args.part in
+    let p = stands_in h.options c.args.part in
+    let ks = filter p c.args.keys.now in
+    let begins = starts_named w ks (named_plan h.options c.args.part (plan_of q h.options) c.args.keys.now c.requires.named) ∙ ap (λ n. at_key n (length ks)) (sym (none_yet p c.args.keys.now)) in
+    (c.requires.ready, refl, c.requires.purpose, gains_nothing h w (start_of w) (at_key (count_first p 0 c.args.keys.now) (length ks)) c.args.gained.now (g.T.Turns.sees c.args.turns.now) begins)
+
+-- whether a key stands in the part, by its number
+stands : (k : Datum) (options : Options) (o : Options) (part found : ℕ) → o ≡ options → found ≡ key_hash k % o.parts → found ≡ part → part_of (settings_of options) k ≡ part
+stands k options o part found same is here = sym (ap (λ (x : Options). key_hash k % x.parts) same) ∙ sym is ∙ here
+
+elsewhere : (k : Datum) (options : Options) (o : Options) (part found : ℕ) → o ≡ options → found ≡ key_hash k % o.parts → (found ≡ part → ⊥) → stands_in options part k ≡ false
+elsewhere k options o part found same is other =
+    by_test (stands_in options part k) _
+    (λ here. absurd (other (is ∙ ap (λ (x : Options). key_hash k % x.parts) same ∙ eqb-true (part_of (settings_of options) k) part here)))
+    (λ away. away)
+
+pub loop-number-preserved-then-part_of_key-part : goal.loop-number-preserved-then-part_of_key-part
+loop-number-preserved-then-part_of_key-part g c =
+    let h = g.T.Turns.home c.args.turns.now in
+    let w = part_walk h (purpose_of c.args.asking) c.args.query.now c.args.part in
+    let p = stands_in h.options c.args.part in
+    let keys = c.args.keys.now in
+    let n = c.loop-number.number in
+    let away = elsewhere c.index-keys-number.result h.options c.options-parts.result c.args.part c.part_of_key.result c.options-parts.ensures c.part_of_key.ensures.part c.if-part_of_key-part.true in
+    let is_there = there keys n c.index-keys-number.result c.index-keys-number.result c.loop-number-test.true c.index-keys-number.is in
+    let same = key_skipped p n keys c.loop-number-test.true (ap p is_there ∙ away) in (
+      c.loop-number.invariant.0,
+      c.loop-number.invariant.1,
+      c.loop-number.invariant.2,
+      subst (λ (m : ℕ). Follows (g.T.Turns.sees c.args.turns.now) (g.T.Turns.sees c.loop-number.turns) (GoesGaining h w (start_of w) (at_key m (length (filter p keys))) c.args.gained.now c.loop-number.gained)) (sym same) c.loop-number.invariant.3,
+    )
+
+pub loop-number-preserved : goal.loop-number-preserved
+loop-number-preserved g c =
+    let h = g.T.Turns.home c.args.turns.now in
+    let q = c.args.query.now in
+    let purpose = purpose_of c.args.asking in
+    let w = part_walk h purpose q c.args.part in
+    let p = stands_in h.options c.args.part in
+    let keys = c.args.keys.now in
+    let ks = filter p keys in
+    let n = c.loop-number.number in
+    let before = g.T.Turns.sees c.args.turns.now in
+    let now = g.T.Turns.sees c.loop-number.turns in
+    let later = g.T.Turns.sees c.visit_key.new.turns in
+    let is_there = there keys n c.index-keys-number.result c.index-keys-number.result c.loop-number-test.true c.index-keys-number.is in
+    let key_there = there keys n c.index-keys-number-in-loop-number.result c.index-keys-number-in-loop-number.result c.loop-number-test.true c.index-keys-number-in-loop-number.is in
+    let here = stands c.index-keys-number.result h.options c.options-parts.result c.args.part c.part_of_key.result c.options-parts.ensures c.part_of_key.ensures.part c.if-part_of_key-part.false in
+    let t = key_taken p n keys c.loop-number-test.true (ap p is_there ∙ eq-eqb (part_of (settings_of h.options) c.index-keys-number.result) c.args.part here) in
+    let visit = subst (λ (home : Home). (next : Option Cursor) × Follows now later (Visited home c.args.part purpose q.code (Named c.index-keys-number-in-loop-number.result) next c.loop-number.gained c.visit_key.new.gained)) c.loop-number.invariant.1 c.in-Ok.ensures.done in
+    let made = gains_key h w (start_of w) ks (count_first p n keys) c.args.part c.index-keys-number-in-loop-number.result c.args.gained.now c.loop-number.gained c.visit_key.new.gained before now later (record { options = refl; number = refl }) (named_plan h.options c.args.part (plan_of q h.options) keys c.requires.named) t.2 (t.1 ∙ key_there) (ap (part_of (settings_of h.options)) (sym key_there ∙ is_there) ∙ here) c.loop-number.invariant.3 visit in (
+      c.visit_key.ensures.ready,
+      c.visit_key.ensures.same ∙ c.loop-number.invariant.1,
+      c.visit_key.ensures.purpose,
+      subst (λ (m : ℕ). Follows before later (GoesGaining h w (start_of w) (at_key m (length ks)) c.args.gained.now c.visit_key.new.gained)) (sym t.0) made,
+    )
+
+pub returns-in-Err-clause-refused : goal.returns-in-Err-clause-refused
+returns-in-Err-clause-refused g c =
+    let h = g.T.Turns.home c.args.turns.now in
+    let q = c.args.query.now in
+    let purpose = purpose_of c.args.asking in
+    let w = part_walk h purpose q c.args.part in
+    let p = stands_in h.options c.args.part in
+    let keys = c.args.keys.now in
+    let ks = filter p keys in
+    let n = c.loop-number.number in
+    let before = g.T.Turns.sees c.args.turns.now in
+    let now = g.T.Turns.sees c.loop-number.turns in
+    let later = g.T.Turns.sees c.visit_key.new.turns in
+    let is_there = there keys n c.index-keys-number.result c.index-keys-number.result c.loop-number-test.true c.index-keys-number.is in
+    let key_there = there keys n c.index-keys-number-in-loop-number.result c.index-keys-number-in-loop-number.result c.loop-number-test.true c.index-keys-number-in-loop-number.is in
+    let here = stands c.index-keys-number.result h.options c.options-parts.result c.args.part c.part_of_key.result c.options-parts.ensures c.part_of_key.ensures.part c.if-part_of_key-part.false in
+    let t = key_taken p n keys c.loop-number-test.true (ap p is_there ∙ eq-eqb (part_of (settings_of h.options) c.index-keys-number.result) c.args.part here) in
+    let same = c.visit_key.ensures.same ∙ c.loop-number.invariant.1 in
+    let legal = subst (λ (home : Home). (v : Views) → now v → AreLegal home.options v) c.loop-number.invariant.1 (λ v b part inside. g.met.T.Turns.legal c.loop-number.turns v part c.loop-number.invariant.0 b inside) in
+    let legal_later = subst (λ (home : Home). (v : Views) → later v → AreLegal home.options v) same (λ v b part inside. g.met.T.Turns.legal c.visit_key.new.turns v part c.visit_key.ensures.ready b inside) in
+    let visit = subst (λ (home : Home). Follows now later (Missed home c.args.part purpose q.code (Named c.index-keys-number-in-loop-number.result) c.in-Err.field-0 c.loop-number.gained c.visit_key.new.gained)) c.loop-number.invariant.1 c.in-Err.ensures.refused in
+    misses_key h w ks (count_first p n keys) c.args.part c.index-keys-number-in-loop-number.result c.args.gained.now c.loop-number.gained c.visit_key.new.gained c.in-Err.field-0 before now later (record { options = refl; number = refl }) (part_is_walk h purpose q c.args.part (g.met.T.Turns.fits c.args.turns.now c.requires.ready) c.requires.part) (named_plan h.options c.args.part (plan_of q h.options) keys c.requires.named) t.2 (t.1 ∙ key_there) (ap (part_of (settings_of h.options)) (sym key_there ∙ is_there) ∙ here) legal legal_later c.loop-number.invariant.3 visit
+
+pub returns-clause-done : goal.returns-clause-done
+returns-clause-done g c =
+    let h = g.T.Turns.home c.args.turns.now in
+    let w = part_walk h (purpose_of c.args.asking) c.args.query.now c.args.part in
+    let p = stands_in h.options c.args.part in
+    let keys = c.args.keys.now in
+    let all = all_there p c.loop-number.number keys (omega (arith, c.loop-number-test.false)) in
+    subst (λ (at : Position). Follows (g.T.Turns.sees c.args.turns.now) (g.T.Turns.sees c.loop-number.turns) (GoesGaining h w (start_of w) at c.args.gained.now c.loop-number.gained)) (behind_keys (count_first p c.loop-number.number keys) (length (filter p keys)) all) c.loop-number.invariant.3

@@ -1,0 +1,6 @@
+pub mod Runs
+pub mod Gained
+pub mod Parts
+pub mod Workers
+pub mod Faults
+pub mod Laws

@@ -1,0 +1,11 @@
+-- Runs of a list.
+use Rattle.std.specs.Prelude.{◌≡◌, List, map}
+use Rattle.std.specs.List.{AllZip, flat_map}
+use Rattle.std.specs.Borrow.{Bor}
+
+-- each of these was made of one of the runs that a list is cut into, in the order of the runs
+abbrev pub AreOfRuns : {X Y : Type 0} → (Bor (List X) → Y → Type 0) → List X → List Y → Type 0
+AreOfRuns {X} makes items made =
+    (runs : List (Bor (List X)))
+    × (flat_map (λ l. l) (map (λ (run : Bor (List X)). run.now) runs) ≡ items)
+    × AllZip makes runs made

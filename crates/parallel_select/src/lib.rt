@@ -1,0 +1,28 @@
+//! Selection by several threads.
+//!
+//! The contracts: `run_list` gives the answers of code on a list of objects, in their order, whatever the number of
+//! threads. `select_parts`, `count_parts` and `delete_parts` make one walk through each part of a table, each by the
+//! session of one worker (`specs/Parts.antt`), and over every interleaving what a walk gains is its answer
+//! (`specs/Laws.antt`).
+//!
+//! - `list`: the runs of a list, in threads; `runs`: a run of objects, which one machine answers.
+//! - `gained`: what walks gain; `visits`: the visits of a walk through one part;
+//!   `part`: such a walk with the fix of its own; `worker`: the walks of one worker; `workers`: workers side by side;
+//!   `selecting`: the calls; `fault`: their refusals; `laws`: what the walks mean.
+#![tactic(auto)]
+
+mod fault;
+mod gained;
+mod laws;
+mod list;
+mod part;
+mod runs;
+mod selecting;
+mod visits;
+mod worker;
+mod workers;
+
+pub use fault::SelectFault;
+pub use laws::{broken_parts_are_gathered, parts_are_answered};
+pub use list::{LEAST_RUN, run_list};
+pub use selecting::{MOST_MEMBERS, count_parts, delete_parts, select_parts};
