@@ -1,0 +1,183 @@
+//! What an object takes in a list that several threads answer, and by one machine alone.
+use compiler::compile;
+use machine::Machine;
+use mspec_reader::read_spec;
+use parallel_select::run_list;
+use std::alloc::Global;
+use std::thread::Threads;
+use std::time::Instant;
+use term_build::make_tuple;
+use term_core::Term;
+use term_text::read_terms;
+use verifier::Verified;
+
+/// How often each is timed.
+const ROUNDS: usize = 5;
+
+/// The specification that is asked of each object.
+const SOME: &[u8] = b"[{{'$1','$2','_'},[{'>=','$1',1},{'<','$2',5}],['$2']}].";
+
+/// How a list is answered.
+#[derive(Clone, Copy)]
+enum Work {
+    /// By several threads.
+    List,
+    /// By one machine.
+    Plain,
+}
+
+/// The code of `SOME`.
+fn code(alloc: Global) -> Option<Verified> {
+    let terms = read_terms(alloc, SOME).ok()?;
+    let specification = read_spec(alloc, terms.first()?).ok()?;
+    compile(alloc, &specification).ok()
+}
+
+/// The atom of each object.
+fn atom(alloc: Global) -> Option<Term> {
+    read_terms(alloc, b"a.").ok()?.pop()
+}
+
+/// The object of a number.
+fn object(alloc: Global, number: i64, atom: &Term) -> Option<Term> {
+    let mut elements = Vec::new(alloc);
+    elements.push(Term::int(number)).ok()?;
+    elements.push(Term::int(number % 7)).ok()?;
+    elements.push(atom.copy().ok()?).ok()?;
+    make_tuple(alloc, elements).ok()?
+}
+
+/// So many objects with an atom.
+fn objects_with(alloc: Global, count: u32, atom: &Term) -> Option<Vec<Term>> {
+    let mut objects = Vec::new(alloc);
+    for place in 0..count {
+        let number = i64::from(place).saturating_add(1);
+        objects.push(object(alloc, number, atom)?).ok()?;
+    }
+    Some(objects)
+}
+
+/// So many objects.
+fn objects(alloc: Global, count: u32) -> Option<Vec<Term>> {
+    objects_with(alloc, count, &atom(alloc)?)
+}
+
+/// How many of these are answers.
+fn count(answers: &[Option<Term>]) -> usize {
+    let mut count: usize = 0;
+    for answer in answers {
+        if answer.is_some() {
+            count = count.saturating_add(1);
+        }
+    }
+    count
+}
+
+/// How many objects a list answers.
+fn listed<H: Threads + Sync>(
+    alloc: Global,
+    handle: &H,
+    code: &Verified,
+    objects: &[Term],
+) -> Option<usize> {
+    let answers = run_list(handle, alloc, code, objects).ok()?;
+    Some(count(answers.as_slice()))
+}
+
+/// Puts the answers of a machine behind others.
+fn answer<'a>(
+    machine: &mut Machine<'a, '_>,
+    objects: &'a [Term],
+    answers: &mut Vec<Option<Term>>,
+) -> Option<()> {
+    for object in objects {
+        let (answer, _executed) = machine.run(object).ok()?;
+        answers.push(answer).ok()?;
+    }
+    Some(())
+}
+
+/// How many objects one machine answers.
+fn plain(alloc: Global, code: &Verified, objects: &[Term]) -> Option<usize> {
+    let mut machine = Machine::new(&alloc, code).ok()?;
+    let mut answers = Vec::with_capacity(alloc, objects.len()).ok()?;
+    let all = answer(&mut machine, objects, &mut answers);
+    machine.finish();
+    all.map(|()| count(answers.as_slice()))
+}
+
+/// How many objects are answered.
+fn found<H: Threads + Sync>(
+    rt: &HostRuntime,
+    handle: &H,
+    work: Work,
+    code: &Verified,
+    objects: &[Term],
+) -> Option<usize> {
+    match work {
+        Work::List => listed(rt.alloc(), handle, code, objects),
+        Work::Plain => plain(rt.alloc(), code, objects),
+    }
+}
+
+/// The nanoseconds that the work takes once.
+fn once<H: Threads + Sync>(
+    rt: &HostRuntime,
+    handle: &H,
+    work: Work,
+    code: &Verified,
+    objects: &[Term],
+) -> Option<u64> {
+    let began = Instant::now(rt).ok()?;
+    let _count = found(rt, handle, work, code, objects)?;
+    let took = began.elapsed(rt).ok()?;
+    u64::try_from(took.as_nanos()).ok()
+}
+
+/// The median of the nanoseconds that the work takes.
+fn timed<H: Threads + Sync>(
+    rt: &HostRuntime,
+    handle: &H,
+    work: Work,
+    code: &Verified,
+    objects: &[Term],
+) -> Option<u64> {
+    let mut rounds = [0; ROUNDS];
+    for round in &mut rounds {
+        *round = once(rt, handle, work, code, objects)?;
+    }
+    rounds.sort_unstable();
+    Some(rounds[ROUNDS / 2])
+}
+
+/// Writes the line of the nanoseconds that the objects take, in a list and by one machine.
+pub(crate) fn write_times<H: Threads + Sync>(
+    rt: &HostRuntime,
+    handle: &H,
+    count: u32,
+    lines: &mut String,
+) -> Option<()> {
+    let code = code(rt.alloc())?;
+    let objects = objects(rt.alloc(), count)?;
+    let list = timed(rt, handle, Work::List, &code, objects.as_slice())?;
+    let plain = timed(rt, handle, Work::Plain, &code, objects.as_slice())?;
+    writeln!(lines, "list {list} ns, one machine {plain} ns").ok()
+}
+
+/// Writes the line of how many objects have an answer.
+pub(crate) fn write_found<H: Threads + Sync>(
+    rt: &HostRuntime,
+    handle: &H,
+    count: u32,
+    lines: &mut String,
+) -> Option<()> {
+    let code = code(rt.alloc())?;
+    let objects = objects(rt.alloc(), count)?;
+    let list = found(rt, handle, Work::List, &code, objects.as_slice())?;
+    let plain = found(rt, handle, Work::Plain, &code, objects.as_slice())?;
+    writeln!(
+        lines,
+        "{list} of {count} answered in a list, {plain} of {count} by one machine"
+    )
+    .ok()
+}

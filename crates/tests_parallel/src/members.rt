@@ -1,0 +1,332 @@
+//! What members of a selection come to: sessions of a table on threads of their own, and of tables on one thread.
+ghost use Rattle.std.specs.Prelude.{◌≡◌, ◌<◌, All, IfSome, map};
+ghost use Rattle.tables.specs.Opened.{AllOpened};
+ghost use Rattle.tables.specs.Sessions.{IsOpened};
+ghost use Rattle.parallel_select.specs.Workers.{AreOfOneTable};
+
+use crate::seats::Seat;
+use mspec_reader::read_spec;
+use parallel_select::{count_parts, delete_parts, select_parts};
+use part_core::{Part, TableKind};
+use std::alloc::Global;
+use std::sync::Wait;
+use std::sync::atomic::AtomicBool;
+use std::thread::Threads;
+use tables::{At, LocalAt, LocalTable, Options, Session, Table, Turns, insert};
+use term_core::Term;
+use term_text::read_terms;
+use test_rows::{digits, listed, numbered, term_of, word};
+use walks::Query;
+
+/// What members do together.
+#[derive(Clone, Copy)]
+pub(crate) enum Call {
+    /// They answer.
+    Select,
+    /// They count.
+    Count,
+    /// They delete.
+    Delete,
+}
+
+/// What a set of two parts is opened with.
+pub(crate) fn options(sessions: u8) -> Options
+    ensures { result.sessions ≡ sessions }
+{
+    Options {
+        name: 1,
+        kind: TableKind::Set,
+        keypos: 1,
+        parts: 2,
+        sessions,
+    }
+}
+
+/// The query of a specification.
+pub(crate) fn query_of(alloc: Global, specification: &str) -> Option<Query> {
+    let term = term_of(alloc, specification.as_bytes())?;
+    Query::from_spec(alloc, &read_spec(alloc, &term).ok()?, 1).ok()
+}
+
+/// What comes of a call: the answers, the number, or the number of its refusal.
+fn called<R: Threads + Wait + Sync, T: Turns<Global> + Send>(
+    rt: &R,
+    alloc: Global,
+    members: &mut [T],
+    query: &Query,
+    call: Call,
+) -> Option<Vec<u8>>
+    requires ready { All T.is_ready members.old }
+    requires table { AreOfOneTable (map T.home members.old) }
+{
+    match call {
+        Call::Select => match select_parts(rt, alloc, members, query) {
+            Ok(answers) => listed(alloc, answers.as_slice()),
+            Err(fault) => numbered(alloc, "refused", usize::from(fault.number())),
+        },
+        Call::Count => match count_parts(rt, members, query) {
+            Ok(count) => digits(alloc, count),
+            Err(fault) => numbered(alloc, "refused", usize::from(fault.number())),
+        },
+        Call::Delete => match delete_parts(rt, members, query) {
+            Ok(count) => digits(alloc, count),
+            Err(refused) => numbered(alloc, "refused", usize::from(refused.fault.number())),
+        },
+    }
+}
+
+/// Whether a member waited in vain.
+fn was_alone<T>(members: &[Seat<'_, T>]) -> bool {
+    for member in members {
+        if member.is_alone {
+            return true;
+        }
+    }
+    false
+}
+
+/// Gives a session of a table a seat behind others.
+fn seat_one<'t, 'f, R: Wait, P: Part<Global> + Drop>(
+    rt: &'t R,
+    table: &'t Table<P>,
+    session: &'t mut Session<P>,
+    flag: &'f AtomicBool,
+    waits: bool,
+    seats: &mut Vec<Seat<'f, At<'t, P, Global, R>>>,
+) -> Option<()>
+    requires opened { IsOpened table.now.options table.now.gates.items session.old.number session.old.passes.items }
+    requires seated { All (λ s. (s.turns.table.now ≡ table.now) × IsOpened s.turns.table.now.options s.turns.table.now.gates.items s.turns.session.now.number s.turns.session.now.passes.items) seats.old.items }
+    ensures { All (λ s. (s.turns.table.now ≡ table.now) × IsOpened s.turns.table.now.options s.turns.table.now.gates.items s.turns.session.now.number s.turns.session.now.passes.items) seats.new.items }
+{
+    let seat = Seat {
+        turns: table.at(rt, session),
+        flag,
+        waits,
+        is_alone: false,
+    };
+    seats.push(seat).ok()
+}
+
+/// Gives sessions of a table seats behind others; that of the place `waiter` waits.
+fn seat_all<'t, 'f, R: Wait, P: Part<Global> + Drop>(
+    rt: &'t R,
+    table: &'t Table<P>,
+    sessions: &'t mut [Session<P>],
+    flag: &'f AtomicBool,
+    waiter: Option<usize>,
+    seats: &mut Vec<Seat<'f, At<'t, P, Global, R>>>,
+) -> Option<()>
+    requires opened { All (λ s. IsOpened table.now.options table.now.gates.items s.number s.passes.items) sessions.old }
+    requires seated { All (λ s. (s.turns.table.now ≡ table.now) × IsOpened s.turns.table.now.options s.turns.table.now.gates.items s.turns.session.now.number s.turns.session.now.passes.items) seats.old.items }
+    ensures { All (λ s. (s.turns.table.now ≡ table.now) × IsOpened s.turns.table.now.options s.turns.table.now.gates.items s.turns.session.now.number s.turns.session.now.passes.items) seats.new.items }
+{
+    match sessions.split_first_mut() {
+        Some((first, rest)) => {
+            let waits = waiter == Some(seats.len());
+            seat_one(rt, table, first, flag, waits, seats)?;
+            seat_all(rt, table, rest, flag, waiter, seats)
+        }
+        None => Some(()),
+    }
+}
+
+/// Puts objects into a table.
+fn put_all<T: Turns<Global>>(turns: &mut T, objects: &[Term]) -> Option<()>
+    requires { T.is_ready turns.old }
+    ensures ready { T.is_ready turns.new }
+    ensures same { T.home turns.new ≡ T.home turns.old }
+{
+    for object in objects {
+        insert(turns, object.copy().ok()?).ok()?;
+    }
+    Some(())
+}
+
+/// A session puts objects into its table.
+fn filled<R: Wait, P: Part<Global> + Drop>(
+    rt: &R,
+    table: &Table<P>,
+    session: Session<P>,
+    objects: &[Term],
+) -> Option<Session<P>>
+    requires { IsOpened table.now.options table.now.gates.items session.number session.passes.items }
+    ensures { IfSome result (λ s. IsOpened table.now.options table.now.gates.items s.number s.passes.items) }
+{
+    let mut session = session;
+    let mut at = table.at(rt, &mut session);
+    put_all(&mut at, objects)?;
+    Some(session)
+}
+
+/// What comes of a call of sessions of a table, or a word where one waited in vain.
+fn called_at<R: Threads + Wait + Sync, P: Part<Global> + Drop + Send>(
+    rt: &R,
+    alloc: Global,
+    table: &Table<P>,
+    sessions: &mut [Session<P>],
+    waiter: Option<usize>,
+    query: &Query,
+    call: Call,
+) -> Option<Vec<u8>>
+    requires { All (λ s. IsOpened table.now.options table.now.gates.items s.number s.passes.items) sessions.old }
+{
+    let flag = AtomicBool::new(false);
+    let mut seats = Vec::new(alloc);
+    seat_all(rt, table, sessions, &flag, waiter, &mut seats)?;
+    let came = called(rt, alloc, seats.as_mut_slice(), query, call)?;
+    if was_alone(seats.as_slice()) {
+        return word(alloc, "alone");
+    }
+    Some(came)
+}
+
+/// Sessions of a table, and one more behind them.
+fn put_back<P: Part<Global> + Drop>(
+    _table: &Table<P>,
+    mut sessions: Vec<Session<P>>,
+    last: Session<P>,
+) -> Option<Vec<Session<P>>>
+    requires { All (λ s. IsOpened _table.now.options _table.now.gates.items s.number s.passes.items) sessions.items
+        × IsOpened _table.now.options _table.now.gates.items last.number last.passes.items }
+    ensures { IfSome result (λ all. All (λ s. IsOpened _table.now.options _table.now.gates.items s.number s.passes.items) all.items) }
+{
+    sessions.push(last).ok()?;
+    Some(sessions)
+}
+
+/// A table with objects and its sessions, so many of them.
+fn opened<R: Wait, P: Part<Global> + Drop>(
+    rt: &R,
+    alloc: Global,
+    members: u8,
+    objects: &[Term],
+) -> Option<(Table<P>, Vec<Session<P>>)>
+    ensures { IfSome result (λ made. All (λ s. IsOpened made.0.options made.0.gates.items s.number s.passes.items) made.1.items) }
+{
+    let Ok((table, mut sessions)) = Table::<P>::open(alloc, options(members)) else {
+        return None;
+    };
+    let last = sessions.pop()?;
+    let filled = filled(rt, &table, last, objects)?;
+    let all = put_back(&table, sessions, filled)?;
+    Some((table, all))
+}
+
+/// What comes of a call by so many members at a table with objects, the member of the place `waiter` waiting for another.
+pub(crate) fn asked<P: Part<Global> + Drop + Send, R: Threads + Wait + Sync>(
+    rt: &R,
+    alloc: Global,
+    members: u8,
+    waiter: Option<usize>,
+    objects: &str,
+    query: &Query,
+    call: Call,
+) -> Option<Vec<u8>> {
+    let objects = read_terms(alloc, objects.as_bytes()).ok()?;
+    let (table, mut sessions) = opened::<R, P>(rt, alloc, members, objects.as_slice())?;
+    called_at(
+        rt,
+        alloc,
+        &table,
+        sessions.as_mut_slice(),
+        waiter,
+        query,
+        call,
+    )
+}
+
+/// What comes of a deletion by two members, and of a count by a third behind it.
+pub(crate) fn deleted_and_counted<P: Part<Global> + Drop + Send, R: Threads + Wait + Sync>(
+    rt: &R,
+    alloc: Global,
+    objects: &str,
+    query: &Query,
+) -> Option<(Vec<u8>, Vec<u8>)> {
+    let objects = read_terms(alloc, objects.as_bytes()).ok()?;
+    let (table, mut sessions) = opened::<R, P>(rt, alloc, 3, objects.as_slice())?;
+    let (one, others) = sessions.split_first_mut()?;
+    let deleted = called_at(rt, alloc, &table, others, None, query, Call::Delete)?;
+    let counted = called_at(
+        rt,
+        alloc,
+        &table,
+        std::slice::from_mut(one),
+        None,
+        query,
+        Call::Count,
+    )?;
+    Some((deleted, counted))
+}
+
+/// So many tables on one thread.
+fn local_tables<P: Part<Global> + Drop>(
+    alloc: Global,
+    options: Options,
+    count: usize,
+) -> Option<Vec<LocalTable<P>>>
+    ensures { IfSome result (λ tables. All (λ t. t.options ≡ options) tables.items) }
+{
+    let mut tables = Vec::new(alloc);
+    for place in 0..count {
+        tables.push(LocalTable::open(alloc, options).ok()?).ok()?;
+    }
+    Some(tables)
+}
+
+/// Gives the session of a table a seat behind others.
+fn seat_local<'t, 'f, P: Part<Global> + Drop>(
+    options: Options,
+    table: &'t mut LocalTable<P>,
+    flag: &'f AtomicBool,
+    seats: &mut Vec<Seat<'f, LocalAt<'t, P>>>,
+) -> Option<()>
+    requires sessions { 0 < options.sessions }
+    requires opened { table.old.options ≡ options }
+    requires seated { All (λ s. (s.turns.table.now.options ≡ options) × (s.turns.number < s.turns.table.now.options.sessions)) seats.old.items }
+    ensures { All (λ s. (s.turns.table.now.options ≡ options) × (s.turns.number < s.turns.table.now.options.sessions)) seats.new.items }
+{
+    let seat = Seat {
+        turns: table.at(0),
+        flag,
+        waits: false,
+        is_alone: false,
+    };
+    seats.push(seat).ok()
+}
+
+/// Gives a session of each of these tables a seat behind others.
+fn seat_locals<'t, 'f, P: Part<Global> + Drop>(
+    options: Options,
+    tables: &'t mut [LocalTable<P>],
+    flag: &'f AtomicBool,
+    seats: &mut Vec<Seat<'f, LocalAt<'t, P>>>,
+) -> Option<()>
+    requires sessions { 0 < options.sessions }
+    requires opened { All (λ t. t.options ≡ options) tables.old }
+    requires seated { All (λ s. (s.turns.table.now.options ≡ options) × (s.turns.number < s.turns.table.now.options.sessions)) seats.old.items }
+    ensures { All (λ s. (s.turns.table.now.options ≡ options) × (s.turns.number < s.turns.table.now.options.sessions)) seats.new.items }
+{
+    match tables.split_first_mut() {
+        Some((first, rest)) => {
+            seat_local(options, first, flag, seats)?;
+            seat_locals(options, rest, flag, seats)
+        }
+        None => Some(()),
+    }
+}
+
+/// What comes of a call by so many members, each of a table of its own that is used by one thread.
+pub(crate) fn asked_alone<P: Part<Global> + Drop + Send, R: Threads + Wait + Sync>(
+    rt: &R,
+    alloc: Global,
+    members: usize,
+    query: &Query,
+    call: Call,
+) -> Option<Vec<u8>> {
+    let options = options(1);
+    let mut tables = local_tables::<P>(alloc, options, members)?;
+    let flag = AtomicBool::new(false);
+    let mut seats = Vec::new(alloc);
+    seat_locals(options, tables.as_mut_slice(), &flag, &mut seats)?;
+    called(rt, alloc, seats.as_mut_slice(), query, call)
+}
