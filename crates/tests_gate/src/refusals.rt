@@ -149,7 +149,8 @@ fn put_both<A: Allocator + Copy, T: Turns<A>>(heap: A, turns: &mut T) -> Option<
     insert(turns, two).ok()
 }
 
-/// Puts both in; then whether calls are answered right that take no memory, and how many requests there were before them.
+/// Puts both in; then whether calls are answered right that take no memory, and how many requests there were before
+/// them.
 fn answered_at<'h, T: Turns<&'h Failing<Global>>>(
     heap: &'h Failing<Global>,
     turns: &mut T,
