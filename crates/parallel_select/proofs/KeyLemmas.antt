@@ -51,6 +51,17 @@ unnamed p k (j ∷ ks) here none =
     (by_test (is_same k j) _ (λ same. absurd (true≢false (sym here ∙ ap p (same_is k j same) ∙ is))) (λ other. other))
     (unnamed p k ks here (sym (ap (list_any (is_same k)) (left_out p j ks is)) ∙ none)))
 
+-- a key among those of its part stands in that part
+pub named_there : (p : Datum → Bool) (k : Datum) (ks : List Datum) → list_any (is_same k) (filter p ks) ≡ true → p k ≡ true
+named_there p k [] among = absurd (true≢false (sym among))
+named_there p k (j ∷ ks) among =
+    by_test (p j) _
+    (λ is.
+    by_test (is_same k j) _
+    (λ same. ap p (same_is k j same) ∙ is)
+    (λ other. named_there p k ks (sym (ap (λ (b : Bool). b || list_any (is_same k) (filter p ks)) other) ∙ sym (ap (list_any (is_same k)) (kept p j ks is)) ∙ among)))
+    (λ is. named_there p k ks (sym (ap (list_any (is_same k)) (left_out p j ks is)) ∙ among))
+
 -- how many keys of a part stand among the first ones
 abbrev pub count_first : (Datum → Bool) → ℕ → List Datum → ℕ
 count_first p n ks = length (filter p (take n ks))

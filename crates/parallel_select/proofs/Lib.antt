@@ -10,3 +10,6 @@ mod QuerySent
 mod WorkersLemmas
 mod ListLemmas
 mod LawLemmas
+mod StretchLemmas
+mod MemberLemmas
+mod JoinLemmas

@@ -28,7 +28,7 @@ plan_differs p w None visited = tt
 plan_differs p w (Some ks) visited = distinct_filter p ks visited.0
 
 -- a key of the walk's parts stands in its one part
-in_part : (options : Options) (part : ℕ) (k : Datum) → (nat_le part (part_of (settings_of options) k) && nat_lt (part_of (settings_of options) k) (part + 1)) ≡ true → stands_in options part k ≡ true
+pub in_part : (options : Options) (part : ℕ) (k : Datum) → (nat_le part (part_of (settings_of options) k) && nat_lt (part_of (settings_of options) k) (part + 1)) ≡ true → stands_in options part k ≡ true
 in_part options part k inside =
     let two = and_parts (nat_le part (part_of (settings_of options) k)) (nat_lt (part_of (settings_of options) k) (part + 1)) inside in
     let low = leb-true part (part_of (settings_of options) k) two.0 in

@@ -4,3 +4,4 @@ pub mod Parts
 pub mod Workers
 pub mod Faults
 pub mod Laws
+pub mod Joined

@@ -31,17 +31,21 @@ stands_in options part k = part_of (settings_of options) k == part
 abbrev pub plan_in : Options → ℕ → Option (List Datum) → Option (List Datum)
 plan_in options part plan = option_map (filter (stands_in options part)) plan
 
--- the walk of a session through one part of its table, or through the named keys that stand there
-abbrev pub part_walk : {A : Type 0} → Home → Purpose → Query A → ℕ → Walk
-part_walk h purpose query part = record {
-  options = h.options;
-  number = h.number;
+-- the walk of a session of this number through one part of a table, or through the named keys that stand there
+abbrev pub walk_through : {A : Type 0} → Options → ℕ → Purpose → Query A → ℕ → Walk
+walk_through options number purpose query part = record {
+  options = options;
+  number = number;
   purpose = purpose;
   program = query.code;
-  plan = plan_in h.options part (plan_of query h.options);
+  plan = plan_in options part (plan_of query options);
   from = part;
   to = part + 1;
 }
+
+-- the same of a session's own table
+abbrev pub part_walk : {A : Type 0} → Home → Purpose → Query A → ℕ → Walk
+part_walk h purpose query part = walk_through h.options h.number purpose query part
 
 -- ---- one visit
 

@@ -23,6 +23,6 @@ mod worker;
 mod workers;
 
 pub use fault::SelectFault;
-pub use laws::{broken_parts_are_gathered, parts_are_answered};
+pub use laws::{broken_parts_are_gathered, counts_join, parts_are_answered, parts_join};
 pub use list::{LEAST_RUN, run_list};
 pub use selecting::{MOST_MEMBERS, count_parts, delete_parts, select_parts};

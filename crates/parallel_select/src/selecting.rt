@@ -50,6 +50,8 @@ fn answer_parts_of<R: Threads + Wait + Sync, A: Allocator + Copy + Send + Sync, 
     requires ready { All T.is_ready members.old }
     requires table { AreOfOneTable (map T.home members.old) }
     requires few { AreFew (length members.old) }
+    ensures ready { All T.is_ready members.new }
+    ensures same { map T.home members.new ≡ map T.home members.old }
     ensures done { IfOk result (λ lists. EachAnswers T.is_ready T.home T.sees query.now (length members.old) (map vec_items lists.items) 0 members.old members.new) }
     ensures refused { IfErr result (λ _. EachBroken T.is_ready T.home T.sees query.now (length members.old) 0 members.old members.new) }
 {
@@ -76,6 +78,8 @@ pub fn select_parts<
 >(rt: &R, alloc: A, members: &mut [T], query: &Query<A>) -> Result<Vec<Term<A>, A>, SelectFault>
     requires ready { All T.is_ready members.old }
     requires table { AreOfOneTable (map T.home members.old) }
+    ensures ready { All T.is_ready members.new }
+    ensures same { map T.home members.new ≡ map T.home members.old }
     ensures done { IfOk result (λ answers. AreFew (length members.old) × (lists : List (List Datum)) × (answers.items ≡ flat_map (λ list. list) lists)
         × EachAnswers T.is_ready T.home T.sees query.now (length members.old) lists 0 members.old members.new) }
     ensures refused { IfErr result (λ fault. (fault ≢ SelectFault.BadOptions)
@@ -104,6 +108,8 @@ fn tally_parts<R: Threads + Wait + Sync, A: Allocator + Copy + Send + Sync, T: T
 ) -> Result<u64, Refused<u64, SelectFault>>
     requires ready { All T.is_ready members.old }
     requires counting { is_counting asking ≡ true }
+    ensures ready { All T.is_ready members.new }
+    ensures same { map T.home members.new ≡ map T.home members.old }
     ensures done { IfOk result (λ count. AreFew (length members.old)
         × EachTallied T.is_ready T.home T.sees query.now (purpose_of asking) (length members.old) false count 0 members.old members.new) }
     ensures refused { IfErr result (λ refused. (refused.fault ≢ SelectFault.BadOptions)
@@ -136,6 +142,8 @@ pub fn count_parts<R: Threads + Wait + Sync, A: Allocator + Copy + Send + Sync, 
 ) -> Result<u64, SelectFault>
     requires ready { All T.is_ready members.old }
     requires table { AreOfOneTable (map T.home members.old) }
+    ensures ready { All T.is_ready members.new }
+    ensures same { map T.home members.new ≡ map T.home members.old }
     ensures done { IfOk result (λ count. AreFew (length members.old)
         × EachTallied T.is_ready T.home T.sees query.now Counts (length members.old) false count 0 members.old members.new) }
     ensures refused { IfErr result (λ fault. (fault ≢ SelectFault.BadOptions)
@@ -158,6 +166,8 @@ pub fn delete_parts<
 >(rt: &R, members: &mut [T], query: &Query<A>) -> Result<u64, Refused<u64, SelectFault>>
     requires ready { All T.is_ready members.old }
     requires table { AreOfOneTable (map T.home members.old) }
+    ensures ready { All T.is_ready members.new }
+    ensures same { map T.home members.new ≡ map T.home members.old }
     ensures done { IfOk result (λ count. AreFew (length members.old)
         × EachTallied T.is_ready T.home T.sees query.now Deletes (length members.old) false count 0 members.old members.new) }
     ensures refused { IfErr result (λ refused. (refused.fault ≢ SelectFault.BadOptions)

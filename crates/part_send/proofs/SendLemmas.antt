@@ -39,7 +39,7 @@ module _ (A : RattleType) (g : Ghosts A.Denot) (s : IsSend A) (y : IsSync A) (f 
   plain_rows_send : IsSend (plain_rows A g)
   plain_rows_send = search (sendable, crosses, hashed_send) depth 40
 
-  plain_send : IsSend (stored_row (plain_rows A g) A g)
+  pub plain_send : IsSend (stored_row (plain_rows A g) A g)
   plain_send = search (sendable, crosses, plain_rows_send, stored.the_send) depth 40
 
 pub plain_part_send : IsSend (stored_row (plain_rows Heap.the_row ghosts) Heap.the_row ghosts)

@@ -12,9 +12,10 @@ use std::alloc::Global;
 use std::sync::Wait;
 use std::sync::atomic::AtomicBool;
 use std::thread::Threads;
-use tables::{At, LocalAt, LocalTable, Options, Session, Table, Turns, insert};
+use tables::{At, LocalAt, LocalTable, Options, Session, Table, Turns};
 use term_core::Term;
 use term_text::read_terms;
+use test_members::filled;
 use test_rows::{digits, listed, numbered, term_of, word};
 use walks::Query;
 
@@ -130,34 +131,6 @@ fn seat_all<'t, 'f, R: Wait, P: Part<Global> + Drop>(
     }
 }
 
-/// Puts objects into a table.
-fn put_all<T: Turns<Global>>(turns: &mut T, objects: &[Term]) -> Option<()>
-    requires { T.is_ready turns.old }
-    ensures ready { T.is_ready turns.new }
-    ensures same { T.home turns.new ≡ T.home turns.old }
-{
-    for object in objects {
-        insert(turns, object.copy().ok()?).ok()?;
-    }
-    Some(())
-}
-
-/// A session puts objects into its table.
-fn filled<R: Wait, P: Part<Global> + Drop>(
-    rt: &R,
-    table: &Table<P>,
-    session: Session<P>,
-    objects: &[Term],
-) -> Option<Session<P>>
-    requires { IsOpened table.now.options table.now.gates.items session.number session.passes.items }
-    ensures { IfSome result (λ s. IsOpened table.now.options table.now.gates.items s.number s.passes.items) }
-{
-    let mut session = session;
-    let mut at = table.at(rt, &mut session);
-    put_all(&mut at, objects)?;
-    Some(session)
-}
-
 /// What comes of a call of sessions of a table, or a word where one waited in vain.
 fn called_at<R: Threads + Wait + Sync, P: Part<Global> + Drop + Send>(
     rt: &R,
@@ -212,7 +185,8 @@ fn opened<R: Wait, P: Part<Global> + Drop>(
     Some((table, all))
 }
 
-/// What comes of a call by so many members at a table with objects, the member of the place `waiter` waiting for another.
+/// What comes of a call by so many members at a table with objects, the member of the place `waiter` waiting for
+/// another.
 pub(crate) fn asked<P: Part<Global> + Drop + Send, R: Threads + Wait + Sync>(
     rt: &R,
     alloc: Global,

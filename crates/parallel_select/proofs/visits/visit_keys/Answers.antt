@@ -1,4 +1,4 @@
-use Rattle.std.proofs.Common.{◌≡◌, ◌∙◌, ◌<◌, ◌==◌, Option, refl, ap, sym, subst, arith, length, rules}
+use Rattle.std.proofs.Common.{◌≡◌, ◌∙◌, ◌+◌, ◌<◌, ◌==◌, List, Option, refl, ap, sym, subst, arith, length, rules}
 use Rattle.std.specs.Prelude.{Bool, true, false, filter, get_or, ℕ, ◌%◌}
 use Rattle.std.proofs.lemmas.Bool.{eq-eqb, eqb-true}
 use Rattle.term_core.specs.Datum.{Datum}
@@ -42,6 +42,22 @@ elsewhere k options o part found same is other =
     (λ here. absurd (other (is ∙ ap (λ (x : Options). key_hash k % x.parts) same ∙ eqb-true (part_of (settings_of options) k) part here)))
     (λ away. away)
 
+-- the loop's key, which stands in the part: how many of its keys are done behind it, which of them it is, and its part
+record IsTaken (options : Options) (part n : ℕ) (keys : List Datum) (key : Datum) : Type 0 where
+  done : count_first (stands_in options part) (n + 1) keys ≡ count_first (stands_in options part) n keys + 1
+  is : get_or (filter (stands_in options part) keys) (count_first (stands_in options part) n keys) nil ≡ key
+  inside : count_first (stands_in options part) n keys < length (filter (stands_in options part) keys)
+  part_is : part_of (settings_of options) key ≡ part
+
+taken : (options o : Options) (part found n : ℕ) (keys : List Datum) (looked key : Datum) → n < length keys → looked ≡ get_or keys n looked → key ≡ get_or keys n key → o ≡ options → found ≡ key_hash looked % o.parts → found ≡ part → IsTaken options part n keys key
+taken options o part found n keys looked key within looked_is key_is same found_is here =
+    let p = stands_in options part in
+    let looked_there = there keys n looked looked within looked_is in
+    let key_there = there keys n key key within key_is in
+    let stands_there = stands looked options o part found same found_is here in
+    let t = key_taken p n keys within (ap p looked_there ∙ eq-eqb (part_of (settings_of options) looked) part stands_there) in
+    record { done = t.0; is = t.1 ∙ key_there; inside = t.2; part_is = ap (part_of (settings_of options)) (sym key_there ∙ looked_there) ∙ stands_there }
+
 pub loop-number-preserved-then-part_of_key-part : goal.loop-number-preserved-then-part_of_key-part
 loop-number-preserved-then-part_of_key-part g c =
     let h = g.T.Turns.home c.args.turns.now in
@@ -71,16 +87,14 @@ loop-number-preserved g c =
     let before = g.T.Turns.sees c.args.turns.now in
     let now = g.T.Turns.sees c.loop-number.turns in
     let later = g.T.Turns.sees c.visit_key.new.turns in
-    let is_there = there keys n c.index-keys-number.result c.index-keys-number.result c.loop-number-test.true c.index-keys-number.is in
-    let key_there = there keys n c.index-keys-number-in-loop-number.result c.index-keys-number-in-loop-number.result c.loop-number-test.true c.index-keys-number-in-loop-number.is in
-    let here = stands c.index-keys-number.result h.options c.options-parts.result c.args.part c.part_of_key.result c.options-parts.ensures c.part_of_key.ensures.part c.if-part_of_key-part.false in
-    let t = key_taken p n keys c.loop-number-test.true (ap p is_there ∙ eq-eqb (part_of (settings_of h.options) c.index-keys-number.result) c.args.part here) in
-    let visit = subst (λ (home : Home). (next : Option Cursor) × Follows now later (Visited home c.args.part purpose q.code (Named c.index-keys-number-in-loop-number.result) next c.loop-number.gained c.visit_key.new.gained)) c.loop-number.invariant.1 c.in-Ok.ensures.done in
-    let made = gains_key h w (start_of w) ks (count_first p n keys) c.args.part c.index-keys-number-in-loop-number.result c.args.gained.now c.loop-number.gained c.visit_key.new.gained before now later (record { options = refl; number = refl }) (named_plan h.options c.args.part (plan_of q h.options) keys c.requires.named) t.2 (t.1 ∙ key_there) (ap (part_of (settings_of h.options)) (sym key_there ∙ is_there) ∙ here) c.loop-number.invariant.3 visit in (
+    let key = c.index-keys-number-in-loop-number.result in
+    let t = taken h.options c.options-parts.result c.args.part c.part_of_key.result n keys c.index-keys-number.result key c.loop-number-test.true c.index-keys-number.is c.index-keys-number-in-loop-number.is c.options-parts.ensures c.part_of_key.ensures.part c.if-part_of_key-part.false in
+    let visit = subst (λ (home : Home). (next : Option Cursor) × Follows now later (Visited home c.args.part purpose q.code (Named key) next c.loop-number.gained c.visit_key.new.gained)) c.loop-number.invariant.1 c.in-Ok.ensures.done in
+    let made = gains_key h w (start_of w) ks (count_first p n keys) c.args.part key c.args.gained.now c.loop-number.gained c.visit_key.new.gained before now later (record { options = refl; number = refl }) (named_plan h.options c.args.part (plan_of q h.options) keys c.requires.named) t.inside t.is t.part_is c.loop-number.invariant.3 visit in (
       c.visit_key.ensures.ready,
       c.visit_key.ensures.same ∙ c.loop-number.invariant.1,
       c.visit_key.ensures.purpose,
-      subst (λ (m : ℕ). Follows before later (GoesGaining h w (start_of w) (at_key m (length ks)) c.args.gained.now c.visit_key.new.gained)) (sym t.0) made,
+      subst (λ (m : ℕ). Follows before later (GoesGaining h w (start_of w) (at_key m (length ks)) c.args.gained.now c.visit_key.new.gained)) (sym t.done) made,
     )
 
 pub returns-in-Err-clause-refused : goal.returns-in-Err-clause-refused
@@ -96,15 +110,13 @@ returns-in-Err-clause-refused g c =
     let before = g.T.Turns.sees c.args.turns.now in
     let now = g.T.Turns.sees c.loop-number.turns in
     let later = g.T.Turns.sees c.visit_key.new.turns in
-    let is_there = there keys n c.index-keys-number.result c.index-keys-number.result c.loop-number-test.true c.index-keys-number.is in
-    let key_there = there keys n c.index-keys-number-in-loop-number.result c.index-keys-number-in-loop-number.result c.loop-number-test.true c.index-keys-number-in-loop-number.is in
-    let here = stands c.index-keys-number.result h.options c.options-parts.result c.args.part c.part_of_key.result c.options-parts.ensures c.part_of_key.ensures.part c.if-part_of_key-part.false in
-    let t = key_taken p n keys c.loop-number-test.true (ap p is_there ∙ eq-eqb (part_of (settings_of h.options) c.index-keys-number.result) c.args.part here) in
+    let key = c.index-keys-number-in-loop-number.result in
+    let t = taken h.options c.options-parts.result c.args.part c.part_of_key.result n keys c.index-keys-number.result key c.loop-number-test.true c.index-keys-number.is c.index-keys-number-in-loop-number.is c.options-parts.ensures c.part_of_key.ensures.part c.if-part_of_key-part.false in
     let same = c.visit_key.ensures.same ∙ c.loop-number.invariant.1 in
     let legal = subst (λ (home : Home). (v : Views) → now v → AreLegal home.options v) c.loop-number.invariant.1 (λ v b part inside. g.met.T.Turns.legal c.loop-number.turns v part c.loop-number.invariant.0 b inside) in
     let legal_later = subst (λ (home : Home). (v : Views) → later v → AreLegal home.options v) same (λ v b part inside. g.met.T.Turns.legal c.visit_key.new.turns v part c.visit_key.ensures.ready b inside) in
-    let visit = subst (λ (home : Home). Follows now later (Missed home c.args.part purpose q.code (Named c.index-keys-number-in-loop-number.result) c.in-Err.field-0 c.loop-number.gained c.visit_key.new.gained)) c.loop-number.invariant.1 c.in-Err.ensures.refused in
-    misses_key h w ks (count_first p n keys) c.args.part c.index-keys-number-in-loop-number.result c.args.gained.now c.loop-number.gained c.visit_key.new.gained c.in-Err.field-0 before now later (record { options = refl; number = refl }) (part_is_walk h purpose q c.args.part (g.met.T.Turns.fits c.args.turns.now c.requires.ready) c.requires.part) (named_plan h.options c.args.part (plan_of q h.options) keys c.requires.named) t.2 (t.1 ∙ key_there) (ap (part_of (settings_of h.options)) (sym key_there ∙ is_there) ∙ here) legal legal_later c.loop-number.invariant.3 visit
+    let visit = subst (λ (home : Home). Follows now later (Missed home c.args.part purpose q.code (Named key) c.in-Err.field-0 c.loop-number.gained c.visit_key.new.gained)) c.loop-number.invariant.1 c.in-Err.ensures.refused in
+    misses_key h w ks (count_first p n keys) c.args.part key c.args.gained.now c.loop-number.gained c.visit_key.new.gained c.in-Err.field-0 before now later (record { options = refl; number = refl }) (part_is_walk h purpose q c.args.part (g.met.T.Turns.fits c.args.turns.now c.requires.ready) c.requires.part) (named_plan h.options c.args.part (plan_of q h.options) keys c.requires.named) t.inside t.is t.part_is legal legal_later c.loop-number.invariant.3 visit
 
 pub returns-clause-done : goal.returns-clause-done
 returns-clause-done g c =

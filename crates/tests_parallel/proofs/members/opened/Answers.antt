@@ -1,5 +1,5 @@
 use Rattle.tables.proofs.OpenedLemmas.{all_opened, front_opened, last_opened}
-use Rattle.tests_parallel.proofs.SeatLemmas.{each_opened}
+use Rattle.test_members.proofs.TableLemmas.{each_opened}
 use Rattle.tests_parallel.proofs.members.opened.Goals as goal
 
 pub filled-requires : goal.filled-requires

@@ -1,0 +1,37 @@
+//! Objects that a session puts into its table.
+ghost use Rattle.std.specs.Prelude.{◌≡◌, IfSome};
+ghost use Rattle.tables.specs.Sessions.{IsOpened};
+
+use part_core::Part;
+use std::alloc::Allocator;
+use std::sync::Wait;
+use tables::{Session, Table, Turns, insert};
+use term_core::Term;
+
+/// Puts objects into a table.
+fn put_all<A: Allocator + Copy, T: Turns<A>>(turns: &mut T, objects: &[Term<A>]) -> Option<()>
+    requires { T.is_ready turns.old }
+    ensures ready { T.is_ready turns.new }
+    ensures same { T.home turns.new ≡ T.home turns.old }
+{
+    for object in objects {
+        insert(turns, object.copy().ok()?).ok()?;
+    }
+    Some(())
+}
+
+/// The session, once it has put objects into its table; none for want of memory.
+pub fn filled<R: Wait, A: Allocator + Copy, P: Part<A> + Drop>(
+    rt: &R,
+    table: &Table<P, A>,
+    session: Session<P, A>,
+    objects: &[Term<A>],
+) -> Option<Session<P, A>>
+    requires { IsOpened table.now.options table.now.gates.items session.number session.passes.items }
+    ensures { IfSome result (λ s. IsOpened table.now.options table.now.gates.items s.number s.passes.items) }
+{
+    let mut session = session;
+    let mut at = table.at(rt, &mut session);
+    put_all(&mut at, objects)?;
+    Some(session)
+}
