@@ -41,8 +41,8 @@ fn write_code(rt: &HostRuntime, code: Code, lines: &mut String) -> Option<()> {
     write_verification(rt, code, lines)
 }
 
-/// Writes the nanoseconds that a file takes to be decoded, its code to be encoded and to be verified, with the bytes of the file and
-/// the budget of the code; where one of them refuses, that it does.
+/// Writes the nanoseconds that a file takes to be decoded, its code to be encoded and to be verified, with the bytes of
+/// the file and the budget of the code; where one of them refuses, that it does.
 pub(crate) fn write(rt: &HostRuntime, file: &[u8], lines: &mut String) -> Option<()> {
     let began = Instant::now(rt).ok()?;
     let decoded = decode(rt.alloc(), file);

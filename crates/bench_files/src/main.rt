@@ -1,4 +1,5 @@
-//! Times code files and the verifier from outside: `bench/files` and `bench/run.sh` run this program, once for each word.
+//! Times code files and the verifier from outside: `bench/files` and `bench/run.sh` run this program, once for each
+//! word.
 //!
 //! - `file`: decodes the code file that standard input is, encodes its code again, and verifies it (`files.rt`).
 //! - `third`: verifies 65,535 instructions with 256 slots, a frame at every third (`largest.rt`).

@@ -1,6 +1,8 @@
-//! Times the compiler, the machine and the evaluator from outside: `bench/run.sh` and `bench/against_erlang` run this program, once for each word.
+//! Times the compiler, the machine and the evaluator from outside: `bench/run.sh` and `bench/against_erlang` run this
+//! program, once for each word.
 //!
-//! - `objects`: compiles the specification that standard input begins with, and runs and evaluates it on the objects behind it (`runs.rt`).
+//! - `objects`: compiles the specification that standard input begins with, and runs and evaluates it on the objects
+//!   behind it (`runs.rt`).
 //! - `code`: compiles it, and lists its code (`listing.rt`).
 //!
 //! It prints the time of a compilation and of an object, or the code.

@@ -198,9 +198,9 @@ fn write_specification(
     write_query(rt, &specification, objects, lines)
 }
 
-/// Writes the nanoseconds that the first term of a text takes to be compiled, as a specification, and how many instructions its code
-/// has; below, those of an object of `run`, `run_true` and `evaluate`, and of how many objects there was an answer, of `run_true` the
-/// answer `true`. Each time is the median of five.
+/// Writes the nanoseconds that the first term of a text takes to be compiled, as a specification, and how many
+/// instructions its code has; below, those of an object of `run`, `run_true` and `evaluate`, and of how many objects
+/// there was an answer, of `run_true` the answer `true`. Each time is the median of five.
 pub(crate) fn write(rt: &HostRuntime, text: &[u8], lines: &mut String) -> Option<()> {
     let terms = read_terms(rt.alloc(), text).ok()?;
     let (specification, objects) = terms.as_slice().split_first()?;

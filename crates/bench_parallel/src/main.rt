@@ -1,7 +1,8 @@
-//! Times the answers on a list of objects from outside: `bench/parallel` runs this program on one processor and on more.
+//! Times the answers on a list of objects from outside: `bench/parallel` runs this program on one processor and on
+//! more.
 //!
-//! Its arguments are a word and a number of objects, which it makes: `{1,1,a}`, `{2,2,a}` and so on, the second element what
-//! is left of the first by seven. A specification with two conditions is asked of each.
+//! Its arguments are a word and a number of objects, which it makes: `{1,1,a}`, `{2,2,a}` and so on, the second element
+//! what is left of the first by seven. A specification with two conditions is asked of each.
 //!
 //! - `times`: the nanoseconds of an object in a list, and by one machine alone.
 //! - `found`: how many objects have an answer.

@@ -169,8 +169,8 @@ const FIRST_TERMS: usize = 16;
 /// The most pairs that a row has places for at first.
 const FIRST_PAIRS: usize = 8;
 
-/// How many places a row of so many items begins with: those that it needs, and at most so many, since a count is not believed before
-/// its items are there.
+/// How many places a row of so many items begins with: those that it needs, and at most so many, since a count is not
+/// believed before its items are there.
 fn first_places(count: u32, most: usize) -> usize
     ensures { result ≤ most }
 {

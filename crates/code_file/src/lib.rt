@@ -1,19 +1,19 @@
 //! Code files: code as bytes, for files that strangers made as well.
 //!
 //! The contract: `decode` answers code that a file spells (`Spells` of `code_format`), and refuses only what is no code
-//! file, memory aside, by a fault that says what is wrong and where (`IsNoFile`, in `specs/Faults.antt`): what stands before
-//! the place is the beginning of a file, an item is due there (`specs/Due.antt`), and what stands there is wrong for that
-//! item (`specs/Causes.antt`). `encode` writes a file, and the laws `one_code` and `read_back` say that reading and writing
-//! are inverse.
+//! file, memory aside, by a fault that says what is wrong and where (`IsNoFile`, in `specs/Faults.antt`): what stands
+//! before the place is the beginning of a file, an item is due there (`specs/Due.antt`), and what stands there is wrong
+//! for that item (`specs/Causes.antt`). `encode` writes a file, and the laws `one_code` and `read_back` say that
+//! reading and writing are inverse.
 //!
 //! Each reader of a part answers the value at the front of some bytes and the rest, or why no value is at the front
 //! (`FileStop`): in any file in which the part is due before these bytes, the cause stands at the place
 //! (`specs/Reads.antt`). Places are counted in the bytes that are left.
 //!
-//! - `stop`: why a reader stops; `number`: numbers and rows of bytes; `constant`: terms, at most 255 levels deep; `instr`:
-//!   instructions; `frame`: frames.
-//! - `body`: the parts of code, read into a builder; `header`: the magic, the version and the number of slots; `reading`:
-//!   whole files; `fault`: why a file can't be read.
+//! - `stop`: why a reader stops; `number`: numbers and rows of bytes; `constant`: terms, at most 255 levels deep;
+//!   `instr`: instructions; `frame`: frames.
+//! - `body`: the parts of code, read into a builder; `header`: the magic, the version and the number of slots;
+//!   `reading`: whole files; `fault`: why a file can't be read.
 #![tactic(auto)]
 
 mod body;

@@ -47,9 +47,9 @@ fn whole<A: Allocator>(code: Code<A>, bytes: &[u8], rest: &[u8]) -> Result<Code<
     Err(FileFault::Trailing(bytes.len().saturating_sub(rest.len())))
 }
 
-/// The code of a file: bytes from anywhere, of which nothing has to be known. A count in a file is never believed: what is
-/// kept grows by the items that are there. Refused is what spells no code, and by `FileFault::Memory` whatever there was no
-/// memory for.
+/// The code of a file: bytes from anywhere, of which nothing has to be known. A count in a file is never believed: what
+/// is kept grows by the items that are there. Refused is what spells no code, and by `FileFault::Memory` whatever there
+/// was no memory for.
 pub fn decode<A: Allocator + Copy>(alloc: A, bytes: &[u8]) -> Result<Code<A>, FileFault>
     ensures ok { IfOk result (λ code. Spells bytes.now code) }
     ensures refused { IfErr result (λ fault. fault ≢ OutOfMemory → IsNoFile bytes.now fault) }

@@ -8,8 +8,8 @@ use Rattle.code_format.specs.File.{Spells, HoldsArguments, HoldsFrame, file_byte
 abbrev pub OneCode : Type 0
 OneCode = (bytes : List ℕ) (p q : Program) → Spells bytes p → Spells bytes q → p ≡ q
 
--- the file of a program spells it, and no other program: of one that is code, its constants terms, and each number held by
--- its bytes
+-- the file of a program spells it, and no other program: of one that is code, its constants terms, and each number held
+-- by its bytes
 abbrev pub ReadBack : Type 0
 ReadBack =
     (p : Program) → IsProgram p → All IsTerm p.constants → All HoldsArguments p.instructions

@@ -1,8 +1,8 @@
 //! What a code file is: code as bytes, one spelling each; and how code is written as its file.
 //!
 //! The contract: `file_bytes` of `specs/File.antt` gives the one file of code, by the bytes of each part in
-//! `specs/Spelling.antt`, and `Spells` says which bytes are the file of which code. `encode` writes it. By the law `one_code`
-//! no file spells two programs, and by `read_back` the file of code spells that code alone.
+//! `specs/Spelling.antt`, and `Spells` says which bytes are the file of which code. `encode` writes it. By the law
+//! `one_code` no file spells two programs, and by `read_back` the file of code spells that code alone.
 //!
 //! - `opcode`: the opcodes of instructions, by the arguments that they have.
 //! - `laws`: what files meet.

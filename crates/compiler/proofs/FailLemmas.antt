@@ -15,7 +15,8 @@ use Rattle.compiler_expressions.specs.Expressions.{failure, exit_lines}
 use Rattle.compiler.specs.Reach.{at, Comes, Lands}
 use Rattle.compiler.proofs.ReachLemmas.{comes_here, comes_by, comes_same, jump_lands}
 
--- Code of which each frame is at an instruction, and lines in it behind which a frame of depth 0 stands, where they fail.
+-- Code of which each frame is at an instruction, and lines in it behind which a frame of depth 0 stands, where they
+-- fail.
 pub record IsSite (p : Program) (behind : ℕ) : Type 0 where
   pub inside : (n : ℕ) (g : Frame) → frame_at p.frames n ≡ Some g → n < length p.instructions
   pub exit : Frame

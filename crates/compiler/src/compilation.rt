@@ -55,9 +55,9 @@ fn assembled<A: Allocator + Copy>(alloc: A, specification: &Spec<A>) -> Result<C
     }
 }
 
-/// The code of a specification, verified: each run of it ends in what the specification means, and no other refusal exists
-/// than want of memory. Its slots are the variables of all clauses, by rising number; its constants stand once each, in order
-/// of first use.
+/// The code of a specification, verified: each run of it ends in what the specification means, and no other refusal
+/// exists than want of memory. Its slots are the variables of all clauses, by rising number; its constants stand once
+/// each, in order of first use.
 pub fn compile<A: Allocator + Copy>(
     alloc: A,
     specification: &Spec<A>,

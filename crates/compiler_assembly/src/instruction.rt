@@ -33,7 +33,8 @@ fn resolve(place: Place, target: Target) -> Option<u16>
     }
 }
 
-/// The instruction that jumps to this number. Its constant goes into the pool, and it is right whatever constants follow.
+/// The instruction that jumps to this number. Its constant goes into the pool, and it is right whatever constants
+/// follow.
 fn instruction_to<A: Allocator + Copy>(
     pool: &mut Pool<A>,
     op: Op<Term<A>>,

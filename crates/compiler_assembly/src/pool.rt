@@ -47,8 +47,8 @@ fn enter<A: Allocator + Copy>(
     }
 }
 
-/// Constants, each once, by their numbers in order of first use, at most `MAX_COUNT`. What is refused leaves them as they
-/// were.
+/// Constants, each once, by their numbers in order of first use, at most `MAX_COUNT`. What is refused leaves them as
+/// they were.
 #[derive(Drop)]
 pub(crate) struct Pool<A: Allocator = Global> {
     terms: Vec<Term<A>, A>,

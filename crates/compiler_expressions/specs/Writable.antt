@@ -48,7 +48,8 @@ abbrev pub AreWritable : List SourceLine → Type 0
 AreWritable [] = Unit {0}
 AreWritable (l ∷ ls) = IsWritable l.op × AreWritable ls
 
--- An expression with so many places below its value: its lines are writable, and the places that it takes can be counted.
+-- An expression with so many places below its value: its lines are writable, and the places that it takes can be
+-- counted.
 pub record CanBeWritten (site : Site) (depth : ℕ) (integers : List (ℕ × Kind)) (e : Expression) : Type 0 where
   pub room : depth + expression_size e ≤ most_counted
   pub lines : AreWritable (lines_at site depth integers e by_itself)

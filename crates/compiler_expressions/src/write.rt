@@ -20,8 +20,8 @@ impl<'s, A: Allocator + Copy> Site<'s, A> {
     ghost use Rattle.compiler_expressions.specs.Expressions.{lines_at, argument_lines, value_lines};
     ghost use Rattle.compiler_expressions.specs.Writable.{CanBeWritten, AreWritable, IsSoundSite, most_counted};
 
-    /// Puts the lines of an expression before others: `depth` places stand below its value, of which `integers` are known
-    /// to hold integers, from the lowest. An `Err` is want of memory.
+    /// Puts the lines of an expression before others: `depth` places stand below its value, of which `integers` are
+    /// known to hold integers, from the lowest. An `Err` is want of memory.
     pub fn write_expression(
         &self,
         depth: u16,

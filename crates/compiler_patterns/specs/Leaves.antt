@@ -1,4 +1,5 @@
--- The code of the leaves of patterns: what is matched is on the top, and is popped; where it doesn't match, the clause fails.
+-- The code of the leaves of patterns: what is matched is on the top, and is popped; where it doesn't match, the clause
+-- fails.
 use Rattle.std.specs.Prelude.{ℕ, if◌then◌else◌, List, [], ◌∷◌}
 use Rattle.term_core.specs.Datum.{Datum}
 use Rattle.mspec_syntax.specs.Grammar.{is_among}

@@ -1,7 +1,7 @@
 //! What calls of functions give, with operands in each form.
 //!
-//! An operand is tried as the term that it is; as a plain integer or truth value, where it is one; and as the rest of a list that is
-//! all of it, where it is a list. A number says the forms of up to three operands.
+//! An operand is tried as the term that it is; as a plain integer or truth value, where it is one; and as the rest of a
+//! list that is all of it, where it is a list. A number says the forms of up to three operands.
 use prims::call;
 use prims_table::{Function, Gives, Primitive};
 use std::alloc::Global;

@@ -29,7 +29,8 @@ fn with_equals(out: Outcome, operand: Operand<'_>, terms: &[Term]) -> Outcome {
     out.close_list()
 }
 
-/// Puts the term that an operand is at the end, and the lists of those terms to which it and its copy are exactly equal.
+/// Puts the term that an operand is at the end, and the lists of those terms to which it and its copy are exactly
+/// equal.
 fn with_operand(
     alloc: Global,
     out: Outcome,

@@ -1,7 +1,8 @@
-//! Rows of the operations of a part, read from standard input and tried on each part: what comes of each operation is compared with
-//! what the row wants, and each row that fails is printed, with how many rows there were of each kind.
+//! Rows of the operations of a part, read from standard input and tried on each part: what comes of each operation is
+//! compared with what the row wants, and each row that fails is printed, with how many rows there were of each kind.
 //!
-//! `stdin` has the rows, and at its head the form of each kind. The judge is proved once, and rows cost nothing but their run.
+//! `stdin` has the rows, and at its head the form of each kind. The judge is proved once, and rows cost nothing but
+//! their run.
 //!
 //! - `plays`: the rows, with memory and with each request refused in turn: `PartCalls` says which part plays a row.
 //!

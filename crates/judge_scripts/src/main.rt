@@ -1,5 +1,6 @@
-//! Rows of scripts of `ets_tool`, read from standard input: each is run with sets in plain parts and with sets in hashed parts, and what it
-//! is replied is compared with what the row wants. Each row that fails is printed, with how many rows there were of each kind.
+//! Rows of scripts of `ets_tool`, read from standard input: each is run with sets in plain parts and with sets in
+//! hashed parts, and what it is replied is compared with what the row wants. Each row that fails is printed, with how
+//! many rows there were of each kind.
 //!
 //! `stdin` has the rows, and at its head their form. The judge is proved once, and rows cost nothing but their run.
 #![tactic(auto)]

@@ -133,6 +133,17 @@ fn fixed_tour<T: Turns<Global>>(turns: &mut T, worker: &mut Worker) -> Option<()
     unfix(turns).ok()
 }
 
+/// The query of a session's objects at its own keys, or of those whose sequence numbers have a parity.
+fn own_query(alloc: Global, number: u8, parity: Option<u32>) -> Option<Query> {
+    let mut text = String::new(alloc);
+    write!(text, "[{{{{'$1',{number},'$2'}},[{{'<','$1',{OPEN}}}").ok()?;
+    if let Some(parity) = parity {
+        write!(text, ",{{'=:=',{{'rem','$2',2}},{parity}}}").ok()?;
+    }
+    write!(text, "],[true]}}].").ok()?;
+    query(alloc, text.as_str())
+}
+
 /// How many objects the session has at its own keys.
 fn count<R: Wait, T: Turns<Global>>(
     rt: &R,
@@ -144,14 +155,7 @@ fn count<R: Wait, T: Turns<Global>>(
     ensures ready { T.is_ready turns.new }
     ensures same { T.home turns.new ≡ T.home turns.old }
 {
-    let mut text = String::new(alloc);
-    let number = worker.number;
-    write!(
-        text,
-        "[{{{{'$1',{number},'_'}},[{{'<','$1',{OPEN}}}],[true]}}]."
-    )
-    .ok()?;
-    let own = query(alloc, text.as_str())?;
+    let own = own_query(alloc, worker.number, None)?;
     let counted = select_count(rt, turns, &own).ok()?;
     worker.record(Event::Counted(counted))
 }
@@ -167,15 +171,8 @@ fn remove<R: Wait, T: Turns<Global>>(
     ensures ready { T.is_ready turns.new }
     ensures same { T.home turns.new ≡ T.home turns.old }
 {
-    let mut text = String::new(alloc);
-    let number = worker.number;
     let parity = worker.below(2);
-    write!(
-        text,
-        "[{{{{'$1',{number},'$2'}},[{{'<','$1',{OPEN}}},{{'=:=',{{'rem','$2',2}},{parity}}}],[true]}}].",
-    )
-    .ok()?;
-    let own = query(alloc, text.as_str())?;
+    let own = own_query(alloc, worker.number, Some(parity))?;
     let removed = select_delete(rt, turns, &own).ok()?;
     worker.record(Event::Removed(parity, removed))
 }

@@ -1,7 +1,8 @@
-//! Rows of texts and of terms, read from standard input and tried on the public calls of the crates: what comes of each is compared
-//! with what it wants, and each row that fails is printed, with how many rows there were of each kind.
+//! Rows of texts and of terms, read from standard input and tried on the public calls of the crates: what comes of each
+//! is compared with what it wants, and each row that fails is printed, with how many rows there were of each kind.
 //!
-//! `stdin` has the rows, and at its head the form of each kind. The judge is proved once, and rows cost nothing but their run.
+//! `stdin` has the rows, and at its head the form of each kind. The judge is proved once, and rows cost nothing but
+//! their run.
 //!
 //! - `texts`: terms read, written, ordered and hashed.
 //! - `constructors`: terms made and refused.

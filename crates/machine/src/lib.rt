@@ -1,12 +1,12 @@
 //! The machine that runs verified code.
 //!
 //! The one contract: `run` gives the answer of the run of the code on an object, by the machine's definition (`Runs` of
-//! `mcode/specs/Machine.antt`), and the exact number of instructions executed, which is at most the budget; no state of the
-//! run is stuck. `run_true` gives whether that answer is `true`, and the same number; of code that makes no terms, and has few
-//! places and slots, it takes no memory.
+//! `mcode/specs/Machine.antt`), and the exact number of instructions executed, which is at most the budget; no state of
+//! the run is stuck. `run_true` gives whether that answer is `true`, and the same number; of code that makes no terms,
+//! and has few places and slots, it takes no memory.
 //!
-//! - `runs`: a `Machine`, which is made once and runs on any number of objects, and runs on one object. What a run does is in
-//!   `machine_step`.
+//! - `runs`: a `Machine`, which is made once and runs on any number of objects, and runs on one object. What a run does
+//!   is in `machine_step`.
 //! - `laws`: that a run has one end, that typed code is never stuck and ends with its answer (`answer_of` of
 //!   `mcode/specs/Answer.antt`), and that no run passes the budget.
 #![tactic(auto)]

@@ -11,8 +11,8 @@ pub const INLINE_PLACES: usize = 16;
 /// How many slots take no memory.
 pub const INLINE_SLOTS: usize = 8;
 
-/// So many places, of which up to `N` take no memory. Contracts see the terms that they hold, from the first, and whether none of these
-/// was made.
+/// So many places, of which up to `N` take no memory. Contracts see the terms that they hold, from the first, and
+/// whether none of these was made.
 #[derive(Drop)]
 pub struct Places<'a, 'h, const N: usize, A: Allocator> {
     places: SmallVec<Value<'a, 'h, A>, N, &'h A>,

@@ -32,8 +32,8 @@ fn jump_unless(holds: bool, height: u16, otherwise: u16) -> Flow
     }
 }
 
-// What answers a flow is inlined into the machine's loop. What is large stands in functions of its own, which answer no flow: a loop that
-// grew too large would not be inlined, and a flow that a call answers is written to memory.
+// What answers a flow is inlined into the machine's loop. What is large stands in functions of its own, which answer no
+// flow: a loop that grew too large would not be inlined, and a flow that a call answers is written to memory.
 impl<'a, 'h, const N: usize, A: Allocator + Copy> Places<'a, 'h, N, A> {
     ghost use Rattle.std.specs.Prelude.{ℕ, ◌≡◌, ◌<◌, ◌≤◌, ◌-◌, ◌+◌, ◌∷◌, List, Some, IsTrue, IsSome, IsOk, IsOkAnd, IfOk, OnOk, IfSome, length, take, drop, map, reverse};
     ghost use Rattle.std.specs.Option.{option_map};

@@ -44,8 +44,8 @@ fn looking<'a, 'h, A: Allocator + Copy>(
     }
 }
 
-/// Executes an instruction that puts what it computes in the place of its operands, or leaves all places as they are, and says where it
-/// leads.
+/// Executes an instruction that puts what it computes in the place of its operands, or leaves all places as they are,
+/// and says where it leads.
 // Two functions in the place of one of all arms, which takes a fifth longer to prove.
 #[inline(always)]
 fn computing<'a, 'h, A: Allocator + Copy>(

@@ -1,8 +1,8 @@
 //! Code for the matching machine, and what the machine does with it.
 //!
 //! The one contract: a `Code` has the counts and the order of frames that `IsProgram` of `specs/Program.antt` says, and
-//! nothing else is known of it. `Builder` makes it part by part, and refuses what would break that. What each instruction
-//! does is `does` of `specs/Machine.antt`, a run is `Runs`.
+//! nothing else is known of it. `Builder` makes it part by part, and refuses what would break that. What each
+//! instruction does is `does` of `specs/Machine.antt`, a run is `Runs`.
 //!
 //! - `instr`: the instructions; `kind`: the kinds of terms that the verifier tells
 //!   apart (`specs/Kind.antt`); `frame`: what is known where jumps lead.

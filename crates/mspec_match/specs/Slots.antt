@@ -49,8 +49,8 @@ Answers answer vs old new Claim =
 abbrev pub NeverFitsFront : List ℕ → List (Option Datum) → List Pattern → Datum → Type 0
 NeverFitsFront vs old ps d = (q : Pattern) → NeverHolds vs old (λ s. Fits (cells_of ps q) s d)
 
--- The slots are bound as a list's first elements ask, and these patterns are left, for this rest: an answer for what is left,
--- whatever patterns follow, answers for the whole.
+-- The slots are bound as a list's first elements ask, and these patterns are left, for this rest: an answer for what is
+-- left, whatever patterns follow, answers for the whole.
 abbrev pub LeadsOn : List ℕ → List (Option Datum) → List (Option Datum)
     → List Pattern → Datum → List Pattern → Datum → Type 0
 LeadsOn vs old now ps d left rest =

@@ -115,8 +115,8 @@ fn bind_all<'a, A: Allocator + Copy>(
     true
 }
 
-/// Binds the variables of the patterns of a list's first elements, from the left, and gives what follows them. None where one doesn't
-/// fit, or there are fewer elements.
+/// Binds the variables of the patterns of a list's first elements, from the left, and gives what follows them. None
+/// where one doesn't fit, or there are fewer elements.
 #[cycle(bind)]
 fn bind_front<'a, A: Allocator + Copy>(
     variables: &Variables<A>,

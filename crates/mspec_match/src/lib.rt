@@ -1,9 +1,11 @@
-//! Patterns of match specifications matched with terms (ERTS User's Guide, "Match Specifications in Erlang", "Semantics").
+//! Patterns of match specifications matched with terms (ERTS User's Guide, "Match Specifications in Erlang",
+//! "Semantics").
 //!
-//! The one contract: `matched` says what the variables of a clause's head are bound to where it matches an object, and that nothing makes it
-//! match where it doesn't (`Matches` of `specs/Match.antt`).
+//! The one contract: `matched` says what the variables of a clause's head are bound to where it matches an object, and
+//! that nothing makes it match where it doesn't (`Matches` of `specs/Match.antt`).
 //!
-//! - `bind`: a pattern and a part of an object, by the slots of `specs/Slots.antt`; `head`: the head of a clause and the object.
+//! - `bind`: a pattern and a part of an object, by the slots of `specs/Slots.antt`; `head`: the head of a clause and
+//!   the object.
 //! - Laws of matching: `laws`, `specs/Laws.antt`.
 #![tactic(auto)]
 

@@ -11,8 +11,8 @@ impl<'s, 'a, A: Allocator + Copy> Environment<'s, 'a, A> {
     ghost use Rattle.term_operand.specs.Value.{value_datum};
     ghost use Rattle.mspec_meaning.specs.Called.{called};
 
-    /// What a call comes to, of its arguments' values where all have one. What it borrows from those that are borrowed isn't
-    /// copied.
+    /// What a call comes to, of its arguments' values where all have one. What it borrows from those that are borrowed
+    /// isn't copied.
     pub fn called(
         &self,
         function: Primitive,

@@ -145,7 +145,8 @@ fn tail_term<'s, 'a, A: Allocator + Copy>(
     into_term(environment.alloc(), value)
 }
 
-/// The value of `andalso` of these, or of `orelse` where `true` decides. They are looked at up to the first that decides.
+/// The value of `andalso` of these, or of `orelse` where `true` decides. They are looked at up to the first that
+/// decides.
 #[cycle(value)]
 fn decide<'s, 'a, A: Allocator + Copy>(
     environment: &Environment<'s, 'a, A>,

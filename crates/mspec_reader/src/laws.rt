@@ -6,7 +6,8 @@ pub fn one_specification_is_read()
     ensures { HasOneReading }
 {}
 
-/// A term is refused for at most one fault, and for none but want of memory where it is read as a specification within the limits.
+/// A term is refused for at most one fault, and for none but want of memory where it is read as a specification within
+/// the limits.
 pub fn one_fault_is_refused()
     ensures read { ReadIsNotRefused }
     ensures fault { HasOneRefusal }

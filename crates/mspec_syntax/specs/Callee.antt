@@ -1,5 +1,5 @@
--- What an atom at the front of a tuple says, by how many terms stand behind it. (ERTS User's Guide, "Match Specifications
--- in Erlang", "Grammar": BoolFunction, GuardFunction, and const.)
+-- What an atom at the front of a tuple says, by how many terms stand behind it. (ERTS User's Guide, "Match
+-- Specifications in Erlang", "Grammar": BoolFunction, GuardFunction, and const.)
 use Rattle.std.specs.Prelude.{ℕ, ◌==◌, nat_eq, nat_lt, ◌&&◌, if◌then◌else◌, List, Option, Some, None, codes}
 use Rattle.std.specs.Cmp.Lexicographic.{pointwise}
 use Rattle.prims_table.specs.Names.{named}

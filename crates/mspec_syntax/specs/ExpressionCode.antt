@@ -1,5 +1,5 @@
--- An expression as a row of numbers, functions and terms that gives it back, by which proofs tell expressions apart. Each
--- part stands behind its own parts, and a stack of what was read so far takes them together.
+-- An expression as a row of numbers, functions and terms that gives it back, by which proofs tell expressions apart.
+-- Each part stands behind its own parts, and a stack of what was read so far takes them together.
 use Rattle.std.specs.Prelude.{ℕ, ◌≡◌, ◌==◌, if◌then◌else◌, List, [], ◌∷◌, refl}
 use Rattle.std.specs.Coded.{Coded, code_by, coded×, coded_ℕ, coded_list}
 use Rattle.std.proofs.Common.{◌∙◌, ap}

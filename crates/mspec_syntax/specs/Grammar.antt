@@ -131,7 +131,8 @@ abbrev mutual
   IsExpression variables (binary bs) e = e ≡ constant (binary bs)
   IsExpression variables d e = ⊥
 
-  -- the elements of a tuple: an atom that calls something and its arguments, or one tuple, whose elements are to be made
+  -- the elements of a tuple: an atom that calls something and its arguments, or one tuple, whose elements are to be
+  -- made
   pub IsTupleExpression : List ℕ → Items → Expression → Type 0
   IsTupleExpression variables (item (atom cs) ds) e =
       IsCall (callee_of cs (item_count ds)) (AreParts variables ds) ds e

@@ -33,8 +33,8 @@ pub enum ExpressionKind<A: Allocator> {
     OrElse(Vec<Expression<A>, A>),
     /// The tuple of the values of these elements.
     Tuple(Vec<Expression<A>, A>),
-    /// The list of the values of these elements, of which there is one at least, and of its tail where that is not `[]`.
-    /// The tail is no list.
+    /// The list of the values of these elements, of which there is one at least, and of its tail where that is not
+    /// `[]`. The tail is no list.
     List(Vec<Expression<A>, A>, Option<Box<Expression<A>, A>>),
     /// The map of these keys, by rising key, and the values of their expressions.
     Map(Vec<(Term<A>, Expression<A>), A>),

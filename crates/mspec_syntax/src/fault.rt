@@ -23,8 +23,8 @@ pub enum SpecFault {
     /// The clause's body is no proper list with an element.
     #[error("the body of clause {0} is no proper list with an element")]
     BadBody(usize),
-    /// The clause has a tuple in a condition or its body that begins with an atom, and this is no function that takes so
-    /// many arguments.
+    /// The clause has a tuple in a condition or its body that begins with an atom, and this is no function that takes
+    /// so many arguments.
     #[error("clause {0} calls what is no function of so many arguments")]
     UnknownCall(usize),
     /// A condition or the body of the clause names this variable, and its head does not.

@@ -22,7 +22,8 @@ pub enum PatternKind<A: Allocator> {
     Literal(Term<A>),
     /// A tuple's elements.
     Tuple(Vec<Pattern<A>, A>),
-    /// The elements of a list, of which there is one at least, and its tail where that is not `[]`. The tail is no list.
+    /// The elements of a list, of which there is one at least, and its tail where that is not `[]`. The tail is no
+    /// list.
     List(Vec<Pattern<A>, A>, Option<Box<Pattern<A>, A>>),
     /// A map's keys, by rising key, with the patterns of their values.
     Map(Vec<(Term<A>, Pattern<A>), A>),

@@ -89,9 +89,9 @@ fn join_runs<A: Allocator + Copy>(
     Ok(answers)
 }
 
-/// The answers of code on objects, in their order, none where an object has none (ets:match_spec_run/2 leaves these out).
-/// The objects are split into runs, which threads answer side by side, each by one machine; few objects are one run. It
-/// fails for want of memory alone.
+/// The answers of code on objects, in their order, none where an object has none (ets:match_spec_run/2 leaves these
+/// out). The objects are split into runs, which threads answer side by side, each by one machine; few objects are one
+/// run. It fails for want of memory alone.
 pub fn run_list<R: Threads + Sync, A: Allocator + Copy + Send + Sync>(
     rt: &R,
     alloc: A,

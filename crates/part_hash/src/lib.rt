@@ -5,9 +5,9 @@
 //! they were made. `Stands` of `specs/Standing.antt` says what these have to do with the list of rows that is shown.
 //!
 //! - `rows`: the type. It hands each operation to a function over its store.
-//! - `row`: a row that remembers how many were made before it; `places`: where rows are, and slots (`specs/Holes.antt`);
-//!   `index`: `find`, `put` and `take`, through which alone the index is reached; `store`: these together, and what is
-//!   held of a key.
+//! - `row`: a row that remembers how many were made before it; `places`: where rows are, and slots
+//!   (`specs/Holes.antt`); `index`: `find`, `put` and `take`, through which alone the index is reached; `store`: these
+//!   together, and what is held of a key.
 //! - `adding`: a row behind the others, with the doubling of the slots; `putting`: objects put in; `removing`: what is
 //!   exchanged, and rows that go; `dead`: how many dead rows come and go with these.
 //! - `walking`: the next live row of a class, by any base, with no memory (`specs/Classes.antt`); `looking`,

@@ -1,5 +1,5 @@
--- Parts may be sent to other threads, where their memory is the heap's: a ladder from terms up, since a term has terms in it and no
--- search goes from a part down to them.
+-- Parts may be sent to other threads, where their memory is the heap's: a ladder from terms up, since a term has terms
+-- in it and no search goes from a part down to them.
 use denote.RattleType.{RattleType}
 use denote.Param.Send.{IsSend, IsSync, Frees, sendable}
 use denote.Struct.Struct.{Struct}

@@ -1,4 +1,5 @@
--- Comparisons by the order of terms (Erlang Reference Manual, "Expressions", "Term Comparisons"; module erlang: max, min).
+-- Comparisons by the order of terms (Erlang Reference Manual, "Expressions", "Term Comparisons"; module erlang: max,
+-- min).
 use Rattle.std.specs.Prelude.{Bool, if◌then◌else◌}
 use Rattle.std.specs.declared.cmp.Ordering.{Ordering}
 use Rattle.std.specs.Ordering.{is_eq, is_ne, is_lt, is_gt, is_le, is_ge}

@@ -41,8 +41,8 @@ fn kept<'a, 'h, A: Allocator + Copy>(
     }
 }
 
-/// What a function gives of one value, none where the call fails. What it gives of a borrowed one is borrowed, and takes no
-/// memory; else it is copied.
+/// What a function gives of one value, none where the call fails. What it gives of a borrowed one is borrowed, and
+/// takes no memory; else it is copied.
 #[inline(always)]
 pub fn call_one<'a, 'h, A: Allocator + Copy>(
     heap: &'h A,
@@ -60,8 +60,8 @@ pub fn call_one<'a, 'h, A: Allocator + Copy>(
     kept(heap, call_unary(function, value.operand()))
 }
 
-/// What a function gives of two values, none where the call fails. What it gives of borrowed ones is borrowed, and takes no
-/// memory; else it is copied.
+/// What a function gives of two values, none where the call fails. What it gives of borrowed ones is borrowed, and
+/// takes no memory; else it is copied.
 #[inline(always)]
 pub fn call_two<'a, 'h, A: Allocator + Copy>(
     heap: &'h A,
@@ -121,8 +121,8 @@ fn operands_of<'a, A: Allocator + Copy>(
     Ok(operands)
 }
 
-/// What a function gives of these values, none where the call fails. What it gives of borrowed values alone is borrowed,
-/// and up to `INLINE_OPERANDS` of them take no memory; else it is copied.
+/// What a function gives of these values, none where the call fails. What it gives of borrowed values alone is
+/// borrowed, and up to `INLINE_OPERANDS` of them take no memory; else it is copied.
 #[inline(never)]
 pub fn call_values<'a, 'h, A: Allocator + Copy>(
     heap: &'h A,

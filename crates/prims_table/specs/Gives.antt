@@ -8,7 +8,8 @@ use Rattle.prims_table.specs.declared.prim.TupleFunction.TheVariants as tuple
 use Rattle.prims_table.specs.declared.prim.ListFunction.TheVariants as list
 use Rattle.prims_table.specs.declared.prim.MapFunction.TheVariants as map
 
--- tests, comparisons and functions of truth values give a boolean; numbers and sizes are integers; the rest give any term
+-- tests, comparisons and functions of truth values give a boolean; numbers and sizes are integers; the rest give any
+-- term
 abbrev pub gives_of : Primitive → Gives
 gives_of (prim.Function (function.Test test)) = Boolean
 gives_of (prim.Function (function.Boolean boolean)) = Boolean

@@ -1,4 +1,5 @@
--- The functions' names and how many arguments each takes (ERTS User's Guide, "Match Specifications in Erlang", "Grammar").
+-- The functions' names and how many arguments each takes (ERTS User's Guide, "Match Specifications in Erlang",
+-- "Grammar").
 use Rattle.std.specs.Prelude.{ℕ, Bool, ◌&&◌, if◌then◌else◌, List, [], ◌∷◌, Option, Some, None, nat_eq, nat_lt, codes}
 use Rattle.std.specs.Cmp.Lexicographic.{pointwise}
 use Rattle.prims_table.specs.declared.names.TheConstants.{ALL}

@@ -18,8 +18,8 @@ use Rattle.tables.specs.Calls.{TurnedByObject}
 abbrev pub Leaves : Settings → Datum → Entry → Type 0
 Leaves o t e = (os : List Datum) → Contains os t → Contains (written o (key_of o t) os e.act e.answer) t
 
--- What a look-up finds of a key behind a history and entries of others: the content there. An object that was put in last of all
--- that the history has is among it, where each of these entries leaves it.
+-- What a look-up finds of a key behind a history and entries of others: the content there. An object that was put in
+-- last of all that the history has is among it, where each of these entries leaves it.
 pub record IsSeen (h : Home) (t : Datum) (past : History) (found : List Datum) : Type 0 where
   pub between : History
   pub others : own h.number between ≡ []

@@ -15,8 +15,8 @@ AllLegal passes = (k : ℕ) (pass : Ticket) → slice_get passes k ≡ Some pass
 abbrev pub Sees : List Ticket → Views → Type 0
 Sees passes v = (k : ℕ) (pass : Ticket) → slice_get passes k ≡ Some pass → v k ≡ pass.log
 
--- A session was opened with a table: for each part there are a gate and a pass, which was made with it for these options and
--- this session.
+-- A session was opened with a table: for each part there are a gate and a pass, which was made with it for these
+-- options and this session.
 pub record IsOpened (o : Options) (gates : List GateId) (number : ℕ) (passes : List Ticket) : Type 0 where
   pub some : 0 < o.parts
   pub count : length gates ≡ o.parts

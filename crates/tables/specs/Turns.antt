@@ -9,8 +9,8 @@ use Rattle.gate.specs.Views.{own, GateId}
 use Rattle.tables.specs.declared.options.Options.{Options}
 use Rattle.tables.specs.Options.{settings_of}
 
--- Where a session is: what its table was opened with, the table's gates, where it has any, the session's number, the name by
--- which what turns change is borrowed, and whether no other session can make a turn meanwhile.
+-- Where a session is: what its table was opened with, the table's gates, where it has any, the session's number, the
+-- name by which what turns change is borrowed, and whether no other session can make a turn meanwhile.
 pub record Home : Type 0 where
   pub options : Options
   pub gates : List GateId
@@ -27,8 +27,8 @@ pub record IsBetween (h : Home) (log : History) : Type 0 where
   pub others : own h.number log ≡ []
   pub alone : IsTrue h.alone → log ≡ []
 
--- A turn, as a part's history tells it: behind what was seen stand entries of other sessions, and then the turn's, if it was
--- answered; for want of memory there is none. The whole is legal.
+-- A turn, as a part's history tells it: behind what was seen stand entries of other sessions, and then the turn's, if
+-- it was answered; for want of memory there is none. The whole is legal.
 pub record TurnedAt (h : Home) (old : History) (act : Act) (answer : Option Answer) (new : History) : Type 0 where
   pub between : History
   pub others : IsBetween h between

@@ -60,8 +60,8 @@ fn turn_by_key<'a, A: Allocator, T: Turns<A>>(
     turn_at(turns, part_of_key(key, parts), op)
 }
 
-/// Puts an object in, in a set in the place of the one with its key (ets:insert/2). A term that is no tuple with an element at
-/// the key's place is refused. What is refused is handed back.
+/// Puts an object in, in a set in the place of the one with its key (ets:insert/2). A term that is no tuple with an
+/// element at the key's place is refused. What is refused is handed back.
 pub fn insert<A: Allocator, T: Turns<A>>(
     turns: &mut T,
     object: Term<A>,
@@ -96,8 +96,8 @@ pub fn insert<A: Allocator, T: Turns<A>>(
     }
 }
 
-/// Puts an object in if its key has none, and says whether it did (ets:insert_new/2); else the object is let go. A term that is
-/// no tuple with an element at the key's place is refused. What is refused is handed back.
+/// Puts an object in if its key has none, and says whether it did (ets:insert_new/2); else the object is let go. A term
+/// that is no tuple with an element at the key's place is refused. What is refused is handed back.
 pub fn insert_new<A: Allocator, T: Turns<A>>(
     turns: &mut T,
     object: Term<A>,
@@ -190,8 +190,8 @@ pub fn delete<A: Allocator, T: Turns<A>>(turns: &mut T, key: &Term<A>)
     reply_let_go(done(turn_by_key(turns, key, PartOp::Delete(key))));
 }
 
-/// Deletes the objects that are equal to one (ets:delete_object/2). A term that is no tuple with an element at the key's place is
-/// refused.
+/// Deletes the objects that are equal to one (ets:delete_object/2). A term that is no tuple with an element at the
+/// key's place is refused.
 pub fn delete_object<A: Allocator, T: Turns<A>>(
     turns: &mut T,
     object: &Term<A>,

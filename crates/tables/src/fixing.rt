@@ -82,7 +82,8 @@ fn change_each<A: Allocator, T: Turns<A>>(turns: &mut T, change: Change)
     }
 }
 
-/// Fixes the table once more (ets:safe_fixtable/2): at each part, or at none where the session's count at some part is 65,535.
+/// Fixes the table once more (ets:safe_fixtable/2): at each part, or at none where the session's count at some part is
+/// 65,535.
 pub fn fix<A: Allocator, T: Turns<A>>(turns: &mut T) -> Result<(), Fault>
     requires { T.is_ready turns.old }
     ensures ready { T.is_ready turns.new }

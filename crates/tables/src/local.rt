@@ -34,8 +34,8 @@ pub struct LocalTable<P: Part<A> + Drop, A: Allocator = Global> {
 }
 
 impl<P: Part<A> + Drop, A: Allocator + Copy> LocalTable<P, A> {
-    /// A table without objects. The options are refused exactly where a number is outside its range, an ordered set has more than one
-    /// part, or the parts don't serve the kind, also where there is no memory.
+    /// A table without objects. The options are refused exactly where a number is outside its range, an ordered set has
+    /// more than one part, or the parts don't serve the kind, also where there is no memory.
     pub fn open(alloc: A, options: Options) -> Result<Self, OpenFault>
         ensures opened { IfOk result (λ t. IsOpenable P.serves options × (t.options ≡ options)
             × AreAfter P.is_after t.parts.items (λ part. [])) }

@@ -26,8 +26,9 @@ pub struct Table<P: Part<A> + Drop, A: Allocator = Global> {
 }
 
 impl<P: Part<A> + Drop, A: Allocator + Copy> Table<P, A> {
-    /// A table without objects, and its sessions, by their numbers. The options are refused exactly where a number is outside its
-    /// range, an ordered set has more than one part, or the parts don't serve the kind, also where there is no memory.
+    /// A table without objects, and its sessions, by their numbers. The options are refused exactly where a number is
+    /// outside its range, an ordered set has more than one part, or the parts don't serve the kind, also where there is
+    /// no memory.
     pub fn open(alloc: A, options: Options) -> Result<(Self, Vec<Session<P, A>, A>), OpenFault>
         ensures opened { IfOk result (λ made. IsOpenable P.serves options × (made.0.options ≡ options)
             × AreOpened options made.0.gates.items made.1.items) }
@@ -44,8 +45,9 @@ impl<P: Part<A> + Drop, A: Allocator + Copy> Table<P, A> {
         gated(alloc, options, parts)
     }
 
-    /// The same over parts that are handed in. The options are refused exactly where a number is outside its range, an ordered set
-    /// has more than one part, or there is another number of parts, also where there is no memory; a refusal drops the parts.
+    /// The same over parts that are handed in. The options are refused exactly where a number is outside its range, an
+    /// ordered set has more than one part, or there is another number of parts, also where there is no memory; a
+    /// refusal drops the parts.
     pub fn over(
         alloc: A,
         options: Options,

@@ -11,8 +11,8 @@ use crate::replies::let_go;
 use part_core::{Fault, PartOp, Reply};
 use std::alloc::Allocator;
 
-/// A session at a table. It sees of each part a history, and each turn at a part adds its entry there, behind those of other
-/// sessions.
+/// A session at a table. It sees of each part a history, and each turn at a part adds its entry there, behind those of
+/// other sessions.
 pub trait Turns<A: Allocator> {
     /// Where the session is.
     ghost home: { Self → Home };

@@ -72,8 +72,8 @@ pub fn view_behind<A: Allocator>(term: &Term<A>, count: usize) -> View<'_, A>
     }
 }
 
-/// How deep what is left of a list behind so many of its elements is, from 1 to 255; of another term, how deep it is. It looks at each
-/// of these elements.
+/// How deep what is left of a list behind so many of its elements is, from 1 to 255; of another term, how deep it is.
+/// It looks at each of these elements.
 pub fn depth_behind<A: Allocator>(term: &Term<A>, count: usize) -> u8
     ensures { result ≡ depth (rest_of count term.now) }
 {
@@ -86,7 +86,8 @@ pub fn depth_behind<A: Allocator>(term: &Term<A>, count: usize) -> u8
     depth_of_tail(tail)
 }
 
-/// What is left of a list behind so many of its elements, as a list of its own, whose elements are copies. Another term is copied as it is.
+/// What is left of a list behind so many of its elements, as a list of its own, whose elements are copies. Another term
+/// is copied as it is.
 pub fn copy_behind<A: Allocator + Copy>(
     alloc: A,
     term: &Term<A>,

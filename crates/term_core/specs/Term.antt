@@ -39,7 +39,8 @@ abbrev pub IsList : ℕ → List Datum → Option Datum → Type 0
 IsList kept elements tail =
     (kept ≡ depth (cells elements (tail_of tail))) × (0 < length elements) × IsTail tail
 
--- A short atom has the characters that it counts, a list an element and no list for a tail, and each depth that is kept is right.
+-- A short atom has the characters that it counts, a list an element and no list for a tail, and each depth that is kept
+-- is right.
 abbrev pub IsKept : {A : Type 0} → Shape A → Type 0
 IsKept (shape.Integer z) = Unit {0}
 IsKept shape.Nil = Unit {0}

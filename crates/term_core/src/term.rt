@@ -33,8 +33,9 @@ const SHORT: usize = 3;
 /// What stands where such an atom has no character.
 const NONE: char = '\0';
 
-/// What a term is, each kind that holds terms with its depth. Copies share what they hold. A short atom stands here itself, so
-/// many of these characters, `{}` holds nothing, and the shortest tuples and maps may hold what is in them without a row.
+/// What a term is, each kind that holds terms with its depth. Copies share what they hold. A short atom stands here
+/// itself, so many of these characters, `{}` holds nothing, and the shortest tuples and maps may hold what is in them
+/// without a row.
 #[cycle(term)]
 #[derive(Drop)]
 enum Shape<A: Allocator> {
@@ -509,7 +510,8 @@ impl<A: Allocator> Term<A> {
     }
 
     /// The list of these elements followed by a tail. A tail that is a list is joined on; without elements it is the
-    /// tail, or `[]` where there is none. More than `MAX_LIST` elements are refused, and a list deeper than `MAX_DEPTH`.
+    /// tail, or `[]` where there is none. More than `MAX_LIST` elements are refused, and a list deeper than
+    /// `MAX_DEPTH`.
     pub fn list(
         alloc: A,
         elements: Vec<Term<A>, A>,

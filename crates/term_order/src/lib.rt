@@ -27,8 +27,8 @@ pub fn compare<A: Allocator>(a: &Term<A>, b: &Term<A>) -> Ordering
     a.cmp(b)
 }
 
-/// Whether a key stands above the last of these pairs, or there is none. Takes no memory, and time linear in the smaller
-/// of the two keys.
+/// Whether a key stands above the last of these pairs, or there is none. Takes no memory, and time linear in the
+/// smaller of the two keys.
 pub fn is_key_above<A: Allocator>(before: &[(Term<A>, Term<A>)], key: &Term<A>) -> bool
     ensures { IsTrue result ↔ IsAboveKeys before.now key.now }
 {

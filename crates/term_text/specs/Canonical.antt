@@ -102,7 +102,8 @@ unfoldable mutual
   tail_text (binary bs) =
       (bar ∷ (less ∷ less ∷ bytes_text bs) ++ greater ∷ greater ∷ []) ++ close_bracket ∷ []
 
--- The canonical text of a term, a dot and a line feed spell that term, and what follows them spells what it spells alone.
+-- The canonical text of a term, a dot and a line feed spell that term, and what follows them spells what it spells
+-- alone.
 abbrev pub IsReadBack : Datum → Type 0
 IsReadBack d =
     (more : List ℕ) (ds : List Datum) →

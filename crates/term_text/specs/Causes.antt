@@ -86,8 +86,8 @@ pub data WholeGap : List ℕ → List ℕ → Type 0 where
   up_to : {text rest : List ℕ} → Gap text rest → EndsGap rest → WholeGap text rest
   to_the_end : {text rest : List ℕ} → Gap text rest → IsLastComment rest → WholeGap text []
 
--- Reading the text from its beginning, without fault so far, the place is due where the last argument is what is left of
--- it. Behind an opening something is due where it is not closed at once.
+-- Reading the text from its beginning, without fault so far, the place is due where the last argument is what is left
+-- of it. Behind an opening something is due where it is not closed at once.
 pub data Due (text : List ℕ) : Place → List ℕ → Type 0 where
   first : {t : List ℕ} → WholeGap text t → Due text a_sentence t
   behind_dot : {t u v w : List ℕ} {d : Datum} → Due text a_sentence t → Spelled depth_limit t d u

@@ -65,7 +65,8 @@ is_white_space c = is_in_range 9 13 c || c == 32
 abbrev pub is_word : ℕ → Bool
 is_word c = is_ascii_alphanumeric c || (c == 95 || c == 64)
 
--- the character that a backslash and this one stand for (Erlang Reference Manual, "Escape Sequences", without the others)
+-- the character that a backslash and this one stand for (Erlang Reference Manual, "Escape Sequences", without the
+-- others)
 abbrev pub escaped : ℕ → Option ℕ
 escaped c =
     if c == 92 then Some 92

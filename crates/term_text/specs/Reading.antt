@@ -1,5 +1,5 @@
--- Reading from left to right, with the first fault that is met: terms and whole texts. Only clauses of readers cite it: what a text
--- spells stands in Text.antt.
+-- Reading from left to right, with the first fault that is met: terms and whole texts. Only clauses of readers cite it:
+-- what a text spells stands in Text.antt.
 use Rattle.std.specs.Prelude.{ℕ, zero, suc, ◌<◌, ◌≤◌, ◌-◌, ◌==◌, ◌||◌, ℤ, pos, negsuc, List, [], ◌∷◌, ◌++◌, length, Bool, true, false, nat_lt, Option, Some, None, Result, Ok, if◌then◌else◌}
 use Rattle.std.specs.Prelude.{map as each}
 use Rattle.std.specs.Ordering.{is_eq}

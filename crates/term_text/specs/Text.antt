@@ -1,5 +1,5 @@
--- Term text (Erlang Reference Manual, "Data Types", "Terms"): what a text spells. Each relation has a text, what is spelled
--- at its beginning, and the text that follows.
+-- Term text (Erlang Reference Manual, "Data Types", "Terms"): what a text spells. Each relation has a text, what is
+-- spelled at its beginning, and the text that follows.
 use Rattle.std.specs.Prelude.{ℕ, suc, ◌≡◌, ◌<◌, ◌≤◌, ◌⊎◌, ℤ, pos, List, [], ◌∷◌, ◌++◌, length, IsTrue}
 use Rattle.std.specs.List.{AllByRecursion}
 use Rattle.std.specs.List.Sorted.{IsPermutation}

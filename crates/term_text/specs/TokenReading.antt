@@ -1,5 +1,5 @@
--- Reading from left to right, with the first fault that is met: steps and tokens. What the characters of a token spell stands in
--- Tokens.antt.
+-- Reading from left to right, with the first fault that is met: steps and tokens. What the characters of a token spell
+-- stands in Tokens.antt.
 use Rattle.std.specs.Prelude.{ℕ, zero, suc, ◌≡◌, ◌+◌, ◌*◌, ◌==◌, ◌&&◌, ◌||◌, ℤ, pos, neg_ℤ, List, [], ◌∷◌, ◌++◌, length, take, drop, Bool, true, false, not, nat_le, nat_lt, Option, Some, None, Result, Ok, Err, if◌then◌else◌}
 use Rattle.std.specs.List.{prefix_len}
 use Rattle.std.specs.Char.{is_ascii_digit, is_ascii_lowercase, digit_value}

@@ -1,5 +1,5 @@
--- The tokens of term text (Erlang Reference Manual, "Data Types", "Terms"): what a text spells. Each relation has a text, what
--- is spelled at its beginning, and the text that follows.
+-- The tokens of term text (Erlang Reference Manual, "Data Types", "Terms"): what a text spells. Each relation has a
+-- text, what is spelled at its beginning, and the text that follows.
 use Rattle.std.specs.Prelude.{ℕ, ◌≡◌, ◌≢◌, ◌<◌, ◌≤◌, ℤ, pos, neg_ℤ, List, [], ◌∷◌, ◌++◌, length, Bool, true, false, IsTrue, Some}
 use Rattle.std.specs.List.{AllByRecursion}
 use Rattle.std.specs.Char.{is_ascii_digit}

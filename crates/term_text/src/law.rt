@@ -4,8 +4,8 @@ ghost use Rattle.term_core.specs.Limits.{IsTerm};
 ghost use Rattle.term_text.specs.Canonical.{IsReadBack};
 ghost use Rattle.term_text.specs.Laws.{SpellsOne};
 
-/// The canonical text of a term, with a dot and a line feed behind it, is read as that term, and what follows is read as
-/// it would be alone.
+/// The canonical text of a term, with a dot and a line feed behind it, is read as that term, and what follows is read
+/// as it would be alone.
 pub fn canonical_text_is_read_back()
     ensures { (d : Datum) → IsTerm d → IsReadBack d }
 {}

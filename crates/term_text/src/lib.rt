@@ -1,13 +1,14 @@
 //! Term text: terms read from text and written as text.
 //!
-//! The contract: `read_terms` answers the terms that a text spells (`Spells`, in `specs/Text.antt`) and refuses any other text,
-//! naming what stands at the place of the refusal (`HasCause`, in `specs/Causes.antt`); `write_term` writes the one canonical
-//! text of a term, and `write_binary` that of a binary of any size (`canonical`, in `specs/Canonical.antt`); the law
-//! `canonical_text_is_read_back` says that a canonical text spells its term and no other.
+//! The contract: `read_terms` answers the terms that a text spells (`Spells`, in `specs/Text.antt`) and refuses any
+//! other text, naming what stands at the place of the refusal (`HasCause`, in `specs/Causes.antt`); `write_term` writes
+//! the one canonical text of a term, and `write_binary` that of a binary of any size (`canonical`, in
+//! `specs/Canonical.antt`); the law `canonical_text_is_read_back` says that a canonical text spells its term and no
+//! other.
 //!
-//! - Tokens: `token.rt`, over the characters of `specs/Character.antt`. What a token spells is a relation (`specs/Tokens.antt`),
-//!   and what reading it from the left gives a function (`specs/TokenReading.antt`); that they agree: `proofs/Tokens.antt`,
-//!   `proofs/Words.antt`. Why and where reading stops: `stop.rt`.
+//! - Tokens: `token.rt`, over the characters of `specs/Character.antt`. What a token spells is a relation
+//!   (`specs/Tokens.antt`), and what reading it from the left gives a function (`specs/TokenReading.antt`); that they
+//!   agree: `proofs/Tokens.antt`, `proofs/Words.antt`. Why and where reading stops: `stop.rt`.
 //! - Terms, by their tokens: `read.rt` gives what `text_at` of `specs/Reading.antt` gives. What is read is spelled so:
 //!   `proofs/Sound.antt`; what is spelled is read so: `proofs/Whole.antt`; each term that is made is within its limits:
 //!   `proofs/Within.antt`, `proofs/Constructed.antt`.

@@ -334,8 +334,8 @@ pub fn write_term<A: Allocator, B: Allocator + Copy>(
     out.extend_from_slice(text.as_slice())
 }
 
-/// Appends the canonical text of the binary of these bytes, as `<<1,2>>`; there may be more of them than a term may have. After an
-/// `Err` the text is as before.
+/// Appends the canonical text of the binary of these bytes, as `<<1,2>>`; there may be more of them than a term may
+/// have. After an `Err` the text is as before.
 pub fn write_binary<B: Allocator + Copy>(
     bytes: &[u8],
     out: &mut Vec<u8, B>,

@@ -1,7 +1,7 @@
 //! What code and specifications answer, in rows of tests.
 //!
-//! A program says what terms it takes for code (`CodeTerms`). What is read from a row is generic in the allocator, so that a test may refuse
-//! memory meanwhile.
+//! A program says what terms it takes for code (`CodeTerms`). What is read from a row is generic in the allocator, so
+//! that a test may refuse memory meanwhile.
 //!
 //! - `codes`: the verified code of a term.
 //! - `runs`: what it answers on objects; `loads`: the same of the code of a text and an object behind it.

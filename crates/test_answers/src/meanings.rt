@@ -45,7 +45,8 @@ fn all_agree_on<'a, A: Allocator + Copy>(
     Some(true)
 }
 
-/// Whether the code of a specification answers what the specification does, on each of these objects; none for want of memory.
+/// Whether the code of a specification answers what the specification does, on each of these objects; none for want of
+/// memory.
 pub fn agrees<A: Allocator + Copy>(
     heap: A,
     specification: &Spec<A>,

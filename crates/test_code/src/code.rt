@@ -1,5 +1,5 @@
-//! Code in a row: `{code,Slots,[Constant],[Instruction],[Frame]}`, where `{Count,Constant}` in place of the list of constants
-//! stands for so many of one.
+//! Code in a row: `{code,Slots,[Constant],[Instruction],[Frame]}`, where `{Count,Constant}` in place of the list of
+//! constants stands for so many of one.
 use crate::frame::{frames, same_frame};
 use crate::instr::instructions;
 use mcode::{Builder, Code, Fault, Frame, Instr};

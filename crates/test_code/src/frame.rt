@@ -1,7 +1,8 @@
 //! Frames in a row.
 //!
-//! A frame is `{Pc,Depth,[{Place,Kind}],[Slot]}`. In a list of frames `{First,Count}` stands for so many of depth 0 and any
-//! kinds at instructions that rise by one, among places `{First,Count,Kind}` for so many of one kind, among slots `{First,Count}`.
+//! A frame is `{Pc,Depth,[{Place,Kind}],[Slot]}`. In a list of frames `{First,Count}` stands for so many of depth 0 and
+//! any kinds at instructions that rise by one, among places `{First,Count,Kind}` for so many of one kind, among slots
+//! `{First,Count}`.
 use mcode::{Frame, Kind, Places, Slots};
 use std::alloc::Allocator;
 use term_core::Term;

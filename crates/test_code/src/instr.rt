@@ -1,8 +1,8 @@
 //! Instructions in a row.
 //!
 //! An instruction without operands is an atom, `load`; one with operands a tuple, `{tuple,2,4}`, `{call,hd,1,5}`,
-//! `{arith,'+',7}`: its name, what it needs, and where it jumps to. In a list of instructions `{Count,[Instruction]}` stands for
-//! so many times the same.
+//! `{arith,'+',7}`: its name, what it needs, and where it jumps to. In a list of instructions `{Count,[Instruction]}`
+//! stands for so many times the same.
 use mcode::Instr;
 use std::alloc::Allocator;
 use term_core::Term;

@@ -1,5 +1,5 @@
-//! One operation at a part. What is refused has to stay in its place: it is asked for again, and has to be answered as it was, but
-//! where memory was wanted, which is there then.
+//! One operation at a part. What is refused has to stay in its place: it is asked for again, and has to be answered as
+//! it was, but where memory was wanted, which is there then.
 ghost use Rattle.std.specs.Prelude.{◌≡◌, ◌<◌, IfOk, IfErr};
 ghost use Rattle.part_core.specs.Acts.{IsAsked};
 ghost use Rattle.part_core.specs.Ops.{act_of};

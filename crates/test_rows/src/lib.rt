@@ -1,15 +1,15 @@
 //! Rows of tests as terms, and one judge of them: what comes of each row is compared with what it wants.
 //!
-//! What is read from a row is generic in the allocator, so that a test may refuse memory meanwhile. What refuses is made in
-//! this crate alone: a program's calls are built, and proved as a whole with it, once more for each crate that makes an allocator
-//! for them.
+//! What is read from a row is generic in the allocator, so that a test may refuse memory meanwhile. What refuses is
+//! made in this crate alone: a program's calls are built, and proved as a whole with it, once more for each crate that
+//! makes an allocator for them.
 //!
-//! - What stands in a row: `parts`, names, numbers and lists; `texts`, a text, in pieces that may be repeated, and the term that it
-//!   says; `functions`, a function by its name; `sizes`, how deep and how long a term is.
-//! - `rows`: the rows of a text, judged by what a program says comes of each; `tally`: how many there were of each kind;
-//!   `outcome`: what came, as a text that is put together.
-//! - Rows of refused memory: `sweeps`, calls on a text with each request refused in turn; `without`, with each refused from the
-//!   first on that they make once what the text says is there.
+//! - What stands in a row: `parts`, names, numbers and lists; `texts`, a text, in pieces that may be repeated, and the
+//!   term that it says; `functions`, a function by its name; `sizes`, how deep and how long a term is.
+//! - `rows`: the rows of a text, judged by what a program says comes of each; `tally`: how many there were of each
+//!   kind; `outcome`: what came, as a text that is put together.
+//! - Rows of refused memory: `sweeps`, calls on a text with each request refused in turn; `without`, with each refused
+//!   from the first on that they make once what the text says is there.
 #![tactic(auto)]
 
 mod functions;

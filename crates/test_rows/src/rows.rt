@@ -14,7 +14,8 @@ const SHOWN: usize = 2_000;
 
 /// The kinds of rows that a program knows.
 pub trait Kinds {
-    /// What comes of a row of a kind, where its operands are in the forms of this number: a text. None where there is no such row.
+    /// What comes of a row of a kind, where its operands are in the forms of this number: a text. None where there is
+    /// no such row.
     fn came(&self, alloc: Global, kind: &str, parts: &[Term], forms: usize) -> Option<Vec<u8>>;
 
     /// In how many forms the operands of a row of a kind are tried.
@@ -179,8 +180,8 @@ fn judge<K: Kinds>(kinds: &K, alloc: Global, text: &[u8]) -> Result<Report, Allo
     }
 }
 
-/// Judges the rows that a reader gives to its end, and writes what is to be said of them. The status is of success where all rows are
-/// right. An error is of want of memory, of the reader or of the writer.
+/// Judges the rows that a reader gives to its end, and writes what is to be said of them. The status is of success
+/// where all rows are right. An error is of want of memory, of the reader or of the writer.
 pub fn judge_streams<K: Kinds, R: Read, W: Write>(
     kinds: &K,
     alloc: Global,

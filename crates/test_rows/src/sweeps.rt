@@ -10,8 +10,8 @@ pub trait Calls {
     /// The most requests for memory that one call makes.
     const MOST_REQUESTS: u64;
 
-    /// What comes of the call of a name on a text, with memory from `heap`: a text. None where the call wants memory and leaves
-    /// all as it was.
+    /// What comes of the call of a name on a text, with memory from `heap`: a text. None where the call wants memory
+    /// and leaves all as it was.
     fn outcome<A: Allocator + Copy>(
         alloc: Global,
         heap: A,

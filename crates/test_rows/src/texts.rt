@@ -1,8 +1,8 @@
 //! A text, in pieces that may be repeated, so that long texts are short rows.
 //!
-//! A text is a list of pieces: a character's number, a string, a binary of bytes, `{Count,Piece}` for so many of one string
-//! or binary, and `{First,Count,Before,After}` for so many numbers that rise from the first, each between two strings. So a
-//! string is a text too. The bytes of a text may say terms.
+//! A text is a list of pieces: a character's number, a string, a binary of bytes, `{Count,Piece}` for so many of one
+//! string or binary, and `{First,Count,Before,After}` for so many numbers that rise from the first, each between two
+//! strings. So a string is a text too. The bytes of a text may say terms.
 use crate::parts::{elements, fields, number};
 use std::alloc::Allocator;
 use term_core::{Term, View};

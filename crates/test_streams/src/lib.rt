@@ -1,4 +1,5 @@
-//! Streams for tests of commands: readers that fail or give little, writers that fail or hold back, and inputs that several tests read.
+//! Streams for tests of commands: readers that fail or give little, writers that fail or hold back, and inputs that
+//! several tests read.
 //!
 //! - `readers`, `writers`: each is a value whose fields say how it goes.
 //! - `inputs`: a code file, and a specification before objects.

@@ -1,7 +1,8 @@
-//! Tests of memory: terms, their texts, operands and values with each request refused in turn; and what takes no memory.
-//! Commands are refused it in `tests_refusals`, code and specifications in rows of `judge_code`.
+//! Tests of memory: terms, their texts, operands and values with each request refused in turn; and what takes no
+//! memory. Commands are refused it in `tests_refusals`, code and specifications in rows of `judge_code`.
 //!
-//! It has no code of its own. What a test here calls is proved in its own crate once, and not a second time with its tests.
+//! It has no code of its own. What a test here calls is proved in its own crate once, and not a second time with its
+//! tests.
 //!
 //! - `sweeps`: calls with each request refused in turn.
 //! - `terms`, `text`: terms made, copied, read and written; `functions`: operands and values.

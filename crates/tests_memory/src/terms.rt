@@ -76,8 +76,8 @@ fn a_copy_takes_no_memory(rt: HostRuntime) {
     assert_eq!(rt; is_copied_without_memory(rt.alloc(), b"7."), Some(true));
 }
 
-/// How many requests for memory were made in all once there was a tuple of one element, one of two as well, of three, of four, and a map of
-/// one pair.
+/// How many requests for memory were made in all once there was a tuple of one element, one of two as well, of three,
+/// of four, and a map of one pair.
 fn requests_of_the_shortest(alloc: Global) -> Option<[u64; 5]> {
     let counting = Failing::counting(alloc);
     let one = ShortRow::One([Term::int(1)]);

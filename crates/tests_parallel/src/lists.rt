@@ -1,5 +1,5 @@
-//! The answers on lists of objects: each object's at its place, as a run of its own gives it, of few objects and of many; and
-//! with each request for memory refused in turn.
+//! The answers on lists of objects: each object's at its place, as a run of its own gives it, of few objects and of
+//! many; and with each request for memory refused in turn.
 use compiler::compile;
 use machine::run;
 use mspec_reader::read_spec;
@@ -90,7 +90,8 @@ fn are_plain<A: Allocator + Copy>(
     Some(true)
 }
 
-/// How many answers there are on so many objects, whether they are right, and whether they are those of runs of their own.
+/// How many answers there are on so many objects, whether they are right, and whether they are those of runs of their
+/// own.
 fn answered<R: Threads + Sync>(rt: &R, alloc: Global, count: usize) -> Option<(usize, bool, bool)> {
     let text = text_of(alloc, count)?;
     let code = code(alloc)?;

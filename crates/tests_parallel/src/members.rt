@@ -212,7 +212,8 @@ fn opened<R: Wait, P: Part<Global> + Drop>(
     Some((table, all))
 }
 
-/// What comes of a call by so many members at a table with objects, the member of the place `waiter` waiting for another.
+/// What comes of a call by so many members at a table with objects, the member of the place `waiter` waiting for
+/// another.
 pub(crate) fn asked<P: Part<Global> + Drop + Send, R: Threads + Wait + Sync>(
     rt: &R,
     alloc: Global,

@@ -1,5 +1,5 @@
-//! Selections by one member and by several: the same answers, refused numbers of members, deletions, and members that wait
-//! for each other.
+//! Selections by one member and by several: the same answers, refused numbers of members, deletions, and members that
+//! wait for each other.
 use crate::members::{Call, asked, asked_alone, deleted_and_counted, query_of};
 use part_core::Part;
 use part_hash::HashPart;

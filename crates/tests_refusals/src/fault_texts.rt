@@ -1,6 +1,7 @@
-//! The texts of refusals, which say in words what their numbers and arguments say: of each enum of refusals each variant, in the order
-//! of `TermFault`, `TextFault`, `SpecFault`, `BuildFault`, `FileFault`, `CodeFault`, `PartFault`, `OpenFault` and `ToolFault`. A text stands behind
-//! its number, and one of code that is not verified also behind that of the instruction.
+//! The texts of refusals, which say in words what their numbers and arguments say: of each enum of refusals each
+//! variant, in the order of `TermFault`, `TextFault`, `SpecFault`, `BuildFault`, `FileFault`, `CodeFault`, `PartFault`,
+//! `OpenFault` and `ToolFault`. A text stands behind its number, and one of code that is not verified also behind that
+//! of the instruction.
 use code_file::FileFault;
 use mcode::Fault as BuildFault;
 use mspec_syntax::SpecFault;

@@ -1,4 +1,5 @@
-//! Queries with each request for memory refused in turn. Each answer here takes memory, so that the last request is one for the last line.
+//! Queries with each request for memory refused in turn. Each answer here takes memory, so that the last request is one
+//! for the last line.
 use crate::sweeps::Written;
 use std::alloc::Allocator;
 use test_alloc::{Failing, sweep};
@@ -11,7 +12,8 @@ pub(crate) const MADE: &str = "[{{'$1'},[],[{{'$1',[]}}]}]. {1}. {[2]}. {\"3\"}.
 /// Its answers.
 pub(crate) const MADE_LINES: &str = "{1,[]}.\n{[2],[]}.\n{[51],[]}.\n";
 
-/// Whether a command ended with these lines, or for want of memory with a beginning of them, no shorter than in the runs before.
+/// Whether a command ended with these lines, or for want of memory with a beginning of them, no shorter than in the
+/// runs before.
 fn is_right_or_out_of_memory<B: Allocator>(
     ended: Result<(), ToolFault>,
     heap: &Failing<B>,

@@ -42,7 +42,8 @@ impl<'a> Case<'a> {
         }
     }
 
-    /// Whether it writes and ends so where a request for memory may be refused, or ends for want of it behind no fewer lines than before.
+    /// Whether it writes and ends so where a request for memory may be refused, or ends for want of it behind no fewer
+    /// lines than before.
     fn is_right<H: Wait>(
         self,
         rt: &H,
@@ -67,7 +68,8 @@ impl<'a> Case<'a> {
             && tells_no_memory(told.as_slice())
     }
 
-    /// Whether it does with each request refused in turn, and with the last refused writes all lines but the last; else how that went.
+    /// Whether it does with each request refused in turn, and with the last refused writes all lines but the last; else
+    /// how that went.
     fn tried<H: Wait>(self, rt: &H, alloc: Global) -> Result<(), (SweepOutcome, usize)> {
         let mut so_far = Written { lines: 0 };
         let outcome = sweep(alloc, 4_000, |heap| {

@@ -63,7 +63,8 @@ fn help_that_cannot_be_written_is_refused(rt: HostRuntime) {
     assert!(rt; status == 4 && err.as_slice() == b"error E71\n".as_slice());
 }
 
-/// The status of `run` where the first term is no specification and standard error fails, and whether it is kept that it did.
+/// The status of `run` where the first term is no specification and standard error fails, and whether it is kept that
+/// it did.
 fn left_by_an_untold_refusal<H: Wait>(rt: &H, alloc: Global) -> (u8, bool) {
     let mut reader = "a.".as_bytes();
     let mut out = Vec::new(alloc);

@@ -16,8 +16,8 @@ use Rattle.tool_cli.specs.Words.{Asked, command, help, topic, mistake}
 use Rattle.tool_cli.specs.declared.words.Request.{Request}
 use Rattle.tool_cli.specs.declared.words.Request.TheVariants as request
 
--- The program ends for this refusal: with its status, and its line on standard error; or with 3 where there was no memory
--- for the line, and then with nothing there.
+-- The program ends for this refusal: with its status, and its line on standard error; or with 3 where there was no
+-- memory for the line, and then with nothing there.
 abbrev pub EndsBy : ToolFault → (err err' : Option (List ℕ)) → (failed : Type 0) → ℕ → Type 0
 EndsBy f err err' failed status =
     ((status ≡ status_of f) × Tells err err' failed (line_of f)) ⊎ ((status ≡ 3) × Keeps err err')
@@ -65,8 +65,8 @@ abbrev pub EndsEarly : (out out' err err' : Option (List ℕ)) → (failed : Typ
 EndsEarly out out' err err' failed status =
     Keeps out out' × EndsBy fault.Memory err err' failed status
 
--- Help went to standard output, some text, and nothing to standard error; or the help could not be written, or there was
--- no memory for it.
+-- Help went to standard output, some text, and nothing to standard error; or the help could not be written, or there
+-- was no memory for it.
 abbrev pub EndsHelp : (out out' err err' : Option (List ℕ)) → (failed : Type 0) → ℕ → Type 0
 EndsHelp out out' err err' failed status =
     ((status ≡ 0) × Keeps err err' × (text : List ℕ) × (text ≢ []) × Appends out out' text)

@@ -53,8 +53,8 @@ fn words_of<H: Env + AllocGlobal>(rt: &H) -> io::Result<Vec<String>> {
     Ok(words)
 }
 
-/// As `run_program`, on these words, of which the first is the program's name: it runs the command that they ask for, or
-/// shows help where they ask for that.
+/// As `run_program`, on these words, of which the first is the program's name: it runs the command that they ask for,
+/// or shows help where they ask for that.
 pub fn run_words<'a, H: Wait, S: AsStr, R: Read, O: Write, E: Tell>(
     rt: &H,
     alloc: Global,
@@ -127,7 +127,8 @@ fn end<A: Allocator + Copy, E: Tell>(alloc: A, outcome: Result<(), ToolFault>, e
     }
 }
 
-/// The status where the words ask for no command, once what `clap` says is written: help that was asked for goes to `out`.
+/// The status where the words ask for no command, once what `clap` says is written: help that was asked for goes to
+/// `out`.
 fn end_unasked<O: Write, E: Tell>(
     alloc: Global,
     error: &clap::Error,
@@ -165,7 +166,8 @@ fn end_unasked<O: Write, E: Tell>(
     end(alloc, write_help(shown(&text), out), err)
 }
 
-/// Tells what `clap` says of words that were not understood, or that they were not where there is no memory for its text.
+/// Tells what `clap` says of words that were not understood, or that they were not where there is no memory for its
+/// text.
 fn tell_mistake<E: Tell>(alloc: Global, error: &clap::Error, err: &mut E)
     ensures { TellsText (E.told err.old) (E.told err.new) (E.has_failed err.new) }
 {

@@ -35,7 +35,8 @@ pub record IsNoText (input : List ℕ) (f : TextFault) : Type 0 where
   pub cause : HasCause input f
   pub bad_utf8 : (at : ℕ) → (f ≡ text.BadUtf8 at) ↔ IsValidUpTo input at
 
--- why no terms of an input are there, of which there may be none: want of memory, a reader that failed, or a text that spells none
+-- why no terms of an input are there, of which there may be none: want of memory, a reader that failed, or a text that
+-- spells none
 abbrev pub IsUnspelled : List ℕ → ToolFault → Type 0
 IsUnspelled input fault.Memory = Unit {0}
 IsUnspelled input fault.ReadFailed = Unit {0}

@@ -76,7 +76,8 @@ impl ToolFault {
         }
     }
 
-    /// What stands behind the number: a place in the text or in the file, an instruction, or a clause and then a variable.
+    /// What stands behind the number: a place in the text or in the file, an instruction, or a clause and then a
+    /// variable.
     fn arguments(self) -> (Option<u64>, Option<u64>)
         ensures { option_to_list result.0 ++ option_to_list result.1 ≡ arguments_of self }
     {

@@ -18,7 +18,8 @@ use Rattle.tool_io.specs.declared.fault.ToolFault.TheVariants as fault
 use Rattle.tool_query.specs.Answers.{ok_term}
 use Rattle.tool_query.specs.Query.{IsRead, IsLoaded, IsNoSpecification, IsUnloaded}
 
--- Bytes are the file of a specification's code, which is typed, and each run of it ends in what the specification means.
+-- Bytes are the file of a specification's code, which is typed, and each run of it ends in what the specification
+-- means.
 pub record IsFileOf (s : Specification) (bytes : List ℕ) : Type 0 where
   pub spells : Spells bytes (code_of s)
   pub typed : IsTyped (code_of s)

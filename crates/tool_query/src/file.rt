@@ -14,8 +14,8 @@ use term_text::write_binary;
 use tool_io::{ToolFault, put_line, read_input, write_lines};
 use verifier::Verified;
 
-/// Reads one specification, to the reader's end, and writes the file of its code: a binary, a dot and a line feed. An input
-/// that is refused writes nothing, and so does want of memory.
+/// Reads one specification, to the reader's end, and writes the file of its code: a binary, a dot and a line feed. An
+/// input that is refused writes nothing, and so does want of memory.
 pub fn tool_compile<A: Allocator + Copy, R: Read, W: Write>(
     alloc: A,
     reader: &mut R,
@@ -31,8 +31,9 @@ pub fn tool_compile<A: Allocator + Copy, R: Read, W: Write>(
     compile_terms(alloc, terms.as_slice(), writer)
 }
 
-/// Reads one code file, which is a binary, to the reader's end, and writes `{ok,Budget,Depth}.`: how many instructions a run
-/// executes at most, and how deep its stack is at most. An input that is refused writes nothing, and so does want of memory.
+/// Reads one code file, which is a binary, to the reader's end, and writes `{ok,Budget,Depth}.`: how many instructions
+/// a run executes at most, and how deep its stack is at most. An input that is refused writes nothing, and so does want
+/// of memory.
 pub fn tool_verify<A: Allocator + Copy, R: Read, W: Write>(
     alloc: A,
     reader: &mut R,

@@ -8,9 +8,9 @@ use mspec_reader::one_specification_is_read;
 use term_text::a_text_spells_one_list;
 use verifier::depth_is_one;
 
-/// What a command writes where it ends well is a function of what it reads: a text spells one list of terms, the first of
-/// them is read as one specification and is the file of one code, and these have one meaning, one file, one budget and one
-/// depth.
+/// What a command writes where it ends well is a function of what it reads: a text spells one list of terms, the first
+/// of them is read as one specification and is the file of one code, and these have one meaning, one file, one budget
+/// and one depth.
 pub fn output_is_one()
     ensures { OutputIsOne }
 {

@@ -11,10 +11,10 @@ use std::io::{Read, Write};
 use term_core::Term;
 use tool_io::{ToolFault, read_input};
 
-/// Reads a specification or a code file, which is a binary, and objects, to the reader's end, and writes each answer: its
-/// canonical text, a dot and a line feed, in the order of the objects. A specification is compiled, and its code goes through its
-/// file. An input that is refused writes nothing; where memory runs out while the objects are answered, the lines of a
-/// beginning of the objects are written.
+/// Reads a specification or a code file, which is a binary, and objects, to the reader's end, and writes each answer:
+/// its canonical text, a dot and a line feed, in the order of the objects. A specification is compiled, and its code
+/// goes through its file. An input that is refused writes nothing; where memory runs out while the objects are
+/// answered, the lines of a beginning of the objects are written.
 pub fn tool_run<A: Allocator + Copy, R: Read, W: Write>(
     alloc: A,
     reader: &mut R,
@@ -30,8 +30,9 @@ pub fn tool_run<A: Allocator + Copy, R: Read, W: Write>(
     run_terms(alloc, terms.as_slice(), writer)
 }
 
-/// Reads a specification and objects, to the reader's end, and writes a line for each object, by the plain evaluator: `{ok,A}.`
-/// where the specification answers `A`, and `false.` where it answers nothing. It ends early as `tool_run` does.
+/// Reads a specification and objects, to the reader's end, and writes a line for each object, by the plain evaluator:
+/// `{ok,A}.` where the specification answers `A`, and `false.` where it answers nothing. It ends early as `tool_run`
+/// does.
 pub fn tool_test<A: Allocator + Copy, R: Read, W: Write>(
     alloc: A,
     reader: &mut R,

@@ -1,4 +1,5 @@
--- When code is typed: there is a state for each instruction, such that each finds what it needs and leaves what the next begins with.
+-- When code is typed: there is a state for each instruction, such that each finds what it needs and leaves what the
+-- next begins with.
 use Rattle.std.specs.Prelude.{ℕ, zero, suc, ◌≡◌, ◌<◌, ◌≤◌, ◌⊎◌, IfSome, Option, Some, None, length, slice_get, All}
 use Rattle.std.specs.Option.{option_and_then}
 use Rattle.mcode.specs.Program.{Program, Frame, frame_at}

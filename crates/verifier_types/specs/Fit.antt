@@ -1,4 +1,5 @@
--- When a frame is fit, and when an instruction is typed in a state: it finds what it needs, and leaves what may be left.
+-- When a frame is fit, and when an instruction is typed in a state: it finds what it needs, and leaves what may be
+-- left.
 use Rattle.std.specs.Prelude.{ℕ, suc, ◌<◌, ◌≤◌, IsTrue, IsSome, IfSome, length, All}
 use Rattle.mcode.specs.Instr.{target_of, goes_on}
 use Rattle.mcode.specs.Program.{Program, Frame, frame_at, place_number}
@@ -10,7 +11,8 @@ use Rattle.verifier_types.specs.Effect.{needs, IsConstantFit, kinds_fit, slot_fi
 abbrev pub most_places : ℕ
 most_places = 16384
 
--- the frame is at an instruction other than the first, not deeper than allowed, its places within its depth and its slots within the code's
+-- the frame is at an instruction other than the first, not deeper than allowed, its places within its depth and its
+-- slots within the code's
 pub record IsFrameFit (p : Program) (f : Frame) : Type 0 where
   pub later : 0 < f.pc
   pub inside : f.pc < length p.instructions

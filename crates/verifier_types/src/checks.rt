@@ -136,9 +136,9 @@ fn check_depth<A: Allocator>(
     Ok(())
 }
 
-/// Whether an instruction is typed in a state. Its target is looked at first, then its constant, the number of its operands,
-/// their kinds, its slot, the depth that it leaves, the state with which it jumps, and that it isn't the last where it
-/// goes on; the first of these that fails is the fault.
+/// Whether an instruction is typed in a state. Its target is looked at first, then its constant, the number of its
+/// operands, their kinds, its slot, the depth that it leaves, the state with which it jumps, and that it isn't the last
+/// where it goes on; the first of these that fails is the fault.
 pub fn check<A: Allocator>(
     code: &Code<A>,
     counts: &[Option<usize>],

@@ -1,12 +1,14 @@
-//! How one instruction of code is typed: what is known of the machine's state before it, what it needs of that, what it leaves.
+//! How one instruction of code is typed: what is known of the machine's state before it, what it needs of that, what it
+//! leaves.
 //!
-//! The one contract: `check` accepts an instruction exactly where it is typed in a state (`IsTypedAt` of `specs/Fit.antt`), and
-//! else names the first of its checks that fails (`IsFaultIn` of `specs/Faults.antt`); `leave` gives the state behind it.
+//! The one contract: `check` accepts an instruction exactly where it is typed in a state (`IsTypedAt` of
+//! `specs/Fit.antt`), and else names the first of its checks that fails (`IsFaultIn` of `specs/Faults.antt`); `leave`
+//! gives the state behind it.
 //!
-//! - A `Shape` stands for the kinds of the places of the stack and for which slots are bound: `shape`, `specs/Shape.antt`; places
-//!   with any kind aren't kept (`specs/Kept.antt`).
-//! - What an instruction needs of a state, and what it leaves, is `specs/Effect.antt`. `effect`: whether a state has what is
-//!   needed (`specs/Needed.antt`); `keys`: constants that are lists of keys.
+//! - A `Shape` stands for the kinds of the places of the stack and for which slots are bound: `shape`,
+//!   `specs/Shape.antt`; places with any kind aren't kept (`specs/Kept.antt`).
+//! - What an instruction needs of a state, and what it leaves, is `specs/Effect.antt`. `effect`: whether a state has
+//!   what is needed (`specs/Needed.antt`); `keys`: constants that are lists of keys.
 //! - `checks`: the checks in their order; `fault`: what they tell, with its number; `leaving`: the state that is left.
 #![tactic(auto)]
 

@@ -11,7 +11,8 @@ use Rattle.tables.specs.Turns.{Home, Views, IsBetween, Turned}
 use Rattle.walk_core.specs.Walk.{Walk, Position, part_at, scope_at, next_position}
 use Rattle.walk_core.specs.Walk.Position.{Over}
 
--- a walk under way: what the session sees, how far it has come, and the answers so far, or the objects counted or deleted
+-- a walk under way: what the session sees, how far it has come, and the answers so far, or the objects counted or
+-- deleted
 pub record Way : Type 0 where
   pub views : Views
   pub at : Position

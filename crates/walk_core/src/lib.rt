@@ -1,9 +1,10 @@
 //! Walks through the parts of a table: what they are, and what their answers mean.
 //!
-//! The one contract: however the histories of the parts grow meanwhile, the visits of a walk gather, for each key that is done once,
-//! what the query answers on the key's objects at one moment of the walk (`laws`; `specs/Moments.antt`).
+//! The one contract: however the histories of the parts grow meanwhile, the visits of a walk gather, for each key that
+//! is done once, what the query answers on the key's objects at one moment of the walk (`laws`; `specs/Moments.antt`).
 //!
-//! - `specs/Walk.antt`: a walk, how far it has come, and the keys that it has done; `specs/Goes.antt`: visit after visit.
+//! - `specs/Walk.antt`: a walk, how far it has come, and the keys that it has done; `specs/Goes.antt`: visit after
+//!   visit.
 //! - `laws`: that a walk begins, goes on, outlasts what others do, and ends so.
 #![tactic(auto)]
 

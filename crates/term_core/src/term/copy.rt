@@ -7,8 +7,8 @@ use std::alloc::{AllocError, Allocator};
 use std::sync::Arc;
 
 impl<A: Allocator> Term<A> {
-    /// The term once more. What it holds is shared, so that this takes one step and no memory, however large the term is. It
-    /// is refused where 2^63 - 1 terms share that already.
+    /// The term once more. What it holds is shared, so that this takes one step and no memory, however large the term
+    /// is. It is refused where 2^63 - 1 terms share that already.
     pub fn copy(&self) -> Result<Self, AllocError>
         ensures { IfOk result (λ t. t ≡ self.now) }
     {

@@ -97,7 +97,8 @@ fn short_shape<A: Allocator>(
 }
 
 impl<A: Allocator> Term<A> {
-    /// The tuple of one to four elements, in the least memory: it asks for memory once. A tuple deeper than `MAX_DEPTH` is refused.
+    /// The tuple of one to four elements, in the least memory: it asks for memory once. A tuple deeper than `MAX_DEPTH`
+    /// is refused.
     pub fn short_tuple(alloc: A, elements: ShortRow<A>) -> Result<Self, Refused<ShortRow<A>>>
         ensures ok { IfOk result (λ t. t ≡ tuple (items_of (row_items elements))) }
         ensures refused { IfErr result (λ r. (r.value ≡ elements)

@@ -1,4 +1,5 @@
--- by size, a row of expressions in front of an expression of its size; what was looked at and what is left make the whole
+-- by size, a row of expressions in front of an expression of its size; what was looked at and what is left make the
+-- whole
 use Rattle.std.proofs.Common.{◌+◌, ◌-◌, ◌*◌, map}
 use Rattle.mspec_syntax.specs.Expression.{expression_size, expressions_size, assignments_size, expressions_of, assignments_of}
 use Rattle.mspec_syntax.specs.ExpressionView.{tail_expression}
