@@ -56,13 +56,19 @@ def files_of(name, folder):
     return sorted(os.path.relpath(it, root) for it in found)
 
 
+def without_comments(content):
+    """The lines of a source or a definition that are no comment: what a comment says changes no proof."""
+    return [line for line in content.splitlines() if not line.lstrip().startswith((b"//", b"--"))]
+
+
 def digest(name, named):
-    """A sum of what the crate's further edits depend on: the edits, its sources and definitions, and those of the crates below."""
+    """A sum of what the crate's further edits depend on: the edits, its sources and definitions, and those of the crates below,
+    comments aside."""
     total = hashlib.sha256()
     for crate, folders in [(name, ["more-edits", "src", "specs"]), *((it, ["src", "specs"]) for it in below(name, named))]:
         for file in [it for folder in folders for it in files_of(crate, folder)]:
             with open(f"{TOP}/crates/{crate}/{file}", "rb") as content:
-                total.update(repr((crate, file, content.read())).encode())
+                total.update(repr((crate, file, without_comments(content.read()))).encode())
     return total.hexdigest()[:12]
 
 

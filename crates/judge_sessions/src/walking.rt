@@ -137,6 +137,17 @@ fn fixed_tour<T: Turns<Global>>(turns: &mut T, worker: &mut Worker) -> Option<()
     unfix(turns).ok()
 }
 
+/// The query of a session's objects at its own keys, or of those whose sequence numbers have a parity.
+fn own_query(alloc: Global, number: u8, parity: Option<u32>) -> Option<Query> {
+    let mut text = String::new(alloc);
+    write!(text, "[{{{{'$1',{number},'$2'}},[{{'<','$1',{OPEN}}}").ok()?;
+    if let Some(parity) = parity {
+        write!(text, ",{{'=:=',{{'rem','$2',2}},{parity}}}").ok()?;
+    }
+    write!(text, "],[true]}}].").ok()?;
+    query(alloc, text.as_str())
+}
+
 /// How many objects the session has at its own keys.
 fn count<R: Threads + Wait + Sync, T: Turns<Global>, M: Turns<Global> + Send>(
     rt: &R,
@@ -151,14 +162,7 @@ fn count<R: Threads + Wait + Sync, T: Turns<Global>, M: Turns<Global> + Send>(
     ensures same { T.home turns.new ≡ T.home turns.old }
     ensures members { AreMembers M.is_ready M.home members.new }
 {
-    let mut text = String::new(alloc);
-    let number = worker.number;
-    write!(
-        text,
-        "[{{{{'$1',{number},'_'}},[{{'<','$1',{OPEN}}}],[true]}}]."
-    )
-    .ok()?;
-    let own = query(alloc, text.as_str())?;
+    let own = own_query(alloc, worker.number, None)?;
     let count = counted(rt, turns, members, &own)?;
     worker.record(Event::Counted(count))
 }
@@ -177,17 +181,10 @@ fn remove<R: Threads + Wait + Sync, T: Turns<Global>, M: Turns<Global> + Send>(
     ensures same { T.home turns.new ≡ T.home turns.old }
     ensures members { AreMembers M.is_ready M.home members.new }
 {
-    let mut text = String::new(alloc);
-    let number = worker.number;
     let parity = worker.below(2);
-    write!(
-        text,
-        "[{{{{'$1',{number},'$2'}},[{{'<','$1',{OPEN}}},{{'=:=',{{'rem','$2',2}},{parity}}}],[true]}}].",
-    )
-    .ok()?;
-    let own = query(alloc, text.as_str())?;
-    let count = deleted(rt, turns, members, &own)?;
-    worker.record(Event::Removed(parity, count))
+    let own = own_query(alloc, worker.number, Some(parity))?;
+    let removed = deleted(rt, turns, members, &own)?;
+    worker.record(Event::Removed(parity, removed))
 }
 
 /// The object at one of the session's keys, by a specification that names it.

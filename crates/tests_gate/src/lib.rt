@@ -3,12 +3,15 @@
 //! It has no code of its own. What a test here calls is proved in its own crate once, and not a second time with its
 //! tests. `judge_sessions` makes random calls on threads.
 //!
-//! - `pairs`: two sessions of a table. `steps`: what sessions do, one on a thread behind the other and side by side.
+//! - `objects`: what is put in. `pairs`: two sessions of a table.
+//! - `steps`: what sessions do, one on a thread behind the other and side by side.
 //! - `watching`: parts that look for each other, so that their turns must be made at the same time.
 //! - `walking`: a walk whose table another session empties meanwhile, and a visit out of place.
 //! - `refusals`: memory refused in turn, and calls that take none.
 #![tactic(auto)]
 
+#[cfg(test)]
+mod objects;
 #[cfg(test)]
 mod pairs;
 #[cfg(test)]

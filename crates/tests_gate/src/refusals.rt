@@ -2,6 +2,7 @@
 ghost use Rattle.std.specs.Prelude.{◌≡◌, All, [], IfSome};
 ghost use Rattle.tables.specs.Options.{settings_of};
 
+use crate::objects::object;
 use crate::pairs::last_two;
 use part_core::{Fault, OpenFault, Part, TableKind};
 use part_plain::PlainPart;
@@ -69,13 +70,6 @@ fn is_opened_over(heap: &Failing<Global>) -> bool {
         Ok(_opened) => !heap.was_refused(),
         Err(fault) => fault == OpenFault::Memory && heap.was_refused(),
     }
-}
-
-/// The object `{Key}`.
-fn object<A: Allocator + Copy>(heap: A, key: i64) -> Option<Term<A>> {
-    let mut elements = Vec::with_capacity(heap, 1).ok()?;
-    elements.push(Term::int(key)).ok()?;
-    Term::tuple(heap, elements).ok()
 }
 
 /// Puts `{1}` in, and says whether its key has an object then, or has none where a request was refused.

@@ -2,6 +2,7 @@
 ghost use Rattle.std.specs.Prelude.{◌≡◌, IfSome};
 ghost use Rattle.tables.specs.Sessions.{IsOpened};
 
+use crate::objects::object;
 use crate::pairs::last_two;
 use gate::Closed;
 use part_core::{Part, TableKind};
@@ -27,20 +28,13 @@ fn options(sessions: u8) -> Options {
     }
 }
 
-/// The object `{Key}`.
-fn object(alloc: Global, key: u32) -> Option<Term> {
-    let mut elements = Vec::with_capacity(alloc, 1).ok()?;
-    elements.push(Term::int(i64::from(key))).ok()?;
-    Term::tuple(alloc, elements).ok()
-}
-
 /// Puts the object of a key in.
 fn put<T: Turns<Global>>(alloc: Global, turns: &mut T, key: u32) -> Option<()>
     requires { T.is_ready turns.old }
     ensures ready { T.is_ready turns.new }
     ensures same { T.home turns.new ≡ T.home turns.old }
 {
-    insert(turns, object(alloc, key)?).ok()
+    insert(turns, object(alloc, i64::from(key))?).ok()
 }
 
 /// How many objects a key has.

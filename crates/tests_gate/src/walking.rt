@@ -2,6 +2,7 @@
 ghost use Rattle.std.specs.Prelude.{◌≡◌, ◌<◌, IfSome};
 ghost use Rattle.tables.specs.Sessions.{IsOpened};
 
+use crate::objects::object;
 use crate::pairs::last_two;
 use mspec_reader::read_spec;
 use part_core::{Cursor, Fault, Look, Part, PartOp, Scope, TableKind};
@@ -29,8 +30,8 @@ const OPTIONS: Options = Options {
 };
 
 /// A key.
-fn key(place: u32) -> Term {
-    Term::int(i64::from(place.saturating_mul(APART)))
+fn key(place: u32) -> i64 {
+    i64::from(place.saturating_mul(APART))
 }
 
 /// Puts the object of each key in.
@@ -40,9 +41,7 @@ fn put_all<T: Turns<Global>>(alloc: Global, turns: &mut T) -> Option<()>
     ensures same { T.home turns.new ≡ T.home turns.old }
 {
     for place in 0..KEYS {
-        let mut elements = Vec::with_capacity(alloc, 1).ok()?;
-        elements.push(key(place)).ok()?;
-        insert(turns, Term::tuple(alloc, elements).ok()?).ok()?;
+        insert(turns, object(alloc, key(place))?).ok()?;
     }
     Some(())
 }
@@ -53,7 +52,7 @@ fn delete_at<T: Turns<Global>>(turns: &mut T, place: u32)
     ensures ready { T.is_ready turns.new }
     ensures same { T.home turns.new ≡ T.home turns.old }
 {
-    let key = key(place);
+    let key = Term::int(key(place));
     delete(turns, &key);
 }
 

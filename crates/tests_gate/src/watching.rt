@@ -9,15 +9,12 @@ use crate::pairs::last_two;
 use part_core::{Fault, OpenFault, Part, PartOp, Reply, TableKind};
 use part_plain::PlainPart;
 use std::alloc::{AllocError, Global};
-use std::hint;
 use std::sync::atomic::{AtomicBool, Ordering};
 use std::sync::{Arc, Wait};
 use std::thread::{Threads, join};
 use tables::{Options, Session, Table, Turns, member};
 use term_core::Term;
-
-/// How often a part looks for the other's flag.
-const LOOKS: u32 = 10_000_000;
+use test_flags::is_raised;
 
 /// A part which raises a flag at each operation, and looks whether the other part's is up.
 #[derive(Drop)]
@@ -26,17 +23,6 @@ struct Watching<P> {
     mine: Arc<AtomicBool>,
     others: Arc<AtomicBool>,
     has_met: bool,
-}
-
-/// Whether a flag is up within so many looks.
-fn is_raised(flag: &AtomicBool) -> bool {
-    for _look in 0..LOOKS {
-        if flag.load(Ordering::SeqCst) {
-            return true;
-        }
-        hint::spin_loop();
-    }
-    false
 }
 
 impl<P: Part<Global> + Drop> Part<Global> for Watching<P> {
@@ -136,6 +122,15 @@ fn asked<R: Wait, P: Part<Global> + Drop>(
     member(&mut at, &key)
 }
 
+/// A session made anew from its fields.
+fn made_anew<P: Part<Global> + Drop>(session: Session<P>) -> Session<P>
+    ensures number { result.number ≡ session.number }
+    ensures passes { result.passes.items ≡ session.passes.items }
+{
+    let Session { number, passes } = session;
+    Session { number, passes }
+}
+
 /// Two sessions ask for keys of two parts, side by side; the second comes back.
 fn both_asked<R: Threads + Wait + Sync, P: Part<Global> + Drop + Send>(
     rt: &R,
@@ -186,6 +181,8 @@ fn have_met<R: Threads + Wait + Sync, P: Part<Global> + Drop + Send>(
     let (first, second) = last_two(&table, sessions)?;
     let Table { options, gates } = table;
     let table = Table { options, gates };
+    let first = made_anew(first);
+    let second = made_anew(second);
     let second = both_asked(rt, &table, first, second);
     let mut closed = table.close(second);
     let last = closed.next_part()?.ok()?;

@@ -1,12 +1,9 @@
 //! Members of a selection, one of which waits before its first turn until another has made one.
 use part_core::{Fault, PartOp, Reply};
 use std::alloc::Allocator;
-use std::hint;
 use std::sync::atomic::{AtomicBool, Ordering};
 use tables::{Options, Turns};
-
-/// How often a member looks for the flag.
-const LOOKS: u32 = 10_000_000;
+use test_flags::is_raised;
 
 /// A session that raises a flag once it has made a turn.
 #[derive(Drop)]
@@ -19,17 +16,6 @@ pub(crate) struct Seat<'f, T> {
     pub(crate) waits: bool,
     /// It waited in vain.
     pub(crate) is_alone: bool,
-}
-
-/// Whether a flag is up within so many looks.
-fn is_raised(flag: &AtomicBool) -> bool {
-    for _look in 0..LOOKS {
-        if flag.load(Ordering::SeqCst) {
-            return true;
-        }
-        hint::spin_loop();
-    }
-    false
 }
 
 impl<'f, A: Allocator, T: Turns<A>> Turns<A> for Seat<'f, T> {
