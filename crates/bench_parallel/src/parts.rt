@@ -113,8 +113,8 @@ fn opened<H: Wait, P: Part<Global> + Drop>(
     Some((table, sessions, filled))
 }
 
-/// What a selection over so many objects takes: how many answers there are, and the nanoseconds, by one session and then by
-/// members.
+/// What a selection over so many objects takes: how many answers there are, and the nanoseconds, by one session and
+/// then by members.
 fn both<H: Threads + Wait + Sync, P: Part<Global> + Drop + Send>(
     rt: &HostRuntime,
     handle: &H,

@@ -1,5 +1,5 @@
--- What the members of a selection find together: the answer of a query over all parts of their table, the moments of each
--- part being those that its worker sees.
+-- What the members of a selection find together: the answer of a query over all parts of their table, the moments of
+-- each part being those that its worker sees.
 use Rattle.std.specs.Prelude.{ℕ, ◌≡◌, ◌≢◌, ◌<◌, ◌≤◌, ◌⊎◌, ◌%◌, false, IsTrue, All, AllPairs, Contains, None, map, flat_map, get_or, List, [], ◌∷◌, length, min}
 use Rattle.term_core.specs.Datum.{Datum}
 use Rattle.mcode.specs.Answer.{answer_of}

@@ -15,8 +15,8 @@ pub fn broken_parts_are_gathered<A: Allocator>()
     ensures { BrokenPartsAreGathered A }
 {}
 
-/// What the members of a selection answered is the answer of the query over all parts of their table, the moments of each
-/// part being those that its worker sees.
+/// What the members of a selection answered is the answer of the query over all parts of their table, the moments of
+/// each part being those that its worker sees.
 pub fn parts_join<A: Allocator, T: Turns<A>>()
     ensures { PartsJoin A T.is_ready T.home T.sees }
 {}

@@ -126,7 +126,26 @@ fn fix_nothing<'h, T: Turns<Heap<'h>>>(members: &[T]) -> bool
     true
 }
 
-/// What comes of a call by sessions of a table; none where one of them fixes a part behind it.
+/// The same; none where a member fixes a part behind it.
+fn called_and_released<'h, R: Threads + Wait + Sync, T: Turns<Heap<'h>> + Send>(
+    rt: &R,
+    heap: Heap<'h>,
+    members: &mut [T],
+    query: &Query<Heap<'h>>,
+    call: Call,
+) -> Option<Came>
+    requires ready { All T.is_ready members.old }
+    requires table { AreOfOneTable (map T.home members.old) }
+{
+    let came = called(rt, heap, members, query, call)?;
+    if fix_nothing(members) {
+        Some(came)
+    } else {
+        None
+    }
+}
+
+/// The same by sessions of a table.
 fn called_by<'h, P: Part<Heap<'h>> + Drop + Send, R: Threads + Wait + Sync>(
     rt: &R,
     alloc: Global,
@@ -139,12 +158,7 @@ fn called_by<'h, P: Part<Heap<'h>> + Drop + Send, R: Threads + Wait + Sync>(
     requires { All (λ s. IsOpened table.now.options table.now.gates.items s.number s.passes.items) sessions.old }
 {
     let mut members = members_of(rt, alloc, table, sessions)?;
-    let came = called(rt, heap, members.as_mut_slice(), query, call)?;
-    if fix_nothing(members.as_slice()) {
-        Some(came)
-    } else {
-        None
-    }
+    called_and_released(rt, heap, members.as_mut_slice(), query, call)
 }
 
 /// How many objects a session counts.
