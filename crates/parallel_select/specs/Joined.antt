@@ -36,7 +36,8 @@ IsPartMoment o ws k moment =
 abbrev pub part_answers_at : Options → PartWalks → Datum → ℕ → List Datum
 part_answers_at o ws k moment = answers_at (ws.walk (place_of o k)) (ws.now (place_of o k)) k moment
 
--- there is a moment of the key at which nothing is answered on its objects, or nothing is answered on any object with it
+-- there is a moment of the key at which nothing is answered on its objects, or nothing is answered on any object with
+-- it
 abbrev pub IsUnanswered : Options → Program → PartWalks → Datum → Type 0
 IsUnanswered o p ws k =
     ((moment : ℕ) × IsPartMoment o ws k moment × (part_answers_at o ws k moment ≡ []))
