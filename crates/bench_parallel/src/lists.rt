@@ -15,7 +15,7 @@ use verifier::Verified;
 const ROUNDS: usize = 5;
 
 /// The specification that is asked of each object.
-const SOME: &[u8] = b"[{{'$1','$2','_'},[{'>=','$1',1},{'<','$2',5}],['$2']}].";
+pub(crate) const SOME: &[u8] = b"[{{'$1','$2','_'},[{'>=','$1',1},{'<','$2',5}],['$2']}].";
 
 /// How a list is answered.
 #[derive(Clone, Copy)]
@@ -58,7 +58,7 @@ fn objects_with(alloc: Global, count: u32, atom: &Term) -> Option<Vec<Term>> {
 }
 
 /// So many objects.
-fn objects(alloc: Global, count: u32) -> Option<Vec<Term>> {
+pub(crate) fn objects(alloc: Global, count: u32) -> Option<Vec<Term>> {
     objects_with(alloc, count, &atom(alloc)?)
 }
 
@@ -71,17 +71,6 @@ fn count(answers: &[Option<Term>]) -> usize {
         }
     }
     count
-}
-
-/// How many objects a list answers.
-fn listed<H: Threads + Sync>(
-    alloc: Global,
-    handle: &H,
-    code: &Verified,
-    objects: &[Term],
-) -> Option<usize> {
-    let answers = run_list(handle, alloc, code, objects).ok()?;
-    Some(count(answers.as_slice()))
 }
 
 /// Puts the answers of a machine behind others.
@@ -97,13 +86,28 @@ fn answer<'a>(
     Some(())
 }
 
-/// How many objects one machine answers.
-fn plain(alloc: Global, code: &Verified, objects: &[Term]) -> Option<usize> {
+/// The answers of one machine.
+fn plain(alloc: Global, code: &Verified, objects: &[Term]) -> Option<Vec<Option<Term>>> {
     let mut machine = Machine::new(&alloc, code).ok()?;
     let mut answers = Vec::with_capacity(alloc, objects.len()).ok()?;
     let all = answer(&mut machine, objects, &mut answers);
     machine.finish();
-    all.map(|()| count(answers.as_slice()))
+    all?;
+    Some(answers)
+}
+
+/// The answers on objects.
+fn answered<H: Threads + Sync>(
+    rt: &HostRuntime,
+    handle: &H,
+    work: Work,
+    code: &Verified,
+    objects: &[Term],
+) -> Option<Vec<Option<Term>>> {
+    match work {
+        Work::List => run_list(handle, rt.alloc(), code, objects).ok(),
+        Work::Plain => plain(rt.alloc(), code, objects),
+    }
 }
 
 /// How many objects are answered.
@@ -114,13 +118,11 @@ fn found<H: Threads + Sync>(
     code: &Verified,
     objects: &[Term],
 ) -> Option<usize> {
-    match work {
-        Work::List => listed(rt.alloc(), handle, code, objects),
-        Work::Plain => plain(rt.alloc(), code, objects),
-    }
+    let answers = answered(rt, handle, work, code, objects)?;
+    Some(count(answers.as_slice()))
 }
 
-/// The nanoseconds that the work takes once.
+/// The nanoseconds that the work takes once, without letting go of the answers.
 fn once<H: Threads + Sync>(
     rt: &HostRuntime,
     handle: &H,
@@ -129,9 +131,13 @@ fn once<H: Threads + Sync>(
     objects: &[Term],
 ) -> Option<u64> {
     let began = Instant::now(rt).ok()?;
-    let _count = found(rt, handle, work, code, objects)?;
+    let answers = answered(rt, handle, work, code, objects)?;
     let took = began.elapsed(rt).ok()?;
-    u64::try_from(took.as_nanos()).ok()
+    if answers.len() == objects.len() {
+        u64::try_from(took.as_nanos()).ok()
+    } else {
+        None
+    }
 }
 
 /// The median of the nanoseconds that the work takes.

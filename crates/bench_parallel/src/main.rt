@@ -9,13 +9,15 @@
 #![tactic(auto)]
 
 mod lists;
+mod parts;
 
 use std::io::Write;
 use std::process::ExitCode;
+use std::sync::Wait;
 use std::thread::Threads;
 
 /// Writes the lines of what the arguments ask for. There are none where they ask for nothing, or it can't be done.
-fn write_lines<H: Threads + Sync>(
+fn write_lines<H: Threads + Wait + Sync>(
     rt: &HostRuntime,
     handle: &H,
     arguments: &[String],
@@ -27,7 +29,11 @@ fn write_lines<H: Threads + Sync>(
     let count = count.as_str().parse().ok()?;
     match word.as_str() {
         "times" => lists::write_times(rt, handle, count, lines),
-        "found" => lists::write_found(rt, handle, count, lines),
+        "parts" => parts::write_times(rt, handle, count, lines),
+        "found" => {
+            lists::write_found(rt, handle, count, lines)?;
+            parts::write_found(rt, handle, count, lines)
+        }
         _ => None,
     }
 }
@@ -42,7 +48,7 @@ fn main(rt: HostRuntime) -> anyhow::Result<ExitCode> {
         }
         None => {
             rt.stderr()
-                .write_all(b"usage: bench_parallel times|found OBJECTS\n")?;
+                .write_all(b"usage: bench_parallel times|parts|found OBJECTS\n")?;
             Ok(ExitCode::FAILURE)
         }
     }

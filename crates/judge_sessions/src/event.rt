@@ -34,4 +34,8 @@ pub(crate) enum Event {
     Counted(u64),
     /// Those of even sequence numbers, or of odd ones, were deleted, and how many there were.
     Removed(u32, u64),
+    /// How many objects the table has.
+    CountedAll(u64),
+    /// All objects were deleted at the keys whose objects are counted, and how many there were.
+    Cleared(u64),
 }

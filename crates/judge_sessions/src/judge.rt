@@ -61,19 +61,46 @@ fn add_balance(events: &[Event], balances: &mut [i64]) {
     }
 }
 
-/// At each key whose objects are counted, as many are left as were put in and not taken.
+/// How many objects a session deleted by queries at the keys whose objects are counted.
+fn cleared(events: &[Event]) -> i64 {
+    let mut count: i64 = 0;
+    for event in events {
+        if let Event::Cleared(more) = *event {
+            count = count.saturating_add(i64::try_from(more).unwrap_or(i64::MAX));
+        }
+    }
+    count
+}
+
+/// How many objects are missing at a key of those that were put in and not taken.
+fn missing_at(balances: &[i64], left: &[Option<Object>], key: u32) -> i64 {
+    let there = i64::from(left_at(left, key).is_some());
+    match balances.get(key as usize) {
+        Some(balance) => balance.saturating_sub(there),
+        None => -1,
+    }
+}
+
+/// At the keys whose objects are counted as many are left as were put in, not taken, and not deleted by queries.
 fn are_balanced(alloc: Global, workers: &[Worker], left: &[Option<Object>]) -> Result<(), Failure> {
     let mut balances: Vec<i64> = Vec::from_elem(alloc, 0, KEYS as usize)?;
+    let mut deleted: i64 = 0;
     for worker in workers {
         add_balance(worker.events.as_slice(), balances.as_mut_slice());
+        deleted = deleted.saturating_add(cleared(worker.events.as_slice()));
     }
     for key in COUNTED..KEYS {
-        let there = left_at(left, key).is_some();
-        if balances.get(key as usize) != Some(&i64::from(there)) {
+        let missing = missing_at(balances.as_slice(), left, key);
+        deleted = deleted.saturating_sub(missing);
+        if missing < 0 || deleted < 0 {
             return Err(Failure::Left(Wrong::Unbalanced(key)));
         }
     }
-    Ok(())
+    if deleted == 0 {
+        Ok(())
+    } else {
+        Err(Failure::Left(Wrong::NeverDeleted(deleted)))
+    }
 }
 
 /// What is left at a key.

@@ -1,11 +1,11 @@
 //! Sessions on threads of their own make random calls at one table, and what they were answered is judged.
 //!
-//! Standard input has a row for each run, `{Seed,Kind,Parts,Sessions,Calls}.`; of each a line is printed. A session
-//! writes at keys of its own, at keys at which all write, and at keys at which all write by `insert_new` and `take`
-//! alone. What it was answered at its own keys is what a replay of its own calls gives, walks in pieces, counts and
-//! deletions by queries among them. At the others it never meets an object that was not put in there, and none again
-//! that was gone; no object is taken twice; and what is left at the end is some session's last write, as many objects
-//! as were put in and not taken, each in its key's part.
+//! Standard input has a row for each run, `{Seed,Kind,Parts,Sessions,Members,Calls}.`; of each a line is printed. A
+//! session writes at keys of its own, at keys at which all write, and at keys at which all write by `insert_new` and
+//! `take` alone. What it was answered at its own keys is what a replay of its own calls gives, walks in pieces, counts
+//! and deletions by queries among them. At the others it never meets an object that was not put in there, and none
+//! again that was gone; no object is taken twice; and what is left at the end is some session's last write, as many
+//! objects as were put in and not taken, each in its key's part.
 //!
 //! - `keys`: keys and objects; `event`: what is recorded; `worker`, `walking`: the calls of a session.
 //! - `runs`: a table and its sessions on threads.
@@ -48,7 +48,7 @@ fn kind_of(term: &Term) -> Option<TableKind> {
 
 /// The run of a row.
 fn run_of(row: &Term) -> Option<Run> {
-    let [seed, kind, parts, sessions, calls] = fields(row)? else {
+    let [seed, kind, parts, sessions, members, calls] = fields(row)? else {
         return None;
     };
     Some(Run {
@@ -59,6 +59,7 @@ fn run_of(row: &Term) -> Option<Run> {
             parts: u8::try_from(number(parts)?).ok()?,
             sessions: u8::try_from(number(sessions)?).ok()?,
         },
+        members: u8::try_from(number(members)?).ok()?,
         seed: u64::from(number(seed)?),
         calls: number(calls)?,
     })
@@ -84,8 +85,8 @@ fn write_run<R: Threads + Wait + Sync>(
     } = run.options;
     write!(
         lines,
-        "seed {}: {sessions} sessions, {} calls each, {kind:?} of {parts} parts: ",
-        run.seed, run.calls,
+        "seed {}: {sessions} sessions, {} of them members, {} calls each, {kind:?} of {parts} parts: ",
+        run.seed, run.members, run.calls,
     )
     .ok();
     match judged {

@@ -1,6 +1,6 @@
 //! What a session was answered, beside a replay of its own calls and what it could know of the others'.
 use crate::event::Event;
-use crate::keys::{KEYS, OWN, Object, owner};
+use crate::keys::{COUNTED, KEYS, OWN, Object, owner};
 use crate::wrong::Wrong;
 use std::alloc::{AllocError, Global};
 use std::ops::Range;
@@ -327,6 +327,29 @@ impl<'a> Replay<'a> {
         }
     }
 
+    /// The session was told that the table had so many objects: at its own keys as it left them, at each other key one
+    /// at most.
+    fn is_count_of_all(&self, count: u64) -> Result<(), Wrong> {
+        let own = self.counts(None)?;
+        let others = u64::from(KEYS.saturating_sub(OWN));
+        if own <= count && count <= own.saturating_add(others) {
+            Ok(())
+        } else {
+            Err(Wrong::Miscounted(count))
+        }
+    }
+
+    /// The session deleted so many objects at the keys whose objects are counted, one at each at most.
+    fn clears(&mut self, count: u64) -> Result<(), Wrong> {
+        if u64::from(KEYS - COUNTED) < count {
+            return Err(Wrong::Miscounted(count));
+        }
+        for key in COUNTED..KEYS {
+            self.removes(key)?;
+        }
+        Ok(())
+    }
+
     /// A release of a fix was granted or refused.
     fn unfixes(&mut self, done: bool) -> Result<(), Wrong> {
         if (0 < self.fixes) != done {
@@ -369,6 +392,8 @@ impl<'a> Replay<'a> {
                 self.is_count(Some(parity), count)?;
                 self.removes_all(parity)
             }
+            Event::CountedAll(count) => self.is_count_of_all(count),
+            Event::Cleared(count) => self.clears(count),
         }
     }
 

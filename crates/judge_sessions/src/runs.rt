@@ -1,5 +1,6 @@
 //! A table of many sessions, each on a thread of its own.
-ghost use Rattle.std.specs.Prelude.{◌≡◌, ◌<◌, IfSome};
+ghost use Rattle.std.specs.Prelude.{◌≡◌, ◌<◌, All, IfSome};
+ghost use Rattle.test_members.specs.Members.{AreMembers};
 ghost use Rattle.tables.specs.Opened.{AllOpened};
 ghost use Rattle.tables.specs.Sessions.{IsOpened};
 
@@ -9,22 +10,45 @@ use crate::worker::Worker;
 use crate::wrong::{Failure, Wrong};
 use gate::Closed;
 use part_core::Part;
+use part_hash::HashPart;
 use std::alloc::Global;
 use std::sync::Wait;
 use std::thread::{self, Threads, join};
-use tables::{Options, Session, Table, part_of_key};
+use tables::{At, Options, Session, Table, Turns, part_of_key};
 use term_core::Term;
+use test_members::members_of;
 
-/// A run: what the table is opened with, and the calls of each session.
+/// A run: what the table is opened with, how many of its sessions are members, by which another makes its selections,
+/// and the calls of each session that is none.
 #[derive(Clone, Copy, Debug)]
 pub(crate) struct Run {
     pub(crate) options: Options,
+    pub(crate) members: u8,
     pub(crate) seed: u64,
     pub(crate) calls: u32,
 }
 
-/// A session makes its calls.
-fn played<R: Wait, P: Part<Global> + Drop>(
+/// A session makes its calls, and selections by members, if there are any.
+fn played<R: Threads + Wait + Sync, P: Part<Global> + Drop, M: Turns<Global> + Send>(
+    rt: &R,
+    alloc: Global,
+    table: &Table<P>,
+    session: &mut Session<P>,
+    members: &mut [M],
+    run: Run,
+) -> Option<Worker>
+    requires opened { IsOpened table.now.options table.now.gates.items session.old.number session.old.passes.items }
+    requires members { AreMembers M.is_ready M.home members.old }
+    ensures { IsOpened table.now.options table.now.gates.items session.new.number session.new.passes.items }
+{
+    let mut worker = Worker::new(alloc, run.seed, session.number);
+    let mut at = table.at(rt, session);
+    worker.run(rt, alloc, &mut at, members, run.calls)?;
+    Some(worker)
+}
+
+/// A session without members, of whatever parts these would be, makes its calls.
+fn played_alone<R: Threads + Wait + Sync, P: Part<Global> + Drop, Q: Part<Global> + Drop + Send>(
     rt: &R,
     alloc: Global,
     table: &Table<P>,
@@ -34,14 +58,12 @@ fn played<R: Wait, P: Part<Global> + Drop>(
     requires { IsOpened table.now.options table.now.gates.items session.old.number session.old.passes.items }
     ensures { IsOpened table.now.options table.now.gates.items session.new.number session.new.passes.items }
 {
-    let mut worker = Worker::new(alloc, run.seed, session.number);
-    let mut at = table.at(rt, session);
-    worker.run(rt, alloc, &mut at, run.calls)?;
-    Some(worker)
+    let mut nobody: Vec<At<'_, Q, Global, R>> = Vec::new(alloc);
+    played(rt, alloc, table, session, nobody.as_mut_slice(), run)
 }
 
-/// A session makes its calls and leaves the table.
-fn played_and_left<R: Wait, P: Part<Global> + Drop>(
+/// A session without members makes its calls and leaves the table.
+fn played_and_left<R: Threads + Wait + Sync, P: Part<Global> + Drop>(
     rt: &R,
     alloc: Global,
     table: &Table<P>,
@@ -51,7 +73,7 @@ fn played_and_left<R: Wait, P: Part<Global> + Drop>(
     requires { IsOpened table.now.options table.now.gates.items session.number session.passes.items }
 {
     let mut session = session;
-    let worker = played(rt, alloc, table, &mut session, run);
+    let worker = played_alone::<R, P, HashPart<Global>>(rt, alloc, table, &mut session, run);
     table.leave(rt, session);
     worker
 }
@@ -142,19 +164,23 @@ fn others_played<R: Threads + Wait + Sync, P: Part<Global> + Drop + Send>(
     .ok()
 }
 
-/// The last session makes its calls, and comes back.
-fn last_played<R: Wait, P: Part<Global> + Drop>(
+/// The last session makes its calls, by its members where these serve, and comes back.
+fn last_played<R: Threads + Wait + Sync, P: Part<Global> + Drop + Send>(
     rt: &R,
     alloc: Global,
     table: &Table<P>,
     session: Session<P>,
+    members: Vec<Session<P>>,
     run: Run,
 ) -> Option<(Session<P>, Worker)>
-    requires { IsOpened table.now.options table.now.gates.items session.number session.passes.items }
+    requires session { IsOpened table.now.options table.now.gates.items session.number session.passes.items }
+    requires members { All (λ s. IsOpened table.now.options table.now.gates.items s.number s.passes.items) members.items }
     ensures { IfSome result (λ r. IsOpened table.now.options table.now.gates.items r.0.number r.0.passes.items) }
 {
     let mut session = session;
-    let worker = played(rt, alloc, table, &mut session, run)?;
+    let mut members = members;
+    let mut seats = members_of(rt, alloc, table, members.as_mut_slice())?;
+    let worker = played(rt, alloc, table, &mut session, seats.as_mut_slice(), run)?;
     Some((session, worker))
 }
 
@@ -180,17 +206,19 @@ fn all_workers(
     }
 }
 
-/// All but the last session make their calls and leave, and beside them the last makes its own.
+/// All but the last session make their calls and leave, and beside them the last makes its own, with these members.
 fn all_played<R: Threads + Wait + Sync, P: Part<Global> + Drop + Send>(
     rt: &R,
     alloc: Global,
     table: &Table<P>,
     sessions: Vec<Session<P>>,
     last: Session<P>,
+    members: Vec<Session<P>>,
     run: Run,
 ) -> (Option<Vec<Option<Worker>>>, Option<(Session<P>, Worker)>)
     requires others { AllOpened table.now.options table.now.gates.items sessions.items }
     requires last { IsOpened table.now.options table.now.gates.items last.number last.passes.items }
+    requires members { All (λ s. IsOpened table.now.options table.now.gates.items s.number s.passes.items) members.items }
     ensures { IfSome result.1 (λ r. IsOpened table.now.options table.now.gates.items r.0.number r.0.passes.items) }
 {
     join(
@@ -199,10 +227,57 @@ fn all_played<R: Threads + Wait + Sync, P: Part<Global> + Drop + Send>(
             requires { AllOpened table.now.options table.now.gates.items sessions.items }
         { others_played(rt, alloc, table, sessions, run) },
         || -> Option<(Session<P>, Worker)>
-            requires { IsOpened table.now.options table.now.gates.items last.number last.passes.items }
+            requires { IsOpened table.now.options table.now.gates.items last.number last.passes.items
+                × All (λ s. IsOpened table.now.options table.now.gates.items s.number s.passes.items) members.items }
             ensures { IfSome result (λ r. IsOpened table.entry.now.options table.entry.now.gates.items r.0.number r.0.passes.items) }
-        { last_played(rt, alloc, table, last, run) },
+        { last_played(rt, alloc, table, last, members, run) },
     )
+}
+
+/// Puts a session behind members.
+fn put_member<P: Part<Global> + Drop>(
+    _table: &Table<P>,
+    session: Session<P>,
+    members: &mut Vec<Session<P>>,
+) -> Option<()>
+    requires session { IsOpened _table.now.options _table.now.gates.items session.number session.passes.items }
+    requires members { All (λ s. IsOpened _table.now.options _table.now.gates.items s.number s.passes.items) members.old.items }
+    ensures { All (λ s. IsOpened _table.now.options _table.now.gates.items s.number s.passes.items) members.new.items }
+{
+    members.push(session).ok()
+}
+
+/// Takes a session from the end of others, and puts it behind members.
+fn move_one<P: Part<Global> + Drop>(
+    table: &Table<P>,
+    sessions: &mut Vec<Session<P>>,
+    members: &mut Vec<Session<P>>,
+) -> Option<()>
+    requires sessions { AllOpened table.now.options table.now.gates.items sessions.old.items }
+    requires members { All (λ s. IsOpened table.now.options table.now.gates.items s.number s.passes.items) members.old.items }
+    ensures sessions { AllOpened table.now.options table.now.gates.items sessions.new.items }
+    ensures members { All (λ s. IsOpened table.now.options table.now.gates.items s.number s.passes.items) members.new.items }
+{
+    let member = sessions.pop()?;
+    put_member(table, member, members)
+}
+
+/// Takes so many members from the end of a table's sessions.
+fn members_from<P: Part<Global> + Drop>(
+    alloc: Global,
+    table: &Table<P>,
+    sessions: &mut Vec<Session<P>>,
+    count: u8,
+) -> Option<Vec<Session<P>>>
+    requires { AllOpened table.now.options table.now.gates.items sessions.old.items }
+    ensures sessions { AllOpened table.now.options table.now.gates.items sessions.new.items }
+    ensures members { IfSome result (λ members. All (λ s. IsOpened table.now.options table.now.gates.items s.number s.passes.items) members.items) }
+{
+    let mut members = Vec::new(alloc);
+    for _member in 0..count {
+        move_one(table, sessions, &mut members)?;
+    }
+    Some(members)
 }
 
 /// All sessions make their calls, and what is left is judged beside what they recorded.
@@ -214,10 +289,13 @@ pub(crate) fn judged<R: Threads + Wait + Sync, P: Part<Global> + Drop + Send>(
     let Ok((table, mut sessions)) = Table::<P>::open(alloc, run.options) else {
         return Err(Failure::Refused);
     };
+    let Some(members) = members_from(alloc, &table, &mut sessions, run.members) else {
+        return Err(Failure::Refused);
+    };
     let Some(last) = sessions.pop() else {
         return Err(Failure::Refused);
     };
-    let (others, last) = all_played(rt, alloc, &table, sessions, last, run);
+    let (others, last) = all_played(rt, alloc, &table, sessions, last, members, run);
     let (Some(others), Some((session, worker))) = (others, last) else {
         return Err(Failure::Refused);
     };

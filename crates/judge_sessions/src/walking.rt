@@ -1,18 +1,19 @@
-//! Walks of a session, and its fixes.
+//! Walks of a session, some by the members that it has, and its fixes.
 ghost use Rattle.std.specs.Prelude.{◌≡◌};
+ghost use Rattle.test_members.specs.Members.{AreMembers};
 
 use crate::event::Event;
-use crate::keys::{KEYS, OPEN, Object, key_term, object_of};
+use crate::keys::{COUNTED, KEYS, OPEN, Object, key_term, object_of};
 use crate::worker::Worker;
 use mspec_reader::read_spec;
 use std::alloc::Global;
 use std::sync::Wait;
+use std::thread::Threads;
 use tables::{Turns, fix, unfix};
 use term_core::Term;
+use test_members::{counted, deleted, selected};
 use test_rows::{number, term_of};
-use walks::{
-    Query, Step, first, next, select, select_count, select_delete, select_limit, select_more,
-};
+use walks::{Query, Step, first, next, select_limit, select_more};
 
 /// The most pieces of a walk, and the most keys of a tour.
 const MOST: u32 = KEYS + 1;
@@ -69,18 +70,21 @@ fn pieces<R: Wait, T: Turns<Global>>(
 }
 
 /// All objects at once.
-fn whole<R: Wait, T: Turns<Global>>(
+fn whole<R: Threads + Wait + Sync, T: Turns<Global>, M: Turns<Global> + Send>(
     rt: &R,
     alloc: Global,
     turns: &mut T,
+    members: &mut [M],
     worker: &mut Worker,
 ) -> Option<()>
-    requires { T.is_ready turns.old }
+    requires ready { T.is_ready turns.old }
+    requires members { AreMembers M.is_ready M.home members.old }
     ensures ready { T.is_ready turns.new }
     ensures same { T.home turns.new ≡ T.home turns.old }
+    ensures members { AreMembers M.is_ready M.home members.new }
 {
     let all = query(alloc, "[{'$1',[],['$1']}].")?;
-    let answers = select(rt, alloc, turns, &all).ok()?;
+    let answers = selected(rt, alloc, turns, members, &all)?;
     record_all(worker, answers.as_slice())
 }
 
@@ -133,84 +137,138 @@ fn fixed_tour<T: Turns<Global>>(turns: &mut T, worker: &mut Worker) -> Option<()
     unfix(turns).ok()
 }
 
+/// The query of a session's objects at its own keys, or of those whose sequence numbers have a parity.
+fn own_query(alloc: Global, number: u8, parity: Option<u32>) -> Option<Query> {
+    let mut text = String::new(alloc);
+    write!(text, "[{{{{'$1',{number},'$2'}},[{{'<','$1',{OPEN}}}").ok()?;
+    if let Some(parity) = parity {
+        write!(text, ",{{'=:=',{{'rem','$2',2}},{parity}}}").ok()?;
+    }
+    write!(text, "],[true]}}].").ok()?;
+    query(alloc, text.as_str())
+}
+
 /// How many objects the session has at its own keys.
-fn count<R: Wait, T: Turns<Global>>(
+fn count<R: Threads + Wait + Sync, T: Turns<Global>, M: Turns<Global> + Send>(
     rt: &R,
     alloc: Global,
     turns: &mut T,
+    members: &mut [M],
     worker: &mut Worker,
 ) -> Option<()>
-    requires { T.is_ready turns.old }
+    requires ready { T.is_ready turns.old }
+    requires members { AreMembers M.is_ready M.home members.old }
     ensures ready { T.is_ready turns.new }
     ensures same { T.home turns.new ≡ T.home turns.old }
+    ensures members { AreMembers M.is_ready M.home members.new }
 {
-    let mut text = String::new(alloc);
-    let number = worker.number;
-    write!(
-        text,
-        "[{{{{'$1',{number},'_'}},[{{'<','$1',{OPEN}}}],[true]}}]."
-    )
-    .ok()?;
-    let own = query(alloc, text.as_str())?;
-    let counted = select_count(rt, turns, &own).ok()?;
-    worker.record(Event::Counted(counted))
+    let own = own_query(alloc, worker.number, None)?;
+    let count = counted(rt, turns, members, &own)?;
+    worker.record(Event::Counted(count))
 }
 
 /// Deletes the session's objects of even or of odd sequence numbers at its own keys.
-fn remove<R: Wait, T: Turns<Global>>(
+fn remove<R: Threads + Wait + Sync, T: Turns<Global>, M: Turns<Global> + Send>(
     rt: &R,
     alloc: Global,
     turns: &mut T,
+    members: &mut [M],
     worker: &mut Worker,
 ) -> Option<()>
-    requires { T.is_ready turns.old }
+    requires ready { T.is_ready turns.old }
+    requires members { AreMembers M.is_ready M.home members.old }
     ensures ready { T.is_ready turns.new }
     ensures same { T.home turns.new ≡ T.home turns.old }
+    ensures members { AreMembers M.is_ready M.home members.new }
 {
-    let mut text = String::new(alloc);
-    let number = worker.number;
     let parity = worker.below(2);
-    write!(
-        text,
-        "[{{{{'$1',{number},'$2'}},[{{'<','$1',{OPEN}}},{{'=:=',{{'rem','$2',2}},{parity}}}],[true]}}].",
-    )
-    .ok()?;
-    let own = query(alloc, text.as_str())?;
-    let removed = select_delete(rt, turns, &own).ok()?;
+    let own = own_query(alloc, worker.number, Some(parity))?;
+    let removed = deleted(rt, turns, members, &own)?;
     worker.record(Event::Removed(parity, removed))
 }
 
 /// The object at one of the session's keys, by a specification that names it.
-fn named<R: Wait, T: Turns<Global>>(
+fn named<R: Threads + Wait + Sync, T: Turns<Global>, M: Turns<Global> + Send>(
     rt: &R,
     alloc: Global,
     turns: &mut T,
+    members: &mut [M],
     worker: &mut Worker,
 ) -> Option<()>
-    requires { T.is_ready turns.old }
+    requires ready { T.is_ready turns.old }
+    requires members { AreMembers M.is_ready M.home members.old }
     ensures ready { T.is_ready turns.new }
     ensures same { T.home turns.new ≡ T.home turns.old }
+    ensures members { AreMembers M.is_ready M.home members.new }
 {
     let mut text = String::new(alloc);
     let key = worker.own_key();
     write!(text, "[{{{{{key},'_','_'}},[],['$_']}}].").ok()?;
     let one = query(alloc, text.as_str())?;
-    let found = select(rt, alloc, turns, &one).ok()?;
+    let found = selected(rt, alloc, turns, members, &one)?;
     worker.record(Event::Found(key, object_of(found.as_slice())?))
 }
 
-/// A walk, or a change of the session's fixes.
-pub(crate) fn walk<R: Wait, T: Turns<Global>>(
+/// How many objects the table has.
+fn count_all<R: Threads + Wait + Sync, T: Turns<Global>, M: Turns<Global> + Send>(
     rt: &R,
     alloc: Global,
     turns: &mut T,
+    members: &mut [M],
     worker: &mut Worker,
 ) -> Option<()>
-    requires { T.is_ready turns.old }
+    requires ready { T.is_ready turns.old }
+    requires members { AreMembers M.is_ready M.home members.old }
     ensures ready { T.is_ready turns.new }
     ensures same { T.home turns.new ≡ T.home turns.old }
+    ensures members { AreMembers M.is_ready M.home members.new }
 {
-    match worker.below(8) {
+    let all = query(alloc, "[{'_',[],[true]}].")?;
+    let count = counted(rt, turns, members, &all)?;
+    worker.record(Event::CountedAll(count))
+}
+
+/// Deletes the objects at the keys whose objects are counted.
+fn clear<R: Threads + Wait + Sync, T: Turns<Global>, M: Turns<Global> + Send>(
+    rt: &R,
+    alloc: Global,
+    turns: &mut T,
+    members: &mut [M],
+    worker: &mut Worker,
+) -> Option<()>
+    requires ready { T.is_ready turns.old }
+    requires members { AreMembers M.is_ready M.home members.old }
+    ensures ready { T.is_ready turns.new }
+    ensures same { T.home turns.new ≡ T.home turns.old }
+    ensures members { AreMembers M.is_ready M.home members.new }
+{
+    let mut text = String::new(alloc);
+    write!(
+        text,
+        "[{{{{'$1','_','_'}},[{{'>=','$1',{COUNTED}}}],[true]}}]."
+    )
+    .ok()?;
+    let there = query(alloc, text.as_str())?;
+    let count = deleted(rt, turns, members, &there)?;
+    worker.record(Event::Cleared(count))
+}
+
+/// A walk, or a change of the session's fixes.
+pub(crate) fn walk<R: Threads + Wait + Sync, T: Turns<Global>, M: Turns<Global> + Send>(
+    rt: &R,
+    alloc: Global,
+    turns: &mut T,
+    members: &mut [M],
+    worker: &mut Worker,
+) -> Option<()>
+    requires ready { T.is_ready turns.old }
+    requires members { AreMembers M.is_ready M.home members.old }
+    ensures ready { T.is_ready turns.new }
+    ensures same { T.home turns.new ≡ T.home turns.old }
+    ensures members { AreMembers M.is_ready M.home members.new }
+{
+    let walks = if members.is_empty() { 9 } else { 10 };
+    match worker.below(walks) {
         0 => {
             fix(turns).ok()?;
             worker.record(Event::Fixed)
@@ -219,12 +277,12 @@ pub(crate) fn walk<R: Wait, T: Turns<Global>>(
             let done = unfix(turns).is_ok();
             worker.record(Event::Unfixed(done))
         }
-        2 => count(rt, alloc, turns, worker),
-        3 => remove(rt, alloc, turns, worker),
-        4 => named(rt, alloc, turns, worker),
+        2 => count(rt, alloc, turns, members, worker),
+        3 => remove(rt, alloc, turns, members, worker),
+        4 => named(rt, alloc, turns, members, worker),
         5 => {
             worker.record(Event::Begun)?;
-            whole(rt, alloc, turns, worker)?;
+            whole(rt, alloc, turns, members, worker)?;
             worker.record(Event::Ended)
         }
         6 => {
@@ -232,10 +290,12 @@ pub(crate) fn walk<R: Wait, T: Turns<Global>>(
             pieces(rt, alloc, turns, worker)?;
             worker.record(Event::Ended)
         }
-        _ => {
+        7 => {
             worker.record(Event::Begun)?;
             fixed_tour(turns, worker)?;
             worker.record(Event::Ended)
         }
+        8 => count_all(rt, alloc, turns, members, worker),
+        _ => clear(rt, alloc, turns, members, worker),
     }
 }

@@ -1,5 +1,6 @@
 //! A session that makes random calls and records what it is answered.
 ghost use Rattle.std.specs.Prelude.{◌≡◌};
+ghost use Rattle.test_members.specs.Members.{AreMembers};
 
 use crate::event::Event;
 use crate::keys::{COUNTED, KEYS, OPEN, OWN, Object, key_term, object_of};
@@ -8,6 +9,7 @@ use rand::RngExt;
 use rand_pcg::Pcg32;
 use std::alloc::Global;
 use std::sync::Wait;
+use std::thread::Threads;
 use tables::{Turns, delete, delete_object, insert, insert_new, lookup, member, take};
 
 /// How many calls come to one walk.
@@ -271,21 +273,23 @@ impl Worker {
         }
     }
 
-    /// Makes so many random calls.
-    pub(crate) fn run<R: Wait, T: Turns<Global>>(
+    /// Makes so many random calls; walks are made by members, where there are any.
+    pub(crate) fn run<R: Threads + Wait + Sync, T: Turns<Global>, M: Turns<Global> + Send>(
         &mut self,
         rt: &R,
         alloc: Global,
         turns: &mut T,
+        members: &mut [M],
         calls: u32,
     ) -> Option<()>
-        requires { T.is_ready turns.old }
+        requires ready { T.is_ready turns.old }
+        requires members { AreMembers M.is_ready M.home members.old }
         ensures ready { T.is_ready turns.new }
         ensures same { T.home turns.new ≡ T.home turns.old }
     {
         for _call in 0..calls {
             if self.below(CALLS_OF_A_WALK) == 0 {
-                walk(rt, alloc, turns, self)?;
+                walk(rt, alloc, turns, members, self)?;
             } else {
                 self.call_at_key(alloc, turns)?;
             }

@@ -25,8 +25,10 @@ pub(crate) enum Wrong {
     TakenTwice(Object),
     /// What is left at a key is not what some session wrote there last.
     NotLast(u32),
-    /// At a key as many objects were put in as were taken, and one is left; or one more, and none is.
+    /// At a key more objects are left than were put in and not taken; or fewer, and no query deleted them.
     Unbalanced(u32),
+    /// So many objects were said to be deleted by queries, and are not missing.
+    NeverDeleted(i64),
     /// An object is left in a part that isn't its key's.
     Misplaced(u32),
 }

@@ -13,6 +13,8 @@ mod lists;
 #[cfg(test)]
 mod members;
 #[cfg(test)]
+mod refusals;
+#[cfg(test)]
 mod seats;
 #[cfg(test)]
 mod selections;

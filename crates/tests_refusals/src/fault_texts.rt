@@ -283,6 +283,8 @@ other terms than the command reads
 clause 0 names the variable 7, which its head does not bind
 at byte 9: the code file ends too early
 instruction 2 finds too few operands
+a term is no object of the table
+an option is outside its range
 the input can't be read
 the output can't be written
 ";
@@ -296,6 +298,8 @@ fn texts_of_commands(alloc: Global) -> Option<Vec<u8>> {
         ToolFault::Specification(SpecFault::Unbound(0, 7)),
         ToolFault::File(FileFault::Truncated(9)),
         ToolFault::Code(CodeFault::Underflow(2)),
+        ToolFault::TooSmall,
+        ToolFault::BadOptions,
         ToolFault::ReadFailed,
         ToolFault::WriteFailed,
     ] {

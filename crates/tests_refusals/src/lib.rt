@@ -4,7 +4,8 @@
 //! tests.
 //!
 //! - `queries`: queries by themselves; `requests`: commands of the program, with the line and the status of a refusal;
-//!   `sweeps`: how many lines each of them writes where memory runs out.
+//!   `sweeps`: how many lines each of them writes where memory runs out. `scans`: scans by several sessions, and their
+//!   own refusals.
 //! - `opening`: options of tables that can't be opened, with memory and without.
 //! - `fault_texts`: what each refusal is called, enum by enum.
 #![tactic(auto)]
@@ -17,5 +18,7 @@ mod opening;
 mod queries;
 #[cfg(test)]
 mod requests;
+#[cfg(test)]
+mod scans;
 #[cfg(test)]
 mod sweeps;

@@ -1,8 +1,10 @@
 //! Commands of the program with each request for memory refused in turn.
 use crate::queries::{MADE, MADE_LINES};
 use crate::sweeps::{Written, lines_in};
+use part_plain::PlainPart;
 use std::alloc::Global;
 use std::sync::Wait;
+use std::thread::Threads;
 use test_alloc::{Failing, SweepOutcome, sweep};
 use test_streams::FILE;
 use tool_cli::{Request, Told, run_request};
@@ -44,7 +46,7 @@ impl<'a> Case<'a> {
 
     /// Whether it writes and ends so where a request for memory may be refused, or ends for want of it behind no fewer
     /// lines than before.
-    fn is_right<H: Wait>(
+    fn is_right<H: Threads + Wait + Sync>(
         self,
         rt: &H,
         alloc: Global,
@@ -54,7 +56,14 @@ impl<'a> Case<'a> {
         let mut reader = self.input.as_bytes();
         let mut out = Vec::new(alloc);
         let mut err = Told::new(Vec::new(alloc));
-        let ended = run_request(rt, heap, self.request, &mut reader, &mut out, &mut err);
+        let ended = run_request::<H, PlainPart<&Failing<Global>>, _, _, _, _>(
+            rt,
+            heap,
+            self.request,
+            &mut reader,
+            &mut out,
+            &mut err,
+        );
         let told = err.writer;
         if ended != 3 {
             return out.as_slice() == self.lines.as_bytes()
@@ -70,7 +79,11 @@ impl<'a> Case<'a> {
 
     /// Whether it does with each request refused in turn, and with the last refused writes all lines but the last; else
     /// how that went.
-    fn tried<H: Wait>(self, rt: &H, alloc: Global) -> Result<(), (SweepOutcome, usize)> {
+    fn tried<H: Threads + Wait + Sync>(
+        self,
+        rt: &H,
+        alloc: Global,
+    ) -> Result<(), (SweepOutcome, usize)> {
         let mut so_far = Written { lines: 0 };
         let outcome = sweep(alloc, 4_000, |heap| {
             self.is_right(rt, alloc, heap, &mut so_far)

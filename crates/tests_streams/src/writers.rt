@@ -1,20 +1,35 @@
 //! Writers that fail, or hold all back until they are flushed.
+use part_hash::HashPart;
 use std::alloc::Global;
 use std::sync::Wait;
+use std::thread::Threads;
 use test_streams::{FILE, FailingWriter, HoldingWriter, INPUT};
 use tool_cli::{Request, Told, run_request, run_words};
 use tool_io::ToolFault;
 use tool_query::tool_run;
+use tool_scan::ScanOptions;
 
 /// What a command over this input has passed on by its end, of a writer that holds it back.
-fn passed_on<H: Wait>(rt: &H, alloc: Global, request: Request, input: &str) -> Vec<u8> {
+fn passed_on<H: Threads + Wait + Sync>(
+    rt: &H,
+    alloc: Global,
+    request: Request,
+    input: &str,
+) -> Vec<u8> {
     let mut reader = input.as_bytes();
     let mut writer = HoldingWriter {
         held: Vec::new(alloc),
         passed: Vec::new(alloc),
     };
     let mut err = Told::new(Vec::new(alloc));
-    let _status = run_request(rt, alloc, request, &mut reader, &mut writer, &mut err);
+    let _status = run_request::<H, HashPart<Global>, _, _, _, _>(
+        rt,
+        alloc,
+        request,
+        &mut reader,
+        &mut writer,
+        &mut err,
+    );
     writer.passed
 }
 
@@ -31,6 +46,13 @@ fn all_lines_are_passed_on(rt: HostRuntime) {
     assert!(rt; verdict.as_slice() == b"{ok,2,1}.\n".as_slice());
     let replies = passed_on(&rt, rt.alloc(), Request::Script, "{close}.");
     assert!(rt; replies.as_slice() == b"{error,65}.\n".as_slice());
+    let options = ScanOptions {
+        keypos: 1,
+        parts: 2,
+        workers: 2,
+    };
+    let scan = passed_on(&rt, rt.alloc(), Request::Scan(options), INPUT);
+    assert!(rt; scan.as_slice() == b"2.\n1.\n".as_slice());
 }
 
 fn run_writing(alloc: Global, call: u32) -> Result<(), ToolFault> {
@@ -48,7 +70,7 @@ fn a_writer_that_fails_is_refused(rt: HostRuntime) {
 }
 
 /// The status of `help` where standard output fails behind its beginning, and what it writes on standard error.
-fn left_by_unwritten_help<H: Wait>(rt: &H, alloc: Global) -> (u8, Vec<u8>) {
+fn left_by_unwritten_help<H: Threads + Wait + Sync>(rt: &H, alloc: Global) -> (u8, Vec<u8>) {
     let mut reader = "".as_bytes();
     let mut out = FailingWriter { calls_left: 3 };
     let mut err = Told::new(Vec::new(alloc));
@@ -65,23 +87,37 @@ fn help_that_cannot_be_written_is_refused(rt: HostRuntime) {
 
 /// The status of `run` where the first term is no specification and standard error fails, and whether it is kept that
 /// it did.
-fn left_by_an_untold_refusal<H: Wait>(rt: &H, alloc: Global) -> (u8, bool) {
+fn left_by_an_untold_refusal<H: Threads + Wait + Sync>(rt: &H, alloc: Global) -> (u8, bool) {
     let mut reader = "a.".as_bytes();
     let mut out = Vec::new(alloc);
     let mut err = Told::new(FailingWriter { calls_left: 2 });
-    let status = run_request(rt, alloc, Request::Run, &mut reader, &mut out, &mut err);
+    let status = run_request::<H, HashPart<Global>, _, _, _, _>(
+        rt,
+        alloc,
+        Request::Run,
+        &mut reader,
+        &mut out,
+        &mut err,
+    );
     (status, err.has_failed)
 }
 
 /// What the same passes on of a standard error that holds it back, and whether it says that it failed.
-fn passed_on_of_a_refusal<H: Wait>(rt: &H, alloc: Global) -> (Vec<u8>, bool) {
+fn passed_on_of_a_refusal<H: Threads + Wait + Sync>(rt: &H, alloc: Global) -> (Vec<u8>, bool) {
     let mut reader = "a.".as_bytes();
     let mut out = Vec::new(alloc);
     let mut err = Told::new(HoldingWriter {
         held: Vec::new(alloc),
         passed: Vec::new(alloc),
     });
-    let _status = run_request(rt, alloc, Request::Run, &mut reader, &mut out, &mut err);
+    let _status = run_request::<H, HashPart<Global>, _, _, _, _>(
+        rt,
+        alloc,
+        Request::Run,
+        &mut reader,
+        &mut out,
+        &mut err,
+    );
     let has_failed = err.has_failed;
     let writer = err.writer;
     (writer.passed, has_failed)

@@ -1,2 +1,6 @@
+mod WorkedRows
+pub mod KindLemmas
+pub mod NumberLemmas
+pub mod OptionLemmas
 pub mod WordsLemmas
 pub mod EndLemmas

@@ -1,7 +1,7 @@
 -- What the words of the command line ask for is what `clap` makes of them.
 use Rattle.std.proofs.Common.{◌≡◌, ◌≢◌, ◌∙◌, ℕ, Bool, true, false, true≢false, ◌==◌, List, [], ◌∷◌, ◌++◌}
-use Rattle.std.proofs.Common.{Option, Some, None, option_map, Result, Ok, Err, IsErrAnd, Global, refl, sym, subst, ap}
-use Rattle.std.proofs.Common.{inl, inr, codes, fold, take, ◌+◌, one-add, length, arith}
+use Rattle.std.proofs.Common.{Option, Some, None, option_map, Result, Ok, Err, IsErrAnd, Global, refl, sym, subst, ap, ap₂}
+use Rattle.std.proofs.Common.{inl, inr, codes, fold, take, length, arith}
 use Rattle.std.proofs.lemmas.List.{append_assoc, append-nil}
 use Rattle.std.proofs.lemmas.Slice.Eq.{bytes_eq-Decides}
 use Rattle.std.proofs.lemmas.Bool.{and_parts, eqb-true}
@@ -16,7 +16,7 @@ use Rattle.clap.specs.Kinds.{IsAmong, Kinds, or_else}
 use Rattle.clap.specs.Lexer.{has_byte, long_of, short_of}
 use Rattle.clap.specs.Matches.{subcommand_name_of}
 use Rattle.clap.specs.Simple.{Shape, entered, names_of}
-use Rattle.clap.specs.Walk.{Held, Step, Names, Walk, trailing, idle, bundle_met, long_or_other, nothing_held, walk_from, walked}
+use Rattle.clap.specs.Walk.{Held, Row, Step, Names, Walk, trailing, idle, bundle_met, long_or_other, nothing_held, walk_from, walked}
 use Rattle.clap.specs.declared.builder.command.Command.{Command}
 use Rattle.clap.specs.declared.builder.command.Command.TheViews.{out-Command as fields_of}
 use Rattle.clap.specs.declared.error.Error.{Error}
@@ -27,76 +27,37 @@ use Rattle.clap.specs.declared.parser.matches.ArgMatches.TheViews.{out-ArgMatche
 use Rattle.clap.specs.declared.parser.matches.SubCommand.{SubCommand}
 use Rattle.clap.proofs.OnLiterals.{clap_on_literals}
 use Rattle.tool_cli.specs.Words.{Asked, command, help, topic, mistake, asked, asked_behind, asked_by_flag}
-use Rattle.tool_cli.specs.Words.{is_help_flag, name_of, command_shape, tool_app, Reads}
+use Rattle.tool_cli.specs.Words.{is_help_flag, name_of, tool_app, Reads}
+use Rattle.tool_cli.specs.Words.{asked_options, AreRead}
+use Rattle.tool_scan.specs.declared.options.ScanOptions.{ScanOptions}
 use Rattle.tool_cli.specs.declared.words.Request.{Request}
 use Rattle.tool_cli.specs.declared.words.Request.TheVariants as request
-
--- ---- what is known of texts and tests
-
-by_test : (b : Bool) (P : Type 0) → (b ≡ true → P) → (b ≡ false → P) → P
-by_test true P holds fails = holds refl
-by_test false P holds fails = fails refl
-
-same_text : (a b : Text) → bytes_eq a b ≡ true → a ≡ b
-same_text a b = (bytes_eq-Decides a b).0
-
-other_text : (a b : Text) → bytes_eq a b ≡ false → bytes_eq b a ≡ false
-other_text a b e =
-    by_test (bytes_eq b a) (bytes_eq b a ≡ false)
-    (λ is. absurd (true≢false (sym ((bytes_eq-Decides a b).1 (sym (same_text b a is))) ∙ e)))
-    (λ is. is)
-
-take_one_more : (n x : ℕ) (xs : List ℕ) → take (1 + n) (x ∷ xs) ≡ x ∷ take n xs
-take_one_more n x xs = rw (one-add n) refl
-
-no_equals_sign : (text : Text) → has_byte 61 text ≡ false → before_first (λ x. x == 61) text ≡ text
-no_equals_sign [] e = refl
-no_equals_sign (x ∷ xs) e =
-    by_test (x == 61) (before_first (λ y. y == 61) (x ∷ xs) ≡ x ∷ xs) (λ is. absurd (true≢false (rw is at e)))
-    (λ is. rw is (take_one_more _ x xs ∙ ap (λ l. x ∷ l) (no_equals_sign xs (rw is at e))))
+use Rattle.tool_cli.proofs.KindLemmas.{by_test, same_text, other_text, no_equals_sign, is_mistake, are_mistakes, Refuses, still_refused, no_more}
+use Rattle.tool_cli.proofs.OptionLemmas.{scan_level, Comes, rest_rows, options_lead}
 
 -- ---- what `clap` makes of words
 
-abbrev is_mistake : ErrorKind → Bool
-is_mistake kind.UnknownArgument = true
-is_mistake kind.InvalidSubcommand = true
-is_mistake kind.MissingSubcommand = true
-is_mistake kind.TooManyValues = true
-is_mistake _ = false
+-- of words that ask for this: kinds of errors, and the command that is entered with what is read of its options
+abbrev Leads : Asked → Kinds → Option (Text × List Row) → Type 0
+Leads (command (request.Scan o)) ks found =
+    (ks ≡ []) × (rows : List Row) × (found ≡ Some (codes "scan", rows)) × AreRead o rows
+Leads (command r) ks found = (ks ≡ []) × (option_map (λ s. s.0) found ≡ Some (name_of r))
+Leads help ks found = ks ≡ kind.DisplayHelp ∷ []
+Leads topic ks found = ks ≡ kind.DisplayHelp ∷ kind.InvalidSubcommand ∷ []
+Leads mistake ks found = are_mistakes ks ≡ true
 
--- some kinds, all of them of words that are not understood
-abbrev are_mistakes : Kinds → Bool
-are_mistakes [] = false
-are_mistakes (k ∷ ks) = list_all is_mistake (k ∷ ks)
+-- a command without options
+abbrev IsBare : Request → Type 0
+IsBare (request.Scan o) = ⊥
+IsBare r = Unit {0}
 
--- of words that ask for this: kinds of errors, and the command that is entered
-abbrev Leads : Asked → Kinds → Option Text → Type 0
-Leads (command r) ks name = (ks ≡ []) × (name ≡ Some (name_of r))
-Leads help ks name = ks ≡ kind.DisplayHelp ∷ []
-Leads topic ks name = ks ≡ kind.DisplayHelp ∷ kind.InvalidSubcommand ∷ []
-Leads mistake ks name = are_mistakes ks ≡ true
-
--- the same of one flag, which enters no command
-abbrev Refuses : Asked → Kinds → Type 0
-Refuses help ks = ks ≡ kind.DisplayHelp ∷ []
-Refuses mistake ks = are_mistakes ks ≡ true
-Refuses a ks = ⊥
-
--- a word that is refused is refused whatever follows
-still_refused : (a : Asked) (ks more : Kinds) → Refuses a ks → Refuses a (or_else ks more)
-still_refused help ks more h = rw h refl
-still_refused mistake [] more h = absurd (cc)
-still_refused mistake (k ∷ ks) more h = h
-still_refused (command r) ks more h = absurd h
-still_refused topic ks more h = absurd h
-
-refusal_leads : (a : Asked) (ks : Kinds) (name : Option Text) → Refuses a ks → Leads a ks name
+refusal_leads : (a : Asked) (ks : Kinds) (name : Option (Text × List Row)) → Refuses a ks → Leads a ks name
 refusal_leads help ks name h = h
 refusal_leads mistake ks name h = h
 refusal_leads (command r) ks name h = absurd h
 refusal_leads topic ks name h = absurd h
 
-first_decides : (a : Asked) (ks more rest : Kinds) (name : Option Text) → Refuses a ks → Leads a (or_else (or_else ks more) rest) name
+first_decides : (a : Asked) (ks more rest : Kinds) (name : Option (Text × List Row)) → Refuses a ks → Leads a (or_else (or_else ks more) rest) name
 first_decides a ks more rest name h =
     refusal_leads a (or_else (or_else ks more) rest) name (still_refused a (or_else ks more) rest (still_refused a ks more h))
 
@@ -284,57 +245,69 @@ unfolding walked walk_fault
 no_fault_past_stop s names name words [] = refl
 no_fault_past_stop s names name words (word ∷ rest) = no_fault_past_stop s names name (words ++ word ∷ []) rest
 
-no_more : (ks : Kinds) → or_else ks [] ≡ ks
-no_more [] = refl
-no_more (k ∷ ks) = refl
-
 abbrev fault_behind : Request → List Text → Kinds
 fault_behind r rest = level_fault (level (name_of r) true false) [] nothing_held rest false []
 
--- the program's words, and the name of the command that `clap` enters
-abbrev entered_name : List Text → Option Text
-entered_name words = option_map (λ s. s.0) (subcommand_of tool_app words)
+-- the program's words, and the command that `clap` enters
+abbrev found_by : List Text → Option (Text × List Row)
+found_by words = subcommand_of tool_app words
 
-behind_command : (r : Request) (p : Text) (rest : List Text) → fault_of tool_app (p ∷ name_of r ∷ rest) ≡ fault_behind r rest
+abbrev name_found : Option (Text × List Row) → Option Text
+name_found = option_map (λ s. s.0)
+
+abbrev entered_name : List Text → Option Text
+entered_name words = name_found (found_by words)
+
+behind_command : (r : Request) → IsBare r → (p : Text) (rest : List Text) → fault_of tool_app (p ∷ name_of r ∷ rest) ≡ fault_behind r rest
 unfolding walked walk_fault defaults_fault
-behind_command request.Run p rest =
+behind_command request.Run bare p rest =
     rw (no_fault_past_stop top top_names (codes "run") [] rest, past_stop top.rules top_names (codes "run") [] rest)
     (no_more (fault_behind request.Run rest))
-behind_command request.Test p rest =
+behind_command request.Test bare p rest =
     rw (no_fault_past_stop top top_names (codes "test") [] rest, past_stop top.rules top_names (codes "test") [] rest)
     (no_more (fault_behind request.Test rest))
-behind_command request.Compile p rest =
+behind_command request.Compile bare p rest =
     rw (no_fault_past_stop top top_names (codes "compile") [] rest, past_stop top.rules top_names (codes "compile") [] rest)
     (no_more (fault_behind request.Compile rest))
-behind_command request.Verify p rest =
+behind_command request.Verify bare p rest =
     rw (no_fault_past_stop top top_names (codes "verify") [] rest, past_stop top.rules top_names (codes "verify") [] rest)
     (no_more (fault_behind request.Verify rest))
-behind_command request.Script p rest =
+behind_command request.Script bare p rest =
     rw (no_fault_past_stop top top_names (codes "script") [] rest, past_stop top.rules top_names (codes "script") [] rest)
     (no_more (fault_behind request.Script rest))
+behind_command (request.Scan o) bare p rest = absurd bare
 
-command_entered : (r : Request) (p : Text) (rest : List Text) → entered_name (p ∷ name_of r ∷ rest) ≡ Some (name_of r)
+command_entered : (r : Request) → IsBare r → (p : Text) (rest : List Text) → entered_name (p ∷ name_of r ∷ rest) ≡ Some (name_of r)
 unfolding walked
-command_entered request.Run p rest =
+command_entered request.Run bare p rest =
     ap (λ w. option_map (λ s. s.0) (entered (built tool_app) w.stopped)) (past_stop top.rules top_names (codes "run") [] rest)
-command_entered request.Test p rest =
+command_entered request.Test bare p rest =
     ap (λ w. option_map (λ s. s.0) (entered (built tool_app) w.stopped)) (past_stop top.rules top_names (codes "test") [] rest)
-command_entered request.Compile p rest =
+command_entered request.Compile bare p rest =
     ap (λ w. option_map (λ s. s.0) (entered (built tool_app) w.stopped)) (past_stop top.rules top_names (codes "compile") [] rest)
-command_entered request.Verify p rest =
+command_entered request.Verify bare p rest =
     ap (λ w. option_map (λ s. s.0) (entered (built tool_app) w.stopped)) (past_stop top.rules top_names (codes "verify") [] rest)
-command_entered request.Script p rest =
+command_entered request.Script bare p rest =
     ap (λ w. option_map (λ s. s.0) (entered (built tool_app) w.stopped)) (past_stop top.rules top_names (codes "script") [] rest)
+command_entered (request.Scan o) bare p rest = absurd bare
 
-words_behind_lead : (r : Request) (rest : List Text) (name : Option Text) → name ≡ Some (name_of r)
+bare_leads : (r : Request) → IsBare r → (ks : Kinds) (name : Option (Text × List Row)) → ks ≡ [] → option_map (λ s. s.0) name ≡ Some (name_of r) → Leads (command r) ks name
+bare_leads request.Run bare ks name none is = (none, is)
+bare_leads request.Test bare ks name none is = (none, is)
+bare_leads request.Compile bare ks name none is = (none, is)
+bare_leads request.Verify bare ks name none is = (none, is)
+bare_leads request.Script bare ks name none is = (none, is)
+bare_leads (request.Scan o) bare ks name none is = absurd bare
+
+words_behind_lead : (r : Request) → IsBare r → (rest : List Text) (name : Option (Text × List Row)) → option_map (λ s. s.0) name ≡ Some (name_of r)
     → Leads (asked_behind r rest) (fault_behind r rest) name
 unfolding walked walk_fault defaults_fault chars
-words_behind_lead r [] name is = (refl, is)
-words_behind_lead r (word ∷ []) name is =
+words_behind_lead r bare [] name is = bare_leads r bare _ name refl is
+words_behind_lead r bare (word ∷ []) name is =
     by_test (bytes_eq (codes "--") word) (Leads (asked_behind r (word ∷ [])) (fault_behind r (word ∷ [])) name)
-    (λ e. rw (← same_text (codes "--") word e) (refl, is))
+    (λ e. rw (← same_text (codes "--") word e) (bare_leads r bare _ name refl is))
     (λ e. rw e (first_decides (asked_by_flag word) _ _ _ name (flagged (name_of r) true false word e)))
-words_behind_lead r (word ∷ next ∷ more) name is =
+words_behind_lead r bare (word ∷ next ∷ more) name is =
     by_test (bytes_eq (codes "--") word) (Leads (asked_behind r (word ∷ next ∷ more)) (fault_behind r (word ∷ next ∷ more)) name)
     (λ e. rw (← same_text (codes "--") word e) refl)
     (λ e. first_decides (asked_by_flag word) _ _ _ name (flagged (name_of r) true false word e))
@@ -342,15 +315,42 @@ words_behind_lead r (word ∷ next ∷ more) name is =
 -- ---- all words
 
 abbrev LeadsAt : List Text → Type 0
-LeadsAt words = Leads (asked words) (fault_of tool_app words) (entered_name words)
+LeadsAt words = Leads (asked words) (fault_of tool_app words) (found_by words)
 
-command_leads : (r : Request) (p : Text) (rest : List Text)
-    → Leads (asked_behind r rest) (fault_of tool_app (p ∷ name_of r ∷ rest)) (entered_name (p ∷ name_of r ∷ rest))
-command_leads r p rest =
-    rw (behind_command r p rest) (words_behind_lead r rest (entered_name (p ∷ name_of r ∷ rest)) (command_entered r p rest))
+command_leads : (r : Request) → IsBare r → (p : Text) (rest : List Text)
+    → Leads (asked_behind r rest) (fault_of tool_app (p ∷ name_of r ∷ rest)) (found_by (p ∷ name_of r ∷ rest))
+command_leads r bare p rest =
+    rw (behind_command r bare p rest) (words_behind_lead r bare rest (found_by (p ∷ name_of r ∷ rest)) (command_entered r bare p rest))
+
+behind_scan : (p : Text) (rest : List Text) → fault_of tool_app (p ∷ codes "scan" ∷ rest) ≡ level_fault scan_level [] nothing_held rest false []
+unfolding walked walk_fault defaults_fault
+behind_scan p rest =
+    rw (no_fault_past_stop top top_names (codes "scan") [] rest, past_stop top.rules top_names (codes "scan") [] rest)
+    (no_more (level_fault scan_level [] nothing_held rest false []))
+
+scan_entered : (p : Text) (rest : List Text) → found_by (p ∷ codes "scan" ∷ rest) ≡ Some (codes "scan", rest_rows (walk_from nothing_held) rest)
+unfolding walked
+scan_entered p rest = ap (λ w. entered (built tool_app) w.stopped) (past_stop top.rules top_names (codes "scan") [] rest)
+
+scan_leads : (p : Text) (rest : List Text) → LeadsAt (p ∷ codes "scan" ∷ rest)
+scan_leads p rest = lead (asked_options [] rest) (options_lead rest)
+  where
+    words : List Text
+    words = p ∷ codes "scan" ∷ rest
+
+    lead : (a : Asked) → Comes a (level_fault scan_level [] nothing_held rest false []) (rest_rows (walk_from nothing_held) rest) → Leads a (fault_of tool_app words) (found_by words)
+    lead (command (request.Scan o)) h = (behind_scan p rest ∙ h.0, rest_rows (walk_from nothing_held) rest, scan_entered p rest, h.1)
+    lead (command request.Run) h = absurd h
+    lead (command request.Test) h = absurd h
+    lead (command request.Compile) h = absurd h
+    lead (command request.Verify) h = absurd h
+    lead (command request.Script) h = absurd h
+    lead help h = behind_scan p rest ∙ h
+    lead topic h = absurd h
+    lead mistake h = ap are_mistakes (behind_scan p rest) ∙ h
 
 topic_leads : (p : Text) (rest : List Text)
-    → Leads topic (fault_of tool_app (p ∷ codes "help" ∷ rest)) (entered_name (p ∷ codes "help" ∷ rest))
+    → Leads topic (fault_of tool_app (p ∷ codes "help" ∷ rest)) (found_by (p ∷ codes "help" ∷ rest))
 unfolding walked walk_fault defaults_fault
 topic_leads p rest = refl
 
@@ -361,23 +361,24 @@ record IsNoCommand (word : Text) : Type 0 where
   compile : bytes_eq (name_of request.Compile) word ≡ false
   verify : bytes_eq (name_of request.Verify) word ≡ false
   script : bytes_eq (name_of request.Script) word ≡ false
+  scan : bytes_eq (codes "scan") word ≡ false
   help : bytes_eq (codes "help") word ≡ false
 
-dashes_lead : (p : Text) (rest : List Text) → Leads mistake (fault_of tool_app (p ∷ codes "--" ∷ rest)) (entered_name (p ∷ codes "--" ∷ rest))
+dashes_lead : (p : Text) (rest : List Text) → Leads mistake (fault_of tool_app (p ∷ codes "--" ∷ rest)) (found_by (p ∷ codes "--" ∷ rest))
 unfolding walked walk_fault defaults_fault
 dashes_lead p [] = refl
 dashes_lead p (next ∷ more) = refl
 
 other_leads : (p word : Text) (rest : List Text) → IsNoCommand word
-    → Leads (asked_by_flag word) (fault_of tool_app (p ∷ word ∷ rest)) (entered_name (p ∷ word ∷ rest))
+    → Leads (asked_by_flag word) (fault_of tool_app (p ∷ word ∷ rest)) (found_by (p ∷ word ∷ rest))
 unfolding walked walk_fault defaults_fault chars
 other_leads p word rest other =
-    by_test (bytes_eq (codes "--") word) (Leads (asked_by_flag word) (fault_of tool_app (p ∷ word ∷ rest)) (entered_name (p ∷ word ∷ rest)))
+    by_test (bytes_eq (codes "--") word) (Leads (asked_by_flag word) (fault_of tool_app (p ∷ word ∷ rest)) (found_by (p ∷ word ∷ rest)))
     (λ e. rw (← same_text (codes "--") word e) (dashes_lead p rest))
-    (λ e. first_decides (asked_by_flag word) _ _ _ (entered_name (p ∷ word ∷ rest)) (first e))
+    (λ e. first_decides (asked_by_flag word) _ _ _ (found_by (p ∷ word ∷ rest)) (first e))
   where
     first : bytes_eq (codes "--") word ≡ false → Refuses (asked_by_flag word) (turn_fault top top_names start word)
-    first e = rw (other.run, other.test, other.compile, other.verify, other.script, other.help) (flagged (codes "ets_tool") false true word e)
+    first e = rw (other.run, other.test, other.compile, other.verify, other.script, other.scan, other.help) (flagged (codes "ets_tool") false true word e)
 
 words_lead : (words : List Text) → LeadsAt words
 unfolding clap_on_literals
@@ -385,23 +386,25 @@ words_lead [] = refl
 words_lead (p ∷ []) = refl
 words_lead (p ∷ word ∷ rest) =
     by_test (bytes_eq (name_of request.Run) word) (LeadsAt (p ∷ word ∷ rest))
-    (λ e. subst (λ w. LeadsAt (p ∷ w ∷ rest)) (same_text (name_of request.Run) word e) (command_leads request.Run p rest))
+    (λ e. subst (λ w. LeadsAt (p ∷ w ∷ rest)) (same_text (name_of request.Run) word e) (command_leads request.Run tt p rest))
     (λ run. by_test (bytes_eq (name_of request.Test) word) (LeadsAt (p ∷ word ∷ rest))
-    (λ e. subst (λ w. LeadsAt (p ∷ w ∷ rest)) (same_text (name_of request.Test) word e) (command_leads request.Test p rest))
+    (λ e. subst (λ w. LeadsAt (p ∷ w ∷ rest)) (same_text (name_of request.Test) word e) (command_leads request.Test tt p rest))
     (λ test. by_test (bytes_eq (name_of request.Compile) word) (LeadsAt (p ∷ word ∷ rest))
-    (λ e. subst (λ w. LeadsAt (p ∷ w ∷ rest)) (same_text (name_of request.Compile) word e) (command_leads request.Compile p rest))
+    (λ e. subst (λ w. LeadsAt (p ∷ w ∷ rest)) (same_text (name_of request.Compile) word e) (command_leads request.Compile tt p rest))
     (λ compile. by_test (bytes_eq (name_of request.Verify) word) (LeadsAt (p ∷ word ∷ rest))
-    (λ e. subst (λ w. LeadsAt (p ∷ w ∷ rest)) (same_text (name_of request.Verify) word e) (command_leads request.Verify p rest))
+    (λ e. subst (λ w. LeadsAt (p ∷ w ∷ rest)) (same_text (name_of request.Verify) word e) (command_leads request.Verify tt p rest))
     (λ verify. by_test (bytes_eq (name_of request.Script) word) (LeadsAt (p ∷ word ∷ rest))
-    (λ e. subst (λ w. LeadsAt (p ∷ w ∷ rest)) (same_text (name_of request.Script) word e) (command_leads request.Script p rest))
-    (λ script. by_test (bytes_eq (codes "help") word) (LeadsAt (p ∷ word ∷ rest))
+    (λ e. subst (λ w. LeadsAt (p ∷ w ∷ rest)) (same_text (name_of request.Script) word e) (command_leads request.Script tt p rest))
+    (λ script. by_test (bytes_eq (codes "scan") word) (LeadsAt (p ∷ word ∷ rest))
+    (λ e. subst (λ w. LeadsAt (p ∷ w ∷ rest)) (same_text (codes "scan") word e) (scan_leads p rest))
+    (λ scan. by_test (bytes_eq (codes "help") word) (LeadsAt (p ∷ word ∷ rest))
     (λ e. subst (λ w. LeadsAt (p ∷ w ∷ rest)) (same_text (codes "help") word e) (topic_leads p rest))
-    (λ e. other (record { run = run; test = test; compile = compile; verify = verify; script = script; help = e })))))))
+    (λ e. other (record { run = run; test = test; compile = compile; verify = verify; script = script; scan = scan; help = e }))))))))
   where
     other : IsNoCommand word → LeadsAt (p ∷ word ∷ rest)
     other h =
-        let by_flag : asked (p ∷ word ∷ rest) ≡ asked_by_flag word = rw (h.run, h.test, h.compile, h.verify, h.script, h.help) refl in
-        subst (λ a. Leads a (fault_of tool_app (p ∷ word ∷ rest)) (entered_name (p ∷ word ∷ rest))) (sym by_flag) (other_leads p word rest h)
+        let by_flag : asked (p ∷ word ∷ rest) ≡ asked_by_flag word = rw (h.run, h.test, h.compile, h.verify, h.script, h.scan, h.help) refl in
+        subst (λ a. Leads a (fault_of tool_app (p ∷ word ∷ rest)) (found_by (p ∷ word ∷ rest))) (sym by_flag) (other_leads p word rest h)
 
 -- ---- what is read
 
@@ -413,38 +416,58 @@ first_of name = 0
 some_none : (k : ErrorKind) (ks : Kinds) → k ∷ ks ≡ [] → ⊥
 some_none k ks h = omega (arith, ap length h)
 
-asked_answered : (words : List Text) (q : Request) → fault_of tool_app words ≡ [] → entered_name words ≡ Some (name_of q) → Reads (asked words) (Ok q)
-asked_answered words q none is = answered (asked words) (words_lead words)
-  where
-    same : (q r : Request) → Some (name_of q) ≡ Some (name_of r) → q ≡ r
-    same request.Run request.Run e = refl
-    same request.Test request.Test e = refl
-    same request.Compile request.Compile e = refl
-    same request.Verify request.Verify e = refl
-    same request.Script request.Script e = refl
-    same request.Run request.Test e = absurd (cc)
-    same request.Run request.Compile e = absurd (cc)
-    same request.Run request.Verify e = absurd (cc)
-    same request.Run request.Script e = absurd (cc)
-    same request.Test request.Run e = absurd (cc)
-    same request.Test request.Compile e = absurd (cc)
-    same request.Test request.Verify e = absurd (cc)
-    same request.Test request.Script e = absurd (cc)
-    same request.Compile request.Run e = absurd (cc)
-    same request.Compile request.Test e = absurd (cc)
-    same request.Compile request.Verify e = absurd (cc)
-    same request.Compile request.Script e = absurd (cc)
-    same request.Verify request.Run e = absurd (cc)
-    same request.Verify request.Test e = absurd (cc)
-    same request.Verify request.Compile e = absurd (cc)
-    same request.Verify request.Script e = let apart : 118 ≡ 115 = ap first_of e in absurd (omega (arith, apart))
-    same request.Script request.Run e = absurd (cc)
-    same request.Script request.Test e = absurd (cc)
-    same request.Script request.Compile e = absurd (cc)
-    same request.Script request.Verify e = let apart : 115 ≡ 118 = ap first_of e in absurd (omega (arith, apart))
+-- and the third
+abbrev third_of : Option Text → ℕ
+third_of (Some (c ∷ d ∷ e ∷ cs)) = e
+third_of name = 0
 
-    answered : (a : Asked) → Leads a (fault_of tool_app words) (entered_name words) → Reads a (Ok q)
-    answered (command r) h = same q r (sym is ∙ h.1)
+asked_answered : (words : List Text) (q : Request) → IsBare q → fault_of tool_app words ≡ [] → entered_name words ≡ Some (name_of q) → Reads (asked words) (Ok q)
+asked_answered words q bare none is = answered (asked words) (words_lead words)
+  where
+    same : (q r : Request) → IsBare q → IsBare r → Some (name_of q) ≡ Some (name_of r) → q ≡ r
+    same request.Run request.Run bare other e = refl
+    same request.Test request.Test bare other e = refl
+    same request.Compile request.Compile bare other e = refl
+    same request.Verify request.Verify bare other e = refl
+    same request.Script request.Script bare other e = refl
+    same request.Run request.Test bare other e = absurd (cc)
+    same request.Run request.Compile bare other e = absurd (cc)
+    same request.Run request.Verify bare other e = absurd (cc)
+    same request.Run request.Script bare other e = absurd (cc)
+    same request.Test request.Run bare other e = absurd (cc)
+    same request.Test request.Compile bare other e = absurd (cc)
+    same request.Test request.Verify bare other e = absurd (cc)
+    same request.Test request.Script bare other e = absurd (cc)
+    same request.Compile request.Run bare other e = absurd (cc)
+    same request.Compile request.Test bare other e = absurd (cc)
+    same request.Compile request.Verify bare other e = absurd (cc)
+    same request.Compile request.Script bare other e = absurd (cc)
+    same request.Verify request.Run bare other e = absurd (cc)
+    same request.Verify request.Test bare other e = absurd (cc)
+    same request.Verify request.Compile bare other e = absurd (cc)
+    same request.Verify request.Script bare other e = let apart : 118 ≡ 115 = ap first_of e in absurd (omega (arith, apart))
+    same request.Script request.Run bare other e = absurd (cc)
+    same request.Script request.Test bare other e = absurd (cc)
+    same request.Script request.Compile bare other e = absurd (cc)
+    same request.Script request.Verify bare other e = let apart : 115 ≡ 118 = ap first_of e in absurd (omega (arith, apart))
+    same (request.Scan o) r bare other e = absurd bare
+    same q (request.Scan o) bare other e = absurd other
+
+    no_scan : (q : Request) → IsBare q → (rows : List Row) → Some (name_of q) ≡ name_found (Some (codes "scan", rows)) → ⊥
+    no_scan request.Run bare rows e = let apart : 114 ≡ 115 = ap first_of e in omega (arith, apart)
+    no_scan request.Test bare rows e = let apart : 116 ≡ 115 = ap first_of e in omega (arith, apart)
+    no_scan request.Compile bare rows e = let apart : 99 ≡ 115 = ap first_of e in omega (arith, apart)
+    no_scan request.Verify bare rows e = let apart : 118 ≡ 115 = ap first_of e in omega (arith, apart)
+    no_scan request.Script bare rows e = let apart : 114 ≡ 97 = ap third_of e in omega (arith, apart)
+    no_scan (request.Scan o) bare rows e = bare
+
+    answered : (a : Asked) → Leads a (fault_of tool_app words) (found_by words) → Reads a (Ok q)
+    answered (command (request.Scan o)) h = absurd (no_scan q bare h.1 (sym is ∙ ap name_found h.2))
+    answered (command request.Run) h = same q request.Run bare tt (sym is ∙ h.1)
+    answered (command request.Test) h = same q request.Test bare tt (sym is ∙ h.1)
+    answered (command request.Compile) h = same q request.Compile bare tt (sym is ∙ h.1)
+    answered (command request.Verify) h = same q request.Verify bare tt (sym is ∙ h.1)
+    answered (command request.Script) h = same q request.Script bare tt (sym is ∙ h.1)
     answered help h = absurd (some_none _ _ (sym h ∙ none))
     answered topic h = absurd (some_none _ _ (sym h ∙ none))
     answered mistake h = absurd (true≢false (sym (rw none at h)))
@@ -455,16 +478,18 @@ record IsNoOther (name : Option Text) : Type 0 where
   compile : name ≢ Some (name_of request.Compile)
   verify : name ≢ Some (name_of request.Verify)
   script : name ≢ Some (name_of request.Script)
+  scan : name ≢ Some (codes "scan")
 
 run_left : (words : List Text) → fault_of tool_app words ≡ [] → IsNoOther (entered_name words) → entered_name words ≡ Some (name_of request.Run)
 run_left words none other = left (asked words) (words_lead words)
   where
-    left : (a : Asked) → Leads a (fault_of tool_app words) (entered_name words) → entered_name words ≡ Some (name_of request.Run)
+    left : (a : Asked) → Leads a (fault_of tool_app words) (found_by words) → entered_name words ≡ Some (name_of request.Run)
     left (command request.Run) h = h.1
     left (command request.Test) h = absurd (other.test h.1)
     left (command request.Compile) h = absurd (other.compile h.1)
     left (command request.Verify) h = absurd (other.verify h.1)
     left (command request.Script) h = absurd (other.script h.1)
+    left (command (request.Scan o)) h = absurd (other.scan (ap name_found h.2))
     left help h = absurd (some_none _ _ (sym h ∙ none))
     left topic h = absurd (some_none _ _ (sym h ∙ none))
     left mistake h = absurd (true≢false (sym (rw none at h)))
@@ -491,8 +516,13 @@ asked_refused : (words : List Text) (e : Error) → HasKind (fault_of tool_app w
 asked_refused words e (inl memory) = memory_refused (asked words) e memory
 asked_refused words e (inr among) = refused_as (asked words) (words_lead words)
   where
-    refused_as : (a : Asked) → Leads a (fault_of tool_app words) (entered_name words) → Reads a (Err e)
-    refused_as (command r) h = absurd (rw h.0 at among)
+    refused_as : (a : Asked) → Leads a (fault_of tool_app words) (found_by words) → Reads a (Err e)
+    refused_as (command (request.Scan o)) h = absurd (rw h.0 at among)
+    refused_as (command request.Run) h = absurd (rw h.0 at among)
+    refused_as (command request.Test) h = absurd (rw h.0 at among)
+    refused_as (command request.Compile) h = absurd (rw h.0 at among)
+    refused_as (command request.Verify) h = absurd (rw h.0 at among)
+    refused_as (command request.Script) h = absurd (rw h.0 at among)
     refused_as help h = elim (rw h at among) [ inl is ↦ inr is | inr none ↦ absurd none ]
     refused_as topic h = elim (rw h at among) [ inl is ↦ inr (inl is) | inr more ↦ elim more [ inl is ↦ inr (inr is) | inr none ↦ absurd none ] ]
     refused_as mistake h = no_help_among (kind_of e) (fault_of tool_app words) (all_mistakes (fault_of tool_app words) h) among
@@ -500,9 +530,9 @@ asked_refused words e (inr among) = refused_as (asked words) (words_lead words)
 -- ---- of the program's own app, which is `tool_app`
 
 -- one more command
-pub command_added : (old new added : Command) (app : App) (r : Request) → app_of old ≡ app → (fields_of added).has_globals ≡ false → shape_of added ≡ command_shape r
-    → AddsSubcommand old added new → app_of new ≡ with_subcommand app (command_shape r)
-command_added old new added app r is local shape h =
+pub command_added : (old new added : Command) (app : App) (s : Shape) → app_of old ≡ app → (fields_of added).has_globals ≡ false → shape_of added ≡ s
+    → AddsSubcommand old added new → app_of new ≡ with_subcommand app s
+command_added old new added app s is local shape h =
     h.shape local ∙ ap (λ a. with_subcommand a (shape_of added)) is ∙ ap (with_subcommand app) shape
 
 simple_and_free : is_simple_and_free tool_app ≡ true
@@ -520,26 +550,80 @@ name_entered words m h = name_of_rows (out-ArgMatches m).subcommand ∙ ap (opti
     name_of_rows None = refl
     name_of_rows (Some b) = refl
 
-pub named_read : (r : Request) (app : App) (words : List Text) (m : ArgMatches) → app ≡ tool_app → (is_simple_and_free app ≡ true → fault_of app words ≡ [])
+pub named_read : (r : Request) → IsBare r → (app : App) (words : List Text) (m : ArgMatches) → app ≡ tool_app → (is_simple_and_free app ≡ true → fault_of app words ≡ [])
     → HasMatchesOf app words m → subcommand_name_of m ≡ Some (name_of r) → Reads (asked words) (Ok r)
-named_read r app words m is none matches named =
+named_read r bare app words m is none matches named =
     let free = rw is at none in
     let found = rw is at matches in
-    asked_answered words r (free simple_and_free) (sym (name_entered words m found) ∙ named)
+    asked_answered words r bare (free simple_and_free) (sym (name_entered words m found) ∙ named)
 
 pub run_read : (app : App) (words : List Text) (m : ArgMatches) → app ≡ tool_app → (is_simple_and_free app ≡ true → fault_of app words ≡ [])
     → HasMatchesOf app words m → subcommand_name_of m ≢ Some (name_of request.Test) → subcommand_name_of m ≢ Some (name_of request.Compile)
-    → subcommand_name_of m ≢ Some (name_of request.Verify) → subcommand_name_of m ≢ Some (name_of request.Script) → Reads (asked words) (Ok request.Run)
-run_read app words m is none matches no_test no_compile no_verify no_script =
+    → subcommand_name_of m ≢ Some (name_of request.Verify) → subcommand_name_of m ≢ Some (name_of request.Script) → subcommand_name_of m ≢ Some (codes "scan") → Reads (asked words) (Ok request.Run)
+run_read app words m is none matches no_test no_compile no_verify no_script no_scan =
     let free = rw is at none in
     let found = rw is at matches in
     let entered = name_entered words m found in
-    asked_answered words request.Run (free simple_and_free) (run_left words (free simple_and_free) (record {
+    asked_answered words request.Run tt (free simple_and_free) (run_left words (free simple_and_free) (record {
       test = λ named. no_test (entered ∙ named);
       compile = λ named. no_compile (entered ∙ named);
       verify = λ named. no_verify (entered ∙ named);
       script = λ named. no_script (entered ∙ named);
+      scan = λ named. no_scan (entered ∙ named);
     }))
+
+-- `scan` was asked for, and its options are those of its rows
+scan_asked : (words : List Text) (rows : List Row) → fault_of tool_app words ≡ [] → found_by words ≡ Some (codes "scan", rows) → (o : ScanOptions) × (asked words ≡ command (request.Scan o)) × AreRead o rows
+scan_asked words rows none is = by_asked (asked words) refl (words_lead words)
+  where
+    bare_other : (q : Request) → IsBare q → Some (name_of q) ≡ Some (codes "scan") → ⊥
+    bare_other request.Run bare e = let apart : 114 ≡ 115 = ap first_of e in omega (arith, apart)
+    bare_other request.Test bare e = let apart : 116 ≡ 115 = ap first_of e in omega (arith, apart)
+    bare_other request.Compile bare e = let apart : 99 ≡ 115 = ap first_of e in omega (arith, apart)
+    bare_other request.Verify bare e = let apart : 118 ≡ 115 = ap first_of e in omega (arith, apart)
+    bare_other request.Script bare e = let apart : 114 ≡ 97 = ap third_of e in omega (arith, apart)
+    bare_other (request.Scan o) bare e = bare
+
+    with_rows : List Row → Option (Text × List Row)
+    with_rows found = Some (codes "scan", found)
+
+    rows_in : Option (Text × List Row) → List Row
+    rows_in None = []
+    rows_in (Some p) = p.1
+
+    same_rows : (a b : List Row) → with_rows a ≡ with_rows b → a ≡ b
+    same_rows a b e = ap rows_in e
+
+    by_asked : (a : Asked) → asked words ≡ a → Leads a (fault_of tool_app words) (found_by words) → (o : ScanOptions) × (asked words ≡ command (request.Scan o)) × AreRead o rows
+    by_asked (command (request.Scan o)) e h = (o, e, subst (AreRead o) (same_rows h.1 rows (sym h.2 ∙ is)) h.3)
+    by_asked (command request.Run) e h = absurd (bare_other request.Run tt (sym h.1 ∙ ap name_found is))
+    by_asked (command request.Test) e h = absurd (bare_other request.Test tt (sym h.1 ∙ ap name_found is))
+    by_asked (command request.Compile) e h = absurd (bare_other request.Compile tt (sym h.1 ∙ ap name_found is))
+    by_asked (command request.Verify) e h = absurd (bare_other request.Verify tt (sym h.1 ∙ ap name_found is))
+    by_asked (command request.Script) e h = absurd (bare_other request.Script tt (sym h.1 ∙ ap name_found is))
+    by_asked help e h = absurd (some_none _ _ (sym h ∙ none))
+    by_asked topic e h = absurd (some_none _ _ (sym h ∙ none))
+    by_asked mistake e h = absurd (true≢false (sym (rw none at h)))
+
+abbrev rows_found : Option (Text × List Row) → Option (List Row)
+rows_found = option_map (λ s. s.1)
+
+-- what was found is a name and rows
+found_is : (found : Option (Text × List Row)) (name : Text) (rows : List Row) → name_found found ≡ Some name → rows_found found ≡ Some rows → found ≡ Some (name, rows)
+found_is None name rows named is = absurd (cc)
+found_is (Some (n, r)) name rows named is = ap₂ (λ a b. Some (a, b)) (some_same n name named) (some_same r rows is)
+  where
+    some_same : {X : Type 0} (a b : X) → Some a ≡ Some b → a ≡ b
+    some_same a b e = cc
+
+pub scan_read : (app : App) (words : List Text) (m : ArgMatches) (rows : List Row) → app ≡ tool_app → (is_simple_and_free app ≡ true → fault_of app words ≡ [])
+    → HasMatchesOf app words m → subcommand_name_of m ≡ Some (codes "scan") → option_map (λ p. p.1) (subcommand_rows (out-ArgMatches m).subcommand) ≡ Some rows
+    → (o : ScanOptions) × (asked words ≡ command (request.Scan o)) × AreRead o rows
+scan_read app words m rows is none matches named found =
+    let free = rw is at none in
+    let at = rw is at matches in
+    let entered = (at simple).1 in
+    scan_asked words rows (free simple_and_free) (found_is (found_by words) (codes "scan") rows (sym (name_entered words m at) ∙ named) (sym (ap rows_found entered) ∙ found))
 
 pub words_refused : (app : App) (words : List Text) (e : Error) → app ≡ tool_app
     → (is_simple_and_free app ≡ true → HasKind (fault_of app words) e) → Reads (asked words) (Err e)

@@ -11,6 +11,8 @@ use Rattle.tool_query.specs.Code.{WritesFile, StopsFile, WritesVerdict, StopsVer
 use Rattle.tool_query.specs.Run.{WritesAnswers, StopsAnswers, Stops}
 use Rattle.tool_script.specs.Run.{WritesReplies, StopsReplies}
 use Rattle.tool_script.specs.Input.{OfScript, StopsScript}
+use Rattle.tool_scan.specs.Options.{AreAllowed}
+use Rattle.tool_scan.specs.Scan.{WritesScan, StopsTerms, StopsScan}
 use Rattle.tool_cli.specs.Telling.{Tells, TellsText}
 use Rattle.tool_cli.specs.Words.{Asked, command, help, topic, mistake}
 use Rattle.tool_cli.specs.declared.words.Request.{Request}
@@ -35,6 +37,7 @@ Writes request.Test terms old new = WritesAnswers outcomes terms old new
 Writes request.Compile terms old new = WritesFile terms old new
 Writes request.Verify terms old new = WritesVerdict terms old new
 Writes request.Script terms old new = WritesReplies terms old new
+Writes (request.Scan o) terms old new = WritesScan o terms old new
 
 -- how it ends early
 abbrev pub StopsOn : Request → List Datum → (old new : Option (List ℕ)) → ToolFault → Type 0
@@ -43,12 +46,16 @@ StopsOn request.Test terms old new f = StopsAnswers outcomes terms old new f
 StopsOn request.Compile terms old new f = StopsFile terms old new f
 StopsOn request.Verify terms old new f = StopsVerdict terms old new f
 StopsOn request.Script terms old new f = StopsReplies terms old new f
+StopsOn (request.Scan o) terms old new f = StopsTerms o terms old new f
 
--- what a command's outcome says of standard output; of a script there may be no term
+-- what a command's outcome says of standard output; of a script there may be no term, and a scan's options are allowed
 abbrev pub HasOutcome : Request → (known old new : Option (List ℕ)) → Result (Unit {0}) ToolFault
     → Type 0
 HasOutcome request.Script known old new (Ok x) = OfScript known (λ terms. Writes request.Script terms old new)
 HasOutcome request.Script known old new (Err f) = StopsScript known old new f
+HasOutcome (request.Scan o) known old new (Ok x) =
+    AreAllowed o × OfTerms known (λ terms. Writes (request.Scan o) terms old new)
+HasOutcome (request.Scan o) known old new (Err f) = StopsScan o known old new f
 HasOutcome r known old new (Ok x) = OfTerms known (λ terms. Writes r terms old new)
 HasOutcome r known old new (Err f) =
     Stops known old new f (λ terms. StopsOn r terms old new f)

@@ -1,11 +1,19 @@
 -- What the words of the command line ask for.
-use Rattle.std.specs.Prelude.{Bool, true, false, ◌≡◌, ◌≢◌, ◌⊎◌, ◌||◌, ◌&&◌, ◌==◌, List, [], ◌∷◌}
-use Rattle.std.specs.Prelude.{Result, Ok, Err, codes, if◌then◌else◌, take, drop}
+use Rattle.std.specs.Prelude.{ℕ, pos, Bool, true, false, not, ◌≡◌, ◌≢◌, ◌⊎◌, ◌||◌, ◌&&◌, ◌==◌, List, [], ◌∷◌, ◌++◌}
+use Rattle.std.specs.Prelude.{Option, Some, None, is_some, Result, Ok, Err, codes, if◌then◌else◌, take, drop}
+use Rattle.std.specs.List.{list_any}
+use Rattle.std.specs.Option.{option_and_then}
 use Rattle.std.specs.Str.{bytes_eq, chars}
-use Rattle.clap.specs.Words.{App, Text, kind_of, new_app, with_subcommand}
+use Rattle.std.specs.Str.Parse.{digits_value, without_leading_plus}
+use Rattle.clap.specs.Lexer.{long_of, without_minus}
+use Rattle.clap.specs.ValueTests.{is_signed_in}
+use Rattle.clap.specs.Walk.{Row, Rule, one_of}
+use Rattle.clap.specs.Words.{App, Text, kind_of, new_app, new_rule, with_rule, with_subcommand}
 use Rattle.clap.specs.Simple.{Shape}
+use Rattle.clap.specs.declared.builder.value_parser.ValueParser.TheVariants as parser
 use Rattle.clap.specs.declared.error.Error.{Error}
 use Rattle.clap.specs.declared.error.kind.ErrorKind.TheVariants as kind
+use Rattle.tool_scan.specs.declared.options.ScanOptions.{ScanOptions}
 use Rattle.tool_cli.specs.declared.words.Request.{Request}
 use Rattle.tool_cli.specs.declared.words.Request.TheVariants as request
 
@@ -16,6 +24,7 @@ name_of request.Test = codes "test"
 name_of request.Compile = codes "compile"
 name_of request.Verify = codes "verify"
 name_of request.Script = codes "script"
+name_of (request.Scan options) = codes "scan"
 
 -- Words ask for a command; for help by a flag; for help by the word `help`, on what stands behind it; or for nothing
 -- that is understood.
@@ -41,6 +50,79 @@ asked_behind r (word ∷ []) =
     if bytes_eq (codes "--") word then command r else asked_by_flag word
 asked_behind r (word ∷ next ∷ rest) = asked_by_flag word
 
+-- ---- the options of `scan`
+
+-- the most that the number of an option may be; none of another name
+abbrev pub most_of : Text → Option ℕ
+most_of name =
+    if bytes_eq (codes "keypos") name then Some 65535
+    else (if bytes_eq (codes "parts") name then Some 64
+    else (if bytes_eq (codes "workers") name then Some 16 else None))
+
+-- options that were given, in their order: the name of each, and the text of its number
+abbrev pub Given : Type 0
+Given = List (Text × Text)
+
+abbrev pub is_given : Given → Text → Bool
+is_given given name = list_any (λ g. bytes_eq g.0 name) given
+
+-- the text is a number from 1 to the most of an option
+abbrev pub is_number_of : Option ℕ → Text → Bool
+is_number_of None value = false
+is_number_of (Some most) value = is_signed_in (pos 1) (pos most) value
+
+-- an option is taken that wasn't given before, with a number
+abbrev pub is_taken : Given → Text → Text → Bool
+is_taken given name value = not (is_given given name) && is_number_of (most_of name) value
+
+-- the number of an option, which is 1 where it isn't given
+abbrev pub number_given : Text → Given → ℕ
+number_given name [] = 1
+number_given name (g ∷ rest) =
+    if bytes_eq g.0 name then digits_value 10 (without_leading_plus g.1) else number_given name rest
+
+abbrev pub options_by : Given → ScanOptions
+options_by given = record {
+  keypos = number_given (codes "keypos") given;
+  parts = number_given (codes "parts") given;
+  workers = number_given (codes "workers") given;
+}
+
+-- the word is `--name` or `--name=value` of an option
+abbrev pub option_in : Text → Option (Text × Option Text)
+option_in word =
+    option_and_then (λ p. if is_some (most_of p.0) then Some p else None) (long_of word)
+
+-- a hyphen with characters behind it
+abbrev pub is_some_text : Text → Bool
+is_some_text [] = false
+is_some_text (c ∷ cs) = true
+
+abbrev pub is_flag : Text → Bool
+is_flag [] = false
+is_flag (x ∷ rest) = x == 45 && is_some_text (chars rest)
+
+abbrev pub taken : Given → Text → Text → (Given → Asked) → Asked
+taken given name value next =
+    if is_taken given name value then next (given ++ (name, value) ∷ []) else mistake
+
+-- a word of options: one with its number, one whose number is the next word, or another
+abbrev pub asked_word : Given → Text → Option (Text × Option Text) → (Given → Asked) → (Text → Asked) → Asked
+asked_word given word None with_number alone = asked_by_flag word
+asked_word given word (Some (name, Some value)) with_number alone = taken given name value with_number
+asked_word given word (Some (name, None)) with_number alone = alone name
+
+-- the words behind `scan`: options, maybe with `--` behind them, each once
+abbrev pub asked_options : Given → List Text → Asked
+asked_options given [] = command (request.Scan (options_by given))
+asked_options given (word ∷ []) =
+    if bytes_eq (codes "--") word then command (request.Scan (options_by given))
+    else asked_word given word (option_in word) (λ more. command (request.Scan (options_by more))) (λ name. mistake)
+asked_options given (word ∷ next ∷ rest) =
+    if bytes_eq (codes "--") word then mistake
+    else asked_word given word (option_in word) (λ more. asked_options more (next ∷ rest))
+    (λ name. if is_flag next then mistake else taken given name next (λ more. asked_options more rest))
+
 -- the words behind the program's name
 abbrev pub asked_by : List Text → Asked
 asked_by [] = mistake
@@ -50,7 +132,8 @@ asked_by (word ∷ rest) =
     else (if bytes_eq (name_of request.Compile) word then asked_behind request.Compile rest
     else (if bytes_eq (name_of request.Verify) word then asked_behind request.Verify rest
     else (if bytes_eq (name_of request.Script) word then asked_behind request.Script rest
-    else (if bytes_eq (codes "help") word then topic else asked_by_flag word)))))
+    else (if bytes_eq (codes "scan") word then asked_options [] rest
+    else (if bytes_eq (codes "help") word then topic else asked_by_flag word))))))
 
 -- all words, the program's name first
 abbrev pub asked : List Text → Asked
@@ -78,9 +161,27 @@ command_shape r = (new_app (name_of r)).top
 abbrev pub bare_app : App
 bare_app = record { top = tool_shape; subs = [] }
 
+-- an option of `scan`
+abbrev pub option_rule : Text → ℕ → Rule
+option_rule name most = record (new_rule name) {
+  long = Some name;
+  value_names = 1;
+  defaults = codes "1" ∷ [];
+  parser = Some (parser.Signed (pos 1) (pos most));
+}
+
+abbrev pub scan_shape : Shape
+scan_shape =
+    (with_rule
+    (with_rule
+    (with_rule (new_app (codes "scan")) (option_rule (codes "keypos") 65535))
+    (option_rule (codes "parts") 64))
+    (option_rule (codes "workers") 16)).top
+
 abbrev pub tool_app : App
 tool_app =
     with_subcommand
+    (with_subcommand
     (with_subcommand
     (with_subcommand
     (with_subcommand
@@ -88,4 +189,18 @@ tool_app =
     (command_shape request.Test))
     (command_shape request.Compile))
     (command_shape request.Verify))
-    (command_shape request.Script)
+    (command_shape request.Script))
+    scan_shape
+
+-- an option has a row, whose text is this number, from 1 to the most
+pub record IsReadOf (name : Text) (most n : ℕ) (rows : List Row) : Type 0 where
+  pub text : Text
+  pub looked : one_of name rows ≡ Some (without_minus text)
+  pub passes : is_signed_in (pos 1) (pos most) text ≡ true
+  pub number : n ≡ digits_value 10 (without_leading_plus text)
+
+-- so it is with each option of `scan`
+pub record AreRead (o : ScanOptions) (rows : List Row) : Type 0 where
+  pub keypos : IsReadOf (codes "keypos") 65535 o.keypos rows
+  pub parts : IsReadOf (codes "parts") 64 o.parts rows
+  pub workers : IsReadOf (codes "workers") 16 o.workers rows

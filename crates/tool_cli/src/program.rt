@@ -1,8 +1,9 @@
 //! The program from its words to its status: what it reads, and what it writes on which of two streams.
-ghost use Rattle.std.specs.Prelude.{◌≡◌, ◌≢◌, ◌⊎◌, [], IfErr, OnOk, map};
+ghost use Rattle.std.specs.Prelude.{◌≡◌, ◌≢◌, ◌⊎◌, [], IfErr, IsTrue, OnOk, map};
 ghost use Rattle.std.specs.Io.KnownBytes.{Appends, Keeps};
 ghost use Rattle.clap.specs.Words.{kind_of};
 ghost use Rattle.std.specs.IoError.{error_kind};
+ghost use Rattle.part_core.specs.declared.kind.TableKind.TheVariants.{Set};
 ghost use Rattle.tool_cli.specs.Program.{HasOutcome, EndsBy, EndsWith, EndsRequest, EndsHelp, EndsEarly};
 ghost use Rattle.tool_cli.specs.Program.{TellsMistake, EndsMistaken, EndsAsked, EndsProgram};
 ghost use Rattle.tool_cli.specs.Telling.{TellsText};
@@ -11,6 +12,7 @@ ghost use Rattle.tool_cli.specs.Words.{asked};
 use crate::telling::Tell;
 use crate::words::{Request, read_words};
 use clap::error::ErrorKind as WordsErrorKind;
+use part_core::Part;
 use part_hash::HashPart;
 use part_order::OrderPart;
 use std::alloc::{AllocError, Allocator, Global};
@@ -18,8 +20,10 @@ use std::convert::AsStr;
 use std::env::{self, Env};
 use std::io::{self, ErrorKind, Read, Write};
 use std::sync::Wait;
+use std::thread::Threads;
 use tool_io::{ToolFault, fault_line};
 use tool_query::{tool_compile, tool_run, tool_test, tool_verify};
+use tool_scan::tool_scan;
 use tool_script::run_script;
 
 /// The status of a program that did what it was asked.
@@ -32,7 +36,7 @@ const BAD_WORDS: u8 = 64;
 /// Runs the program on the words that it was started with, and answers its status. It reads from `reader`, writes what
 /// it was asked for to `out` and tells `err` why it ends early; only a failure of `out` changes the status.
 #[tactic(auto, using(tool_query::proofs::RunLemmas::kept))]
-pub fn run_program<H: Env + AllocGlobal + Wait, R: Read, O: Write, E: Tell>(
+pub fn run_program<H: Env + AllocGlobal + Threads + Wait + Sync, R: Read, O: Write, E: Tell>(
     rt: &H,
     reader: &mut R,
     out: &mut O,
@@ -55,7 +59,7 @@ fn words_of<H: Env + AllocGlobal>(rt: &H) -> io::Result<Vec<String>> {
 
 /// As `run_program`, on these words, of which the first is the program's name: it runs the command that they ask for,
 /// or shows help where they ask for that.
-pub fn run_words<'a, H: Wait, S: AsStr, R: Read, O: Write, E: Tell>(
+pub fn run_words<'a, H: Threads + Wait + Sync, S: AsStr, R: Read, O: Write, E: Tell>(
     rt: &H,
     alloc: Global,
     words: &'a [S],
@@ -67,35 +71,39 @@ pub fn run_words<'a, H: Wait, S: AsStr, R: Read, O: Write, E: Tell>(
         (O.contents out.old) (O.contents out.new) (E.told err.old) (E.told err.new) (E.has_failed err.new) result }
 {
     match read_words(alloc, words) {
-        Ok(request) => run_request(rt, alloc, request, reader, out, err),
+        Ok(request) => run_request::<H, HashPart<Global>, Global, R, O, E>(
+            rt, alloc, request, reader, out, err,
+        ),
         Err(error) => end_unasked(alloc, &error, out, err),
     }
 }
 
-/// Runs one command, and answers the status that the program ends with.
-pub fn run_request<H: Wait, A: Allocator + Copy, R: Read, O: Write, E: Tell>(
-    rt: &H,
-    alloc: A,
-    request: Request,
-    reader: &mut R,
-    out: &mut O,
-    err: &mut E,
-) -> u8
+/// Runs one command, and answers the status that the program ends with. Parts of the set of a scan are of the sort `P`.
+pub fn run_request<
+    H: Threads + Wait + Sync,
+    P: Part<A> + Drop + Send,
+    A: Allocator + Copy + Send + Sync,
+    R: Read,
+    O: Write,
+    E: Tell,
+>(rt: &H, alloc: A, request: Request, reader: &mut R, out: &mut O, err: &mut E) -> u8
+    requires { IsTrue (P.serves Set) }
     ensures { EndsRequest request (R.remaining reader.old) (O.contents out.old)
         (O.contents out.new) (E.told err.old) (E.told err.new) (E.has_failed err.new) result }
 {
-    let outcome = command_outcome(rt, alloc, request, reader, out);
+    let outcome = command_outcome::<H, P, A, R, O>(rt, alloc, request, reader, out);
     end(alloc, outcome, err)
 }
 
 /// What one command comes to.
-fn command_outcome<H: Wait, A: Allocator + Copy, R: Read, O: Write>(
-    rt: &H,
-    alloc: A,
-    request: Request,
-    reader: &mut R,
-    out: &mut O,
-) -> Result<(), ToolFault>
+fn command_outcome<
+    H: Threads + Wait + Sync,
+    P: Part<A> + Drop + Send,
+    A: Allocator + Copy + Send + Sync,
+    R: Read,
+    O: Write,
+>(rt: &H, alloc: A, request: Request, reader: &mut R, out: &mut O) -> Result<(), ToolFault>
+    requires { IsTrue (P.serves Set) }
     ensures { HasOutcome request (R.remaining reader.old) (O.contents out.old)
         (O.contents out.new) result }
 {
@@ -107,6 +115,7 @@ fn command_outcome<H: Wait, A: Allocator + Copy, R: Read, O: Write>(
         Request::Script => run_script::<H, HashPart<A>, OrderPart<A>, A, R, O>(
             rt, alloc, reader, out,
         ),
+        Request::Scan(options) => { tool_scan::<H, P, A, R, O>(rt, alloc, options, reader, out) }
     }
 }
 

@@ -1,12 +1,16 @@
 //! The words of the command line.
-ghost use Rattle.std.specs.Prelude.{◌≡◌, IfOk, false, map};
-ghost use Rattle.clap.specs.Words.{app_of, new_app, shape_of};
+ghost use Rattle.std.specs.Prelude.{ℕ, ◌≡◌, ◌≤◌, ◌<◌, pos, IfOk, codes, false, map};
+ghost use Rattle.clap.specs.Words.{app_of, found_of, new_app, rows_of, rule_of, shape_of};
+ghost use Rattle.clap.specs.declared.builder.value_parser.ValueParser.TheVariants.{Signed};
 ghost use Rattle.clap.specs.declared.builder.command.Command.TheViews.{out-Command as fields_of};
-ghost use Rattle.tool_cli.specs.Words.{asked, Reads, bare_app, tool_app};
+ghost use Rattle.tool_cli.specs.Words.{asked, Reads, bare_app, option_rule, scan_shape, tool_app};
+ghost use Rattle.tool_cli.specs.Words.{IsReadOf, AreRead};
 
-use clap::{Command, Error};
+use clap::builder::ValueParser;
+use clap::{Arg, ArgMatches, Command, Error, value_parser};
 use std::alloc::{AllocError, Global};
 use std::convert::AsStr;
+use tool_scan::ScanOptions;
 
 /// What the program is asked to do.
 #[derive(Clone, Copy, Debug, PartialEq, Eq)]
@@ -21,6 +25,8 @@ pub enum Request {
     Verify,
     /// Reply to commands on tables.
     Script,
+    /// Answer a specification on objects that are put into a table, by several threads.
+    Scan(ScanOptions),
 }
 
 const ABOUT: &str = "Runs match specifications of ets over terms.";
@@ -122,6 +128,33 @@ writes
   true.
   [{1,a}].";
 
+const SCAN_ABOUT: &str =
+    "Reads a specification and then objects, and writes each answer by threads";
+
+const SCAN_EXAMPLE: &str = "\
+Reads from standard input, as term text: a match specification, then the
+objects, each term followed by a dot. The objects are put into a set in their
+order, so that of those with one key the last stays; each is a tuple with an
+element at the place of the key. Each thread has its share of the set's parts.
+Writes to standard output: for each object in the set that the specification
+answers on the answer, a dot and a line feed, in the order of the set, which is
+the same whatever the number of threads. Where the input is refused nothing is
+written.
+
+Example:
+  printf \"[{{'\\$1'},[],['\\$1']}]. {1}. {2}. {3}. {4}.\" | ets_tool scan --parts 2 --workers 2
+writes
+  2.
+  4.
+  1.
+  3.";
+
+const KEYPOS_HELP: &str = "The element of an object that is its key: 1 to 65535";
+
+const PARTS_HELP: &str = "How many parts the keys are spread over: 1 to 64";
+
+const WORKERS_HELP: &str = "How many threads answer: 1 to 16";
+
 /// The program without its commands, one of which it wants.
 fn tool<'a>(alloc: Global) -> Command<'a>
     ensures { app_of result ≡ bare_app }
@@ -140,6 +173,58 @@ fn command<'a>(alloc: Global, name: &'a str, about: &'a str, example: &'a str) -
     Command::new(alloc, name).about(about).after_help(example)
 }
 
+/// An option of such a number, which is 1 if it isn't given.
+fn option<'a>(alloc: Global, name: &'a str, about: &'a str, numbers: ValueParser<'a>) -> Arg<'a>
+    ensures rule { (most : ℕ) → numbers.entry ≡ Signed (pos 1) (pos most)
+        → rule_of result ≡ option_rule name.entry.now most }
+    ensures local { result.global ≡ false }
+{
+    Arg::new(alloc, name)
+        .long(name)
+        .help(about)
+        .value_name("N")
+        .default_value("1")
+        .value_parser(numbers)
+}
+
+/// The place of a key.
+fn keypos<'a>(alloc: Global) -> Arg<'a>
+    ensures rule { rule_of result ≡ option_rule (codes "keypos") 65535 }
+    ensures local { result.global ≡ false }
+{
+    let numbers = value_parser!(u16).range(1..=65_535);
+    option(alloc, "keypos", KEYPOS_HELP, numbers)
+}
+
+/// The number of parts.
+fn parts<'a>(alloc: Global) -> Arg<'a>
+    ensures rule { rule_of result ≡ option_rule (codes "parts") 64 }
+    ensures local { result.global ≡ false }
+{
+    let numbers = value_parser!(u16).range(1..=64);
+    option(alloc, "parts", PARTS_HELP, numbers)
+}
+
+/// The number of workers.
+fn workers<'a>(alloc: Global) -> Arg<'a>
+    ensures rule { rule_of result ≡ option_rule (codes "workers") 16 }
+    ensures local { result.global ≡ false }
+{
+    let numbers = value_parser!(u16).range(1..=16);
+    option(alloc, "workers", WORKERS_HELP, numbers)
+}
+
+/// The command `scan`, with its options.
+fn scan_command<'a>(alloc: Global) -> Result<Command<'a>, AllocError>
+    ensures shape { IfOk result (λ command. shape_of command ≡ scan_shape) }
+    ensures local { IfOk result (λ command. (fields_of command).has_globals ≡ false) }
+{
+    command(alloc, "scan", SCAN_ABOUT, SCAN_EXAMPLE)
+        .arg(keypos(alloc))?
+        .arg(parts(alloc))?
+        .arg(workers(alloc))
+}
+
 /// The program's commands, as `clap` reads them.
 fn program<'a>(alloc: Global) -> Result<Command<'a>, AllocError>
     ensures { IfOk result (λ command. app_of command ≡ tool_app) }
@@ -149,12 +234,38 @@ fn program<'a>(alloc: Global) -> Result<Command<'a>, AllocError>
     let compile = command(alloc, "compile", COMPILE_ABOUT, COMPILE_EXAMPLE);
     let verify = command(alloc, "verify", VERIFY_ABOUT, VERIFY_EXAMPLE);
     let script = command(alloc, "script", SCRIPT_ABOUT, SCRIPT_EXAMPLE);
+    let scan = scan_command(alloc)?;
     tool(alloc)
         .subcommand(run)?
         .subcommand(test)?
         .subcommand(compile)?
         .subcommand(verify)?
-        .subcommand(script)
+        .subcommand(script)?
+        .subcommand(scan)
+}
+
+/// The number of an option, which has one.
+fn number(matches: &ArgMatches<'_>, name: &str) -> u16
+    requires { (most : ℕ) × (n : ℕ) × (most < 65536) × IsReadOf name.now most n (rows_of (found_of matches.now)) }
+    ensures { (most n : ℕ) → most < 65536 → IsReadOf name.now most n (rows_of (found_of matches.now))
+        → (result ≡ n) × (n ≤ most) }
+{
+    match matches.get_one::<u16>(name) {
+        Some(number) => number,
+        None => unreachable!(),
+    }
+}
+
+/// The options of `scan`.
+fn scan_options(matches: &ArgMatches<'_>) -> ScanOptions
+    requires { (o : ScanOptions) × AreRead o (rows_of (found_of matches.now)) }
+    ensures { (o : ScanOptions) → AreRead o (rows_of (found_of matches.now)) → result ≡ o }
+{
+    ScanOptions {
+        keypos: number(matches, "keypos"),
+        parts: number(matches, "parts") as u8,
+        workers: number(matches, "workers") as u8,
+    }
 }
 
 /// What the words ask for; the first word is the program's name. Words that `clap` does not take, and words that ask
@@ -168,6 +279,10 @@ pub fn read_words<'a, S: AsStr>(alloc: Global, words: &'a [S]) -> Result<Request
         Some("compile") => Ok(Request::Compile),
         Some("verify") => Ok(Request::Verify),
         Some("script") => Ok(Request::Script),
+        Some("scan") => match matches.subcommand_matches("scan") {
+            Some(matches) => Ok(Request::Scan(scan_options(matches))),
+            None => unreachable!(),
+        },
         _ => Ok(Request::Run),
     }
 }

@@ -18,6 +18,8 @@ number_of fault.BadInput = 65
 number_of (fault.Specification f) = specification.number_of f
 number_of (fault.File f) = file.number_of f
 number_of (fault.Code f) = code.number_of f
+number_of fault.TooSmall = 50
+number_of fault.BadOptions = 60
 number_of fault.ReadFailed = 70
 number_of fault.WriteFailed = 71
 

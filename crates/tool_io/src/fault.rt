@@ -12,6 +12,10 @@ use std::alloc::{AllocError, Allocator};
 use term_text::TextFault;
 use thiserror::Error;
 
+/// The number of a term that is no object of the table.
+const TOO_SMALL: u8 = 50;
+/// The number of options outside their ranges.
+const BAD_OPTIONS: u8 = 60;
 /// The number of an input that has another number of terms than the command reads, or another kind.
 const BAD_INPUT: u8 = 65;
 /// The number of a reader that failed.
@@ -40,6 +44,12 @@ pub enum ToolFault {
     /// The first term is the file of code that isn't typed.
     #[error("{0}")]
     Code(verifier::Fault),
+    /// A term is no object: no tuple, or one without an element at the place of the key.
+    #[error("a term is no object of the table")]
+    TooSmall,
+    /// A number among the options is outside its range.
+    #[error("an option is outside its range")]
+    BadOptions,
     /// The reader failed, or did not end.
     #[error("the input can't be read")]
     ReadFailed,
@@ -71,6 +81,8 @@ impl ToolFault {
             ToolFault::Specification(fault) => fault.number(),
             ToolFault::File(fault) => fault.number(),
             ToolFault::Code(fault) => fault.number(),
+            ToolFault::TooSmall => TOO_SMALL,
+            ToolFault::BadOptions => BAD_OPTIONS,
             ToolFault::ReadFailed => READ_FAILED,
             ToolFault::WriteFailed => WRITE_FAILED,
         }
@@ -91,6 +103,8 @@ impl ToolFault {
             ToolFault::Code(fault) => (fault.pc().map(u64::from), None),
             ToolFault::Memory
             | ToolFault::BadInput
+            | ToolFault::TooSmall
+            | ToolFault::BadOptions
             | ToolFault::ReadFailed
             | ToolFault::WriteFailed => (None, None),
         }

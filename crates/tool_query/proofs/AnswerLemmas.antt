@@ -71,6 +71,8 @@ stops_early r R objects i old now later lines (fault.Specification f) g e = absu
 stops_early r R objects i old now later lines (fault.File f) g e = absurd e
 stops_early r R objects i old now later lines (fault.Code f) g e = absurd e
 stops_early r R objects i old now later lines fault.ReadFailed g e = absurd e
+stops_early r R objects i old now later lines fault.TooSmall g e = absurd e
+stops_early r R objects i old now later lines fault.BadOptions g e = absurd e
 
 -- no line is written
 pub none_written : (r : Report) (R : Relation) (objects : List Datum) (old : Option (List ℕ)) → StopsLines r R objects old old fault.Memory
@@ -95,3 +97,5 @@ stopped_as r R S so objects old new (fault.Specification f) h = absurd h
 stopped_as r R S so objects old new (fault.File f) h = absurd h
 stopped_as r R S so objects old new (fault.Code f) h = absurd h
 stopped_as r R S so objects old new fault.ReadFailed h = absurd h
+stopped_as r R S so objects old new fault.TooSmall h = absurd h
+stopped_as r R S so objects old new fault.BadOptions h = absurd h

@@ -97,6 +97,8 @@ loads_alone one untyped s bytes (fault.Text f) h k = absurd k
 loads_alone one untyped s bytes fault.BadInput h k = absurd k
 loads_alone one untyped s bytes (fault.Specification f) h k = absurd k
 loads_alone one untyped s bytes fault.ReadFailed h k = absurd k
+loads_alone one untyped s bytes fault.TooSmall h k = absurd k
+loads_alone one untyped s bytes fault.BadOptions h k = absurd k
 loads_alone one untyped s bytes fault.WriteFailed h k = absurd k
 
 pub loaded_answers : OneCode → RunsEndWithTheAnswer → (s : Specification) (bytes : List ℕ) (p : Program) → IsFileOf s bytes → IsLoaded bytes p → (object : Datum) → Means s object (answer_of p object)

@@ -45,6 +45,8 @@ answers_stopped r terms q objects old new (fault.Specification f) h k = absurd k
 answers_stopped r terms q objects old new (fault.File f) h k = absurd k
 answers_stopped r terms q objects old new (fault.Code f) h k = absurd k
 answers_stopped r terms q objects old new fault.ReadFailed h k = absurd k
+answers_stopped r terms q objects old new fault.TooSmall h k = absurd k
+answers_stopped r terms q objects old new fault.BadOptions h k = absurd k
 
 -- the first term asks nothing
 pub asked_nothing : (r : Report) (terms : List Datum) (first : Datum) (objects : List Datum) (old : Option (List ℕ)) (f : ToolFault) → terms ≡ first ∷ objects → AsksNothing r first f → StopsAnswers r terms old old f
@@ -56,6 +58,8 @@ asked_nothing r terms first objects old (fault.Specification f) is h = (first, o
 asked_nothing r terms first objects old (fault.File f) is h = (first, objects, is, h, kept old)
 asked_nothing r terms first objects old (fault.Code f) is h = (first, objects, is, h, kept old)
 asked_nothing r terms first objects old fault.ReadFailed is h = (first, objects, is, h, kept old)
+asked_nothing r terms first objects old fault.TooSmall is h = (first, objects, is, h, kept old)
+asked_nothing r terms first objects old fault.BadOptions is h = (first, objects, is, h, kept old)
 
 -- ---- a file that isn't loaded
 
@@ -68,3 +72,5 @@ unloaded_stops terms bytes old (fault.Specification f) is h = absurd h
 unloaded_stops terms bytes old (fault.File f) is h = (bytes, is, h, kept old)
 unloaded_stops terms bytes old (fault.Code f) is h = (bytes, is, h, kept old)
 unloaded_stops terms bytes old fault.ReadFailed is h = absurd h
+unloaded_stops terms bytes old fault.TooSmall is h = absurd h
+unloaded_stops terms bytes old fault.BadOptions is h = absurd h

@@ -20,4 +20,5 @@ mod run;
 
 pub use file::{tool_compile, tool_verify};
 pub use laws::output_is_one;
+pub use query::specification_of;
 pub use run::{tool_run, tool_test};

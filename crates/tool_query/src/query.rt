@@ -19,10 +19,7 @@ use tool_io::ToolFault;
 use verifier::{Fault, Verified, faulty_code_is_untyped, verify};
 
 /// The specification that a term is read as.
-pub(crate) fn specification_of<A: Allocator + Copy>(
-    alloc: A,
-    term: &Term<A>,
-) -> Result<Spec<A>, ToolFault>
+pub fn specification_of<A: Allocator + Copy>(alloc: A, term: &Term<A>) -> Result<Spec<A>, ToolFault>
     ensures ok { IfOk result (λ s. IsRead term.now s) }
     ensures refused { IfErr result (IsNoSpecification term.now) }
 {

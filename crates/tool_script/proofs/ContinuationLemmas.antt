@@ -1,5 +1,5 @@
 -- The continuations of a script are its walks.
-use Rattle.std.proofs.Common.{◌≡◌, ℕ, zero, suc, ◌+◌, ◌<◌, ◌≤◌, ◌==◌, List, [], ◌∷◌, ◌++◌, refl, ap, sym, subst, Option, Some, None, arith, length, get_or, set, option_map}
+use Rattle.std.proofs.Common.{◌≡◌, ℕ, zero, suc, ◌+◌, ◌<◌, ◌≤◌, ◌==◌, List, [], ◌∷◌, ◌++◌, refl, ap, sym, subst, Option, Some, None, arith, length, get_or, set, is_some, option_map}
 use Rattle.std.specs.Prelude.{Bool, true, false, ◌&&◌, if◌then◌else◌, nat_lt}
 use Rattle.std.proofs.lemmas.Bool.{eqb-true, ltb-true, ltb-false, and_parts, false≢true}
 use Rattle.std.proofs.lemmas.Option.{none-some, same_Some}
@@ -110,6 +110,15 @@ own_there table n (Some d) c e = by (d.table == table && d.session == n) refl e
         let same = same_Some d c e in
         record { there = e; table_is = subst (λ x. x.table ≡ table) same (eqb-true d.table table parts.0); session_is = subst (λ x. x.session ≡ n) same (eqb-true d.session n parts.1); spent = rw holds refl }
     by false fails e = absurd (none-some c e)
+
+-- what is a session's own is taken whole
+pub own_whole : {A : Type 0} (table n : ℕ) (place : Option (Continuation A)) → is_some (own_by table n place) ≡ true → (own_by table n place ≡ place) × (spent_by table n place ≡ None)
+own_whole table n None own = (refl, refl)
+own_whole table n (Some c) own = by (c.table == table && c.session == n) own
+  where
+    by : (b : Bool) → is_some (if b then Some c else None) ≡ true → ((if b then Some c else None) ≡ Some c) × ((if b then None else Some c) ≡ None)
+    by true own = (refl, refl)
+    by false own = absurd (false≢true own)
 
 -- where no place is, nothing is spent
 absent : {A : Type 0} (cs : List (Option (Continuation A))) (table n i : ℕ) → length cs ≤ i → cs ≡ set cs i (spent_by table n (get_or cs i None))

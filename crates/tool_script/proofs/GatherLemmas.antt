@@ -93,3 +93,5 @@ stops_early terms i after old now later lines (fault.Specification f) g e = absu
 stops_early terms i after old now later lines (fault.File f) g e = absurd e
 stops_early terms i after old now later lines (fault.Code f) g e = absurd e
 stops_early terms i after old now later lines fault.ReadFailed g e = absurd e
+stops_early terms i after old now later lines fault.TooSmall g e = absurd e
+stops_early terms i after old now later lines fault.BadOptions g e = absurd e

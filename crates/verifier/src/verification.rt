@@ -8,6 +8,7 @@ ghost use Rattle.verifier.specs.Pass.{IsWalked};
 ghost use Rattle.verifier_types.specs.Fit.{IsFrameFit};
 ghost use Rattle.verifier.specs.Typing.{IsTyped};
 ghost use Rattle.verifier.specs.Verified.{IsVerified};
+ghost use Rattle.verifier_ops.specs.Ops.{AreOps};
 ghost use Rattle.verifier_types.specs.declared.fault.Fault.TheVariants.{Memory};
 
 use crate::pass::{Walk, step};
@@ -16,6 +17,7 @@ use budget::longest;
 use mcode::{Code, Frame};
 use std::alloc::Allocator;
 use term_core::Refused;
+use verifier_ops::{Op, prepared};
 use verifier_types::{Fault, MAX_DEPTH, key_counts};
 
 /// Whether all of these places are within a depth.
@@ -76,6 +78,7 @@ fn walk_through<A: Allocator + Copy>(alloc: A, code: &Code<A>) -> Result<Walk<A>
 #[derive(Drop)]
 struct Findings<A: Allocator> {
     depths: Vec<u16, A>,
+    ops: Vec<Op, A>,
     budget: u32,
     depth: u16,
 }
@@ -83,6 +86,7 @@ struct Findings<A: Allocator> {
 /// What is to be known of code that is typed.
 fn find_out<A: Allocator + Copy>(alloc: A, code: &Code<A>) -> Result<Findings<A>, Fault>
     ensures typed { IfOk result (λ f. IsVerified code.now f.depths.items f.budget f.depth) }
+    ensures ops { IfOk result (λ f. AreOps code.now.instructions f.ops.items) }
     ensures fault { IfErr result (λ fault. (fault ≡ Memory) ⊎ IsFirstFault code.now fault) }
 {
     check_frames(code, code.frames())?;
@@ -91,8 +95,10 @@ fn find_out<A: Allocator + Copy>(alloc: A, code: &Code<A>) -> Result<Findings<A>
     }
     let walk = walk_through(alloc, code)?;
     let budget = longest(alloc, code)?;
+    let ops = prepared(alloc, code)?;
     Ok(Findings {
         depths: walk.depths,
+        ops,
         budget,
         depth: walk.depth,
     })
@@ -110,7 +116,7 @@ pub fn verify<A: Allocator + Copy>(
         × ((r.fault ≡ Memory) ⊎ IsFirstFault code r.fault)) }
 {
     match find_out(alloc, &code) {
-        Ok(found) => Ok(Verified::new(code, found.depths, found.budget, found.depth)),
+        Ok(found) => Ok(Verified::new(code, found.depths, found.ops, found.budget, found.depth)),
         Err(fault) => Err(Refused { value: code, fault }),
     }
 }

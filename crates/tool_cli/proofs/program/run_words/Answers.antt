@@ -1,4 +1,6 @@
+use denote.Param.Send.{sendable}
 use Rattle.std.proofs.Common.{map}
+use Rattle.part_send.proofs.SendLemmas.{hash_part_send}
 use Rattle.tool_cli.specs.Words.{asked}
 use Rattle.tool_cli.proofs.EndLemmas.{ends_asked, ends_command}
 use Rattle.tool_cli.proofs.program.run_words.Goals as goal
@@ -12,3 +14,6 @@ returns-in-Err g c =
 pub returns-in-Ok : goal.returns-in-Ok
 returns-in-Ok g c =
     ends_command (asked (map g.S.AsStr.text c.args.words.now)) c.in-Ok.request _ _ _ _ _ _ _ c.in-Ok.ensures c.run_request.ensures
+
+pub run_request-requires-send-P : goal.run_request-requires-send-P
+run_request-requires-send-P g c κs = search (sendable, hash_part_send) depth 40

@@ -1,4 +1,4 @@
-use Rattle.walk_plan.proofs.PlanLemmas.{plan_kept, planned_here}
+use Rattle.walk_plan.proofs.PlanLemmas.{plan_kept, planned_here, unplanned_elsewhere}
 use Rattle.walk_plan.proofs.query.Query.from_spec.Goals as goal
 
 pub invariant_of-result : goal.invariant_of-result
@@ -8,3 +8,7 @@ invariant_of-result g c =
 pub returns-clause-planned : goal.returns-clause-planned
 returns-clause-planned g c =
     λ ordered. planned_here c.args.keypos c.args.specification.now c.in_ok-code.named ordered c.in_ok-code.ensures.planned c.in_ok-code.ensures.keys c.in_ok-code.ensures.keypos
+
+pub returns-clause-elsewhere : goal.returns-clause-elsewhere
+returns-clause-elsewhere g c =
+    λ other ordered apart. unplanned_elsewhere c.args.keypos c.in_ok-code.named other ordered c.in_ok-code.ensures.keypos apart

@@ -1,0 +1,4 @@
+pub mod MembersLemmas
+pub mod AskingLemmas
+pub mod AnswersLemmas
+pub mod ScanLemmas
