@@ -4,6 +4,7 @@ use Rattle.term_core.specs.Datum.{Datum, items_of, entries_of, cells, IsNoList}
 use Rattle.term_core.specs.Datum.Items.{no_items}
 use Rattle.term_core.specs.Datum.Datum.{integer, atom, tuple, map, nil, binary}
 use Rattle.term_core.specs.Limits.{depth}
+use Rattle.term_core.specs.ShortRow.{row_items}
 use Rattle.term_core.specs.declared.term.Shape.{Shape}
 use Rattle.term_core.specs.declared.term.Shape.TheVariants as shape
 
@@ -24,6 +25,7 @@ datum_of (shape.TupleOfTwo d b) = tuple (items_of b.value)
 datum_of (shape.TupleOfThree d b) = tuple (items_of b.value)
 datum_of (shape.TupleOfFour d b) = tuple (items_of b.value)
 datum_of (shape.Tuple d b) = tuple (items_of b.value.items)
+datum_of (shape.ShortList d b) = cells (row_items b.value) nil
 datum_of (shape.List d b) = cells b.value.elements.items (tail_of b.value.tail)
 datum_of (shape.MapOfOne d b) = map (entries_of (b.value ∷ []))
 datum_of (shape.Map d b) = map (entries_of b.value.items)
@@ -52,6 +54,7 @@ IsKept (shape.TupleOfTwo d b) = d ≡ depth (tuple (items_of b.value))
 IsKept (shape.TupleOfThree d b) = d ≡ depth (tuple (items_of b.value))
 IsKept (shape.TupleOfFour d b) = d ≡ depth (tuple (items_of b.value))
 IsKept (shape.Tuple d b) = d ≡ depth (tuple (items_of b.value.items))
+IsKept (shape.ShortList d b) = IsList d (row_items b.value) None
 IsKept (shape.List d b) = IsList d b.value.elements.items b.value.tail
 IsKept (shape.MapOfOne d b) = d ≡ depth (map (entries_of (b.value ∷ [])))
 IsKept (shape.Map d b) = d ≡ depth (map (entries_of b.value.items))

@@ -5,7 +5,10 @@ use Rattle.std.specs.declared.alloc.Allocator as allocator
 use denote.Param.Weighed.{most}
 use Rattle.term_core.specs.declared.term.Shape.{Shape}
 use Rattle.term_core.specs.declared.term.Shape.TheVariants as shape
-use Rattle.term_core.specs.declared.term.Term.TheDeep.{deep-Shape, deep-Cells}
+use Rattle.term_core.specs.ShortRow.{row_items}
+use Rattle.term_core.specs.declared.term.short_row.ShortRow.{ShortRow}
+use Rattle.term_core.specs.declared.term.short_row.ShortRow.TheVariants as row
+use Rattle.term_core.specs.declared.term.Term.TheDeep.{deep-Shape, deep-Cells, deep-ShortRow}
 use Rattle.term_core.specs.Datum.{Datum, items_of, entries_of, cells, IsNoList}
 use Rattle.term_core.specs.Datum.Datum.{integer, atom, tuple, map, nil, cons, binary}
 use Rattle.term_core.specs.Limits.{depth, tail_depth, items_depth, entries_depth}
@@ -54,6 +57,12 @@ cells_fall : {A : Type 0} (G : allocator.Ghosts A) (elements : Vec Datum A) (t :
 cells_fall G elements None some tail = let e = list_falls elements.items None some tail in omega arith
 cells_fall G elements (Some d) some tail = let e = list_falls elements.items (Some d) some tail in omega arith
 
+row_falls : {A : Type 0} (G : allocator.Ghosts A) (r : ShortRow A) → deep-ShortRow A G r ≤ suc (items_depth (items_of (row_items r)))
+row_falls G (row.One ds) = let e = items_fall ds in omega arith
+row_falls G (row.Two ds) = let e = items_fall ds in omega arith
+row_falls G (row.Three ds) = let e = items_fall ds in omega arith
+row_falls G (row.Four ds) = let e = items_fall ds in omega arith
+
 -- no part is as deep as the term
 pub parts_fall : {A : Type 0} (G : allocator.Ghosts A) (s : Shape A) → IsKept s → max (deep-Shape A G s) 0 ≤ depth (datum_of s)
 parts_fall G (shape.Integer z) h = omega arith
@@ -66,6 +75,8 @@ parts_fall G (shape.TupleOfTwo d b) h = let e = items_fall b.value in omega arit
 parts_fall G (shape.TupleOfThree d b) h = let e = items_fall b.value in omega arith
 parts_fall G (shape.TupleOfFour d b) h = let e = items_fall b.value in omega arith
 parts_fall G (shape.Tuple d b) h = let e = items_fall b.value.items in omega arith
+parts_fall G (shape.ShortList d b) h =
+    let e = row_falls G b.value in omega (arith, depth-cells (row_items b.value) nil h.1)
 parts_fall G (shape.List d b) h = let e = cells_fall G b.value.elements b.value.tail h.1 h.2 in omega arith
 parts_fall G (shape.MapOfOne d b) h = omega arith
 parts_fall G (shape.Map d b) h = let e = entries_fall b.value.items in omega arith

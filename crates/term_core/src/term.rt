@@ -1,9 +1,11 @@
 //! The type of terms.
-ghost use Rattle.std.specs.Prelude.{◌≡◌, ◌<◌, ◌≤◌, ◌++◌, ◌∷◌, [], length, take, IfOk, IfErr, IfSome, OnOk};
+ghost use Rattle.std.specs.Prelude.{◌≡◌, ◌<◌, ◌≤◌, ◌++◌, ◌∷◌, [], None, Some, length, take, IfOk, IfErr, IfSome, IsSome, OnOk};
+ghost use Rattle.std.specs.Option.{option_copied};
 ghost use Rattle.term_core.specs.Datum.{items_of, cells as cells_of, cell_count};
 ghost use Rattle.term_core.specs.Datum.Datum.{atom, nil};
 ghost use Rattle.term_core.specs.Term.{tail_of, datum_of, IsTail, IsList, IsKept};
 ghost use Rattle.term_core.specs.ListParts.{HandsBack};
+ghost use Rattle.term_core.specs.ShortRow.{row_items};
 ghost use Rattle.term_core.specs.Fault.{IsFault, IsDepthOf};
 ghost use Rattle.term_core.specs.Limits.{IsTerm, IsSound, tail_depth, depth as depth_of, items_depth, AreSound, AreBytes, AreScalars};
 
@@ -34,8 +36,8 @@ const SHORT: usize = 3;
 const NONE: char = '\0';
 
 /// What a term is, each kind that holds terms with its depth. Copies share what they hold. A short atom stands here
-/// itself, so many of these characters, `{}` holds nothing, and the shortest tuples and maps may hold what is in them
-/// without a row.
+/// itself, so many of these characters, `{}` holds nothing, and the shortest tuples, lists and maps may hold what is in
+/// them without a row of their own.
 #[cycle(term)]
 #[derive(Drop)]
 enum Shape<A: Allocator> {
@@ -49,6 +51,7 @@ enum Shape<A: Allocator> {
     TupleOfThree(u8, Arc<[Term<A>; 3], A>),
     TupleOfFour(u8, Arc<[Term<A>; 4], A>),
     Tuple(u8, Arc<Vec<Term<A>, A>, A>),
+    ShortList(u8, Arc<ShortRow<A>, A>),
     List(u8, Arc<Cells<A>, A>),
     MapOfOne(u8, Arc<(Term<A>, Term<A>), A>),
     Map(u8, Arc<Vec<(Term<A>, Term<A>), A>, A>),
@@ -132,6 +135,7 @@ fn atom_of_three<A: Allocator>(count: u8, first: char, second: char, third: char
 fn short_atom<A: Allocator>(characters: &[char]) -> Option<Shape<A>>
     ensures value { IfSome result (λ s. datum_of s ≡ atom characters.now) }
     ensures kept { IfSome result (λ s. IsKept s) }
+    ensures some { (length characters.now ≤ 3) → IsSome result }
 {
     match characters {
         [] => Some(atom_of_three(0, NONE, NONE, NONE)),
@@ -171,6 +175,7 @@ fn levels_of_tail<A: Allocator>(tail: &Option<Term<A>>) -> u8
         return 1;
     };
     match &tail.shape {
+        Shape::ShortList(depth, _) => *depth - 1,
         Shape::List(depth, _) => *depth - 1,
         _ => tail.depth(),
     }
@@ -185,6 +190,7 @@ fn length_of_tail<A: Allocator>(tail: &Option<Term<A>>) -> usize
         return 0;
     };
     match &tail.shape {
+        Shape::ShortList(_, row) => row.as_slice().len(),
         Shape::List(_, cells) => cells.elements.len(),
         _ => 0,
     }
@@ -236,30 +242,54 @@ fn with_tail<A: Allocator>(
     }
 }
 
-/// Adds copies of a list's elements to others, and copies its tail. Those that were there stay where it is refused.
+/// Adds copies of some terms to others, and copies a tail. Those that were there stay where it is refused.
 fn append_copies<A: Allocator>(
     elements: &mut Vec<Term<A>, A>,
-    cells: &Cells<A>,
+    more: &[Term<A>],
+    tail: Option<&Term<A>>,
 ) -> Result<Option<Term<A>>, AllocError>
     ensures kept { take (length elements.old.items) elements.new.items ≡ elements.old.items }
-    ensures items { OnOk result (elements.new.items
-        ≡ elements.old.items ++ cells.now.elements.items) }
-    ensures tail { IfOk result (λ t. t ≡ cells.now.tail) }
+    ensures items { OnOk result (elements.new.items ≡ elements.old.items ++ more.now) }
+    ensures tail { IfOk result (λ t. t ≡ option_copied tail.entry) }
 {
-    for element in cells.elements.as_slice() {
+    for element in more {
         elements.push(element.copy()?)?;
     }
-    match &cells.tail {
+    match tail {
         None => Ok(None),
         Some(tail) => Ok(Some(tail.copy()?)),
     }
+}
+
+/// Some elements, and then copies of others and of a tail. The elements are handed back where it is refused.
+fn extended<'t, A: Allocator>(
+    alloc: A,
+    mut elements: Vec<Term<A>, A>,
+    more: &'t [Term<A>],
+    tail: Option<&'t Term<A>>,
+) -> Result<Arc<Cells<A>, A>, Vec<Term<A>, A>>
+    ensures elements { IfOk result (λ cells.
+        cells.value.elements.items ≡ elements.items ++ more.now) }
+    ensures tail { IfOk result (λ cells. cells.value.tail ≡ option_copied tail.entry) }
+    ensures refused { IfErr result (λ kept. kept.items ≡ elements.items) }
+{
+    let count = elements.len();
+    let mut elements = match append_copies(&mut elements, more, tail) {
+        Ok(tail) => match shared(alloc, Cells { elements, tail }) {
+            Ok(cells) => return Ok(cells),
+            Err(refused) => refused.value.elements,
+        },
+        Err(AllocError) => elements,
+    };
+    elements.truncate(count);
+    Err(elements)
 }
 
 /// The list of some elements and then those of another list that others hold as well, within its limits.
 fn prepended_to_shared<A: Allocator>(
     alloc: A,
     depth: u8,
-    mut elements: Vec<Term<A>, A>,
+    elements: Vec<Term<A>, A>,
     kept: u8,
     cells: Arc<Cells<A>, A>,
 ) -> Result<Term<A>, Refused<ListParts<A>>>
@@ -276,28 +306,61 @@ fn prepended_to_shared<A: Allocator>(
         (Some (cells_of cells.value.elements.items (tail_of cells.value.tail)))
         × (r.fault ≡ Fault.Memory)) }
 {
-    let count = elements.len();
-    let mut elements = match append_copies(&mut elements, &cells) {
-        Ok(tail) => match shared(alloc, Cells { elements, tail }) {
-            Ok(cells) => {
-                return Ok(Term {
-                    shape: Shape::List(depth, cells),
-                });
-            }
-            Err(refused) => refused.value.elements,
-        },
-        Err(AllocError) => elements,
-    };
-    elements.truncate(count);
-    Err(Refused {
-        value: ListParts {
-            elements,
-            tail: Some(Term {
-                shape: Shape::List(kept, cells),
-            }),
-        },
-        fault: Fault::Memory,
-    })
+    match extended(
+        alloc,
+        elements,
+        cells.elements.as_slice(),
+        cells.tail.as_ref(),
+    ) {
+        Ok(cells) => Ok(Term {
+            shape: Shape::List(depth, cells),
+        }),
+        Err(elements) => Err(Refused {
+            value: ListParts {
+                elements,
+                tail: Some(Term {
+                    shape: Shape::List(kept, cells),
+                }),
+            },
+            fault: Fault::Memory,
+        }),
+    }
+}
+
+/// The list of some elements and then those of a short list, within its limits.
+fn prepended_to_row<A: Allocator>(
+    alloc: A,
+    depth: u8,
+    elements: Vec<Term<A>, A>,
+    kept: u8,
+    row: Arc<ShortRow<A>, A>,
+) -> Result<Term<A>, Refused<ListParts<A>>>
+    requires some { 0 < length elements.items }
+    requires list { IsList kept (row_items row.value) None }
+    requires list_within { IsTerm (cells_of (row_items row.value) nil) }
+    requires within { IsTerm (cells_of elements.items (cells_of (row_items row.value) nil)) }
+    requires depth { depth ≡ depth_of (cells_of elements.items
+        (cells_of (row_items row.value) nil)) }
+    ensures ok { IfOk result (λ t. t ≡ cells_of elements.items
+        (cells_of (row_items row.value) nil)) }
+    ensures refused { IfErr result (λ r. HandsBack r.value elements.items
+        (Some (cells_of (row_items row.value) nil))
+        × (r.fault ≡ Fault.Memory)) }
+{
+    match extended(alloc, elements, row.as_slice(), None) {
+        Ok(cells) => Ok(Term {
+            shape: Shape::List(depth, cells),
+        }),
+        Err(elements) => Err(Refused {
+            value: ListParts {
+                elements,
+                tail: Some(Term {
+                    shape: Shape::ShortList(kept, row),
+                }),
+            },
+            fault: Fault::Memory,
+        }),
+    }
 }
 
 /// The list of some elements and then those of another list, within its limits.
@@ -361,6 +424,7 @@ fn joined<A: Allocator>(
 {
     match tail {
         Shape::Nil => with_nil(alloc, depth, elements),
+        Shape::ShortList(kept, row) => prepended_to_row(alloc, depth, elements, kept, row),
         Shape::List(kept, cells) => prepended(alloc, depth, elements, kept, cells),
         shape => with_tail(alloc, depth, elements, Some(Term { shape })),
     }
@@ -413,7 +477,7 @@ fn with_nil<A: Allocator>(
 }
 
 impl<A: Allocator> Term<A> {
-    ghost use Rattle.std.specs.Prelude.{◌≡◌, ◌∷◌, [], IfOk, IfErr};
+    ghost use Rattle.std.specs.Prelude.{◌≡◌, ◌≤◌, ◌∷◌, [], length, IfOk, IfErr, IfSome, IsSome};
     ghost use Rattle.std.specs.Option.{option_copied};
     ghost use Rattle.term_core.specs.Datum.{items_of, cells as cells_of, proper_elements};
     ghost use Rattle.term_core.specs.Term.{tail_of};
@@ -437,6 +501,20 @@ impl<A: Allocator> Term<A> {
         ensures { result ≡ nil }
     {
         Term { shape: Shape::Nil }
+    }
+
+    /// The atom of these characters where they are at most three: such an atom takes no memory.
+    #[inline(always)]
+    pub fn short_atom(characters: &[char]) -> Option<Self>
+        ensures value { IfSome result (λ t. t ≡ atom characters.now) }
+        ensures some { (length characters.now ≤ 3) → IsSome result }
+    {
+        if character_count(characters) > SHORT {
+            return None;
+        }
+        Some(Term {
+            shape: short_atom(characters)?,
+        })
     }
 
     /// The atom of these characters. More than `MAX_CHARACTERS` are refused.
@@ -544,7 +622,7 @@ impl<A: Allocator> Term<A> {
             Shape::Unit | Shape::Binary(_) => 1,
             Shape::TupleOfOne(depth, _) | Shape::TupleOfTwo(depth, _) => *depth,
             Shape::TupleOfThree(depth, _) | Shape::TupleOfFour(depth, _) => *depth,
-            Shape::MapOfOne(depth, _) => *depth,
+            Shape::ShortList(depth, _) | Shape::MapOfOne(depth, _) => *depth,
             Shape::Tuple(depth, _) | Shape::List(depth, _) | Shape::Map(depth, _) => *depth,
         }
     }
@@ -567,6 +645,7 @@ impl<A: Allocator> Term<A> {
             Shape::TupleOfThree(_, elements) => View::Tuple(&elements[..]),
             Shape::TupleOfFour(_, elements) => View::Tuple(&elements[..]),
             Shape::Tuple(_, elements) => View::Tuple(elements.as_slice()),
+            Shape::ShortList(_, row) => View::List(row.as_slice(), None),
             Shape::List(_, cells) => View::List(cells.elements.as_slice(), cells.tail.as_ref()),
             Shape::MapOfOne(_, pair) => View::Map(slice::from_ref(&**pair)),
             Shape::Map(_, pairs) => View::Map(pairs.as_slice()),

@@ -77,8 +77,8 @@ fn a_copy_takes_no_memory(rt: HostRuntime) {
 }
 
 /// How many requests for memory were made in all once there was a tuple of one element, one of two as well, of three,
-/// of four, and a map of one pair.
-fn requests_of_the_shortest(alloc: Global) -> Option<[u64; 5]> {
+/// of four, a map of one pair, and a list of four.
+fn requests_of_the_shortest(alloc: Global) -> Option<[u64; 6]> {
     let counting = Failing::counting(alloc);
     let one = ShortRow::One([Term::int(1)]);
     let _one = Term::short_tuple(&counting, one).ok()?;
@@ -93,16 +93,23 @@ fn requests_of_the_shortest(alloc: Global) -> Option<[u64; 5]> {
     let _four = Term::short_tuple(&counting, four).ok()?;
     let with_four = counting.requests();
     let _map = Term::map_of_one(&counting, Term::int(1), Term::int(2)).ok()?;
+    let with_map = counting.requests();
+    let elements = ShortRow::Four([Term::int(1), Term::int(2), Term::int(3), Term::int(4)]);
+    let _list = Term::short_list(&counting, elements).ok()?;
     Some([
         with_one,
         with_two,
         with_three,
         with_four,
+        with_map,
         counting.requests(),
     ])
 }
 
 #[test]
-fn the_shortest_tuples_and_maps_take_one_block(rt: HostRuntime) {
-    assert_eq!(rt; requests_of_the_shortest(rt.alloc()), Some([1, 2, 3, 4, 5]));
+fn the_shortest_tuples_lists_and_maps_take_one_block(rt: HostRuntime) {
+    assert_eq!(rt;
+        requests_of_the_shortest(rt.alloc()),
+        Some([1, 2, 3, 4, 5, 6])
+    );
 }

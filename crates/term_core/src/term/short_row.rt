@@ -1,18 +1,19 @@
-//! One to four terms in a row, and the tuple of them.
+//! One to four terms in a row, and the tuple and the list of them.
 ghost use Rattle.std.specs.Prelude.{◌≡◌, ◌<◌, ◌≤◌, ◌++◌, ◌∷◌, [], length, IfOk, IfErr};
-ghost use Rattle.term_core.specs.Datum.{items_of};
-ghost use Rattle.term_core.specs.Datum.Datum.{tuple};
+ghost use Rattle.term_core.specs.Datum.{cells, items_of};
+ghost use Rattle.term_core.specs.Datum.Datum.{nil, tuple};
 ghost use Rattle.term_core.specs.Fault.{IsFault};
 ghost use Rattle.term_core.specs.Limits.{depth as depth_of};
 ghost use Rattle.term_core.specs.ShortRow.{row_items};
 ghost use Rattle.term_core.specs.Term.{datum_of, IsKept};
 
-use super::{Shape, Term, deepest, shared};
+use super::{Shape, Term, deepest, list_depth, shared};
 use crate::MAX_DEPTH;
 use crate::fault::{Fault, Refused};
 use std::alloc::{Allocator, Global};
 
-/// One to four terms in a row: what the shortest tuples are made of, in the least memory.
+/// One to four terms in a row: what the shortest tuples and lists are made of, in the least memory.
+#[cycle(term)]
 #[derive(Drop)]
 pub enum ShortRow<A: Allocator = Global> {
     /// One term.
@@ -29,6 +30,7 @@ impl<A: Allocator> ShortRow<A> {
     /// The terms, from the left.
     pub fn as_slice(&self) -> &[Term<A>]
         ensures terms { result.now ≡ row_items self.now }
+        ensures some { 0 < length result.now }
         ensures few { length result.now ≤ 4 }
     {
         match self {
@@ -113,5 +115,26 @@ impl<A: Allocator> Term<A> {
         }
         let shape = short_shape(alloc, deepest + 1, elements)?;
         Ok(Term { shape })
+    }
+
+    /// The list of one to four elements, in the least memory: it asks for memory once. A list deeper than `MAX_DEPTH` is
+    /// refused.
+    pub fn short_list(alloc: A, elements: ShortRow<A>) -> Result<Self, Refused<ShortRow<A>>>
+        ensures ok { IfOk result (λ t. t ≡ cells (row_items elements) nil) }
+        ensures refused { IfErr result (λ r. (r.value ≡ elements)
+            × IsFault r.fault (cells (row_items elements) nil)) }
+    {
+        match list_depth(elements.as_slice(), &None) {
+            Ok(depth) => {
+                let row = shared(alloc, elements)?;
+                Ok(Term {
+                    shape: Shape::ShortList(depth, row),
+                })
+            }
+            Err(fault) => Err(Refused {
+                value: elements,
+                fault,
+            }),
+        }
     }
 }

@@ -4,4 +4,4 @@ use Rattle.term_core.proofs.term.append_copies.Given as goal
 
 abbrev pub invariant-loop-element : goal.invariant-loop-element
 invariant-loop-element g l =
-    l.elements.items ≡ l.initial.elements.items ++ take l.element-index l.element-items
+    l.elements.items ≡ l.initial.elements.items ++ take l.element-index l.more

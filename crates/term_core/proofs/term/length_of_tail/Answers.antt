@@ -1,13 +1,24 @@
-use Rattle.std.proofs.Common.{arith}
+use Rattle.std.proofs.Common.{None, length, ap, ◌∙◌, arith}
+use Rattle.term_core.specs.ShortRow.{row_items}
 use Rattle.term_core.proofs.LimitLemmas.{list-length, cell_count-sound}
 use Rattle.term_core.proofs.term.length_of_tail.Goals as goal
+
+pub returns-in-ShortList-clause-value : goal.returns-in-ShortList-clause-value
+returns-in-ShortList-clause-value g c =
+    let kept = rw c.in-ShortList.is at c.tail.invariant.1 in
+    let seen = rw c.in-ShortList.is at c.tail.view_is in
+    let some = c.in-Some.is in
+    let held = c.deref.ensures in
+    let terms = rw held at c.as_slice.ensures.terms in
+    let count = list-length (row_items c.in-ShortList.row.value) None kept.2 in
+    rw (some, ← seen) (ap length terms ∙ count)
 
 pub returns-in-List-clause-value : goal.returns-in-List-clause-value
 returns-in-List-clause-value g c =
     let kept = rw c.in-List.is at c.tail.invariant.1 in
     let seen = rw c.in-List.is at c.tail.view_is in
     let some = c.in-Some.is in
-    let held = c.deref.ensures in
+    let held = c.deref-in-List.ensures in
     let count = list-length c.in-List.cells.value.elements.items c.in-List.cells.value.tail kept.2 in
     let len = rw held at c.len.ensures in
     rw (some, ← seen) (omega (arith, c.in-List.cells.value.elements.ok))
@@ -16,7 +27,7 @@ pub returns-in-List-clause-within : goal.returns-in-List-clause-within
 returns-in-List-clause-within g c =
     let kept = rw c.in-List.is at c.tail.invariant.1 in
     let sound = rw c.in-List.is at c.tail.invariant.0.sound in
-    let held = c.deref.ensures in
+    let held = c.deref-in-List.ensures in
     let count = list-length c.in-List.cells.value.elements.items c.in-List.cells.value.tail kept.2 in
     let len = rw held at c.len.ensures in
     let bound = cell_count-sound _ sound in omega (arith, c.in-List.cells.value.elements.ok)

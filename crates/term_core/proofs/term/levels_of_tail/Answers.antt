@@ -1,9 +1,22 @@
-use Rattle.std.proofs.Common.{arith}
+use Rattle.std.proofs.Common.{None, arith}
+use Rattle.term_core.specs.ShortRow.{row_items}
 use Rattle.term_core.proofs.LimitLemmas.{list-levels}
 use Rattle.term_core.proofs.term.levels_of_tail.Goals as goal
 
 pub overflow_sub-result : goal.overflow_sub-result
 overflow_sub-result g c =
+    let kept = rw c.in-ShortList.is at c.tail.invariant.1 in omega (arith, list-levels c.in-ShortList.depth (row_items c.in-ShortList.field-1.value) None kept)
+
+pub returns-in-ShortList-clause-value : goal.returns-in-ShortList-clause-value
+returns-in-ShortList-clause-value g c =
+    let kept = rw c.in-ShortList.is at c.tail.invariant.1 in
+    let seen = rw c.in-ShortList.is at c.tail.view_is in
+    let some = c.in-Some.is in
+    let levels = list-levels c.in-ShortList.depth (row_items c.in-ShortList.field-1.value) None kept in
+    rw (some, ← seen) (omega arith)
+
+pub overflow_sub-result-in-List : goal.overflow_sub-result-in-List
+overflow_sub-result-in-List g c =
     let kept = rw c.in-List.is at c.tail.invariant.1 in omega (arith, list-levels c.in-List.depth c.in-List.field-1.value.elements.items c.in-List.field-1.value.tail kept)
 
 pub returns-in-List-clause-value : goal.returns-in-List-clause-value

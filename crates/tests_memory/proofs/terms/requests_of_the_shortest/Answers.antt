@@ -6,3 +6,6 @@ short_tuple-requires-3 c = omega arith
 
 pub short_tuple-requires-4 : goal.short_tuple-requires-4
 short_tuple-requires-4 c = omega arith
+
+pub short_list-requires : goal.short_list-requires
+short_list-requires c = omega arith

@@ -22,3 +22,6 @@ shared_whole_as_slice-result-in-TupleOfThree g c = omega arith
 
 pub shared_whole_as_slice-result-in-TupleOfFour : goal.shared_whole_as_slice-result-in-TupleOfFour
 shared_whole_as_slice-result-in-TupleOfFour g c = omega arith
+
+pub as_slice-requires-in-ShortList : goal.as_slice-requires-in-ShortList
+as_slice-requires-in-ShortList g c = omega arith
