@@ -8,38 +8,33 @@ use term_core::Term;
 use term_operand::{Operand, Value};
 use test_rows::{Outcome, elements, primitive, tagged, word};
 
-const fn is_borrowed(value: &Value<'_, '_>) -> bool {
+const fn is_borrowed(value: &Value<'_>) -> bool {
     !matches!(value, Value::Made(_))
 }
 
 /// An operand as a value, as it stands or as a copy that was made.
-fn value<'a, 'h>(heap: &'h Global, operand: Operand<'a>, is_made: bool) -> Option<Value<'a, 'h>> {
+fn value<'a>(alloc: Global, operand: Operand<'a>, is_made: bool) -> Option<Value<'a>> {
     if is_made {
-        Value::made(heap, operand.to_term(*heap).ok()?).ok()
+        Some(Value::Made(operand.to_term(alloc).ok()?))
     } else {
         Some(Value::new(operand))
     }
 }
 
 /// These operands as values, of which the last may be made.
-fn values<'a, 'h>(
-    heap: &'h Global,
-    operands: &[Operand<'a>],
-    is_made: bool,
-) -> Option<Vec<Value<'a, 'h>>> {
+fn values<'a>(alloc: Global, operands: &[Operand<'a>], is_made: bool) -> Option<Vec<Value<'a>>> {
     let (last, before) = operands.split_last()?;
-    let mut values = Vec::new(*heap);
+    let mut values = Vec::new(alloc);
     for operand in before {
         values.push(Value::new(*operand)).ok()?;
     }
-    values.push(value(heap, *last, is_made)?).ok()?;
+    values.push(value(alloc, *last, is_made)?).ok()?;
     Some(values)
 }
 
 /// What a call over values gives.
-fn given<'h>(heap: &'h Global, function: Primitive, values: &[Value<'_, 'h>]) -> Option<Vec<u8>> {
-    let alloc = *heap;
-    let Some(value) = call_values(heap, function, values).ok()? else {
+fn given(alloc: Global, function: Primitive, values: &[Value<'_>]) -> Option<Vec<u8>> {
+    let Some(value) = call_values(&alloc, function, values).ok()? else {
         return word(alloc, "fails");
     };
     let tag = match (is_in_form(function, value.operand()), is_borrowed(&value)) {
@@ -55,33 +50,30 @@ fn called(alloc: Global, name: &Term, list: &Term, forms: usize, is_made: bool) 
     let terms = elements(list)?;
     let function = primitive(name, terms.len())?;
     let operands = operands(alloc, terms, forms)?;
-    let heap = &alloc;
-    let values = values(heap, operands.as_slice(), is_made)?;
-    given(heap, function, values.as_slice())
+    let values = values(alloc, operands.as_slice(), is_made)?;
+    given(alloc, function, values.as_slice())
 }
 
 /// Whether a copy of a value is borrowed where it is.
-fn is_copied_in_form<'h>(heap: &'h Global, value: &Value<'_, 'h>) -> Option<bool> {
-    let copy = value.copy(heap).ok()?;
+fn is_copied_in_form(value: &Value<'_>) -> Option<bool> {
+    let copy = value.copy().ok()?;
     Some(is_borrowed(&copy) == is_borrowed(value))
 }
 
 /// The term, the truth value and the number that the copies of a value are, which are borrowed where it is.
-fn copies<'h>(heap: &'h Global, value: &Value<'_, 'h>) -> Option<Vec<u8>> {
-    let alloc = *heap;
-    if !is_copied_in_form(heap, value)? {
+fn copies(alloc: Global, value: &Value<'_>) -> Option<Vec<u8>> {
+    if !is_copied_in_form(value)? {
         return word(alloc, "in_another_form");
     }
-    let truth = value.copy(heap).ok()?.boolean();
-    let number = value.copy(heap).ok()?.integer();
-    let term = value.copy(heap).ok()?.into_term(alloc).ok()?;
+    let truth = value.copy().ok()?.boolean();
+    let number = value.copy().ok()?.integer();
+    let term = value.copy().ok()?.into_term(alloc).ok()?;
     with_values(Outcome::tuple(alloc).term(&term), truth, number).end()
 }
 
 /// What the copies of the value are that an operand is, which may be made.
 fn copied(alloc: Global, operand: Operand<'_>, is_made: bool) -> Option<Vec<u8>> {
-    let heap = &alloc;
-    copies(heap, &value(heap, operand, is_made)?)
+    copies(alloc, &value(alloc, operand, is_made)?)
 }
 
 /// What comes of a row of values.

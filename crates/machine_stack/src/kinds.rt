@@ -23,7 +23,7 @@ fn is_tuple<A: Allocator>(size: u16, operand: Operand<'_, A>) -> bool
 
 /// Whether a value is of a kind.
 #[inline(always)]
-pub fn holds<A: Allocator>(kind: Kind, value: &Value<'_, '_, A>) -> bool
+pub fn holds<A: Allocator>(kind: Kind, value: &Value<'_, A>) -> bool
     ensures { result ≡ holds_for kind (value_datum value.now) }
 {
     match kind {

@@ -17,33 +17,29 @@ use term_core::Term;
 use term_operand::Value;
 
 /// What was made, where it passes no limit.
-#[inline(never)]
-pub fn made_value<'a, 'h, A: Allocator + Copy>(
-    heap: &'h A,
-    term: Option<Term<A>>,
-) -> Result<Option<Value<'a, 'h, A>>, AllocError>
-    ensures { IfOk result (λ place. option_map value_datum place ≡ term) }
+pub fn made_value<'a, A: Allocator>(term: Option<Term<A>>) -> Option<Value<'a, A>>
+    ensures { option_map value_datum result ≡ term }
 {
     match term {
-        Some(term) => Ok(Some(Value::made(heap, term)?)),
-        None => Ok(None),
+        Some(term) => Some(Value::Made(term)),
+        None => None,
     }
 }
 
 /// The list of a head and a tail, none where it passes a limit.
 #[inline(never)]
-pub fn list_of<'a, 'h, A: Allocator + Copy>(
-    heap: &'h A,
-    head: Value<'a, 'h, A>,
-    tail: Value<'a, 'h, A>,
-) -> Result<Option<Value<'a, 'h, A>>, AllocError>
+pub fn list_of<'a, A: Allocator + Copy>(
+    alloc: A,
+    head: Value<'a, A>,
+    tail: Value<'a, A>,
+) -> Result<Option<Value<'a, A>>, AllocError>
     ensures { IfOk result (λ list. option_map value_datum list
         ≡ within_limits (cons (value_datum head.entry) (value_datum tail.entry))) }
 {
-    let alloc = *heap;
     let mut elements = Vec::with_capacity(alloc, 1)?;
     elements.push(head.into_term(alloc)?)?;
-    made_value(heap, make_list(alloc, elements, tail.into_term(alloc)?)?)
+    let list = make_list(alloc, elements, tail.into_term(alloc)?)?;
+    Ok(made_value(list))
 }
 
 /// The elements of a proper list.
@@ -96,17 +92,17 @@ fn pairs_of<A: Allocator + Copy>(
 
 /// The map of these keys, of which no two are the same, and as many values; none where it passes a limit.
 #[inline(never)]
-pub fn map_of<'a, 'h, A: Allocator + Copy>(
-    heap: &'h A,
+pub fn map_of<'a, A: Allocator + Copy>(
+    alloc: A,
     keys: Vec<Term<A>, A>,
     values: Vec<Term<A>, A>,
-) -> Result<Option<Value<'a, 'h, A>>, AllocError>
+) -> Result<Option<Value<'a, A>>, AllocError>
     requires apart { IsTrue (are_apart keys.items) }
     requires count { length keys.items ≡ length values.items }
     ensures { IfOk result (λ map. option_map value_datum map
         ≡ map_made keys.items values.items) }
 {
-    let alloc = *heap;
     let pairs = pairs_of(alloc, keys, values)?;
-    made_value(heap, make_map(alloc, pairs)?)
+    let map = make_map(alloc, pairs)?;
+    Ok(made_value(map))
 }

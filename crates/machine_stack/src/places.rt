@@ -15,7 +15,7 @@ pub const INLINE_SLOTS: usize = 8;
 /// whether none of these was made.
 #[derive(Drop)]
 pub struct Places<'a, 'h, const N: usize, A: Allocator> {
-    places: SmallVec<Value<'a, 'h, A>, N, &'h A>,
+    places: SmallVec<Value<'a, A>, N, &'h A>,
 }
 
 impl<'a, 'h, const N: usize, A: Allocator> Model for Places<'a, 'h, N, A> {
@@ -87,7 +87,7 @@ impl<'a, 'h, const N: usize, A: Allocator + Copy> Places<'a, 'h, N, A> {
 
     /// What all places hold.
     #[inline(always)]
-    pub fn as_slice(&self) -> &[Value<'a, 'h, A>]
+    pub fn as_slice(&self) -> &[Value<'a, A>]
         ensures terms { map value_datum result.now ≡ self.now.terms }
         ensures borrowed { all is_borrowed result.now ≡ self.now.borrowed }
     {
@@ -96,7 +96,7 @@ impl<'a, 'h, const N: usize, A: Allocator + Copy> Places<'a, 'h, N, A> {
 
     /// What a place holds.
     #[inline(always)]
-    pub fn get(&self, index: usize) -> &Value<'a, 'h, A>
+    pub fn get(&self, index: usize) -> &Value<'a, A>
         requires { index < length self.now.terms }
         ensures value { slice_get self.now.terms index ≡ Some (value_datum result.now) }
         ensures borrowed { IsTrue self.now.borrowed → IsTrue (is_borrowed result.now) }
@@ -106,7 +106,7 @@ impl<'a, 'h, const N: usize, A: Allocator + Copy> Places<'a, 'h, N, A> {
 
     /// Puts a value in a place, where the one before goes.
     #[inline(always)]
-    pub fn put(&mut self, index: usize, place: Value<'a, 'h, A>)
+    pub fn put(&mut self, index: usize, place: Value<'a, A>)
         requires { index < length self.old.terms }
         ensures terms { self.new.terms ≡ set self.old.terms index (value_datum place.entry) }
         ensures few { length self.new.terms < 65536 }
@@ -121,7 +121,7 @@ impl<'a, 'h, const N: usize, A: Allocator + Copy> Places<'a, 'h, N, A> {
 
     /// Takes the value of a place, which holds `false` then.
     #[inline(always)]
-    pub fn take(&mut self, index: usize) -> Value<'a, 'h, A>
+    pub fn take(&mut self, index: usize) -> Value<'a, A>
         requires { index < length self.old.terms }
         ensures value { slice_get self.old.terms index ≡ Some (value_datum result) }
         ensures terms { self.new.terms ≡ set self.old.terms index (boolean false) }

@@ -49,7 +49,7 @@ impl<'a, 'h, const N: usize, A: Allocator + Copy> Places<'a, 'h, N, A> {
 
     /// Puts a value on top of so many places, and goes on.
     #[inline(always)]
-    pub fn push(&mut self, height: u16, place: Value<'a, 'h, A>) -> Flow
+    pub fn push(&mut self, height: u16, place: Value<'a, A>) -> Flow
         requires { height < length self.old.terms }
         ensures flow { Leads result self.new.terms (λ p pc slots.
             next pc (value_datum place.entry ∷ stack_at self.old.terms height) slots) }
@@ -64,12 +64,7 @@ impl<'a, 'h, const N: usize, A: Allocator + Copy> Places<'a, 'h, N, A> {
 
     /// Puts a value on top of so many places and goes on where there is one, else jumps.
     #[inline(always)]
-    pub fn push_or_jump(
-        &mut self,
-        height: u16,
-        place: Option<Value<'a, 'h, A>>,
-        otherwise: u16,
-    ) -> Flow
+    pub fn push_or_jump(&mut self, height: u16, place: Option<Value<'a, A>>, otherwise: u16) -> Flow
         requires { height < length self.old.terms }
         ensures flow { Leads result self.new.terms (λ p pc slots.
             push_or_jump p pc otherwise (stack_at self.old.terms height) slots
@@ -87,7 +82,7 @@ impl<'a, 'h, const N: usize, A: Allocator + Copy> Places<'a, 'h, N, A> {
 
     /// The top of so many places.
     #[inline(always)]
-    pub fn top(&self, height: u16) -> &Value<'a, 'h, A>
+    pub fn top(&self, height: u16) -> &Value<'a, A>
         requires some { 0 < height }
         requires within { height ≤ length self.now.terms }
         ensures terms { stack_at self.now.terms height
@@ -99,7 +94,7 @@ impl<'a, 'h, const N: usize, A: Allocator + Copy> Places<'a, 'h, N, A> {
 
     /// Takes the top of so many places.
     #[inline(always)]
-    pub fn pop(&mut self, height: u16) -> Value<'a, 'h, A>
+    pub fn pop(&mut self, height: u16) -> Value<'a, A>
         requires some { 0 < height }
         requires within { height ≤ length self.old.terms }
         ensures terms { stack_at self.old.terms height
@@ -113,7 +108,7 @@ impl<'a, 'h, const N: usize, A: Allocator + Copy> Places<'a, 'h, N, A> {
 
     /// So many places at the top of so many, from the lowest.
     #[inline(always)]
-    fn top_places(&self, height: u16, count: u16) -> &[Value<'a, 'h, A>]
+    fn top_places(&self, height: u16, count: u16) -> &[Value<'a, A>]
         requires deep { count ≤ height }
         requires within { height ≤ length self.now.terms }
         ensures terms { map value_datum result.now
@@ -137,7 +132,7 @@ impl<'a, 'h, const N: usize, A: Allocator + Copy> Places<'a, 'h, N, A> {
         ensures count { length self.new.terms ≡ length self.old.terms }
         ensures memory { IsTrue self.old.borrowed → IsOk result × IsTrue self.new.borrowed }
     {
-        let top = self.top(height).copy(self.heap())?;
+        let top = self.top(height).copy()?;
         Ok(self.push(height, top))
     }
 
@@ -169,7 +164,7 @@ impl<'a, 'h, const N: usize, A: Allocator + Copy> Places<'a, 'h, N, A> {
         ensures count { length self.new.terms ≡ length self.old.terms }
         ensures memory { IsTrue self.old.borrowed → IsOk result × IsTrue self.new.borrowed }
     {
-        let element = field(self.heap(), self.top(height), index)?;
+        let element = field(self.top(height), index)?;
         Ok(self.push(height - 1, element))
     }
 
@@ -188,7 +183,7 @@ impl<'a, 'h, const N: usize, A: Allocator + Copy> Places<'a, 'h, N, A> {
         ensures count { length self.new.terms ≡ length self.old.terms }
         ensures memory { IsTrue self.old.borrowed → IsOk result × IsTrue self.new.borrowed }
     {
-        let head = head(self.heap(), self.top(height))?;
+        let head = head(self.top(height))?;
         Ok(self.push(height - 1, head))
     }
 
@@ -207,7 +202,7 @@ impl<'a, 'h, const N: usize, A: Allocator + Copy> Places<'a, 'h, N, A> {
         ensures count { length self.new.terms ≡ length self.old.terms }
         ensures memory { IsTrue self.old.borrowed → IsOk result × IsTrue self.new.borrowed }
     {
-        let tail = tail(self.heap(), self.top(height))?;
+        let tail = tail(*self.heap(), self.top(height))?;
         Ok(self.push(height - 1, tail))
     }
 
@@ -233,7 +228,7 @@ impl<'a, 'h, const N: usize, A: Allocator + Copy> Places<'a, 'h, N, A> {
         ensures memory { IsTrue self.old.borrowed → IsOk result × IsTrue self.new.borrowed }
     {
         let key = &code.constants()[usize::from(key)];
-        let value = value_of(self.heap(), self.top(height), key)?;
+        let value = value_of(self.top(height), key)?;
         Ok(self.push_or_jump(height - 1, value, otherwise))
     }
 
@@ -301,7 +296,7 @@ impl<'a, 'h, const N: usize, A: Allocator + Copy> Places<'a, 'h, N, A> {
         height: u16,
         function: Primitive,
         count: u16,
-    ) -> Result<Option<Value<'a, 'h, A>>, AllocError>
+    ) -> Result<Option<Value<'a, A>>, AllocError>
         requires deep { count ≤ height }
         requires within { height ≤ length self.now.terms }
         ensures value { IfOk result (λ value. option_map value_datum value
@@ -310,8 +305,8 @@ impl<'a, 'h, const N: usize, A: Allocator + Copy> Places<'a, 'h, N, A> {
             → IsOkAnd result (λ value. IfSome value (λ place. IsTrue (is_borrowed place))) }
     {
         match self.top_places(height, count) {
-            [one] => call_one(self.heap(), function, one),
-            [left, right] => call_two(self.heap(), function, left, right),
+            [one] => call_one(*self.heap(), function, one),
+            [left, right] => call_two(*self.heap(), function, left, right),
             values => call_values(self.heap(), function, values),
         }
     }
@@ -377,7 +372,7 @@ impl<'a, 'h, const N: usize, A: Allocator + Copy> Places<'a, 'h, N, A> {
         ensures count { length self.new.terms ≡ length self.old.terms }
     {
         let elements = self.take_terms(height, size)?;
-        let tuple = made_value(self.heap(), make_tuple(*self.heap(), elements)?)?;
+        let tuple = made_value(make_tuple(*self.heap(), elements)?);
         Ok(self.push_or_jump(height - size, tuple, otherwise))
     }
 
@@ -394,7 +389,7 @@ impl<'a, 'h, const N: usize, A: Allocator + Copy> Places<'a, 'h, N, A> {
     {
         let tail = self.pop(height);
         let head = self.pop(height - 1);
-        let list = list_of(self.heap(), head, tail)?;
+        let list = list_of(*self.heap(), head, tail)?;
         Ok(self.push_or_jump(height - 2, list, otherwise))
     }
 
@@ -421,7 +416,7 @@ impl<'a, 'h, const N: usize, A: Allocator + Copy> Places<'a, 'h, N, A> {
         let keys = keys_of(*self.heap(), code, keys)?;
         let count = keys.len() as u16;
         let values = self.take_terms(height, count)?;
-        let map = map_of(self.heap(), keys, values)?;
+        let map = map_of(*self.heap(), keys, values)?;
         Ok(self.push_or_jump(height - count, map, otherwise))
     }
 }

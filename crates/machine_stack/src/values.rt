@@ -30,11 +30,10 @@ fn element<'a, A: Allocator>(tuple: Operand<'a, A>, index: u16) -> &'a Term<A>
 
 /// The element of a tuple at a place that is counted from 1.
 #[inline(always)]
-pub fn field<'a, 'h, A: Allocator + Copy>(
-    heap: &'h A,
-    tuple: &Value<'a, 'h, A>,
+pub fn field<'a, A: Allocator + Copy>(
+    tuple: &Value<'a, A>,
     index: u16,
-) -> Result<Value<'a, 'h, A>, AllocError>
+) -> Result<Value<'a, A>, AllocError>
     requires { IsSome (field_of index (value_datum tuple.now)) }
     ensures value { IfOk result (λ value. field_of index (value_datum tuple.now)
         ≡ Some (value_datum value)) }
@@ -45,17 +44,14 @@ pub fn field<'a, 'h, A: Allocator + Copy>(
         Some(tuple) => Ok(Value::Term(element(tuple, index))),
         None => {
             let element = element(tuple.operand(), index).copy()?;
-            Ok(Value::Made(Box::new(heap, element)?))
+            Ok(Value::Made(element))
         }
     }
 }
 
 /// The first element of a list that has one.
 #[inline(never)]
-pub fn head<'a, 'h, A: Allocator + Copy>(
-    heap: &'h A,
-    list: &Value<'a, 'h, A>,
-) -> Result<Value<'a, 'h, A>, AllocError>
+pub fn head<'a, A: Allocator + Copy>(list: &Value<'a, A>) -> Result<Value<'a, A>, AllocError>
     requires { IsSome (head_of (value_datum list.now)) }
     ensures value { IfOk result (λ value. head_of (value_datum list.now)
         ≡ Some (value_datum value)) }
@@ -68,7 +64,7 @@ pub fn head<'a, 'h, A: Allocator + Copy>(
             None => unreachable!(),
         },
         None => match list.operand().split() {
-            Some((head, _)) => Ok(Value::Made(Box::new(heap, head.copy()?)?)),
+            Some((head, _)) => Ok(Value::Made(head.copy()?)),
             None => unreachable!(),
         },
     }
@@ -76,10 +72,10 @@ pub fn head<'a, 'h, A: Allocator + Copy>(
 
 /// What follows the first element of a list that has one.
 #[inline(never)]
-pub fn tail<'a, 'h, A: Allocator + Copy>(
-    heap: &'h A,
-    list: &Value<'a, 'h, A>,
-) -> Result<Value<'a, 'h, A>, AllocError>
+pub fn tail<'a, A: Allocator + Copy>(
+    alloc: A,
+    list: &Value<'a, A>,
+) -> Result<Value<'a, A>, AllocError>
     requires { IsSome (tail_behind (value_datum list.now)) }
     ensures value { IfOk result (λ value. tail_behind (value_datum list.now)
         ≡ Some (value_datum value)) }
@@ -92,7 +88,7 @@ pub fn tail<'a, 'h, A: Allocator + Copy>(
             None => unreachable!(),
         },
         None => match list.operand().split() {
-            Some((_, rest)) => Value::kept(heap, rest),
+            Some((_, rest)) => Value::kept(alloc, rest),
             None => unreachable!(),
         },
     }
@@ -100,11 +96,10 @@ pub fn tail<'a, 'h, A: Allocator + Copy>(
 
 /// The value of a key in a map, none where the map has no such key.
 #[inline(never)]
-pub fn value_of<'a, 'h, A: Allocator + Copy>(
-    heap: &'h A,
-    map: &Value<'a, 'h, A>,
+pub fn value_of<'a, A: Allocator + Copy>(
+    map: &Value<'a, A>,
     key: &'a Term<A>,
-) -> Result<Option<Value<'a, 'h, A>>, AllocError>
+) -> Result<Option<Value<'a, A>>, AllocError>
     ensures value { IfOk result (λ value. option_map value_datum value
         ≡ map_get_of key.now (value_datum map.now)) }
     ensures memory { IsTrue (is_borrowed map.now)
@@ -117,7 +112,7 @@ pub fn value_of<'a, 'h, A: Allocator + Copy>(
             None => Ok(None),
         },
         None => match map_get(key, map.operand()) {
-            Some(value) => Ok(Some(Value::Made(Box::new(heap, value.copy()?)?))),
+            Some(value) => Ok(Some(Value::Made(value.copy()?))),
             None => Ok(None),
         },
     }
@@ -125,7 +120,7 @@ pub fn value_of<'a, 'h, A: Allocator + Copy>(
 
 /// Whether two values are the same term.
 #[inline(never)]
-pub fn are_same<A: Allocator>(left: &Value<'_, '_, A>, right: &Value<'_, '_, A>) -> bool
+pub fn are_same<A: Allocator>(left: &Value<'_, A>, right: &Value<'_, A>) -> bool
     ensures { result ≡ is_same (value_datum left.now) (value_datum right.now) }
 {
     compare(left.operand(), right.operand()).is_eq()
@@ -133,11 +128,11 @@ pub fn are_same<A: Allocator>(left: &Value<'_, '_, A>, right: &Value<'_, '_, A>)
 
 /// What a function of two integers gives, none where it fails.
 #[inline(never)]
-pub fn computed<'a, 'h, A: Allocator>(
+pub fn computed<'a, A: Allocator>(
     function: Arithmetic,
     left: i64,
     right: i64,
-) -> Option<Value<'a, 'h, A>>
+) -> Option<Value<'a, A>>
     ensures value { option_map value_datum result
         ≡ option_map integer (arithmetic_of function left right) }
     ensures borrowed { IfSome result (λ value. IsTrue (is_borrowed value)) }

@@ -16,8 +16,8 @@ impl<'s, 'a, A: Allocator + Copy> Environment<'s, 'a, A> {
     pub fn called(
         &self,
         function: Primitive,
-        values: Option<Vec<Value<'a, 's, A>, A>>,
-    ) -> Result<Option<Value<'a, 's, A>>, AllocError>
+        values: Option<Vec<Value<'a, A>, A>>,
+    ) -> Result<Option<Value<'a, A>>, AllocError>
         ensures { IfOk result (λ value. option_map value_datum value ≡ called self.now.mode function
             (option_map (λ values. map value_datum values.items) values.entry)) }
     {

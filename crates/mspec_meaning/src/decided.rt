@@ -5,11 +5,11 @@ use term_operand::Value;
 
 /// What an argument says of the whole.
 #[derive(Drop)]
-pub enum Verdict<'a, 's, A: Allocator> {
+pub enum Verdict<'a, A: Allocator> {
     /// It leaves the whole to the arguments behind it.
     Open,
     /// The whole has this value, or none.
-    Ends(Option<Value<'a, 's, A>>),
+    Ends(Option<Value<'a, A>>),
 }
 
 impl<'s, 'a, A: Allocator + Copy> Environment<'s, 'a, A> {
@@ -22,9 +22,9 @@ impl<'s, 'a, A: Allocator + Copy> Environment<'s, 'a, A> {
     /// What an argument of this value says, where this truth value decides.
     pub fn verdict(
         &self,
-        value: Option<Value<'a, 's, A>>,
+        value: Option<Value<'a, A>>,
         decides: bool,
-    ) -> Result<Verdict<'a, 's, A>, AllocError>
+    ) -> Result<Verdict<'a, A>, AllocError>
         ensures { IfOk result (λ verdict. (rest : Option Datum) → comes_to verdict rest
             ≡ decided_at decides self.now.mode (option_map value_datum value.entry) rest) }
     {

@@ -14,11 +14,11 @@ use term_core::Term;
 use term_operand::Value;
 
 /// The value of a variable, each of which has its slot.
-fn bound_to<'a, 's, A: Allocator>(
+fn bound_to<'a, A: Allocator>(
     variables: &Variables<A>,
     slots: &[Slot<'a, A>],
     number: u32,
-) -> Option<Value<'a, 's, A>>
+) -> Option<Value<'a, A>>
     requires { length slots.now ≡ length variables.now }
     ensures { option_map value_datum result ≡ lookup
         (substitution_of variables.now (seen slots.now)) number }
@@ -110,7 +110,7 @@ impl<'s, 'a, A: Allocator + Copy> Environment<'s, 'a, A> {
         }
     }
 
-    /// What asks for memory for values that are made.
+    /// What asks for memory.
     pub fn heap(&self) -> &'s A {
         self.heap
     }
@@ -128,14 +128,14 @@ impl<'s, 'a, A: Allocator + Copy> Environment<'s, 'a, A> {
     }
 
     /// The whole object.
-    pub fn object(&self) -> Value<'a, 's, A>
+    pub fn object(&self) -> Value<'a, A>
         ensures { value_datum result ≡ self.now.object }
     {
         Value::Term(self.object)
     }
 
     /// The value of a variable.
-    pub fn bound(&self, number: u32) -> Option<Value<'a, 's, A>>
+    pub fn bound(&self, number: u32) -> Option<Value<'a, A>>
         ensures { option_map value_datum result ≡ lookup self.now.substitution number }
     {
         bound_to(self.variables, self.slots, number)

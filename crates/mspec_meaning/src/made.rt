@@ -13,7 +13,7 @@ use term_operand::Value;
 /// A value as a term, where there is one.
 pub fn into_term<A: Allocator + Copy>(
     alloc: A,
-    value: Option<Value<'_, '_, A>>,
+    value: Option<Value<'_, A>>,
 ) -> Result<Option<Term<A>>, AllocError>
     ensures { IfOk result (λ term. term ≡ option_map value_datum value.entry) }
 {
@@ -27,7 +27,7 @@ pub fn into_term<A: Allocator + Copy>(
 pub fn push_element<A: Allocator + Copy>(
     alloc: A,
     elements: &mut Vec<Term<A>, A>,
-    value: Value<'_, '_, A>,
+    value: Value<'_, A>,
 ) -> Result<(), AllocError>
     ensures { OnOk result (elements.new.items ≡ elements.old.items
         ++ value_datum value.entry ∷ []) }
@@ -41,7 +41,7 @@ pub fn push_entry<A: Allocator + Copy>(
     alloc: A,
     pairs: &mut Vec<(Term<A>, Term<A>), A>,
     key: &Term<A>,
-    value: Value<'_, '_, A>,
+    value: Value<'_, A>,
 ) -> Result<(), AllocError>
     ensures { OnOk result (pairs.new.items ≡ pairs.old.items
         ++ (key.now, value_datum value.entry) ∷ []) }
@@ -63,28 +63,28 @@ impl<'s, 'a, A: Allocator + Copy> Environment<'s, 'a, A> {
     ghost use Rattle.mspec_meaning.specs.Made.{failed, joined_to, made, made_of, or_failed};
 
     /// The value of what fails: none in a condition, `'EXIT'` in a body.
-    pub fn failure(&self) -> Result<Option<Value<'a, 's, A>>, AllocError>
+    pub fn failure(&self) -> Result<Option<Value<'a, A>>, AllocError>
         ensures { IfOk result (λ value. option_map value_datum value ≡ failed self.now.mode) }
     {
         match self.mode() {
             Mode::Condition => Ok(None),
-            Mode::Body => Ok(Some(Value::made(self.heap(), exit_term(self.alloc())?)?)),
+            Mode::Body => Ok(Some(Value::Made(exit_term(self.alloc())?))),
         }
     }
 
     /// A term that was made, else the value of what fails.
-    fn or_failure(&self, made: Option<Term<A>>) -> Result<Option<Value<'a, 's, A>>, AllocError>
+    fn or_failure(&self, made: Option<Term<A>>) -> Result<Option<Value<'a, A>>, AllocError>
         ensures { IfOk result (λ value. option_map value_datum value
             ≡ or_failed self.now.mode made) }
     {
         match made {
-            Some(term) => Ok(Some(Value::made(self.heap(), term)?)),
+            Some(term) => Ok(Some(Value::Made(term))),
             None => self.failure(),
         }
     }
 
     /// The list of the values of all variables.
-    pub fn bindings(&self) -> Result<Option<Value<'a, 's, A>>, AllocError>
+    pub fn bindings(&self) -> Result<Option<Value<'a, A>>, AllocError>
         ensures { IfOk result (λ value. option_map value_datum value
             ≡ made self.now.mode (cells (values_of self.now.substitution) nil)) }
     {
@@ -96,7 +96,7 @@ impl<'s, 'a, A: Allocator + Copy> Environment<'s, 'a, A> {
     pub fn tuple(
         &self,
         elements: Option<Vec<Term<A>, A>>,
-    ) -> Result<Option<Value<'a, 's, A>>, AllocError>
+    ) -> Result<Option<Value<'a, A>>, AllocError>
         ensures { IfOk result (λ value. option_map value_datum value ≡ made_of self.now.mode
             (option_map (λ ds. tuple (items_of ds)) (option_map (λ terms. terms.items) elements))) }
     {
@@ -111,7 +111,7 @@ impl<'s, 'a, A: Allocator + Copy> Environment<'s, 'a, A> {
         &self,
         elements: Vec<Term<A>, A>,
         tail: Option<Term<A>>,
-    ) -> Result<Option<Value<'a, 's, A>>, AllocError>
+    ) -> Result<Option<Value<'a, A>>, AllocError>
         ensures { IfOk result (λ value. option_map value_datum value ≡ made_of self.now.mode
             (joined_to (Some elements.items) tail)) }
     {
@@ -125,7 +125,7 @@ impl<'s, 'a, A: Allocator + Copy> Environment<'s, 'a, A> {
     pub fn map(
         &self,
         pairs: Option<Vec<(Term<A>, Term<A>), A>>,
-    ) -> Result<Option<Value<'a, 's, A>>, AllocError>
+    ) -> Result<Option<Value<'a, A>>, AllocError>
         requires { IfSome pairs (λ pairs. AreRising (entries_of pairs.items)) }
         ensures { IfOk result (λ value. option_map value_datum value ≡ made_of self.now.mode
             (option_map map (option_map (λ pairs. entries_of pairs.items) pairs))) }

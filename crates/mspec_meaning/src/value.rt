@@ -22,7 +22,7 @@ use term_operand::Value;
 pub(crate) fn value<'s, 'a, A: Allocator + Copy>(
     environment: &Environment<'s, 'a, A>,
     expression: &'a Expression<A>,
-) -> Result<Option<Value<'a, 's, A>>, AllocError>
+) -> Result<Option<Value<'a, A>>, AllocError>
     ensures { IfOk result (λ value. option_map value_datum value
         ≡ value_of environment.now.mode expression.now environment.now.substitution environment.now.object) }
 {
@@ -55,7 +55,7 @@ pub(crate) fn value<'s, 'a, A: Allocator + Copy>(
 fn values<'s, 'a, A: Allocator + Copy>(
     environment: &Environment<'s, 'a, A>,
     arguments: &'a [Expression<A>],
-) -> Result<Option<Vec<Value<'a, 's, A>, A>>, AllocError>
+) -> Result<Option<Vec<Value<'a, A>, A>>, AllocError>
     ensures { IfOk result (λ found. option_map (λ values. map value_datum values.items) found
         ≡ argument_values environment.now.mode (expressions_of arguments.now) environment.now.substitution
         environment.now.object) }
@@ -116,7 +116,7 @@ fn list<'s, 'a, A: Allocator + Copy>(
     environment: &Environment<'s, 'a, A>,
     elements: &'a [Expression<A>],
     tail: &'a Option<Box<Expression<A>, A>>,
-) -> Result<Option<Value<'a, 's, A>>, AllocError>
+) -> Result<Option<Value<'a, A>>, AllocError>
     ensures { IfOk result (λ value. option_map value_datum value ≡ made_of environment.now.mode
         (joined_to (argument_values environment.now.mode (expressions_of elements.now)
         environment.now.substitution environment.now.object) (value_of environment.now.mode
@@ -152,7 +152,7 @@ fn decide<'s, 'a, A: Allocator + Copy>(
     environment: &Environment<'s, 'a, A>,
     arguments: &'a [Expression<A>],
     decides: bool,
-) -> Result<Option<Value<'a, 's, A>>, AllocError>
+) -> Result<Option<Value<'a, A>>, AllocError>
     ensures { IfOk result (λ value. option_map value_datum value ≡ decided decides environment.now.mode
         (expressions_of arguments.now) environment.now.substitution environment.now.object) }
 {

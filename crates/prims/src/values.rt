@@ -17,7 +17,7 @@ pub const INLINE_OPERANDS: usize = 16;
 
 /// What a call gave of operands that last, none where it failed.
 #[inline(always)]
-fn given<'a, 'h, A: Allocator>(operand: Option<Operand<'a, A>>) -> Option<Value<'a, 'h, A>>
+fn given<'a, A: Allocator>(operand: Option<Operand<'a, A>>) -> Option<Value<'a, A>>
     ensures value { option_map value_datum result ≡ option_map operand_datum operand.entry }
     ensures borrowed { IfSome result (λ value. IsTrue (is_borrowed value)) }
 {
@@ -28,15 +28,15 @@ fn given<'a, 'h, A: Allocator>(operand: Option<Operand<'a, A>>) -> Option<Value<
 }
 
 /// What a call gave of operands that don't last, none where it failed.
-fn kept<'a, 'h, A: Allocator + Copy>(
-    heap: &'h A,
+fn kept<'a, A: Allocator + Copy>(
+    alloc: A,
     operand: Option<Operand<'_, A>>,
-) -> Result<Option<Value<'a, 'h, A>>, AllocError>
+) -> Result<Option<Value<'a, A>>, AllocError>
     ensures { IfOk result (λ value. option_map value_datum value
         ≡ option_map operand_datum operand.entry) }
 {
     match operand {
-        Some(operand) => Ok(Some(Value::kept(heap, operand)?)),
+        Some(operand) => Ok(Some(Value::kept(alloc, operand)?)),
         None => Ok(None),
     }
 }
@@ -44,11 +44,11 @@ fn kept<'a, 'h, A: Allocator + Copy>(
 /// What a function gives of one value, none where the call fails. What it gives of a borrowed one is borrowed, and
 /// takes no memory; else it is copied.
 #[inline(always)]
-pub fn call_one<'a, 'h, A: Allocator + Copy>(
-    heap: &'h A,
+pub fn call_one<'a, A: Allocator + Copy>(
+    alloc: A,
     function: Primitive,
-    value: &Value<'a, 'h, A>,
-) -> Result<Option<Value<'a, 'h, A>>, AllocError>
+    value: &Value<'a, A>,
+) -> Result<Option<Value<'a, A>>, AllocError>
     ensures value { IfOk result (λ given. option_map value_datum given
         ≡ function_of function (value_datum value.now ∷ [])) }
     ensures memory { IsTrue (is_borrowed value.now)
@@ -57,18 +57,18 @@ pub fn call_one<'a, 'h, A: Allocator + Copy>(
     if let Some(operand) = value.borrowed() {
         return Ok(given(call_unary(function, operand)));
     }
-    kept(heap, call_unary(function, value.operand()))
+    kept(alloc, call_unary(function, value.operand()))
 }
 
 /// What a function gives of two values, none where the call fails. What it gives of borrowed ones is borrowed, and
 /// takes no memory; else it is copied.
 #[inline(always)]
-pub fn call_two<'a, 'h, A: Allocator + Copy>(
-    heap: &'h A,
+pub fn call_two<'a, A: Allocator + Copy>(
+    alloc: A,
     function: Primitive,
-    left: &Value<'a, 'h, A>,
-    right: &Value<'a, 'h, A>,
-) -> Result<Option<Value<'a, 'h, A>>, AllocError>
+    left: &Value<'a, A>,
+    right: &Value<'a, A>,
+) -> Result<Option<Value<'a, A>>, AllocError>
     ensures value { IfOk result (λ given. option_map value_datum given
         ≡ function_of function (value_datum left.now ∷ value_datum right.now ∷ [])) }
     ensures memory { IsTrue (is_borrowed left.now) → IsTrue (is_borrowed right.now)
@@ -83,13 +83,16 @@ pub fn call_two<'a, 'h, A: Allocator + Copy>(
             return Ok(given(call_binary(function, first, second)));
         }
     }
-    kept(heap, call_binary(function, left.operand(), right.operand()))
+    kept(
+        alloc,
+        call_binary(function, left.operand(), right.operand()),
+    )
 }
 
 /// These values as operands that last, where none was made. Few of them take no memory.
 fn lasting<'h, 'a, A: Allocator + Copy>(
     heap: &'h A,
-    values: &[Value<'a, 'h, A>],
+    values: &[Value<'a, A>],
 ) -> Result<Option<SmallVec<Operand<'a, A>, INLINE_OPERANDS, &'h A>>, AllocError>
     ensures value { IfOk result (λ found. IfSome found
         (λ operands. map operand_datum operands.items ≡ map value_datum values.now)) }
@@ -109,7 +112,7 @@ fn lasting<'h, 'a, A: Allocator + Copy>(
 /// These values as operands.
 fn operands_of<'a, A: Allocator + Copy>(
     alloc: A,
-    values: &'a [Value<'_, '_, A>],
+    values: &'a [Value<'_, A>],
 ) -> Result<Vec<Operand<'a, A>, A>, AllocError>
     ensures { IfOk result (λ operands. map operand_datum operands.items
         ≡ map value_datum values.now) }
@@ -124,11 +127,11 @@ fn operands_of<'a, A: Allocator + Copy>(
 /// What a function gives of these values, none where the call fails. What it gives of borrowed values alone is
 /// borrowed, and up to `INLINE_OPERANDS` of them take no memory; else it is copied.
 #[inline(never)]
-pub fn call_values<'a, 'h, A: Allocator + Copy>(
-    heap: &'h A,
+pub fn call_values<'a, A: Allocator + Copy>(
+    heap: &A,
     function: Primitive,
-    values: &[Value<'a, 'h, A>],
-) -> Result<Option<Value<'a, 'h, A>>, AllocError>
+    values: &[Value<'a, A>],
+) -> Result<Option<Value<'a, A>>, AllocError>
     ensures value { IfOk result (λ given. option_map value_datum given
         ≡ function_of function (map value_datum values.now)) }
     ensures memory { IsTrue (all is_borrowed values.now) → length values.now ≤ inline_operands
@@ -138,5 +141,5 @@ pub fn call_values<'a, 'h, A: Allocator + Copy>(
         return Ok(given(call(function, operands.as_slice())));
     }
     let operands = operands_of(*heap, values)?;
-    kept(heap, call(function, operands.as_slice()))
+    kept(*heap, call(function, operands.as_slice()))
 }

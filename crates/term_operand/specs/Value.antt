@@ -13,7 +13,7 @@ value_datum (value.Term term) = term.now
 value_datum (value.Rest list count) = rest_of count list.now
 value_datum (value.Int number) = integer number
 value_datum (value.Bool truth) = boolean truth
-value_datum (value.Made term) = term.value
+value_datum (value.Made term) = term
 
 -- it wasn't made
 abbrev pub is_borrowed : {A : Type 0} → Value A → Bool

@@ -5,7 +5,7 @@ use term_core::{Term, View};
 
 /// A term that is borrowed, or was made. It lasts as long as what is borrowed.
 #[derive(Drop)]
-pub enum Value<'a, 'h, A: Allocator = Global> {
+pub enum Value<'a, A: Allocator = Global> {
     /// A term that stands in what was given.
     Term(&'a Term<A>),
     /// What is left of this list behind so many of its elements. Another term is left as it is.
@@ -15,17 +15,22 @@ pub enum Value<'a, 'h, A: Allocator = Global> {
     /// The atom `true` or `false`.
     Bool(bool),
     /// A term that was made.
-    Made(Box<Term<A>, &'h A>),
+    Made(Term<A>),
 }
 
-impl<'a, 'h, A: Allocator> Default for Value<'a, 'h, A> {
+/// Lets a term go that was made.
+// Apart from `go`, which is only a test where the value is borrowed.
+#[inline(never)]
+fn let_go<A: Allocator>(_term: Term<A>) {}
+
+impl<'a, A: Allocator> Default for Value<'a, A> {
     /// What a place holds before a value is put there.
     fn default() -> Self {
         Value::Bool(false)
     }
 }
 
-impl<'a, 'h, A: Allocator> Value<'a, 'h, A> {
+impl<'a, A: Allocator> Value<'a, A> {
     ghost use Rattle.std.specs.Prelude.{◌≡◌, ◌↔◌, IsTrue, IfSome, IsSome, true};
     ghost use Rattle.term_core.specs.Limits.{IsSound};
     ghost use Rattle.term_operand.specs.Operand.{operand_datum, boolean as boolean_atom, boolean_of, integer_of};
@@ -49,7 +54,12 @@ impl<'a, 'h, A: Allocator> Value<'a, 'h, A> {
 
     /// Lets the value go.
     #[inline(always)]
-    pub fn go(self) {}
+    pub fn go(self) {
+        match self {
+            Value::Made(term) => let_go(term),
+            Value::Term(_) | Value::Rest(_, _) | Value::Int(_) | Value::Bool(_) => {}
+        }
+    }
 
     /// The value as an operand.
     #[inline(always)]
@@ -127,32 +137,25 @@ impl<'a, 'h, A: Allocator> Value<'a, 'h, A> {
     }
 }
 
-impl<'a, 'h, A: Allocator + Copy> Value<'a, 'h, A> {
+impl<'a, A: Allocator + Copy> Value<'a, A> {
     ghost use Rattle.std.specs.Prelude.{◌≡◌, IsTrue, IfOk, IsOkAnd};
     ghost use Rattle.term_operand.specs.Operand.{operand_datum};
     ghost use Rattle.term_operand.specs.Value.{value_datum, is_borrowed};
 
-    /// A term that was made.
-    pub fn made(heap: &'h A, term: Term<A>) -> Result<Self, AllocError>
-        ensures { IfOk result (λ value. value_datum value ≡ term) }
-    {
-        Ok(Value::Made(Box::new(heap, term)?))
-    }
-
     /// The value of an operand that doesn't last, which is copied where it stands in a term.
-    pub fn kept(heap: &'h A, operand: Operand<'_, A>) -> Result<Self, AllocError>
+    pub fn kept(alloc: A, operand: Operand<'_, A>) -> Result<Self, AllocError>
         ensures { IfOk result (λ value. value_datum value ≡ operand_datum operand.entry) }
     {
         match operand {
             Operand::Int(value) => Ok(Value::Int(value)),
             Operand::Bool(value) => Ok(Value::Bool(value)),
-            Operand::Term(_) | Operand::Rest(_, _) => Value::made(heap, operand.to_term(*heap)?),
+            Operand::Term(_) | Operand::Rest(_, _) => Ok(Value::Made(operand.to_term(alloc)?)),
         }
     }
 
     /// The value once more. A borrowed one takes no memory.
     #[inline(always)]
-    pub fn copy(&self, heap: &'h A) -> Result<Self, AllocError>
+    pub fn copy(&self) -> Result<Self, AllocError>
         ensures value { IfOk result (λ value. value_datum value ≡ value_datum self.now) }
         ensures memory { IsTrue (is_borrowed self.now)
             → IsOkAnd result (λ value. IsTrue (is_borrowed value)) }
@@ -162,7 +165,7 @@ impl<'a, 'h, A: Allocator + Copy> Value<'a, 'h, A> {
             Value::Rest(list, count) => Ok(Value::Rest(list, *count)),
             Value::Int(value) => Ok(Value::Int(*value)),
             Value::Bool(value) => Ok(Value::Bool(*value)),
-            Value::Made(term) => Ok(Value::Made(Box::new(heap, term.copy()?)?)),
+            Value::Made(term) => Ok(Value::Made(term.copy()?)),
         }
     }
 
@@ -171,7 +174,7 @@ impl<'a, 'h, A: Allocator + Copy> Value<'a, 'h, A> {
         ensures { IfOk result (λ term. term ≡ value_datum self.entry) }
     {
         match self {
-            Value::Made(term) => Ok(Box::into_inner(term)),
+            Value::Made(term) => Ok(term),
             Value::Term(_) | Value::Rest(_, _) | Value::Int(_) | Value::Bool(_) => {
                 self.operand().to_term(alloc)
             }

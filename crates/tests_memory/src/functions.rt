@@ -80,41 +80,32 @@ pub(super) fn are_copied<A: Allocator + Copy>(heap: A) -> Option<bool> {
 }
 
 /// The number one, and the only term of a text as a value that was made.
-fn one_and_made<'a, 'h, A: Allocator + Copy>(
-    heap: &'h A,
-    text: &[u8],
-) -> Option<Vec<Value<'a, 'h, A>, A>> {
-    let mut values = Vec::new(*heap);
+fn one_and_made<'a, A: Allocator + Copy>(alloc: A, text: &[u8]) -> Option<Vec<Value<'a, A>, A>> {
+    let mut values = Vec::new(alloc);
     values.push(Value::Int(1)).ok()?;
-    values
-        .push(Value::made(heap, term_of(*heap, text)?).ok()?)
-        .ok()?;
+    values.push(Value::Made(term_of(alloc, text)?)).ok()?;
     Some(values)
 }
 
 /// Whether a copy of a value is the atom `a`, none where memory is refused.
-fn is_copied_a<'h, A: Allocator + Copy>(heap: &'h A, value: &Value<'_, 'h, A>) -> Option<bool> {
-    let term = value.copy(heap).ok()?.into_term(*heap).ok()?;
+fn is_copied_a<A: Allocator + Copy>(alloc: A, value: &Value<'_, A>) -> Option<bool> {
+    let term = value.copy().ok()?.into_term(alloc).ok()?;
     Some(is_atom(&term, "a"))
 }
 
 /// Whether a copy of the first element of a tuple that was made is right, none where memory is refused.
 pub(super) fn is_element_copied<A: Allocator + Copy>(heap: A) -> Option<bool> {
-    let heap = &heap;
     let values = one_and_made(heap, b"{a}.")?;
     let element = Primitive::Function(Function::Tuple(TupleFunction::Element));
-    match call_values(heap, element, values.as_slice()).ok()? {
+    match call_values(&heap, element, values.as_slice()).ok()? {
         Some(value) => is_copied_a(heap, &value),
         None => Some(false),
     }
 }
 
 /// So many times the borrowed value `true`.
-fn trues<'a, 'h, A: Allocator + Copy>(
-    heap: &'h A,
-    count: usize,
-) -> Option<Vec<Value<'a, 'h, A>, A>> {
-    let mut values = Vec::new(*heap);
+fn trues<'a, A: Allocator + Copy>(alloc: A, count: usize) -> Option<Vec<Value<'a, A>, A>> {
+    let mut values = Vec::new(alloc);
     for _ in 0..count {
         values.push(Value::Bool(true)).ok()?;
     }
@@ -124,19 +115,17 @@ fn trues<'a, 'h, A: Allocator + Copy>(
 /// How many requests of memory it takes to make so many.
 fn requests(heap: Global, count: usize) -> Option<u64> {
     let counting = Failing::counting(heap);
-    let heap = &counting;
-    let _values = trues(&heap, count)?;
+    let _values = trues(&counting, count)?;
     Some(counting.requests())
 }
 
 /// What `and` gives of so many times `true`, none where it is refused memory, as each request of the call is.
 fn and_without_memory(heap: Global, count: usize) -> Option<Option<bool>> {
     let failing = Failing::refusing_from(heap, requests(heap, count)?.saturating_add(1));
-    let heap = &failing;
-    let refusing = &heap;
+    let refusing = &failing;
     let values = trues(refusing, count)?;
     let and = Primitive::Function(Function::Boolean(BooleanFunction::And));
-    match call_values(refusing, and, values.as_slice()) {
+    match call_values(&refusing, and, values.as_slice()) {
         Ok(Some(value)) => Some(value.boolean()),
         Ok(None) => None,
         Err(_) => Some(None),

@@ -10,5 +10,5 @@ returns-clause-flow g c p object held pc slots are on = (
   are,
   c.push_or_jump.ensures.flow p pc slots
       ∙ tuple_is p object pc slots c.args.size c.args.otherwise (stack_at c.args.self.now.terms c.args.height) _ _ c.in_ok-elements.ensures.rest
-      (c.in_ok-tuple.ensures ∙ c.in_ok-make_tuple.ensures ∙ ap tuple_made c.in_ok-elements.ensures.terms) on,
+      (c.made_value-tuple.ensures ∙ c.in_ok-make_tuple.ensures ∙ ap tuple_made c.in_ok-elements.ensures.terms) on,
 )
