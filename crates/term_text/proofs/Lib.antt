@@ -1,3 +1,4 @@
+pub mod CharacterLemmas
 pub mod Steps
 pub mod Tokens
 pub mod Words
@@ -8,6 +9,7 @@ pub mod Sound
 pub mod Whole
 pub mod Texts
 pub mod Readers
+pub mod Short
 pub mod Within
 pub mod Constructed
 pub mod Publics

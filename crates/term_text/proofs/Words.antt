@@ -1,8 +1,8 @@
 -- Integers, bare words, and what a term begins with.
-use Rattle.std.proofs.Common.{◌≡◌, ℕ, suc, ◌+◌, ◌*◌, ◌≤◌, ◌<◌, ◌⊎◌, inl, inr, Bool, true, false, cond, List, [], ◌∷◌, ◌++◌, length, take, drop, Option, Some, None, Ok, ℤ, refl, sym, ap, ◌∙◌, arith, one-add}
+use Rattle.std.proofs.Common.{◌≡◌, ℕ, suc, ◌+◌, ◌*◌, ◌≤◌, ◌<◌, ◌⊎◌, inl, inr, Bool, true, false, cond, List, [], ◌∷◌, ◌++◌, length, take, drop, Option, Some, None, Ok, Err, ℤ, refl, sym, ap, ◌∙◌, append_assoc, arith, one-add}
 use Rattle.std.specs.Prelude.{IfOk, IfSome, ◌==◌, nat_lt}
-use Rattle.std.proofs.lemmas.Bool.{eqb-true, leb-true, ltb-false, le-leb, le-ltb, cases_Bool}
-use Rattle.std.proofs.lemmas.List.{take_at, drop_at}
+use Rattle.std.proofs.lemmas.Bool.{eqb-true, leb-true, ltb-false, le-leb, le-ltb, lt-ltb, cases_Bool}
+use Rattle.std.proofs.lemmas.List.{take_at, drop_at, length-append}
 use Rattle.std.proofs.lemmas.List.Folds.{length-prefix_len}
 use Rattle.std.specs.List.{AllByRecursion, prefix_len}
 use Rattle.std.specs.Option.{option_map}
@@ -10,6 +10,7 @@ use Rattle.std.specs.Char.{is_ascii_digit, is_ascii_lowercase, digit_value}
 use Rattle.std.specs.Str.Parse.{digits_value_after}
 use Rattle.term_core.specs.declared.TheConstants.{MAX_CHARACTERS}
 use Rattle.term_text.specs.Character.{plus, minus, single_quote, double_quote, open_brace, open_bracket, number_sign, less, is_word}
+use Rattle.term_text.specs.declared.stop.Cause.TheVariants.{TooLong}
 use Rattle.term_text.specs.declared.token.Opening.{Opening}
 use Rattle.term_text.specs.declared.token.Opening.TheVariants as opens
 use Rattle.term_text.specs.Tokens.{EndsRun, Run, Number, Integer}
@@ -104,7 +105,7 @@ digits_begin (c ∷ digits) rest some all = all.0
 pub number_begins : {text rest : List ℕ} {n : ℕ} → Number text n rest → begins is_ascii_digit text ≡ true
 number_begins {text} {rest} h = rw h.run.whole (digits_begin h.digits rest h.some h.run.each)
 
-unsigned_sign : (text : List ℕ) → begins is_ascii_digit text ≡ true → behind_sign text ≡ (false, text)
+pub unsigned_sign : (text : List ℕ) → begins is_ascii_digit text ≡ true → behind_sign text ≡ (false, text)
 unsigned_sign [] b = absurd cc
 unsigned_sign (c ∷ cs) b = let d = digit_no_sign c b in rw (d.0, d.1) refl
 
@@ -129,6 +130,43 @@ unfolding word_at
 word_again {text} {cs} {rest} r h =
     let len : prefix_len is_word text ≡ length cs = run_again is_word r in
     rw (len, le-ltb MAX_CHARACTERS (length cs) h, r.whole, take_at cs rest (length cs) refl, drop_at cs rest (length cs) refl) refl
+
+-- a word so far, and what is left of its text
+pub record WordSoFar (text cs rest : List ℕ) : Type 0 where
+  pub whole : text ≡ cs ++ rest
+  pub each : AllByRecursion (λ c. is_word c ≡ true) cs
+  pub few : length cs ≤ MAX_CHARACTERS
+
+pub word_begins : (text : List ℕ) → WordSoFar text [] text
+word_begins text = record { whole = refl; each = tt; few = omega arith }
+
+each_more : (cs : List ℕ) (c : ℕ) → AllByRecursion (λ c. is_word c ≡ true) cs → is_word c ≡ true → AllByRecursion (λ c. is_word c ≡ true) (cs ++ c ∷ [])
+each_more [] c all here = (here, tt)
+each_more (d ∷ cs) c all here = (all.0, each_more cs c all.1 here)
+
+pub word_goes_on : (text cs rest : List ℕ) (c : ℕ) (behind : List ℕ) → WordSoFar text cs rest → rest ≡ c ∷ behind → is_word c ≡ true → length cs < MAX_CHARACTERS → WordSoFar text (cs ++ c ∷ []) behind
+word_goes_on text cs rest c behind w e here room = record {
+  whole = w.whole ∙ ap (λ (r : List ℕ). cs ++ r) e ∙ sym (append_assoc cs (c ∷ []) behind);
+  each = each_more cs c w.each here;
+  few = let len = length-append cs (c ∷ []) in omega arith;
+}
+
+pub word_ends : (text cs rest : List ℕ) → WordSoFar text cs rest → EndsRun is_word rest → word_at text ≡ Ok (cs, rest)
+word_ends text cs rest w ended = word_again (record { whole = w.whole; each = w.each; ended = ended }) w.few
+
+pub word_stops : (text cs rest : List ℕ) (c : ℕ) (behind : List ℕ) → WordSoFar text cs rest → rest ≡ c ∷ behind → is_word c ≡ false → word_at text ≡ Ok (cs, rest)
+word_stops text cs rest c behind w e other = word_ends text cs rest w (rw e other)
+
+passed : (cs : List ℕ) (c : ℕ) (rest : List ℕ) → AllByRecursion (λ c. is_word c ≡ true) cs → is_word c ≡ true → length cs < prefix_len is_word (cs ++ c ∷ rest)
+passed [] c rest all here = rw here (omega arith)
+passed (d ∷ cs) c rest all here = let more = passed cs c rest all.1 here in rw all.0 (omega arith)
+
+pub word_too_long : (text cs rest : List ℕ) (c : ℕ) (behind : List ℕ) → WordSoFar text cs rest → rest ≡ c ∷ behind → is_word c ≡ true → length cs ≡ MAX_CHARACTERS → word_at text ≡ Err (TooLong, length rest)
+unfolding word_at
+word_too_long text cs rest c behind w e here full =
+    let whole : text ≡ cs ++ c ∷ behind = w.whole ∙ ap (λ (r : List ℕ). cs ++ r) e in
+    let more : length cs < prefix_len is_word (cs ++ c ∷ behind) = passed cs c behind w.each here in
+    rw (whole, lt-ltb MAX_CHARACTERS (prefix_len is_word (cs ++ c ∷ behind)) (omega arith), drop_at cs (c ∷ behind) MAX_CHARACTERS full, e) refl
 
 -- ---- what a term begins with
 

@@ -1,5 +1,5 @@
 -- The characters of term text, by their code points.
-use Rattle.std.specs.Prelude.{ℕ, ◌==◌, ◌||◌, Bool, Option, Some, None, if◌then◌else◌}
+use Rattle.std.specs.Prelude.{ℕ, ◌==◌, ◌||◌, ◌≤◌, Bool, Option, Some, None, List, [], ◌∷◌, if◌then◌else◌}
 use Rattle.std.specs.Int.{is_in_range}
 use Rattle.std.specs.Char.{is_ascii_alphanumeric}
 
@@ -76,3 +76,8 @@ escaped c =
     else if c == 114 then Some 13
     else if c == 116 then Some 9
     else None
+
+-- no ASCII character comes next
+abbrev pub EndsAscii : List ℕ → Type 0
+EndsAscii [] = Unit {0}
+EndsAscii (c ∷ text) = 128 ≤ c

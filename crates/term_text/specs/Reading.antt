@@ -118,6 +118,11 @@ element_at read limit ds text = read (limit - length ds) text >>= λ x. Ok (ds +
 abbrev pub elements_at : TermReader → ℕ → List Datum → List ℕ → Read (List Datum)
 elements_at read limit ds text = all_steps (separated (element_at read limit)) ds text
 
+-- elements so far, and whether more follow
+abbrev pub elements_from : TermReader → ℕ → Bool → List Datum → List ℕ → Read (List Datum)
+elements_from read limit true ds text = elements_at read limit ds text
+elements_from read limit false ds text = Ok (ds, text)
+
 -- the elements of a tuple, none where it closes at once
 abbrev pub items_at : TermReader → Option (List ℕ) → List ℕ → Read (List Datum)
 items_at read (Some rest) text = Ok ([], rest)

@@ -6,10 +6,11 @@
 //! `specs/Canonical.antt`); the law `canonical_text_is_read_back` says that a canonical text spells its term and no
 //! other.
 //!
-//! - Tokens: `token.rt`, over the characters of `specs/Character.antt`. What a token spells is a relation
-//!   (`specs/Tokens.antt`), and what reading it from the left gives a function (`specs/TokenReading.antt`); that they
-//!   agree: `proofs/Tokens.antt`, `proofs/Words.antt`. Why and where reading stops: `stop.rt`.
-//! - Terms, by their tokens: `read.rt` gives what `text_at` of `specs/Reading.antt` gives. What is read is spelled so:
+//! - Tokens: `token.rt`, over `characters.rt` and the characters of `specs/Character.antt`. What a token spells is a
+//!   relation (`specs/Tokens.antt`), and what reading it from the left gives a function (`specs/TokenReading.antt`);
+//!   that they agree: `proofs/Tokens.antt`, `proofs/Words.antt`. Why and where reading stops: `stop.rt`.
+//! - Terms, by their tokens: `read.rt` gives what `text_at` of `specs/Reading.antt` gives; short words, integers and the
+//!   first elements of a row, which are made where they stand: `proofs/Short.antt`. What is read is spelled so:
 //!   `proofs/Sound.antt`; what is spelled is read so: `proofs/Whole.antt`; each term that is made is within its limits:
 //!   `proofs/Within.antt`, `proofs/Constructed.antt`.
 //! - Texts of bytes: `text.rt`. Refusals, by the byte where they are met: `fault.rt`; that what one names stands there:
@@ -17,6 +18,7 @@
 //! - Writing: `write.rt`. The laws: `law.rt`, proved in `proofs/Written.antt` and `proofs/ReadBack.antt`.
 #![tactic(auto)]
 
+mod characters;
 mod fault;
 mod law;
 mod read;

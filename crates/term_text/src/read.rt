@@ -1,32 +1,42 @@
 //! Reading terms.
-ghost use Rattle.std.specs.Prelude.{◌≡◌, true, [], ◌^◌, ◌++◌, ◌<◌, ◌≤◌, length, IfOk, OnOk, Ok};
+ghost use Rattle.std.specs.Prelude.{◌≡◌, true, [], ◌^◌, ◌++◌, ◌<◌, ◌≤◌, length, IfOk, IfSome, MatchResult, OnOk, Ok};
 ghost use Rattle.std.specs.Prelude.{map as each};
 ghost use Rattle.term_core.specs.Datum.{cells, items_of, entries_of};
 ghost use Rattle.std.specs.List.{AllByRecursion};
+ghost use Rattle.std.specs.Char.{is_ascii_digit};
+ghost use Rattle.std.specs.Str.{chars};
 ghost use Rattle.std.specs.Map.{keys_of};
 ghost use Rattle.std.specs.List.Sorted.{IsStrictlySortedBy};
 ghost use Rattle.term_core.specs.Order.{datum_cmp};
 ghost use Rattle.term_text.specs.Text.{code_point};
-ghost use Rattle.term_core.specs.Datum.Datum.{atom, tuple, binary, map};
+ghost use Rattle.term_core.specs.Datum.Datum.{atom, tuple, binary, map, nil};
+ghost use Rattle.term_core.specs.ShortRow.{row_items};
 ghost use Rattle.term_core.specs.Term.{tail_of};
 ghost use Rattle.term_text.specs.Character.{close_brace};
-ghost use Rattle.term_text.specs.TokenReading.{Gives, is_allowed, all_steps};
-ghost use Rattle.term_text.specs.Reading.{IsWithin, AreElements, string_marks, enter, behind_comma, elements_at, term_at, tail_at, tuple_at, list_at, list_end, string_at, word_term_at, quoted_atom_at, integer_term_at, binary_at, segments_at, segment_at, byte_at, form_at, byte_marks, one_byte_at, pair_at, map_at, separated, sentence_at, text_at};
+ghost use Rattle.term_text.specs.TokenReading.{Gives, Fails, begins, is_allowed, all_steps};
+ghost use Rattle.term_text.specs.Reading.{IsWithin, AreElements, string_marks, enter, behind_comma, elements_at, elements_from, term_at, tail_at, tuple_at, list_at, list_end, string_at, word_term_at, quoted_atom_at, integer_term_at, binary_at, segments_at, segment_at, byte_at, form_at, byte_marks, one_byte_at, pair_at, map_at, separated, sentence_at, text_at};
 
+use crate::characters::{is_empty, split_ascii};
 use crate::stop::{Cause, Stop};
 use crate::token::{
     Marks, Opening, after_gap, begin, behind, behind_both, dot, expect, expect_both, integer,
-    quoted, stop, word,
+    letter, plain_number, quoted, stop, word,
 };
 use std::alloc::{AllocError, Allocator};
 use std::collections::BTreeMap;
 use term_build::map_of_pairs;
-use term_core::{MAX_BINARY, MAX_CHARACTERS, MAX_DEPTH, MAX_LIST, MAX_MAP, MAX_TUPLE, Term};
+use term_core::{
+    Fault, MAX_BINARY, MAX_CHARACTERS, MAX_DEPTH, MAX_LIST, MAX_MAP, MAX_TUPLE, ShortRow, Term,
+};
+
+/// The most elements that stand in a `ShortRow`.
+const FEW: usize = 4;
 
 /// What begins the term that has to stand there, where so many levels of nesting and so many terms are left.
 #[tactic(auto, unfolding(crate::specs::Reading::enter))]
-fn enter(levels: u8, room: usize, text: &[char]) -> Result<(Opening, &[char]), Stop>
-    ensures value { Gives (λ o. (o.0, o.1.now)) result (enter levels room text.now) }
+#[inline(always)]
+fn enter(levels: u8, room: usize, text: &str) -> Result<(Opening, &str), Stop>
+    ensures value { Gives (λ o. (o.0, chars o.1.now)) result (enter levels room (chars text.now)) }
     ensures left { OnOk result (0 < levels) }
 {
     let Some((opening, rest)) = begin(text) else {
@@ -42,23 +52,36 @@ fn enter(levels: u8, room: usize, text: &[char]) -> Result<(Opening, &[char]), S
 }
 
 /// The text behind a comma, where one stands behind the gap, else the text behind the gap.
-fn behind_comma(text: &[char]) -> (bool, &[char])
-    ensures { (result.0, result.1.now) ≡ behind_comma text.now }
+#[inline(always)]
+fn behind_comma(text: &str) -> (bool, &str)
+    ensures { (result.0, chars result.1.now) ≡ behind_comma (chars text.now) }
 {
     let text = after_gap(text);
-    match text {
-        [',', rest @ ..] => (true, after_gap(rest)),
-        _ => (false, text),
+    match behind(',', text) {
+        Some(rest) => (true, after_gap(rest)),
+        None => (false, text),
     }
 }
 
 /// An integer as a term.
 #[tactic(auto, unfolding(crate::specs::Reading::integer_term_at))]
-fn integer_term<A: Allocator>(text: &[char]) -> Result<(Term<A>, &[char]), Stop>
-    ensures { Gives (λ x. (x.0, x.1.now)) result (integer_term_at text.now) }
+#[inline(always)]
+fn integer_term<A: Allocator>(text: &str) -> Result<(Term<A>, &str), Stop>
+    ensures { Gives (λ x. (x.0, chars x.1.now)) result (integer_term_at (chars text.now)) }
 {
     let (value, rest) = integer(text)?;
     Ok((Term::int(value), rest))
+}
+
+/// An integer without a sign, where 63 bits hold it.
+#[tactic(auto, unfolding(crate::specs::Reading::integer_term_at))]
+#[inline(always)]
+fn plain_integer<A: Allocator>(text: &str) -> Option<(Term<A>, &str)>
+    requires { begins is_ascii_digit (chars text.now) ≡ true }
+    ensures { IfSome result (λ x. integer_term_at (chars text.now) ≡ Ok (x.0, chars x.1.now)) }
+{
+    let (value, rest) = plain_number(text)?;
+    Some((Term::int(value), rest))
 }
 
 /// An atom of these characters.
@@ -69,20 +92,51 @@ fn atom_of<A: Allocator>(alloc: A, characters: Vec<char, A>) -> Result<Term<A>, 
     Ok(Term::from_characters(alloc, characters).map_err(|refused| refused.fault.alloc_error())?)
 }
 
-/// A bare word as a term.
-#[tactic(auto, unfolding(crate::specs::Reading::word_term_at))]
-fn word_term<A: Allocator + Copy>(alloc: A, text: &[char]) -> Result<(Term<A>, &[char]), Stop>
-    ensures { Gives (λ x. (x.0, x.1.now)) result (word_term_at text.now) }
+/// A bare word of one to three letters, where one stands there: an atom that takes no memory.
+#[tactic(auto, using(crate::proofs::Short::word_of_one, crate::proofs::Short::word_of_two, crate::proofs::Short::word_of_three))]
+#[inline(always)]
+fn short_word<A: Allocator>(text: &str) -> Option<(Term<A>, &str)>
+    ensures { IfSome result (λ x. word_term_at (chars text.now) ≡ Ok (x.0, chars x.1.now)) }
 {
-    let (characters, rest) = word(text)?;
-    let characters = Vec::from_slice(alloc, characters)?;
+    let (first, rest) = letter(text)?;
+    let Some((second, behind)) = letter(rest) else {
+        return Some((Term::short_atom(&[first])?, rest));
+    };
+    let Some((third, end)) = letter(behind) else {
+        return Some((Term::short_atom(&[first, second])?, behind));
+    };
+    match letter(end) {
+        Some(_) => None,
+        None => Some((Term::short_atom(&[first, second, third])?, end)),
+    }
+}
+
+/// A bare word as a term.
+#[inline(always)]
+fn word_term<A: Allocator + Copy>(alloc: A, text: &str) -> Result<(Term<A>, &str), Stop>
+    ensures { Gives (λ x. (x.0, chars x.1.now)) result (word_term_at (chars text.now)) }
+{
+    match short_word(text) {
+        Some(word) => Ok(word),
+        None => long_word(alloc, text),
+    }
+}
+
+/// A bare word of any length as a term.
+#[tactic(auto, unfolding(crate::specs::Reading::word_term_at))]
+#[inline(never)]
+fn long_word<A: Allocator + Copy>(alloc: A, text: &str) -> Result<(Term<A>, &str), Stop>
+    ensures { Gives (λ x. (x.0, chars x.1.now)) result (word_term_at (chars text.now)) }
+{
+    let (characters, rest) = word(alloc, text)?;
     Ok((atom_of(alloc, characters)?, rest))
 }
 
 /// A quoted atom behind its opening mark.
 #[tactic(auto, unfolding(crate::specs::Reading::quoted_atom_at))]
-fn quoted_atom<A: Allocator + Copy>(alloc: A, text: &[char]) -> Result<(Term<A>, &[char]), Stop>
-    ensures { Gives (λ x. (x.0, x.1.now)) result (quoted_atom_at text.now) }
+#[inline(never)]
+fn quoted_atom<A: Allocator + Copy>(alloc: A, text: &str) -> Result<(Term<A>, &str), Stop>
+    ensures { Gives (λ x. (x.0, chars x.1.now)) result (quoted_atom_at (chars text.now)) }
 {
     let marks = Marks {
         mark: '\'',
@@ -109,14 +163,15 @@ fn list_of<A: Allocator>(
 /// A list that begins with these elements and goes on with a string, behind its opening mark. Its characters have so
 /// many levels left.
 #[tactic(auto, unfolding(crate::specs::Reading::string_at))]
+#[inline(never)]
 fn string<A: Allocator + Copy>(
     alloc: A,
     levels: u8,
     elements: Vec<Term<A>, A>,
-    text: &[char],
-) -> Result<(Term<A>, &[char]), Stop>
+    text: &str,
+) -> Result<(Term<A>, &str), Stop>
     requires { AreElements elements.items }
-    ensures { Gives (λ x. (x.0, x.1.now)) result (string_at levels elements.items text.now) }
+    ensures { Gives (λ x. (x.0, chars x.1.now)) result (string_at levels elements.items (chars text.now)) }
 {
     let marks = string_marks(levels, elements.len());
     let (characters, rest) = quoted(alloc, marks, text)?;
@@ -157,8 +212,8 @@ fn with_characters<A: Allocator>(
 
 /// A byte of a binary, written as an integer.
 #[tactic(auto, unfolding(crate::specs::Reading::byte_at))]
-fn byte(text: &[char]) -> Result<(u8, &[char]), Stop>
-    ensures { Gives (λ x. (x.0, x.1.now)) result (byte_at text.now) }
+fn byte(text: &str) -> Result<(u8, &str), Stop>
+    ensures { Gives (λ x. (x.0, chars x.1.now)) result (byte_at (chars text.now)) }
 {
     let (value, rest) = integer(text)?;
     match u8::try_from(value) {
@@ -187,9 +242,9 @@ fn with_bytes<A: Allocator>(
 fn segment<A: Allocator + Copy>(
     alloc: A,
     bytes: Vec<u8, A>,
-    text: &[char],
-) -> Result<(Vec<u8, A>, &[char]), Stop>
-    ensures { Gives (λ x. (x.0.items, x.1.now)) result (segment_at bytes.items text.now) }
+    text: &str,
+) -> Result<(Vec<u8, A>, &str), Stop>
+    ensures { Gives (λ x. (x.0.items, chars x.1.now)) result (segment_at bytes.items (chars text.now)) }
 {
     match begin(text) {
         Some((Opening::Integer, _)) => one_byte(bytes, text),
@@ -215,8 +270,8 @@ fn byte_marks(before: usize) -> Marks
 }
 
 /// One more byte behind these.
-fn one_byte<A: Allocator>(bytes: Vec<u8, A>, text: &[char]) -> Result<(Vec<u8, A>, &[char]), Stop>
-    ensures { Gives (λ x. (x.0.items, x.1.now)) result (one_byte_at bytes.items text.now) }
+fn one_byte<A: Allocator>(bytes: Vec<u8, A>, text: &str) -> Result<(Vec<u8, A>, &str), Stop>
+    ensures { Gives (λ x. (x.0.items, chars x.1.now)) result (one_byte_at bytes.items (chars text.now)) }
 {
     let mut bytes = bytes;
     if bytes.len() == MAX_BINARY {
@@ -228,8 +283,8 @@ fn one_byte<A: Allocator>(bytes: Vec<u8, A>, text: &[char]) -> Result<(Vec<u8, A
 }
 
 /// One or more segments with commas between, and the text behind them and the gap.
-fn segments<A: Allocator + Copy>(alloc: A, text: &[char]) -> Result<(Vec<u8, A>, &[char]), Stop>
-    ensures { Gives (λ x. (x.0.items, x.1.now)) result (segments_at [] text.now) }
+fn segments<A: Allocator + Copy>(alloc: A, text: &str) -> Result<(Vec<u8, A>, &str), Stop>
+    ensures { Gives (λ x. (x.0.items, chars x.1.now)) result (segments_at [] (chars text.now)) }
 {
     let mut bytes = Vec::new(alloc);
     let mut rest = text;
@@ -254,8 +309,9 @@ fn binary_of<A: Allocator>(alloc: A, bytes: Vec<u8, A>) -> Result<Term<A>, Stop>
 
 /// A binary, behind its opening.
 #[tactic(auto, unfolding(crate::specs::Reading::binary_at))]
-fn binary<A: Allocator + Copy>(alloc: A, text: &[char]) -> Result<(Term<A>, &[char]), Stop>
-    ensures { Gives (λ x. (x.0, x.1.now)) result (binary_at text.now) }
+#[inline(never)]
+fn binary<A: Allocator + Copy>(alloc: A, text: &str) -> Result<(Term<A>, &str), Stop>
+    ensures { Gives (λ x. (x.0, chars x.1.now)) result (binary_at (chars text.now)) }
 {
     let text = after_gap(text);
     if let Some(rest) = behind_both('>', '>', text) {
@@ -289,7 +345,46 @@ fn map_of<A: Allocator + Copy>(alloc: A, pairs: Pairs<A>) -> Result<Term<A>, Sto
     Ok(map_of_pairs(alloc, pairs).map_err(|refused| refused.fault.alloc_error())?)
 }
 
-/// A tuple of these elements.
+/// The tuple of one to four elements.
+#[inline(always)]
+fn short_tuple_of<A: Allocator>(alloc: A, elements: ShortRow<A>) -> Result<Term<A>, Stop>
+    requires { IsWithin (tuple (items_of (row_items elements))) }
+    ensures { Gives (λ t. t) result (Ok (tuple (items_of (row_items elements)))) }
+{
+    Ok(Term::short_tuple(alloc, elements).map_err(
+        |refused| -> AllocError
+            requires { refused.fault ≡ Fault.Memory }
+        { refused.fault.alloc_error() },
+    )?)
+}
+
+/// The list of one to four elements.
+#[inline(always)]
+fn short_list_of<A: Allocator>(alloc: A, elements: ShortRow<A>) -> Result<Term<A>, Stop>
+    requires { IsWithin (cells (row_items elements) nil) }
+    ensures { Gives (λ t. t) result (Ok (cells (row_items elements) nil)) }
+{
+    Ok(Term::short_list(alloc, elements).map_err(
+        |refused| -> AllocError
+            requires { refused.fault ≡ Fault.Memory }
+        { refused.fault.alloc_error() },
+    )?)
+}
+
+/// The elements of a row in a vector, where more follow.
+#[inline(never)]
+fn in_vector<A: Allocator>(alloc: A, row: ShortRow<A>) -> Result<Vec<Term<A>, A>, AllocError>
+    ensures { IfOk result (λ all. all.items ≡ row_items row) }
+{
+    match row {
+        ShortRow::One(terms) => Ok(Vec::from_array(alloc, terms)?),
+        ShortRow::Two(terms) => Ok(Vec::from_array(alloc, terms)?),
+        ShortRow::Three(terms) => Ok(Vec::from_array(alloc, terms)?),
+        ShortRow::Four(terms) => Ok(Vec::from_array(alloc, terms)?),
+    }
+}
+
+/// A tuple of these elements, which are none or many.
 fn tuple_of<A: Allocator>(alloc: A, elements: Vec<Term<A>, A>) -> Result<Term<A>, Stop>
     requires { IsWithin (tuple (items_of elements.items)) }
     ensures { Gives (λ t. t) result (Ok (tuple (items_of elements.items))) }
@@ -303,11 +398,11 @@ fn form<A: Allocator + Copy>(
     alloc: A,
     levels: u8,
     opening: Opening,
-    text: &[char],
-) -> Result<(Term<A>, &[char]), Stop>
+    text: &str,
+) -> Result<(Term<A>, &str), Stop>
     requires { levels < MAX_DEPTH }
-    ensures { Gives (λ x. (x.0, x.1.now)) result
-        (form_at (term_at levels) (tail_at levels) levels opening text.now) }
+    ensures { Gives (λ x. (x.0, chars x.1.now)) result
+        (form_at (term_at levels) (tail_at levels) levels opening (chars text.now)) }
 {
     match opening {
         Opening::Integer => integer_term(text),
@@ -315,21 +410,61 @@ fn form<A: Allocator + Copy>(
         Opening::QuotedAtom => quoted_atom(alloc, text),
         Opening::String => string(alloc, levels, Vec::new(alloc), text),
         Opening::Tuple => tuple(alloc, levels, text),
-        Opening::List => list(alloc, levels, Vec::new(alloc), text),
+        Opening::List => list(alloc, levels, text),
         Opening::Map => map(alloc, levels, text),
         Opening::Binary => binary(alloc, text),
     }
 }
 
+/// An integer without a sign or a short word, where one of these may stand there and does: it takes no memory.
+#[tactic(auto, using(crate::proofs::Short::plain_word, crate::proofs::Short::plain_integer, crate::proofs::Short::begun))]
+#[inline(always)]
+fn plain<A: Allocator>(levels: u8, room: usize, text: &str) -> Option<(Term<A>, &str)>
+    ensures { IfSome result (λ x. term_at levels room (chars text.now) ≡ Ok (x.0, chars x.1.now)) }
+{
+    if levels == 0 {
+        return None;
+    }
+    if room == 0 {
+        return None;
+    }
+    let (first, _rest) = split_ascii(text)?;
+    if first.is_ascii_digit() {
+        return plain_integer(text);
+    }
+    if first.is_ascii_lowercase() {
+        return short_word(text);
+    }
+    None
+}
+
 /// A term, where so many levels are left for it and so many terms.
 #[cycle(term)]
+#[inline(always)]
 fn term<A: Allocator + Copy>(
     alloc: A,
     levels: u8,
     room: usize,
-    text: &[char],
-) -> Result<(Term<A>, &[char]), Stop>
-    ensures { Gives (λ x. (x.0, x.1.now)) result (term_at levels room text.now) }
+    text: &str,
+) -> Result<(Term<A>, &str), Stop>
+    ensures { Gives (λ x. (x.0, chars x.1.now)) result (term_at levels room (chars text.now)) }
+{
+    match plain(levels, room, text) {
+        Some(found) => Ok(found),
+        None => any_term(alloc, levels, room, text),
+    }
+}
+
+/// The same for any term.
+#[cycle(term)]
+#[inline(never)]
+fn any_term<A: Allocator + Copy>(
+    alloc: A,
+    levels: u8,
+    room: usize,
+    text: &str,
+) -> Result<(Term<A>, &str), Stop>
+    ensures { Gives (λ x. (x.0, chars x.1.now)) result (term_at levels room (chars text.now)) }
 {
     let (opening, rest) = enter(levels, room, text)?;
     form(alloc, levels - 1, opening, rest)
@@ -337,20 +472,21 @@ fn term<A: Allocator + Copy>(
 
 /// The list of these elements and the tail that stands there.
 #[cycle(term)]
+#[inline(never)]
 fn tail<A: Allocator + Copy>(
     alloc: A,
     levels: u8,
     elements: Vec<Term<A>, A>,
-    text: &[char],
-) -> Result<(Term<A>, &[char]), Stop>
+    text: &str,
+) -> Result<(Term<A>, &str), Stop>
     requires levels { levels < MAX_DEPTH }
     requires elements { AreElements elements.items }
-    ensures { Gives (λ x. (x.0, x.1.now)) result (tail_at levels elements.items text.now) }
+    ensures { Gives (λ x. (x.0, chars x.1.now)) result (tail_at levels elements.items (chars text.now)) }
 {
     let (opening, rest) = enter(levels, 1, text)?;
     match opening {
         Opening::String => string(alloc, levels - 1, elements, rest),
-        Opening::List => list(alloc, levels - 1, elements, rest),
+        Opening::List => more_of_list(alloc, levels - 1, elements, rest),
         _ => {
             let (tail, rest) = form(alloc, levels - 1, opening, rest)?;
             Ok((list_of(alloc, elements, Some(tail))?, rest))
@@ -360,15 +496,16 @@ fn tail<A: Allocator + Copy>(
 
 /// One or more terms with commas between, behind these, and the text behind them and the gap.
 #[cycle(term)]
+#[inline(never)]
 fn elements<A: Allocator + Copy>(
     alloc: A,
     levels: u8,
     limit: usize,
     elements: Vec<Term<A>, A>,
-    text: &[char],
-) -> Result<(Vec<Term<A>, A>, &[char]), Stop>
-    ensures { Gives (λ x. (x.0.items, x.1.now)) result
-        (elements_at (term_at levels) limit elements.items text.now) }
+    text: &str,
+) -> Result<(Vec<Term<A>, A>, &str), Stop>
+    ensures { Gives (λ x. (x.0.items, chars x.1.now)) result
+        (elements_at (term_at levels) limit elements.items (chars text.now)) }
 {
     let mut elements = elements;
     let mut rest = text;
@@ -384,39 +521,113 @@ fn elements<A: Allocator + Copy>(
     }
 }
 
+/// One to four terms with commas between, whether more follow, and the text behind them and the comma or the gap.
+#[cycle(term)]
+#[inline(always)]
+fn few_elements<A: Allocator + Copy>(
+    alloc: A,
+    levels: u8,
+    limit: usize,
+    text: &str,
+) -> Result<(ShortRow<A>, bool, &str), Stop>
+    ensures { MatchResult result
+        (λ x. elements_from (term_at levels) limit x.1 (row_items x.0) (chars x.2.now)
+        ≡ elements_at (term_at levels) limit [] (chars text.now))
+        (λ stop. Fails stop (elements_at (term_at levels) limit [] (chars text.now))) }
+{
+    let (first, after) = term(alloc, levels, limit, text)?;
+    let (mut goes_on, mut rest) = behind_comma(after);
+    let mut few = ShortRow::One([first]);
+    for count in 1..FEW {
+        if !goes_on {
+            return Ok((few, false, rest));
+        }
+        let room = limit.saturating_sub(count);
+        let (element, after) = term(alloc, levels, room, rest)?;
+        few = few.with(element);
+        (goes_on, rest) = behind_comma(after);
+    }
+    Ok((few, goes_on, rest))
+}
+
 /// A tuple, behind its opening.
 #[cycle(term)]
 #[tactic(auto, unfolding(crate::specs::Reading::tuple_at))]
-fn tuple<A: Allocator + Copy>(
-    alloc: A,
-    levels: u8,
-    text: &[char],
-) -> Result<(Term<A>, &[char]), Stop>
+#[inline(never)]
+fn tuple<A: Allocator + Copy>(alloc: A, levels: u8, text: &str) -> Result<(Term<A>, &str), Stop>
     requires { levels < MAX_DEPTH }
-    ensures { Gives (λ x. (x.0, x.1.now)) result (tuple_at (term_at levels) text.now) }
+    ensures { Gives (λ x. (x.0, chars x.1.now)) result (tuple_at (term_at levels) (chars text.now)) }
 {
     let text = after_gap(text);
     if let Some(rest) = behind('}', text) {
         return Ok((tuple_of(alloc, Vec::new(alloc))?, rest));
     }
-    let (elements, rest) = elements(alloc, levels, MAX_TUPLE, Vec::new(alloc), text)?;
+    let (few, goes_on, rest) = few_elements(alloc, levels, MAX_TUPLE, text)?;
+    if goes_on {
+        let front = in_vector(alloc, few)?;
+        let (elements, rest) = elements(alloc, levels, MAX_TUPLE, front, rest)?;
+        let rest = expect('}', rest)?;
+        return Ok((tuple_of(alloc, elements)?, rest));
+    }
     let rest = expect('}', rest)?;
-    Ok((tuple_of(alloc, elements)?, rest))
+    Ok((short_tuple_of(alloc, few)?, rest))
+}
+
+/// A list, behind its opening.
+#[cycle(term)]
+#[tactic(auto, unfolding(crate::specs::Reading::list_at))]
+#[inline(never)]
+fn list<A: Allocator + Copy>(alloc: A, levels: u8, text: &str) -> Result<(Term<A>, &str), Stop>
+    requires { levels < MAX_DEPTH }
+    ensures { Gives (λ x. (x.0, chars x.1.now)) result
+        (list_at (term_at levels) (tail_at levels) [] (chars text.now)) }
+{
+    let text = after_gap(text);
+    if let Some(rest) = behind(']', text) {
+        return Ok((Term::nil(), rest));
+    }
+    let (few, goes_on, rest) = few_elements(alloc, levels, MAX_LIST, text)?;
+    if goes_on {
+        let front = in_vector(alloc, few)?;
+        let (elements, rest) = elements(alloc, levels, MAX_LIST, front, rest)?;
+        return list_end(alloc, levels, elements, rest);
+    }
+    short_list_end(alloc, levels, few, rest)
+}
+
+/// Behind one to four elements of a list: its tail, where a bar stands there, and its end.
+#[cycle(term)]
+fn short_list_end<A: Allocator + Copy>(
+    alloc: A,
+    levels: u8,
+    elements: ShortRow<A>,
+    text: &str,
+) -> Result<(Term<A>, &str), Stop>
+    requires levels { levels < MAX_DEPTH }
+    requires elements { AreElements (row_items elements) }
+    ensures { Gives (λ x. (x.0, chars x.1.now)) result
+        (list_end (tail_at levels) (row_items elements) (chars text.now)) }
+{
+    match behind(']', text) {
+        Some(rest) => Ok((short_list_of(alloc, elements)?, rest)),
+        None => list_end(alloc, levels, in_vector(alloc, elements)?, text),
+    }
 }
 
 /// A list that begins with these elements, behind the opening of its last part.
 #[cycle(term)]
 #[tactic(auto, unfolding(crate::specs::Reading::list_at))]
-fn list<A: Allocator + Copy>(
+#[inline(never)]
+fn more_of_list<A: Allocator + Copy>(
     alloc: A,
     levels: u8,
     front: Vec<Term<A>, A>,
-    text: &[char],
-) -> Result<(Term<A>, &[char]), Stop>
+    text: &str,
+) -> Result<(Term<A>, &str), Stop>
     requires levels { levels < MAX_DEPTH }
     requires elements { AreElements front.items }
-    ensures { Gives (λ x. (x.0, x.1.now)) result
-        (list_at (term_at levels) (tail_at levels) front.items text.now) }
+    ensures { Gives (λ x. (x.0, chars x.1.now)) result
+        (list_at (term_at levels) (tail_at levels) front.items (chars text.now)) }
 {
     let text = after_gap(text);
     if let Some(rest) = behind(']', text) {
@@ -429,16 +640,17 @@ fn list<A: Allocator + Copy>(
 /// Behind the elements of a list: its tail, where a bar stands there, and its end.
 #[cycle(term)]
 #[tactic(auto, unfolding(crate::specs::Reading::list_end))]
+#[inline(never)]
 fn list_end<A: Allocator + Copy>(
     alloc: A,
     levels: u8,
     elements: Vec<Term<A>, A>,
-    text: &[char],
-) -> Result<(Term<A>, &[char]), Stop>
+    text: &str,
+) -> Result<(Term<A>, &str), Stop>
     requires levels { levels < MAX_DEPTH }
     requires elements { AreElements elements.items }
-    ensures { Gives (λ x. (x.0, x.1.now)) result
-        (list_end (tail_at levels) elements.items text.now) }
+    ensures { Gives (λ x. (x.0, chars x.1.now)) result
+        (list_end (tail_at levels) elements.items (chars text.now)) }
 {
     if let Some(rest) = behind('|', text) {
         let (list, rest) = tail(alloc, levels, elements, after_gap(rest))?;
@@ -456,10 +668,10 @@ fn pair<A: Allocator + Copy>(
     alloc: A,
     levels: u8,
     pairs: Pairs<A>,
-    text: &[char],
-) -> Result<(Pairs<A>, &[char]), Stop>
-    ensures { Gives (λ x. (x.0.entries, x.1.now)) result
-        (pair_at (term_at levels) pairs.entries text.now) }
+    text: &str,
+) -> Result<(Pairs<A>, &str), Stop>
+    ensures { Gives (λ x. (x.0.entries, chars x.1.now)) result
+        (pair_at (term_at levels) pairs.entries (chars text.now)) }
 {
     let mut pairs = pairs;
     let room = MAX_MAP.saturating_sub(pairs.len());
@@ -475,13 +687,10 @@ fn pair<A: Allocator + Copy>(
 
 /// One or more pairs with commas between, and the text behind them and the gap.
 #[cycle(term)]
-fn pairs<A: Allocator + Copy>(
-    alloc: A,
-    levels: u8,
-    text: &[char],
-) -> Result<(Pairs<A>, &[char]), Stop>
-    ensures { Gives (λ x. (x.0.entries, x.1.now)) result
-        (all_steps (separated (pair_at (term_at levels))) [] text.now) }
+#[inline(never)]
+fn pairs<A: Allocator + Copy>(alloc: A, levels: u8, text: &str) -> Result<(Pairs<A>, &str), Stop>
+    ensures { Gives (λ x. (x.0.entries, chars x.1.now)) result
+        (all_steps (separated (pair_at (term_at levels))) [] (chars text.now)) }
 {
     let mut pairs = BTreeMap::new(alloc);
     let mut rest = text;
@@ -499,9 +708,10 @@ fn pairs<A: Allocator + Copy>(
 /// A map, behind its opening.
 #[cycle(term)]
 #[tactic(auto, unfolding(crate::specs::Reading::map_at))]
-fn map<A: Allocator + Copy>(alloc: A, levels: u8, text: &[char]) -> Result<(Term<A>, &[char]), Stop>
+#[inline(never)]
+fn map<A: Allocator + Copy>(alloc: A, levels: u8, text: &str) -> Result<(Term<A>, &str), Stop>
     requires { levels < MAX_DEPTH }
-    ensures { Gives (λ x. (x.0, x.1.now)) result (map_at (term_at levels) text.now) }
+    ensures { Gives (λ x. (x.0, chars x.1.now)) result (map_at (term_at levels) (chars text.now)) }
 {
     let text = after_gap(text);
     if let Some(rest) = behind('}', text) {
@@ -514,8 +724,8 @@ fn map<A: Allocator + Copy>(alloc: A, levels: u8, text: &[char]) -> Result<(Term
 
 /// A term and its dot.
 #[tactic(auto, unfolding(crate::specs::Reading::sentence_at))]
-fn sentence<A: Allocator + Copy>(alloc: A, text: &[char]) -> Result<(Term<A>, &[char]), Stop>
-    ensures { Gives (λ x. (x.0, x.1.now)) result (sentence_at text.now) }
+fn sentence<A: Allocator + Copy>(alloc: A, text: &str) -> Result<(Term<A>, &str), Stop>
+    ensures { Gives (λ x. (x.0, chars x.1.now)) result (sentence_at (chars text.now)) }
 {
     let (term, rest) = term(alloc, MAX_DEPTH, 1, text)?;
     let rest = dot(after_gap(rest))?;
@@ -523,12 +733,12 @@ fn sentence<A: Allocator + Copy>(alloc: A, text: &[char]) -> Result<(Term<A>, &[
 }
 
 /// All terms of a text, each followed by a dot.
-pub fn terms<A: Allocator + Copy>(alloc: A, text: &[char]) -> Result<Vec<Term<A>, A>, Stop>
-    ensures { Gives (λ v. v.items) result (text_at text.now) }
+pub fn terms<A: Allocator + Copy>(alloc: A, text: &str) -> Result<Vec<Term<A>, A>, Stop>
+    ensures { Gives (λ v. v.items) result (text_at (chars text.now)) }
 {
     let mut terms = Vec::new(alloc);
     let mut rest = after_gap(text);
-    while !rest.is_empty() {
+    while !is_empty(rest) {
         let (term, after) = sentence(alloc, rest)?;
         terms.push(term)?;
         rest = after_gap(after);

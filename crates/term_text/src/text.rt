@@ -1,5 +1,5 @@
 //! Reading a text of terms.
-ghost use Rattle.std.specs.Prelude.{◌≡◌, ◌↔◌, ◌<◌, ◌≤◌, ◌^◌, List, IfOk, IfErr, ℕ, IsErrOf, MatchResult, Ok, Err, length};
+ghost use Rattle.std.specs.Prelude.{◌≡◌, ◌↔◌, ◌<◌, ◌≤◌, ◌^◌, List, IfOk, IfErr, ℕ, IsErrOf, MatchResult, Ok, Err, length, take};
 ghost use Rattle.std.specs.Str.{encode_utf8_all, IsValidUpTo, chars};
 ghost use Rattle.term_core.specs.Datum.{Datum};
 ghost use Rattle.term_text.specs.Text.{Spells};
@@ -8,35 +8,36 @@ ghost use Rattle.term_text.specs.Fault.{fault_of};
 ghost use Rattle.term_text.specs.TokenReading.{Gives};
 ghost use Rattle.term_text.specs.Reading.{text_at};
 
+use crate::characters::{count, split_first};
 use crate::fault::TextFault;
 use crate::read::terms;
 use crate::stop::{Cause, Stop};
-use std::alloc::{AllocError, Allocator};
+use std::alloc::Allocator;
 use std::str;
 use term_core::Term;
 
-/// How many bytes these characters take in UTF-8.
-fn byte_count(characters: &[char]) -> usize
-    requires { length (encode_utf8_all characters.now) < 2 ^ 64 }
-    ensures { result ≡ length (encode_utf8_all characters.now) }
+/// How many bytes the first so many characters of a text take.
+fn byte_count(text: &str, characters: usize) -> usize
+    ensures { result ≡ length (encode_utf8_all (take characters (chars text.now))) }
 {
-    let mut count = 0;
-    for character in characters {
-        count += character.len_utf8();
+    let mut rest = text;
+    for _passed in 0..characters {
+        let Some((_first, behind)) = split_first(rest) else {
+            return text.len();
+        };
+        rest = behind;
     }
-    count
+    text.len() - rest.len()
 }
 
-/// Why reading these characters stopped, by the byte where it did.
-fn fault(stop: Stop, characters: &[char]) -> TextFault
-    requires { length (encode_utf8_all characters.now) < 2 ^ 64 }
-    ensures { result ≡ fault_of stop characters.now }
+/// Why reading a text stopped, by the byte where it did.
+fn fault(stop: Stop, text: &str) -> TextFault
+    ensures { result ≡ fault_of stop (chars text.now) }
 {
     let Stop::At(cause, left) = stop else {
         return TextFault::Memory;
     };
-    let (front, _) = characters.split_at(characters.len().saturating_sub(left));
-    let at = byte_count(front);
+    let at = byte_count(text, count(text).saturating_sub(left));
     match cause {
         Cause::TooDeep => TextFault::TooDeep(at),
         Cause::TooLong => TextFault::TooLong(at),
@@ -45,15 +46,6 @@ fn fault(stop: Stop, characters: &[char]) -> TextFault
         Cause::IntegerRange => TextFault::IntegerRange(at),
         Cause::UnsupportedEscape => TextFault::UnsupportedEscape(at),
     }
-}
-
-/// The characters of a text.
-#[tactic(auto, using(std::proofs::lemmas::Str::chars_from_encodes))]
-fn characters_of<A: Allocator>(alloc: A, text: &str) -> Result<Vec<char, A>, AllocError>
-    ensures value { IfOk result (λ v. v.items ≡ chars text.now) }
-    ensures bounded { IfOk result (λ v. length (encode_utf8_all v.items) < 2 ^ 64) }
-{
-    text.chars().collect(alloc)
 }
 
 /// The terms of a text, which has a dot behind each.
@@ -72,11 +64,8 @@ pub fn read_terms<A: Allocator + Copy>(alloc: A, bytes: &[u8]) -> Result<Vec<Ter
         Ok(text) => text,
         Err(error) => return Err(TextFault::BadUtf8(error.valid_up_to())),
     };
-    let Ok(characters) = characters_of(alloc, text) else {
-        return Err(TextFault::Memory);
-    };
-    match terms(alloc, characters.as_slice()) {
+    match terms(alloc, text) {
         Ok(terms) => Ok(terms),
-        Err(stop) => Err(fault(stop, characters.as_slice())),
+        Err(stop) => Err(fault(stop, text)),
     }
 }

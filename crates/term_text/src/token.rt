@@ -1,11 +1,14 @@
 //! The tokens of term text.
-ghost use Rattle.std.specs.Prelude.{◌≡◌, ◌≤◌, ◌<◌, ◌^◌, ◌-◌, min, true, false, length, IfSome, IfOk, MatchOption, if◌then◌else◌};
+ghost use Rattle.std.specs.Prelude.{◌≡◌, ◌∷◌, ◌≤◌, ◌<◌, ◌^◌, ◌-◌, min, true, false, length, IfSome, IfOk, MatchOption, if◌then◌else◌};
 ghost use Rattle.std.specs.Option.{option_map};
 ghost use Rattle.std.specs.List.{prefix_len, AllByRecursion};
 ghost use Rattle.std.specs.Char.{is_ascii_digit};
+ghost use Rattle.std.specs.Str.{chars};
 ghost use Rattle.term_text.specs.Character.{is_white_space, is_word, escaped};
-ghost use Rattle.term_text.specs.TokenReading.{Gives, after_gap, opening, behind, behind_both, begins, integer_at, number_run, character_at, signed, fits, expect, expect_both, begins_gap, dot_at, behind_sign, word_at, next_quoted, quoted_at, is_allowed};
+ghost use Rattle.term_text.specs.Tokens.{EndsRun};
+ghost use Rattle.term_text.specs.TokenReading.{Gives, after_gap, opening, behind, behind_both, begins, integer_at, number_run, character_at, escape_at, signed, fits, expect, expect_both, begins_gap, dot_at, behind_sign, word_at, next_quoted, quoted_at, is_allowed};
 
+use crate::characters::{count, is_empty, split_ascii, split_first};
 use crate::stop::{Cause, Stop};
 use std::alloc::Allocator;
 use term_core::MAX_CHARACTERS;
@@ -24,10 +27,11 @@ pub enum Opening {
 }
 
 /// A fault at the beginning of this text.
-pub fn stop(cause: Cause, text: &[char]) -> Stop
-    ensures { result ≡ Stop.At cause (length text.now) }
+#[inline(never)]
+pub fn stop(cause: Cause, text: &str) -> Stop
+    ensures { result ≡ Stop.At cause (length (chars text.now)) }
 {
-    Stop::At(cause, text.len())
+    Stop::At(cause, count(text))
 }
 
 /// Tabs, line feeds, form feeds, carriage returns and spaces.
@@ -45,44 +49,74 @@ pub fn is_word(character: char) -> bool
 }
 
 /// The text behind white space and comments, which go from `%` to the end of their line.
-pub fn after_gap(text: &[char]) -> &[char]
-    ensures { result.now ≡ after_gap false text.now }
+#[tactic(auto, using(crate::proofs::CharacterLemmas::no_gap))]
+#[inline(always)]
+pub fn after_gap(text: &str) -> &str
+    ensures { chars result.now ≡ after_gap false (chars text.now) }
 {
-    let mut in_comment = false;
-    for (i, character) in text.iter().enumerate() {
-        if in_comment {
-            in_comment = *character != '\n';
-        } else if *character == '%' {
-            in_comment = true;
-        } else if !is_white_space(*character) {
-            return &text[i..];
-        }
+    let Some((first, _)) = split_ascii(text) else {
+        return text;
+    };
+    if is_white_space(first) {
+        return behind_gap(text);
     }
-    &[]
+    if first == '%' {
+        return behind_gap(text);
+    }
+    text
+}
+
+/// The same, where there are such.
+#[inline(never)]
+fn behind_gap(text: &str) -> &str
+    ensures { chars result.now ≡ after_gap false (chars text.now) }
+{
+    let mut rest = text;
+    let mut in_comment = false;
+    loop {
+        let Some((character, behind)) = split_first(rest) else {
+            return rest;
+        };
+        if in_comment {
+            in_comment = character != '\n';
+        } else if character == '%' {
+            in_comment = true;
+        } else if !is_white_space(character) {
+            return rest;
+        }
+        rest = behind;
+    }
 }
 
 /// The text behind this character, where it stands there.
-pub fn behind(character: char, text: &[char]) -> Option<&[char]>
-    ensures { option_map (λ rest. rest.now) result ≡ behind character text.now }
+#[tactic(auto, using(crate::proofs::CharacterLemmas::none_behind))]
+#[inline(always)]
+pub fn behind(character: char, text: &str) -> Option<&str>
+    requires { character < 128 }
+    ensures { option_map (λ rest. chars rest.now) result ≡ behind character (chars text.now) }
 {
-    match text {
-        [first, rest @ ..] if *first == character => Some(rest),
-        _ => None,
-    }
+    let (first, rest) = split_ascii(text)?;
+    if first == character { Some(rest) } else { None }
 }
 
 /// Whether a digit comes next.
-fn begins_digits(text: &[char]) -> bool
-    ensures { result ≡ begins is_ascii_digit text.now }
+#[tactic(auto, using(crate::proofs::CharacterLemmas::no_digit))]
+fn begins_digits(text: &str) -> bool
+    ensures { result ≡ begins is_ascii_digit (chars text.now) }
 {
-    text.first().is_some_and(|first| first.is_ascii_digit())
+    match split_ascii(text) {
+        Some((first, _)) => first.is_ascii_digit(),
+        None => false,
+    }
 }
 
 /// What a term begins with, and the text to read it from.
-pub fn begin(text: &[char]) -> Option<(Opening, &[char])>
-    ensures { option_map (λ o. (o.0, o.1.now)) result ≡ opening text.now }
+#[tactic(auto, using(crate::proofs::CharacterLemmas::no_opening))]
+#[inline(always)]
+pub fn begin(text: &str) -> Option<(Opening, &str)>
+    ensures { option_map (λ o. (o.0, chars o.1.now)) result ≡ opening (chars text.now) }
 {
-    let (first, rest) = text.split_first()?;
+    let (first, rest) = split_ascii(text)?;
     match first {
         '0'..='9' => Some((Opening::Integer, text)),
         '+' | '-' if begins_digits(rest) => Some((Opening::Integer, text)),
@@ -98,71 +132,90 @@ pub fn begin(text: &[char]) -> Option<(Opening, &[char])>
 }
 
 /// The text behind this character, which has to stand there.
-pub fn expect(character: char, text: &[char]) -> Result<&[char], Stop>
-    ensures { Gives (λ rest. rest.now) result (expect character text.now) }
+#[tactic(auto, using(crate::proofs::CharacterLemmas::expected, crate::proofs::CharacterLemmas::not_expected))]
+#[inline(always)]
+pub fn expect(character: char, text: &str) -> Result<&str, Stop>
+    requires { character < 128 }
+    ensures { Gives (λ rest. chars rest.now) result (expect character (chars text.now)) }
 {
-    match text {
-        [first, rest @ ..] if *first == character => Ok(rest),
-        _ => Err(stop(Cause::Syntax, text)),
+    match behind(character, text) {
+        Some(rest) => Ok(rest),
+        None => Err(stop(Cause::Syntax, text)),
     }
 }
 
 /// The text behind these two characters, where they stand there.
-pub fn behind_both(first: char, second: char, text: &[char]) -> Option<&[char]>
-    ensures { option_map (λ rest. rest.now) result ≡ behind_both first second text.now }
+#[tactic(auto, using(crate::proofs::CharacterLemmas::behind_second, crate::proofs::CharacterLemmas::no_second))]
+pub fn behind_both(first: char, second: char, text: &str) -> Option<&str>
+    requires { (first < 128) × (second < 128) }
+    ensures { option_map (λ rest. chars rest.now) result ≡ behind_both first second (chars text.now) }
 {
-    match text {
-        [a, b, rest @ ..] if *a == first && *b == second => Some(rest),
-        _ => None,
-    }
+    behind(second, behind(first, text)?)
 }
 
 /// The text behind these two characters, which have to stand there.
-pub fn expect_both(first: char, second: char, text: &[char]) -> Result<&[char], Stop>
-    ensures { Gives (λ rest. rest.now) result (expect_both first second text.now) }
+#[tactic(auto, using(crate::proofs::CharacterLemmas::both_expected, crate::proofs::CharacterLemmas::both_not_expected))]
+pub fn expect_both(first: char, second: char, text: &str) -> Result<&str, Stop>
+    requires { (first < 128) × (second < 128) }
+    ensures { Gives (λ rest. chars rest.now) result (expect_both first second (chars text.now)) }
 {
-    match text {
-        [a, b, rest @ ..] if *a == first && *b == second => Ok(rest),
-        _ => Err(stop(Cause::Syntax, text)),
+    match behind_both(first, second, text) {
+        Some(rest) => Ok(rest),
+        None => Err(stop(Cause::Syntax, text)),
     }
 }
 
 /// Whether white space, a comment or the end comes next.
-fn begins_gap(text: &[char]) -> bool
-    ensures { result ≡ begins_gap text.now }
+#[tactic(auto, using(crate::proofs::CharacterLemmas::gap_at_end))]
+#[inline(always)]
+fn begins_gap(text: &str) -> bool
+    ensures { result ≡ begins_gap (chars text.now) }
 {
-    match text {
-        [] => true,
-        [first, ..] => is_white_space(*first) || *first == '%',
+    match split_ascii(text) {
+        Some((first, _)) => is_white_space(first) || first == '%',
+        None => is_empty(text),
     }
 }
 
 /// The text behind a dot, which white space, a comment or the end has to follow.
-pub fn dot(text: &[char]) -> Result<&[char], Stop>
-    ensures { Gives (λ rest. rest.now) result (dot_at text.now) }
+#[tactic(auto, using(crate::proofs::CharacterLemmas::no_dot, crate::proofs::CharacterLemmas::dot_is, crate::proofs::CharacterLemmas::dot_goes_on))]
+#[inline(always)]
+pub fn dot(text: &str) -> Result<&str, Stop>
+    ensures { Gives (λ rest. chars rest.now) result (dot_at (chars text.now)) }
 {
-    match text {
-        ['.', rest @ ..] if begins_gap(rest) => Ok(rest),
-        _ => Err(stop(Cause::Syntax, text)),
+    let Some(rest) = behind('.', text) else {
+        return Err(stop(Cause::Syntax, text));
+    };
+    if begins_gap(rest) {
+        Ok(rest)
+    } else {
+        Err(stop(Cause::Syntax, text))
     }
 }
 
 /// The number that the digits in front write, at most the greatest of 64 bits, and the text behind them.
-fn number(text: &[char]) -> (u64, &[char])
-    ensures value { result.0 ≡ min (number_run 0 text.now).0 (2 ^ 64 - 1) }
-    ensures rest { result.1.now ≡ (number_run 0 text.now).1 }
+#[tactic(auto, using(crate::proofs::CharacterLemmas::no_more_digits))]
+#[inline(always)]
+fn number(text: &str) -> (u64, &str)
+    ensures value { result.0 ≡ min (number_run 0 (chars text.now)).0 (2 ^ 64 - 1) }
+    ensures rest { chars result.1.now ≡ (number_run 0 (chars text.now)).1 }
 {
     let mut value: u64 = 0;
-    for (i, character) in text.iter().enumerate() {
+    let mut rest = text;
+    loop {
+        let Some((character, behind)) = split_ascii(rest) else {
+            return (value, rest);
+        };
         let Some(digit) = character.to_digit(10) else {
-            return (value, &text[i..]);
+            return (value, rest);
         };
         value = value.saturating_mul(10).saturating_add(u64::from(digit));
+        rest = behind;
     }
-    (value, &[])
 }
 
 /// A number with its sign, where 64 bits hold the integer.
+#[inline(always)]
 fn with_sign(is_negative: bool, magnitude: u64) -> Option<i64>
     ensures { result ≡ (if fits is_negative magnitude then Some (signed is_negative magnitude) else
         None) }
@@ -175,20 +228,26 @@ fn with_sign(is_negative: bool, magnitude: u64) -> Option<i64>
 }
 
 /// Whether a minus stands first, and the text behind the sign.
-fn behind_sign(text: &[char]) -> (bool, &[char])
-    ensures { (result.0, result.1.now) ≡ behind_sign text.now }
+#[tactic(auto, using(crate::proofs::CharacterLemmas::no_sign))]
+#[inline(always)]
+fn behind_sign(text: &str) -> (bool, &str)
+    ensures { (result.0, chars result.1.now) ≡ behind_sign (chars text.now) }
 {
-    match text {
-        ['-', rest @ ..] => (true, rest),
-        ['+', rest @ ..] => (false, rest),
+    let Some((first, rest)) = split_ascii(text) else {
+        return (false, text);
+    };
+    match first {
+        '-' => (true, rest),
+        '+' => (false, rest),
         _ => (false, text),
     }
 }
 
 /// An integer: a sign or none, and digits.
 #[tactic(auto, unfolding(crate::specs::TokenReading::integer_at))]
-pub fn integer(text: &[char]) -> Result<(i64, &[char]), Stop>
-    ensures { Gives (λ x. (x.0, x.1.now)) result (integer_at text.now) }
+#[inline(always)]
+pub fn integer(text: &str) -> Result<(i64, &str), Stop>
+    ensures { Gives (λ x. (x.0, chars x.1.now)) result (integer_at (chars text.now)) }
 {
     let (is_negative, unsigned) = behind_sign(text);
     let (magnitude, rest) = number(unsigned);
@@ -198,25 +257,61 @@ pub fn integer(text: &[char]) -> Result<(i64, &[char]), Stop>
     }
 }
 
-/// How many characters of a bare word stand in front.
-fn word_len(text: &[char]) -> usize
-    ensures len { result ≡ prefix_len is_word text.now }
-    ensures within { result ≤ length text.now }
+/// The number of an integer without a sign, where 63 bits hold it, and the text behind it.
+#[tactic(auto, using(crate::proofs::Short::plain_number))]
+#[inline(always)]
+pub fn plain_number(text: &str) -> Option<(i64, &str)>
+    requires { begins is_ascii_digit (chars text.now) ≡ true }
+    ensures { IfSome result (λ x. integer_at (chars text.now) ≡ Ok (x.0, chars x.1.now)) }
 {
-    text.iter().take_while(|c| is_word(**c)).count()
+    let (magnitude, rest) = number(text);
+    let value = with_sign(false, magnitude)?;
+    Some((value, rest))
+}
+
+/// The next character of a bare word, and the text behind it.
+#[tactic(auto, using(crate::proofs::CharacterLemmas::no_word))]
+#[inline(always)]
+pub fn letter(text: &str) -> Option<(char, &str)>
+    ensures { MatchOption result (EndsRun is_word (chars text.now)) (λ x.
+        (is_word x.0 ≡ true) × (chars text.now ≡ x.0 ∷ chars x.1.now)) }
+{
+    let (first, rest) = split_ascii(text)?;
+    if is_word(first) {
+        Some((first, rest))
+    } else {
+        None
+    }
+}
+
+/// How many letters of a bare word stand in front, as one counts before memory is taken for them.
+fn letter_count(text: &str) -> usize {
+    text.as_bytes()
+        .iter()
+        .take_while(|byte| is_word(char::from(**byte)))
+        .count()
 }
 
 /// The characters of a bare word, and the text behind them.
-#[tactic(auto, unfolding(crate::specs::TokenReading::word_at))]
-pub fn word(text: &[char]) -> Result<(&[char], &[char]), Stop>
-    ensures { Gives (λ x. (x.0.now, x.1.now)) result (word_at text.now) }
+#[tactic(auto, using(crate::proofs::Words::word_begins, crate::proofs::Words::word_goes_on, crate::proofs::Words::word_ends, crate::proofs::Words::word_stops, crate::proofs::CharacterLemmas::no_word, crate::proofs::Words::word_too_long))]
+pub fn word<A: Allocator>(alloc: A, text: &str) -> Result<(Vec<char, A>, &str), Stop>
+    ensures { Gives (λ x. (x.0.items, chars x.1.now)) result (word_at (chars text.now)) }
 {
-    let len = word_len(text);
-    if len > MAX_CHARACTERS {
-        let (_, past) = text.split_at(MAX_CHARACTERS);
-        return Err(stop(Cause::TooLong, past));
+    let mut characters = Vec::with_capacity(alloc, letter_count(text).min(MAX_CHARACTERS))?;
+    let mut rest = text;
+    loop {
+        let Some((character, behind)) = split_ascii(rest) else {
+            return Ok((characters, rest));
+        };
+        if !is_word(character) {
+            return Ok((characters, rest));
+        }
+        if characters.len() == MAX_CHARACTERS {
+            return Err(stop(Cause::TooLong, rest));
+        }
+        characters.push(character)?;
+        rest = behind;
     }
-    Ok(text.split_at(len))
 }
 
 /// How the characters up to a mark are read: at most so many, what is wrong with one more, and whether each has to be a
@@ -244,31 +339,46 @@ fn escaped(character: char) -> Option<char>
     }
 }
 
+/// What stands behind a backslash, at which the text begins.
+fn escape<'t>(text: &str, behind: &'t str) -> Result<(char, &'t str), Stop>
+    ensures { Gives (λ x. (x.0, chars x.1.now)) result (escape_at (chars text.now) (chars behind.now)) }
+{
+    let Some((second, rest)) = split_first(behind) else {
+        return Err(Stop::At(Cause::Syntax, 0));
+    };
+    match escaped(second) {
+        Some(character) => Ok((character, rest)),
+        None => Err(stop(Cause::UnsupportedEscape, text)),
+    }
+}
+
 /// A character as it is or as an escape.
 #[tactic(auto, unfolding(crate::specs::TokenReading::character_at))]
-fn character(only_bytes: bool, text: &[char]) -> Result<(char, &[char]), Stop>
-    ensures { Gives (λ x. (x.0, x.1.now)) result (character_at only_bytes text.now) }
+fn character(only_bytes: bool, text: &str) -> Result<(char, &str), Stop>
+    ensures { Gives (λ x. (x.0, chars x.1.now)) result (character_at only_bytes (chars text.now)) }
 {
-    match text {
-        [] | ['\\'] => Err(Stop::At(Cause::Syntax, 0)),
-        ['\\', second, rest @ ..] => match escaped(*second) {
-            Some(character) => Ok((character, rest)),
-            None => Err(stop(Cause::UnsupportedEscape, text)),
-        },
-        [first, rest @ ..] if !only_bytes || *first <= '\u{ff}' => Ok((*first, rest)),
-        _ => Err(stop(Cause::IntegerRange, text)),
+    let Some((first, rest)) = split_first(text) else {
+        return Err(Stop::At(Cause::Syntax, 0));
+    };
+    if first == '\\' {
+        return escape(text, rest);
+    }
+    if !only_bytes || first <= '\u{ff}' {
+        Ok((first, rest))
+    } else {
+        Err(stop(Cause::IntegerRange, text))
     }
 }
 
 /// The next character behind so many, none at the mark.
 #[tactic(auto, unfolding(crate::specs::TokenReading::next_quoted))]
-fn next_quoted(marks: Marks, count: usize, text: &[char]) -> Result<(Option<char>, &[char]), Stop>
-    ensures { Gives (λ x. (x.0, x.1.now)) result (next_quoted marks count text.now) }
+fn next_quoted(marks: Marks, count: usize, text: &str) -> Result<(Option<char>, &str), Stop>
+    ensures { Gives (λ x. (x.0, chars x.1.now)) result (next_quoted marks count (chars text.now)) }
 {
-    let Some((first, rest)) = text.split_first() else {
+    let Some((first, rest)) = split_first(text) else {
         return Err(Stop::At(Cause::Syntax, 0));
     };
-    if *first == marks.mark {
+    if first == marks.mark {
         return Ok((None, rest));
     }
     if count == marks.room {
@@ -282,9 +392,9 @@ fn next_quoted(marks: Marks, count: usize, text: &[char]) -> Result<(Option<char
 pub fn quoted<A: Allocator>(
     alloc: A,
     marks: Marks,
-    text: &[char],
-) -> Result<(Vec<char, A>, &[char]), Stop>
-    ensures value { Gives (λ x. (x.0.items, x.1.now)) result (quoted_at marks text.now) }
+    text: &str,
+) -> Result<(Vec<char, A>, &str), Stop>
+    ensures value { Gives (λ x. (x.0.items, chars x.1.now)) result (quoted_at marks (chars text.now)) }
     ensures allowed { IfOk result (λ x. AllByRecursion (λ c. is_allowed marks.only_bytes c ≡ true)
         x.0.items) }
 {
