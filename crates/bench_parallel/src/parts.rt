@@ -15,7 +15,7 @@ use std::time::Instant;
 use tables::{Options, Session, Table, Turns};
 use term_core::Term;
 use term_text::read_terms;
-use test_members::{filled, members_of, selected};
+use test_members::{members_of, opened, selected};
 use walks::Query;
 
 /// How often each is timed.
@@ -99,23 +99,6 @@ fn timed_at<H: Threads + Wait + Sync, P: Part<Global> + Drop + Send>(
     timed(rt, handle, &mut at, members.as_mut_slice(), query)
 }
 
-/// A table with objects, its members' sessions, and one more.
-fn opened<H: Wait, P: Part<Global> + Drop>(
-    handle: &H,
-    alloc: Global,
-    objects: &[Term],
-) -> Option<(Table<P>, Vec<Session<P>>, Session<P>)>
-    ensures { IfSome result (λ made. All (λ s. IsOpened made.0.options made.0.gates.items s.number s.passes.items) made.1.items
-        × IsOpened made.0.options made.0.gates.items made.2.number made.2.passes.items) }
-{
-    let Ok((table, mut sessions)) = Table::<P>::open(alloc, OPTIONS) else {
-        return None;
-    };
-    let last = sessions.pop()?;
-    let filled = filled(handle, &table, last, objects)?;
-    Some((table, sessions, filled))
-}
-
 /// What a selection over so many objects takes: how many answers there are, and the nanoseconds, by one session and
 /// then by members.
 fn both<H: Threads + Wait + Sync, P: Part<Global> + Drop + Send>(
@@ -125,7 +108,12 @@ fn both<H: Threads + Wait + Sync, P: Part<Global> + Drop + Send>(
 ) -> Option<((usize, u64), (usize, u64))> {
     let query = query(rt.alloc())?;
     let objects = objects(rt.alloc(), count)?;
-    let (table, mut members, mut session) = opened::<H, P>(handle, rt.alloc(), objects.as_slice())?;
+    let (table, mut members, mut session) = opened::<H, Global, P>(
+        handle,
+        rt.alloc(),
+        OPTIONS,
+        objects.as_slice(),
+    )?;
     let mut nobody = Vec::new(rt.alloc());
     let alone = timed_at(
         rt,

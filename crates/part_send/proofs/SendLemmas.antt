@@ -36,7 +36,7 @@ module _ (A : RattleType) (g : Ghosts A.Denot) (s : IsSend A) (y : IsSync A) (f 
   row_send : IsSend (hash_row A g)
   row_send = search (sendable, crosses, hashed_send) depth 40
 
-  plain_rows_send : IsSend (plain_rows A g)
+  pub plain_rows_send : IsSend (plain_rows A g)
   plain_rows_send = search (sendable, crosses, hashed_send) depth 40
 
   pub plain_send : IsSend (stored_row (plain_rows A g) A g)

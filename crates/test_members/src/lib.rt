@@ -4,7 +4,7 @@
 //! `parallel_select` asks for members (`AreMembers` of `specs/Members.antt`), and each other call leaves sessions as
 //! they may be asked again.
 //!
-//! - `members`: the turns of sessions; `objects`: those that a session puts in.
+//! - `members`: the turns of sessions; `objects`: those that a session puts in, and tables that are opened with them.
 //! - `selecting`: queries by members, or by one session.
 #![tactic(auto)]
 
@@ -13,5 +13,5 @@ mod objects;
 mod selecting;
 
 pub use members::members_of;
-pub use objects::filled;
+pub use objects::{filled, opened};
 pub use selecting::{counted, deleted, selected};

@@ -1,11 +1,11 @@
 //! Objects that a session puts into its table.
-ghost use Rattle.std.specs.Prelude.{◌≡◌, IfSome};
+ghost use Rattle.std.specs.Prelude.{◌≡◌, All, IfSome};
 ghost use Rattle.tables.specs.Sessions.{IsOpened};
 
 use part_core::Part;
 use std::alloc::Allocator;
 use std::sync::Wait;
-use tables::{Session, Table, Turns, insert};
+use tables::{Options, Session, Table, Turns, insert};
 use term_core::Term;
 
 /// Puts objects into a table.
@@ -34,4 +34,22 @@ pub fn filled<R: Wait, A: Allocator + Copy, P: Part<A> + Drop>(
     let mut at = table.at(rt, &mut session);
     put_all(&mut at, objects)?;
     Some(session)
+}
+
+/// A table with objects, all its sessions but the last, and the last.
+pub fn opened<R: Wait, A: Allocator + Copy, P: Part<A> + Drop>(
+    rt: &R,
+    alloc: A,
+    options: Options,
+    objects: &[Term<A>],
+) -> Option<(Table<P, A>, Vec<Session<P, A>, A>, Session<P, A>)>
+    ensures { IfSome result (λ made. All (λ s. IsOpened made.0.options made.0.gates.items s.number s.passes.items) made.1.items
+        × IsOpened made.0.options made.0.gates.items made.2.number made.2.passes.items) }
+{
+    let Ok((table, mut sessions)) = Table::<P, A>::open(alloc, options) else {
+        return None;
+    };
+    let last = sessions.pop()?;
+    let filled = filled(rt, &table, last, objects)?;
+    Some((table, sessions, filled))
 }

@@ -13,10 +13,8 @@ use Rattle.std.specs.contracts.prelude.RefAllocator.TheImpl.{ghosts as lent_ghos
 use Rattle.test_alloc.specs.contracts.failing.Failing.{the_row as failing_row}
 use Rattle.test_alloc.specs.contracts.failing.FailingAllocator.TheImpl.{ghosts as failing_ghosts}
 use Rattle.test_alloc.proofs.failing.FailingAllocator.TheSendSync as failing
-use Rattle.term_core.proofs.term.Term.TheLaws.TheKnot.{both_send-Term}
-use Rattle.term_core.specs.contracts.term.Term.{the_row as term_row}
-use Rattle.part_stored.specs.contracts.hashed.HashedRow.{the_row as hashed_row}
 use Rattle.part_stored.proofs.stored.StoredPart.TheSendSync as stored
+use Rattle.part_send.proofs.SendLemmas.{plain_rows_send}
 use Rattle.part_plain.specs.contracts.rows.PlainRows.{the_row as plain_rows}
 use Rattle.part_stored.specs.contracts.stored.StoredPart.{the_row as stored_row}
 
@@ -34,15 +32,6 @@ lent_frees : (A : RattleType) (g : Ghosts A.Denot) (d e : Dict) → Frees g g.de
 lent_frees A g d e f = record { frees = λ r. f.frees r.now }
 
 module _ (A : RattleType) (g : Ghosts A.Denot) (s : IsSend A) (y : IsSync A) (f : Frees g g.dealloc_token) where
-  term_send : IsSend (term_row A g)
-  term_send = search (sendable, crosses, both_send-Term) depth 40
-
-  hashed_send : IsSend (hashed_row A g)
-  hashed_send = search (sendable, crosses, term_send) depth 40
-
-  rows_send : IsSend (plain_rows A g)
-  rows_send = search (sendable, crosses, hashed_send) depth 40
-
   part_send : (R : RattleType) → IsSend R → IsSend (stored_row R A g)
   part_send R r = search (sendable, crosses, stored.the_send) depth 40
 
@@ -62,4 +51,4 @@ module _ (ℓ ℓ' : Lifetime) (κ κ' : Lft) (d e f h : Dict) where
   pub refused_part_send : IsSend (stored_row (plain_rows (Lent ℓ κ) ghosts) (Lent ℓ' κ') ghosts)
   refused_part_send =
       part_send (Lent ℓ' κ') ghosts (lent_send ℓ' κ') (lent_sync ℓ' κ') frees (plain_rows (Lent ℓ κ) ghosts)
-      (rows_send (Lent ℓ κ) ghosts (lent_send ℓ κ) (lent_sync ℓ κ) frees)
+      (plain_rows_send (Lent ℓ κ) ghosts (lent_send ℓ κ) (lent_sync ℓ κ) frees)

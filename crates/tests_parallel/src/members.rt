@@ -15,7 +15,7 @@ use std::thread::Threads;
 use tables::{At, LocalAt, LocalTable, Options, Session, Table, Turns};
 use term_core::Term;
 use term_text::read_terms;
-use test_members::filled;
+use test_members::opened;
 use test_rows::{digits, listed, numbered, term_of, word};
 use walks::Query;
 
@@ -168,7 +168,7 @@ fn put_back<P: Part<Global> + Drop>(
 }
 
 /// A table with objects and its sessions, so many of them.
-fn opened<R: Wait, P: Part<Global> + Drop>(
+fn set_with_objects<R: Wait, P: Part<Global> + Drop>(
     rt: &R,
     alloc: Global,
     members: u8,
@@ -176,12 +176,8 @@ fn opened<R: Wait, P: Part<Global> + Drop>(
 ) -> Option<(Table<P>, Vec<Session<P>>)>
     ensures { IfSome result (λ made. All (λ s. IsOpened made.0.options made.0.gates.items s.number s.passes.items) made.1.items) }
 {
-    let Ok((table, mut sessions)) = Table::<P>::open(alloc, options(members)) else {
-        return None;
-    };
-    let last = sessions.pop()?;
-    let filled = filled(rt, &table, last, objects)?;
-    let all = put_back(&table, sessions, filled)?;
+    let (table, sessions, last) = opened::<R, Global, P>(rt, alloc, options(members), objects)?;
+    let all = put_back(&table, sessions, last)?;
     Some((table, all))
 }
 
@@ -197,7 +193,7 @@ pub(crate) fn asked<P: Part<Global> + Drop + Send, R: Threads + Wait + Sync>(
     call: Call,
 ) -> Option<Vec<u8>> {
     let objects = read_terms(alloc, objects.as_bytes()).ok()?;
-    let (table, mut sessions) = opened::<R, P>(rt, alloc, members, objects.as_slice())?;
+    let (table, mut sessions) = set_with_objects::<R, P>(rt, alloc, members, objects.as_slice())?;
     called_at(
         rt,
         alloc,
@@ -217,7 +213,7 @@ pub(crate) fn deleted_and_counted<P: Part<Global> + Drop + Send, R: Threads + Wa
     query: &Query,
 ) -> Option<(Vec<u8>, Vec<u8>)> {
     let objects = read_terms(alloc, objects.as_bytes()).ok()?;
-    let (table, mut sessions) = opened::<R, P>(rt, alloc, 3, objects.as_slice())?;
+    let (table, mut sessions) = set_with_objects::<R, P>(rt, alloc, 3, objects.as_slice())?;
     let (one, others) = sessions.split_first_mut()?;
     let deleted = called_at(rt, alloc, &table, others, None, query, Call::Delete)?;
     let counted = called_at(

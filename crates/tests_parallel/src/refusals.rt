@@ -16,7 +16,7 @@ use std::thread::Threads;
 use tables::{Options, Session, Table, Turns};
 use term_text::read_terms;
 use test_alloc::Failing;
-use test_members::{filled, members_of};
+use test_members::{members_of, opened};
 use walks::{Query, select_count};
 
 /// The memory of a run.
@@ -185,7 +185,7 @@ fn options(sessions: u8) -> Options {
 }
 
 /// The set with its objects, sessions for so many members, and one more session.
-fn opened<'h, R: Wait>(
+fn set_with_objects<'h, R: Wait>(
     rt: &R,
     heap: Heap<'h>,
     members: u8,
@@ -194,12 +194,12 @@ fn opened<'h, R: Wait>(
         × IsOpened made.0.options made.0.gates.items made.2.number made.2.passes.items) }
 {
     let objects = read_terms(heap, OBJECTS).ok()?;
-    let Ok((table, mut sessions)) = Plain::open(heap, options(members.saturating_add(1))) else {
-        return None;
-    };
-    let last = sessions.pop()?;
-    let filled = filled(rt, &table, last, objects.as_slice())?;
-    Some((table, sessions, filled))
+    opened(
+        rt,
+        heap,
+        options(members.saturating_add(1)),
+        objects.as_slice(),
+    )
 }
 
 /// The query that finds each object.
@@ -219,7 +219,7 @@ fn make_run<R: Threads + Wait + Sync>(
     call: Call,
 ) -> Option<Run> {
     let query = query_in(heap)?;
-    let (table, mut sessions, other) = opened(rt, heap, members)?;
+    let (table, mut sessions, other) = set_with_objects(rt, heap, members)?;
     let before = heap.requests();
     let came = called_by(
         rt,

@@ -33,7 +33,8 @@ use Rattle.tool_scan.specs.declared.options.ScanOptions.{ScanOptions}
 use Rattle.tool_cli.specs.declared.words.Request.{Request}
 use Rattle.tool_cli.specs.declared.words.Request.TheVariants as request
 use Rattle.tool_cli.proofs.KindLemmas.{by_test, same_text, other_text, no_equals_sign, is_mistake, are_mistakes, Refuses, still_refused, no_more}
-use Rattle.tool_cli.proofs.OptionLemmas.{scan_level, Comes, rest_rows, options_lead}
+use Rattle.tool_cli.proofs.OptionLemmas.{scan_level, rest_rows}
+use Rattle.tool_cli.proofs.ScanLemmas.{Comes, options_lead}
 
 -- ---- what `clap` makes of words
 

@@ -4,11 +4,15 @@ use Rattle.std.proofs.CrossingOver.{crosses}
 use Rattle.mcode.specs.Answer.{answer_of}
 use Rattle.rayon.proofs.ListFacts.{IfOk-then}
 use Rattle.parallel_select.proofs.RunLemmas.{joined}
+use Rattle.parallel_select.proofs.QuerySent.{term_send}
 use Rattle.parallel_select.proofs.Sent.{term_sync, verified_sync}
 use Rattle.parallel_select.proofs.list.answer_runs.Goals as goal
 
 pub map_runs-requires-send-F : goal.map_runs-requires-send-F
 map_runs-requires-send-F g c κs within = search (sendable, crosses, verified_sync) depth 30
+
+pub map_runs-requires-send-X : goal.map_runs-requires-send-X
+map_runs-requires-send-X g c κs within = search (sendable, crosses, term_send) depth 40
 
 pub map_runs-requires-sync-T : goal.map_runs-requires-sync-T
 map_runs-requires-sync-T g c κs within = search (sendable, crosses, term_sync) depth 30

@@ -1,6 +1,6 @@
 use Rattle.tables.proofs.OpenedLemmas.{all_opened, front_opened, last_opened}
 use Rattle.test_members.proofs.TableLemmas.{each_opened}
-use Rattle.tests_parallel.proofs.members.opened.Goals as goal
+use Rattle.test_members.proofs.objects.opened.Goals as goal
 
 pub filled-requires : goal.filled-requires
 filled-requires g c =
@@ -9,8 +9,8 @@ filled-requires g c =
     last_opened o gates c.in-Ok.sessions.items c.pop.new.self.items c.in_ok-last.last c.in_ok-last.ensures.items
     (all_opened _ o gates c.in-Ok.sessions.items c.in-Ok.ensures.opened.1 c.in-Ok.ensures.opened.2)
 
-pub put_back-requires : goal.put_back-requires
-put_back-requires g c =
+pub returns : goal.returns
+returns g c =
     let o = c.in-Ok.table.options in
     let gates = c.in-Ok.table.gates.items in (
       each_opened o gates c.pop.new.self.items
