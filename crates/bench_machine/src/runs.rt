@@ -21,8 +21,10 @@ const COMPILATIONS: usize = 100;
 enum Work {
     /// Compiling and verifying.
     Compile,
-    /// Answers of the code.
+    /// Answers of the code, and letting them go.
     Run,
+    /// Answers of the code, which are let go when the clock has stopped.
+    RunKept,
     /// Whether the answers of the code are `true`.
     RunTrue,
     /// Answers of the evaluator.
@@ -52,13 +54,23 @@ fn answer<'a>(
     Some(())
 }
 
-/// How many objects code answers. The answers are kept until the last of them.
-fn answered(alloc: Global, code: &Verified, objects: &[Term]) -> Option<usize> {
+/// Adds the answers of code to others, and gives how many there are in all.
+fn answered(
+    alloc: Global,
+    code: &Verified,
+    objects: &[Term],
+    answers: &mut Vec<Term>,
+) -> Option<usize> {
     let mut machine = Machine::new(&alloc, code).ok()?;
-    let mut answers = Vec::new(alloc);
-    let all = answer(&mut machine, objects, &mut answers);
+    let all = answer(&mut machine, objects, answers);
     machine.finish();
     all.map(|()| answers.len())
+}
+
+/// How many objects code answers. The answers are kept until the last of them.
+fn let_go(alloc: Global, code: &Verified, objects: &[Term]) -> Option<usize> {
+    let mut answers = Vec::new(alloc);
+    answered(alloc, code, objects, &mut answers)
 }
 
 /// How many objects a machine answers with `true`.
@@ -107,11 +119,13 @@ fn compiled(alloc: Global, specification: &Spec) -> Option<usize> {
     Some(count)
 }
 
-/// What the work finds: how many instructions, or for how many objects there is an answer.
-fn found(alloc: Global, work: Work, query: Query) -> Option<usize> {
+/// What the work finds: how many instructions, or for how many objects there is an answer. Answers that are to be kept
+/// come to `answers`.
+fn found(alloc: Global, work: Work, query: Query, answers: &mut Vec<Term>) -> Option<usize> {
     match work {
         Work::Compile => compiled(alloc, query.specification),
-        Work::Run => answered(alloc, query.code, query.objects),
+        Work::Run => let_go(alloc, query.code, query.objects),
+        Work::RunKept => answered(alloc, query.code, query.objects, answers),
         Work::RunTrue => true_on(alloc, query.code, query.objects),
         Work::Evaluate => evaluated(alloc, query.specification, query.objects),
     }
@@ -119,8 +133,9 @@ fn found(alloc: Global, work: Work, query: Query) -> Option<usize> {
 
 /// The nanoseconds that the work takes once, and what it finds.
 fn once(rt: &HostRuntime, work: Work, query: Query) -> Option<(u64, usize)> {
+    let mut answers = Vec::new(rt.alloc());
     let began = Instant::now(rt).ok()?;
-    let found = found(rt.alloc(), work, query)?;
+    let found = found(rt.alloc(), work, query, &mut answers)?;
     let took = began.elapsed(rt).ok()?;
     Some((u64::try_from(took.as_nanos()).ok()?, found))
 }
@@ -167,6 +182,7 @@ fn write_work(
 fn write_times(rt: &HostRuntime, query: Query, lines: &mut String) -> Option<()> {
     write_compilation(rt, query, lines)?;
     write_work(rt, "run", Work::Run, query, lines)?;
+    write_work(rt, "run_kept", Work::RunKept, query, lines)?;
     write_work(rt, "run_true", Work::RunTrue, query, lines)?;
     write_work(rt, "evaluate", Work::Evaluate, query, lines)
 }
@@ -199,8 +215,9 @@ fn write_specification(
 }
 
 /// Writes the nanoseconds that the first term of a text takes to be compiled, as a specification, and how many
-/// instructions its code has; below, those of an object of `run`, `run_true` and `evaluate`, and of how many objects
-/// there was an answer, of `run_true` the answer `true`. Each time is the median of five.
+/// instructions its code has; below, those of an object of `run`, of `run` where the answers are let go when the clock
+/// has stopped, of `run_true` and of `evaluate`, and of how many objects there was an answer, of `run_true` the answer
+/// `true`. Each time is the median of five.
 pub(crate) fn write(rt: &HostRuntime, text: &[u8], lines: &mut String) -> Option<()> {
     let terms = read_terms(rt.alloc(), text).ok()?;
     let (specification, objects) = terms.as_slice().split_first()?;
