@@ -2,9 +2,10 @@
 ghost use Rattle.std.specs.Prelude.{◌≡◌, ◌<◌, All, IfSome};
 ghost use Rattle.tables.specs.Opened.{AllOpened};
 ghost use Rattle.tables.specs.Sessions.{IsOpened};
-ghost use Rattle.test_members.specs.Members.{AreMembers};
+ghost use Rattle.kit_members.specs.Members.{AreMembers};
 
 use crate::lists::{SOME, objects};
+use kit_members::{members_of, opened, selected};
 use mspec_reader::read_spec;
 use part_core::{Part, TableKind};
 use part_hash::HashPart;
@@ -15,7 +16,6 @@ use std::time::Instant;
 use tables::{Options, Session, Table, Turns};
 use term_core::Term;
 use term_text::read_terms;
-use test_members::{members_of, opened, selected};
 use walks::Query;
 
 /// How often each is timed.

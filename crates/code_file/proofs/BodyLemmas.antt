@@ -11,14 +11,14 @@ use Rattle.mcode.specs.declared.fault.Fault.{Fault}
 use Rattle.mcode.specs.declared.fault.Fault.TheVariants as refusal
 use Rattle.mcode.specs.declared.kind.Kind.{Kind}
 use Rattle.mcode.specs.declared.instr.Instr.{Instr}
-use Rattle.code_format.specs.Format.{Format, Begins, BeginsNone, rows, such, both}
-use Rattle.code_format.specs.Formats.{u16_format, constant_format, instruction_format, place_format, frame_format, frame_rest_format, constants_format, instructions_format, frames_format, body_format, body_of}
-use Rattle.code_format.proofs.NumberLemmas.{u16_free}
-use Rattle.code_format.proofs.FrameLemmas.{frame_parts, frame_from, frame_free}
-use Rattle.code_format.proofs.FormatLemmas.{both_first, both_rest, both_begins}
-use Rattle.code_format.proofs.ConstantLemmas.{constant_free}
-use Rattle.code_format.proofs.InstructionLemmas.{instruction_free}
-use Rattle.code_format.proofs.FileLemmas.{constants_free, instructions_free}
+use Rattle.code_writer.specs.Format.{Format, Begins, BeginsNone, rows, such, both}
+use Rattle.code_writer.specs.Formats.{u16_format, constant_format, instruction_format, place_format, frame_format, frame_rest_format, constants_format, instructions_format, frames_format, body_format, body_of}
+use Rattle.code_writer.proofs.NumberLemmas.{u16_free}
+use Rattle.code_writer.proofs.FrameLemmas.{frame_parts, frame_from, frame_free}
+use Rattle.code_writer.proofs.FormatLemmas.{both_first, both_rest, both_begins}
+use Rattle.code_writer.proofs.ConstantLemmas.{constant_free}
+use Rattle.code_writer.proofs.InstructionLemmas.{instruction_free}
+use Rattle.code_writer.proofs.FileLemmas.{constants_free, instructions_free}
 use Rattle.code_file.specs.declared.stop.FileCause.TheVariants as causes
 use Rattle.code_file.specs.declared.stop.FileStop.{FileStop}
 use Rattle.code_file.specs.Due.{Due}

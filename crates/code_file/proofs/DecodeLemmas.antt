@@ -8,13 +8,13 @@ use Rattle.term_core.specs.Limits.{IsTerm}
 use Rattle.term_core.specs.Sizes.{depth_limit}
 use Rattle.mcode.specs.Program.{Program, Frame, IsFrame, IsTelling, most_slots}
 use Rattle.mcode.specs.declared.kind.Kind.{Kind}
-use Rattle.code_format.specs.Spelling.{u16_bytes}
-use Rattle.code_format.specs.File.{IsU8, HoldsArguments, HoldsPlace, HoldsFrame, Spells, magic, version, file_bytes}
-use Rattle.code_format.specs.Format.{Begins}
-use Rattle.code_format.specs.Formats.{u16_format, constant_format, place_format, frame_format, body_format, body_of}
-use Rattle.code_format.proofs.FormatLemmas.{both_rest}
-use Rattle.code_format.proofs.NumberLemmas.{u16_free}
-use Rattle.code_format.proofs.FileLemmas.{body_free, rest_begins}
+use Rattle.code_writer.specs.Spelling.{u16_bytes}
+use Rattle.code_writer.specs.File.{IsU8, HoldsArguments, HoldsPlace, HoldsFrame, Spells, magic, version, file_bytes}
+use Rattle.code_writer.specs.Format.{Begins}
+use Rattle.code_writer.specs.Formats.{u16_format, constant_format, place_format, frame_format, body_format, body_of}
+use Rattle.code_writer.proofs.FormatLemmas.{both_rest}
+use Rattle.code_writer.proofs.NumberLemmas.{u16_free}
+use Rattle.code_writer.proofs.FileLemmas.{body_free, rest_begins}
 use Rattle.code_file.specs.declared.stop.FileStop.{FileStop}
 use Rattle.code_file.specs.Due.{Due}
 use Rattle.code_file.specs.Due.Item.{a_slot_count, a_count}

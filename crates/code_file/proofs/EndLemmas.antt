@@ -1,8 +1,8 @@
 -- What is left where something is due ends the file.
 use Rattle.std.proofs.Common.{◌≡◌, ℕ, List, [], ◌∷◌, ◌++◌, refl, sym, ap, ◌∙◌, append_assoc}
 use Rattle.std.proofs.lemmas.List.{append-nil}
-use Rattle.code_format.specs.File.{magic}
-use Rattle.code_format.specs.Format.{Format, Begins}
+use Rattle.code_writer.specs.File.{magic}
+use Rattle.code_writer.specs.Format.{Format, Begins}
 use Rattle.code_file.specs.declared.stop.FileCause.{FileCause}
 use Rattle.code_file.specs.Due.{Item, Due}
 use Rattle.code_file.specs.Causes.{IsWrong}

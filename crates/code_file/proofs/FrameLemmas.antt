@@ -4,14 +4,14 @@ use Rattle.std.proofs.Common.{◌≡◌, ◌≢◌, ℕ, ◌<◌, List, [], ◌�
 use Rattle.mcode.specs.Program.{Frame, Rise, place_number}
 use Rattle.mcode.specs.declared.kind.Kind.{Kind}
 use Rattle.mcode.specs.declared.kind.Kind.TheVariants as kind
-use Rattle.code_format.specs.Spelling.{u16_bytes, kind_bytes}
-use Rattle.code_format.specs.File.{IsU8}
-use Rattle.code_format.specs.Format.{Format, Begins, BeginsNone, both, rows, such}
-use Rattle.code_format.specs.Formats.{u8_format, u16_format, kind_format, place_format, places_format, slots_format, frame_rest_format, frame_format}
-use Rattle.code_format.proofs.FormatLemmas.{both_begins, both_first, both_rest}
-use Rattle.code_format.proofs.NumberLemmas.{u8_free, u16_free}
-use Rattle.code_format.proofs.InstructionLemmas.{head_is}
-use Rattle.code_format.proofs.FrameLemmas.{KindOpened, RisingSlots, frame_to, kind_opened, kind_rest, kind_spelled, kind_tag, place_free, places_free, slot_rows, slots_from, slots_to}
+use Rattle.code_writer.specs.Spelling.{u16_bytes, kind_bytes}
+use Rattle.code_writer.specs.File.{IsU8}
+use Rattle.code_writer.specs.Format.{Format, Begins, BeginsNone, both, rows, such}
+use Rattle.code_writer.specs.Formats.{u8_format, u16_format, kind_format, place_format, places_format, slots_format, frame_rest_format, frame_format}
+use Rattle.code_writer.proofs.FormatLemmas.{both_begins, both_first, both_rest}
+use Rattle.code_writer.proofs.NumberLemmas.{u8_free, u16_free}
+use Rattle.code_writer.proofs.InstructionLemmas.{head_is}
+use Rattle.code_writer.proofs.FrameLemmas.{KindOpened, RisingSlots, frame_to, kind_opened, kind_rest, kind_spelled, kind_tag, place_free, places_free, slot_rows, slots_from, slots_to}
 use Rattle.code_file.specs.declared.stop.FileCause.TheVariants.{BadOpcode, NotCanonical}
 use Rattle.code_file.specs.declared.stop.FileStop.{FileStop}
 use Rattle.code_file.specs.Due.{BeginsWith, Due}

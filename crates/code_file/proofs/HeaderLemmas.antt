@@ -9,13 +9,13 @@ use Rattle.std.proofs.lemmas.List.{append-nil, length-append, take_all}
 use Rattle.term_core.specs.Datum.{Datum}
 use Rattle.mcode.specs.Program.{Program, Frame}
 use Rattle.mcode.specs.declared.instr.Instr.{Instr}
-use Rattle.code_format.specs.Spelling.{u16_bytes}
-use Rattle.code_format.specs.File.{Spells, magic, version}
-use Rattle.code_format.specs.Format.{Format, Begins, BeginsNone, both}
-use Rattle.code_format.specs.Formats.{u16_format, body_format, body_of}
-use Rattle.code_format.proofs.FormatLemmas.{both_first, both_rest}
-use Rattle.code_format.proofs.NumberLemmas.{u16_free}
-use Rattle.code_format.proofs.FileLemmas.{rest_begins}
+use Rattle.code_writer.specs.Spelling.{u16_bytes}
+use Rattle.code_writer.specs.File.{Spells, magic, version}
+use Rattle.code_writer.specs.Format.{Format, Begins, BeginsNone, both}
+use Rattle.code_writer.specs.Formats.{u16_format, body_format, body_of}
+use Rattle.code_writer.proofs.FormatLemmas.{both_first, both_rest}
+use Rattle.code_writer.proofs.NumberLemmas.{u16_free}
+use Rattle.code_writer.proofs.FileLemmas.{rest_begins}
 use Rattle.code_file.specs.declared.stop.FileCause.{FileCause}
 use Rattle.code_file.specs.declared.stop.FileCause.TheVariants as causes
 use Rattle.code_file.specs.declared.stop.FileStop.{FileStop}

@@ -16,21 +16,21 @@ use Rattle.prims_table.specs.declared.prim.SizeFunction.TheVariants as size
 use Rattle.prims_table.specs.declared.prim.Arithmetic.{Arithmetic}
 use Rattle.prims_table.specs.declared.prim.Arithmetic.TheVariants as arithmetic
 use Rattle.mcode.specs.declared.instr.Instr.TheVariants as instr
-use Rattle.code_format.specs.declared.opcode.Opcode.{Opcode}
-use Rattle.code_format.specs.declared.opcode.Opcode.TheVariants as opcode
-use Rattle.code_format.specs.declared.opcode.Bare.{Bare}
-use Rattle.code_format.specs.declared.opcode.Bare.TheVariants as bare
-use Rattle.code_format.specs.declared.opcode.Slotted.{Slotted}
-use Rattle.code_format.specs.declared.opcode.Slotted.TheVariants as slotted
-use Rattle.code_format.specs.declared.opcode.Single.{Single}
-use Rattle.code_format.specs.declared.opcode.Single.TheVariants as single
-use Rattle.code_format.specs.declared.opcode.Double.{Double}
-use Rattle.code_format.specs.declared.opcode.Double.TheVariants as double
-use Rattle.code_format.specs.Opcodes.{bare_instr, slotted_instr, single_instr, double_instr, opcode_number}
-use Rattle.code_format.specs.Format.{Format, Begins, BeginsNone, both}
-use Rattle.code_format.specs.Formats.{u8_format, u16_format, opcode_format, function_format, arithmetic_format, instruction_format}
-use Rattle.code_format.proofs.InstructionLemmas.{arith_in, arithmetic_free, call_in, function_free, head_is, one_in, opcode_of, opened, parts_of, rest_bytes, self_opened, slot_in, spelled, two_in}
-use Rattle.code_format.proofs.FormatLemmas.{both_first, both_rest}
+use Rattle.code_writer.specs.declared.opcode.Opcode.{Opcode}
+use Rattle.code_writer.specs.declared.opcode.Opcode.TheVariants as opcode
+use Rattle.code_writer.specs.declared.opcode.Bare.{Bare}
+use Rattle.code_writer.specs.declared.opcode.Bare.TheVariants as bare
+use Rattle.code_writer.specs.declared.opcode.Slotted.{Slotted}
+use Rattle.code_writer.specs.declared.opcode.Slotted.TheVariants as slotted
+use Rattle.code_writer.specs.declared.opcode.Single.{Single}
+use Rattle.code_writer.specs.declared.opcode.Single.TheVariants as single
+use Rattle.code_writer.specs.declared.opcode.Double.{Double}
+use Rattle.code_writer.specs.declared.opcode.Double.TheVariants as double
+use Rattle.code_writer.specs.Opcodes.{bare_instr, slotted_instr, single_instr, double_instr, opcode_number}
+use Rattle.code_writer.specs.Format.{Format, Begins, BeginsNone, both}
+use Rattle.code_writer.specs.Formats.{u8_format, u16_format, opcode_format, function_format, arithmetic_format, instruction_format}
+use Rattle.code_writer.proofs.InstructionLemmas.{arith_in, arithmetic_free, call_in, function_free, head_is, one_in, opcode_of, opened, parts_of, rest_bytes, self_opened, slot_in, spelled, two_in}
+use Rattle.code_writer.proofs.FormatLemmas.{both_first, both_rest}
 use Rattle.code_file.specs.declared.stop.FileCause.TheVariants.{BadOpcode}
 use Rattle.code_file.specs.declared.stop.FileStop.{FileStop}
 use Rattle.code_file.specs.Due.{Item, Due}

@@ -3,11 +3,11 @@ use Rattle.std.specs.Str.{IsUtf8}
 use Rattle.std.proofs.Common.{◌≡◌, ℕ, ◌<◌, ◌≤◌, ◌^◌, List, ◌++◌, length, refl, sym, ap, subst, ◌∙◌, append_assoc, arith}
 use Rattle.std.proofs.lemmas.List.{length-append}
 use Rattle.term_core.specs.Sizes.{list_limit, binary_limit}
-use Rattle.code_format.specs.Spelling.{u16_bytes}
-use Rattle.code_format.specs.Format.{Format, Begins, BeginsNone}
-use Rattle.code_format.specs.Formats.{u16_format, u32_format, bytes_format, utf8_format, size_format, binary_format, length_format, IsListLength}
-use Rattle.code_format.proofs.NumberLemmas.{u16_free, u32_free, bytes_free, length-u16_bytes}
-use Rattle.code_format.proofs.LeafLemmas.{length_small, limited, limited_is, raw, raw_first, raw_rest, size_free, size_small, utf8_raw}
+use Rattle.code_writer.specs.Spelling.{u16_bytes}
+use Rattle.code_writer.specs.Format.{Format, Begins, BeginsNone}
+use Rattle.code_writer.specs.Formats.{u16_format, u32_format, bytes_format, utf8_format, size_format, binary_format, length_format, IsListLength}
+use Rattle.code_writer.proofs.NumberLemmas.{u16_free, u32_free, bytes_free, length-u16_bytes}
+use Rattle.code_writer.proofs.LeafLemmas.{length_small, limited, limited_is, raw, raw_first, raw_rest, size_free, size_small, utf8_raw}
 use Rattle.code_file.specs.declared.stop.FileCause.TheVariants.{NotCanonical, Limit}
 use Rattle.code_file.specs.declared.stop.FileStop.{FileStop}
 use Rattle.code_file.specs.Due.{Due}

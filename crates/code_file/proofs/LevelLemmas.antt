@@ -15,15 +15,15 @@ use Rattle.term_core.specs.declared.fault.Fault.{Fault}
 use Rattle.term_core.specs.declared.fault.Fault.TheVariants as fault
 use Rattle.term_core.proofs.LimitLemmas.{item_count-items_of, entry_count-entries_of, cell_count-cells, term-refused}
 use Rattle.term_core.proofs.MapLemmas.{apart-no_twin, apart_from_rising, map_from_rising}
-use Rattle.code_format.specs.Spelling.{u16_bytes, u32_bytes, constant_bytes, pair_bytes}
-use Rattle.code_format.specs.File.{IsU8}
-use Rattle.code_format.specs.Format.{Format, Begins, BeginsNone, rows, counted, such}
-use Rattle.code_format.specs.Formats.{u8_format, u16_format, i64_format, bytes_format, constant_format, utf8_format, binary_format, tuple_format, pair_format, map_format, list_format, length_format, RisingPairs, IsNoCell}
-use Rattle.code_format.proofs.FormatLemmas.{both_first, both_rest, counted_first, counted_rest, counted_begins}
-use Rattle.code_format.proofs.NumberLemmas.{u16_free, length-u16_bytes}
-use Rattle.code_format.proofs.InstructionLemmas.{head_is}
-use Rattle.code_format.proofs.LeafLemmas.{utf8_free, length_free, chars_of_text}
-use Rattle.code_format.proofs.ConstantLemmas.{Node, node_of, tag_of, spelled, rest_bytes, Opened, opened, integer_in, atom_in, tuple_in, map_in, list_in, binary_in, pair_free, elements_free, constant_free, some_depth, tuple_bytes, map_bytes, list_bytes, cell_count-ends, fit_items, fit_entries, fit_cells}
+use Rattle.code_writer.specs.Spelling.{u16_bytes, u32_bytes, constant_bytes, pair_bytes}
+use Rattle.code_writer.specs.File.{IsU8}
+use Rattle.code_writer.specs.Format.{Format, Begins, BeginsNone, rows, counted, such}
+use Rattle.code_writer.specs.Formats.{u8_format, u16_format, i64_format, bytes_format, constant_format, utf8_format, binary_format, tuple_format, pair_format, map_format, list_format, length_format, RisingPairs, IsNoCell}
+use Rattle.code_writer.proofs.FormatLemmas.{both_first, both_rest, counted_first, counted_rest, counted_begins}
+use Rattle.code_writer.proofs.NumberLemmas.{u16_free, length-u16_bytes}
+use Rattle.code_writer.proofs.InstructionLemmas.{head_is}
+use Rattle.code_writer.proofs.LeafLemmas.{utf8_free, length_free, chars_of_text}
+use Rattle.code_writer.proofs.ConstantLemmas.{Node, node_of, tag_of, spelled, rest_bytes, Opened, opened, integer_in, atom_in, tuple_in, map_in, list_in, binary_in, pair_free, elements_free, constant_free, some_depth, tuple_bytes, map_bytes, list_bytes, cell_count-ends, fit_items, fit_entries, fit_cells}
 use Rattle.code_file.specs.declared.stop.FileCause.TheVariants as causes
 use Rattle.code_file.specs.declared.stop.FileStop.{FileStop}
 use Rattle.code_file.specs.Due.{BeginsWith, Due}

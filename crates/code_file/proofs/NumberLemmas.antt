@@ -6,10 +6,10 @@ use Rattle.std.proofs.lemmas.Int.{of_z-to_z}
 use Rattle.std.proofs.Math.Facts.{sfits_to_z}
 use Rattle.std.proofs.lemmas.Bool.{cases_lt}
 use Rattle.std.proofs.lemmas.List.{take-append-drop, length-append, length-take, get_or-take, get_or_past}
-use Rattle.code_format.specs.Spelling.{u16_bytes, u32_bytes, i64_bytes}
-use Rattle.code_format.specs.Format.{Format, Begins}
-use Rattle.code_format.specs.Formats.{u16_format, u32_format, i64_format, bytes_format}
-use Rattle.code_format.proofs.NumberLemmas.{length-i64_bytes, length-u16_bytes, length-u32_bytes}
+use Rattle.code_writer.specs.Spelling.{u16_bytes, u32_bytes, i64_bytes}
+use Rattle.code_writer.specs.Format.{Format, Begins}
+use Rattle.code_writer.specs.Formats.{u16_format, u32_format, i64_format, bytes_format}
+use Rattle.code_writer.proofs.NumberLemmas.{length-i64_bytes, length-u16_bytes, length-u32_bytes}
 use Rattle.code_file.specs.Reads.{IsRefuted, IsCut}
 use Rattle.code_file.specs.declared.stop.FileCause.TheVariants.{Truncated}
 

@@ -4,10 +4,10 @@ use Rattle.std.specs.Prelude.{IsTrue}
 use Rattle.std.proofs.Common.{◌≡◌, ℕ, ◌<◌, List, [], ◌∷◌, ◌++◌, length, refl, sym, ap, subst, ◌∙◌, append_assoc, arith, ◌+◌, true, false}
 use Rattle.std.proofs.lemmas.List.{append-nil, length-append}
 use Rattle.std.proofs.lemmas.List.Concat.{flat_map-append}
-use Rattle.code_format.specs.Format.{Format, Begins, BeginsNone, rows, counted, such}
-use Rattle.code_format.proofs.FormatLemmas.{IsPrefixFree, rows_go_on, counted_first, counted_rest, counted_begins}
-use Rattle.code_format.specs.Formats.{u16_format}
-use Rattle.code_format.proofs.NumberLemmas.{u16_free}
+use Rattle.code_writer.specs.Format.{Format, Begins, BeginsNone, rows, counted, such}
+use Rattle.code_writer.proofs.FormatLemmas.{IsPrefixFree, rows_go_on, counted_first, counted_rest, counted_begins}
+use Rattle.code_writer.specs.Formats.{u16_format}
+use Rattle.code_writer.proofs.NumberLemmas.{u16_free}
 use Rattle.code_file.specs.declared.stop.FileStop.{FileStop}
 use Rattle.code_file.specs.Due.{Item, Row, Due}
 use Rattle.code_file.specs.Due.Item.{a_count, many}

@@ -1,10 +1,10 @@
 -- A refusal of a part is one of the whole, where the part is due in it.
 use Rattle.std.proofs.Common.{◌≡◌, ℕ, List, [], ◌++◌, length, sym, ap, subst, arith}
 use Rattle.std.proofs.lemmas.List.{length-append}
-use Rattle.code_format.specs.Format.{Format, Begins, BeginsNone, both}
-use Rattle.code_format.specs.Formats.{u16_format}
-use Rattle.code_format.proofs.FormatLemmas.{both_first, both_rest}
-use Rattle.code_format.proofs.NumberLemmas.{u16_free, length-u16_bytes}
+use Rattle.code_writer.specs.Format.{Format, Begins, BeginsNone, both}
+use Rattle.code_writer.specs.Formats.{u16_format}
+use Rattle.code_writer.proofs.FormatLemmas.{both_first, both_rest}
+use Rattle.code_writer.proofs.NumberLemmas.{u16_free, length-u16_bytes}
 use Rattle.code_file.specs.declared.stop.FileCause.{FileCause}
 use Rattle.code_file.specs.declared.stop.FileStop.{FileStop}
 use Rattle.code_file.specs.declared.stop.FileStop.TheVariants as stops

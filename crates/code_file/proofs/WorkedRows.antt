@@ -1,10 +1,10 @@
 -- Worked rows: what the definitions say of files.
 use Rattle.std.proofs.Common.{◌≡◌, ℕ, List, [], ◌∷◌, ◌++◌, refl, sym, ◌∙◌, arith}
 use Rattle.term_core.specs.Datum.{Datum}
-use Rattle.code_format.specs.File.{magic}
-use Rattle.code_format.specs.Spelling.{u16_bytes, u32_bytes, constant_bytes}
-use Rattle.code_format.proofs.InstructionLemmas.{head_is}
-use Rattle.code_format.proofs.ConstantLemmas.{Node, node_of, tag_of, rest_bytes, spelled}
+use Rattle.code_writer.specs.File.{magic}
+use Rattle.code_writer.specs.Spelling.{u16_bytes, u32_bytes, constant_bytes}
+use Rattle.code_writer.proofs.InstructionLemmas.{head_is}
+use Rattle.code_writer.proofs.ConstantLemmas.{Node, node_of, tag_of, rest_bytes, spelled}
 use Rattle.code_file.specs.Due.{BeginsWith, Due}
 use Rattle.code_file.specs.Due.Item.{a_count, a_term}
 use Rattle.code_file.specs.Due.Row.{constants}

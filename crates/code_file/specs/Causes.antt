@@ -11,9 +11,9 @@ use Rattle.term_order.specs.Keys.{IsAboveKeys}
 use Rattle.mcode.specs.Program.{Frame, place_number, frame_number, most_slots}
 use Rattle.mcode.specs.declared.kind.Kind.{Kind}
 use Rattle.mcode.specs.declared.instr.Instr.{Instr}
-use Rattle.code_format.specs.Spelling.{constant_bytes, instruction_bytes, kind_bytes}
-use Rattle.code_format.specs.Format.{Begins}
-use Rattle.code_format.specs.Formats.{u8_format, u16_format, u32_format, bytes_format, constant_format}
+use Rattle.code_writer.specs.Spelling.{constant_bytes, instruction_bytes, kind_bytes}
+use Rattle.code_writer.specs.Format.{Begins}
+use Rattle.code_writer.specs.Formats.{u8_format, u16_format, u32_format, bytes_format, constant_format}
 use Rattle.code_file.specs.Due.{BeginsWith, IsAbove, Item, Due}
 use Rattle.code_file.specs.Due.Item.{a_magic, a_version, a_slot_count, a_count, many, a_term, a_tail, a_pair, a_text_size, a_text, a_list_length, a_binary_size, an_instruction, a_function, an_arithmetic, a_frame, a_depth, a_place, a_kind, a_slot, so_many}
 use Rattle.code_file.specs.declared.stop.FileCause.{FileCause}

@@ -8,13 +8,13 @@ use Rattle.prims_table.specs.declared.prim.Arithmetic.{Arithmetic}
 use Rattle.mcode.specs.Program.{Frame, Rise, place_number, frame_number, most_slots}
 use Rattle.mcode.specs.declared.kind.Kind.{Kind}
 use Rattle.mcode.specs.declared.instr.Instr.{Instr}
-use Rattle.code_format.specs.declared.opcode.Opcode.TheVariants as opcode
-use Rattle.code_format.specs.declared.opcode.Slotted.{Slotted}
-use Rattle.code_format.specs.declared.opcode.Single.{Single}
-use Rattle.code_format.specs.declared.opcode.Double.{Double}
-use Rattle.code_format.specs.File.{magic, version}
-use Rattle.code_format.specs.Format.{Begins, rows, counted, such}
-use Rattle.code_format.specs.Formats.{u8_format, u16_format, opcode_format, function_format, arithmetic_format, instruction_format, instructions_format, constant_format, constants_format, place_format, places_format, frame_format, pair_format, length_format, size_format, RisingPairs}
+use Rattle.code_writer.specs.declared.opcode.Opcode.TheVariants as opcode
+use Rattle.code_writer.specs.declared.opcode.Slotted.{Slotted}
+use Rattle.code_writer.specs.declared.opcode.Single.{Single}
+use Rattle.code_writer.specs.declared.opcode.Double.{Double}
+use Rattle.code_writer.specs.File.{magic, version}
+use Rattle.code_writer.specs.Format.{Begins, rows, counted, such}
+use Rattle.code_writer.specs.Formats.{u8_format, u16_format, opcode_format, function_format, arithmetic_format, instruction_format, instructions_format, constant_format, constants_format, place_format, places_format, frame_format, pair_format, length_format, size_format, RisingPairs}
 
 -- these bytes begin so
 abbrev pub BeginsWith : List ℕ → List ℕ → Type 0

@@ -1,10 +1,10 @@
 -- What the faults of a file say, and that there is no code in it.
 use Rattle.std.specs.Prelude.{ℕ, ◌≡◌, ◌≢◌, ◌<◌, ◌≤◌, ◌-◌, List, ◌++◌, length, take}
 use Rattle.mcode.specs.Program.{Program, most_slots}
-use Rattle.code_format.specs.Spelling.{u16_bytes}
-use Rattle.code_format.specs.File.{Spells, IsU16, magic, version}
-use Rattle.code_format.specs.Format.{Begins}
-use Rattle.code_format.specs.Formats.{body_format, body_of}
+use Rattle.code_writer.specs.Spelling.{u16_bytes}
+use Rattle.code_writer.specs.File.{Spells, IsU16, magic, version}
+use Rattle.code_writer.specs.Format.{Begins}
+use Rattle.code_writer.specs.Formats.{body_format, body_of}
 use Rattle.code_file.specs.Due.{BeginsWith}
 use Rattle.code_file.specs.Causes.{IsWrong}
 use Rattle.code_file.specs.declared.stop.FileCause.{FileCause}

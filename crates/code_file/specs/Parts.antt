@@ -3,8 +3,8 @@ use Rattle.std.specs.Prelude.{ℕ, ◌≡◌, List, [], ◌∷◌, ◌++◌}
 use Rattle.term_core.specs.Datum.{Datum}
 use Rattle.mcode.specs.Program.{Program, Frame, Rise, frame_number}
 use Rattle.mcode.specs.declared.instr.Instr.{Instr}
-use Rattle.code_format.specs.Format.{Begins, such}
-use Rattle.code_format.specs.Formats.{frame_format}
+use Rattle.code_writer.specs.Format.{Begins, such}
+use Rattle.code_writer.specs.Formats.{frame_format}
 
 -- code with these constants
 abbrev pub with_constants : Program → List Datum → Program

@@ -2,7 +2,7 @@
 use Rattle.std.specs.Prelude.{ℕ, ◌≡◌, ◌<◌, List, length, Result, Ok, Err}
 use Rattle.term_core.specs.declared.fault.Fault.{Fault}
 use Rattle.term_core.specs.declared.fault.Fault.TheVariants as fault
-use Rattle.code_format.specs.Format.{Format, Begins, BeginsNone}
+use Rattle.code_writer.specs.Format.{Format, Begins, BeginsNone}
 use Rattle.code_file.specs.Due.{Item, Due}
 use Rattle.code_file.specs.Causes.{IsWrong}
 use Rattle.code_file.specs.declared.stop.FileCause.{FileCause}

@@ -1,8 +1,8 @@
 //! The parts of code, read into a builder.
 ghost use Rattle.std.specs.Prelude.{◌≡◌, ◌<◌, length, ◌++◌, ◌∷◌, [], IfOk, IfErr};
 ghost use Rattle.mcode.specs.Program.{Rise, frame_number, most_parts};
-ghost use Rattle.code_format.specs.Format.{Begins, rows, such};
-ghost use Rattle.code_format.specs.Formats.{constant_format, constants_format, instruction_format, instructions_format, frame_format, frames_format};
+ghost use Rattle.code_writer.specs.Format.{Begins, rows, such};
+ghost use Rattle.code_writer.specs.Formats.{constant_format, constants_format, instruction_format, instructions_format, frame_format, frames_format};
 ghost use Rattle.term_core.specs.Sizes.{depth_limit};
 ghost use Rattle.code_file.specs.Due.Item.{a_count, many, a_frame};
 ghost use Rattle.code_file.specs.Due.Row.{constants, instructions, frames};

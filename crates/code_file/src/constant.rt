@@ -2,8 +2,8 @@
 ghost use Rattle.std.specs.Prelude.{◌≡◌, ◌≢◌, ◌<◌, ◌≤◌, ◌↔◌, ◌++◌, ◌∷◌, [], IsTrue, ◌*◌, max, vec_len, vec_capacity};
 ghost use Rattle.term_core.specs.declared.fault.Fault.TheVariants as Refusal;
 ghost use Rattle.term_core.specs.ShortRow.{row_items};
-ghost use Rattle.code_format.specs.Format.{Begins, rows, such};
-ghost use Rattle.code_format.specs.Formats.{u8_format, u16_format, length_format, constant_format, utf8_format, binary_format, pair_format, RisingPairs};
+ghost use Rattle.code_writer.specs.Format.{Begins, rows, such};
+ghost use Rattle.code_writer.specs.Formats.{u8_format, u16_format, length_format, constant_format, utf8_format, binary_format, pair_format, RisingPairs};
 ghost use Rattle.code_file.specs.Due.{BeginsWith};
 ghost use Rattle.code_file.specs.Due.Item.{many, a_term, a_pair, a_text_size, a_list_length, a_binary_size};
 ghost use Rattle.code_file.specs.Due.Row.{terms, pairs};

@@ -1,8 +1,8 @@
 //! Frames at the front of a file's rest.
 ghost use Rattle.std.specs.Prelude.{◌≡◌, ◌<◌, ◌↔◌, ◌++◌, ◌∷◌, [], IsTrue, IfSome, IfOk};
 ghost use Rattle.mcode.specs.Program.{Rise, place_number};
-ghost use Rattle.code_format.specs.Format.{rows, such};
-ghost use Rattle.code_format.specs.Formats.{u8_format, kind_format, place_format, places_format, slots_format, frame_rest_format};
+ghost use Rattle.code_writer.specs.Format.{rows, such};
+ghost use Rattle.code_writer.specs.Formats.{u8_format, kind_format, place_format, places_format, slots_format, frame_rest_format};
 ghost use Rattle.code_file.specs.Due.Item.{a_count, many, a_depth, a_place, a_kind, a_slot};
 ghost use Rattle.code_file.specs.Due.Row.{places, slots};
 ghost use Rattle.code_file.specs.Reads.{Reads, Blames};

@@ -1,6 +1,6 @@
 //! The front of a code file: the magic, the version and the number of slots.
 ghost use Rattle.std.specs.Prelude.{◌≡◌, ◌≢◌, ◌++◌, IfOk, IfErr};
-ghost use Rattle.code_format.specs.File.{magic};
+ghost use Rattle.code_writer.specs.File.{magic};
 ghost use Rattle.code_file.specs.Faults.{IsNoFile, IsHeader, fault_of};
 ghost use Rattle.code_file.specs.declared.fault.FileFault.TheVariants.{Memory as OutOfMemory};
 

@@ -1,13 +1,13 @@
 //! Instructions at the front of a file's rest.
-ghost use Rattle.code_format.specs.declared.opcode.Opcode.TheVariants as Opcode;
-ghost use Rattle.code_format.specs.Format.{Begins, both};
-ghost use Rattle.code_format.specs.Formats.{u16_format, opcode_format, function_format, arithmetic_format, instruction_format};
+ghost use Rattle.code_writer.specs.declared.opcode.Opcode.TheVariants as Opcode;
+ghost use Rattle.code_writer.specs.Format.{Begins, both};
+ghost use Rattle.code_writer.specs.Formats.{u16_format, opcode_format, function_format, arithmetic_format, instruction_format};
 ghost use Rattle.code_file.specs.Due.Item.{an_instruction, a_function, an_arithmetic};
 ghost use Rattle.code_file.specs.Reads.{Reads, Blames, IsCut};
 
 use crate::number::{read_u8, read_u16};
 use crate::stop::{FileCause, FileStop};
-use code_format::Opcode;
+use code_writer::Opcode;
 use mcode::Instr;
 use prims_table::{Arithmetic, Function};
 

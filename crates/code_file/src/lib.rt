@@ -1,6 +1,6 @@
 //! Code files: code as bytes, for files that strangers made as well.
 //!
-//! The contract: `decode` answers code that a file spells (`Spells` of `code_format`), and refuses only what is no code
+//! The contract: `decode` answers code that a file spells (`Spells` of `code_writer`), and refuses only what is no code
 //! file, memory aside, by a fault that says what is wrong and where (`IsNoFile`, in `specs/Faults.antt`): what stands
 //! before the place is the beginning of a file, an item is due there (`specs/Due.antt`), and what stands there is wrong
 //! for that item (`specs/Causes.antt`). `encode` writes a file, and the laws `one_code` and `read_back` say that
@@ -26,6 +26,6 @@ mod number;
 mod reading;
 mod stop;
 
-pub use code_format::{encode, one_code, read_back};
+pub use code_writer::{encode, one_code, read_back};
 pub use fault::FileFault;
 pub use reading::decode;

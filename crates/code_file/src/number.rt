@@ -1,5 +1,5 @@
 //! Numbers and rows of bytes at the front of a file's rest.
-ghost use Rattle.code_format.specs.Formats.{u8_format, u16_format, u32_format, i64_format, bytes_format};
+ghost use Rattle.code_writer.specs.Formats.{u8_format, u16_format, u32_format, i64_format, bytes_format};
 ghost use Rattle.code_file.specs.Reads.{Reads, IsCut};
 
 use crate::stop::{FileCause, FileStop};

@@ -1,12 +1,12 @@
 //! Whole code files, read.
 ghost use Rattle.std.specs.Prelude.{◌≡◌, ◌≢◌, IfOk, IfErr};
 ghost use Rattle.mcode.specs.Building.{empty_program};
-ghost use Rattle.code_format.specs.Formats.{body_format};
-ghost use Rattle.code_format.specs.File.{Spells};
+ghost use Rattle.code_writer.specs.Formats.{body_format};
+ghost use Rattle.code_writer.specs.File.{Spells};
 ghost use Rattle.code_file.specs.Due.Item.{a_count};
 ghost use Rattle.code_file.specs.Due.Row.{constants};
 ghost use Rattle.code_file.specs.Reads.{Reads, Blames};
-ghost use Rattle.code_format.specs.Formats.{body_of};
+ghost use Rattle.code_writer.specs.Formats.{body_of};
 ghost use Rattle.code_file.specs.Faults.{IsNoFile, IsRead};
 ghost use Rattle.code_file.specs.declared.fault.FileFault.TheVariants.{Memory as OutOfMemory};
 

@@ -9,7 +9,7 @@
 //! - `specifications`: terms that are read as specifications, and what these and their code answer.
 //! - `sweeps`: the same, and runs, with each request for memory refused in turn, and what takes no memory.
 //!
-//! What code and specifications answer is in `test_answers`.
+//! What code and specifications answer is in `kit_answers`.
 #![tactic(auto)]
 
 mod codes;
@@ -17,11 +17,11 @@ mod specifications;
 mod sweeps;
 
 use codes::GivenCode;
+use kit_rows::{Kinds, judge_streams};
 use std::alloc::Global;
 use std::io;
 use std::process::ExitCode;
 use term_core::Term;
-use test_rows::{Kinds, judge_streams};
 
 /// The kinds of rows of code and of specifications.
 struct CodeKinds;
@@ -34,7 +34,7 @@ impl Kinds for CodeKinds {
         if let Some(out) = specifications::came(alloc, kind, parts) {
             return Some(out);
         }
-        if let Some(out) = test_answers::came::<GivenCode>(alloc, kind, parts) {
+        if let Some(out) = kit_answers::came::<GivenCode>(alloc, kind, parts) {
             return Some(out);
         }
         sweeps::came(alloc, kind, parts)

@@ -1,11 +1,11 @@
 //! Terms that are read as specifications, and what these and their code answer.
+use kit_answers::{agrees, answers_of, answers_of_text};
+use kit_rows::{Outcome, canonical, elements, numbered, text, word};
 use mspec_reader::read_spec;
 use mspec_syntax::SpecFault;
 use std::alloc::Global;
 use term_core::Term;
 use term_text::read_terms;
-use test_answers::{agrees, answers_of, answers_of_text};
-use test_rows::{Outcome, canonical, elements, numbered, text, word};
 
 /// The number of a fault, and the clause and the variable that it names.
 fn fault_text(alloc: Global, fault: SpecFault) -> Option<Vec<u8>> {

@@ -1,9 +1,9 @@
 //! Code files that are read and verified, and code that is written as one.
 use code_file::{FileFault, decode, encode};
+use kit_code::{code_of, is_code, parts_of};
+use kit_rows::{Outcome, text, word};
 use std::alloc::{Allocator, Global};
 use term_core::Term;
-use test_code::{code_of, is_code, parts_of};
-use test_rows::{Outcome, text, word};
 use verifier::{Fault, Verified, verify};
 
 /// Why bytes are no file of typed code.

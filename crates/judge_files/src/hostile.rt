@@ -1,10 +1,10 @@
 //! The beginnings of a file, and each of its bytes changed to each other value.
 use crate::files::{Refusal, load};
 use code_file::{FileFault, decode};
+use kit_rows::{Outcome, elements, numbered, text, word};
 use machine::Machine;
 use std::alloc::Global;
 use term_core::Term;
-use test_rows::{Outcome, elements, numbered, text, word};
 use verifier::{Fault, Verified};
 
 /// Whether each beginning of a file ends too early at its end; else how long the first other one is.

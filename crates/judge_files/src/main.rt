@@ -13,12 +13,12 @@ mod files;
 mod hostile;
 mod sweeps;
 
+use kit_rows::{Kinds, judge_streams, swept_row};
 use std::alloc::Global;
 use std::io;
 use std::process::ExitCode;
 use sweeps::FileCalls;
 use term_core::Term;
-use test_rows::{Kinds, judge_streams, swept_row};
 
 /// The kinds of rows of code files.
 struct FileKinds;

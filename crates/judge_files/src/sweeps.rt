@@ -1,9 +1,9 @@
 //! Calls with each request for memory refused in turn.
 use crate::files::{encoded, verdict};
+use kit_rows::Calls;
 use std::alloc::{Allocator, Global};
 use term_core::View;
 use term_text::read_terms;
-use test_rows::Calls;
 
 /// Whether the code of a text is written as the binary behind it; none for want of memory.
 fn written<A: Allocator + Copy>(alloc: Global, heap: A, given: &[u8]) -> Option<Vec<u8>> {

@@ -2,13 +2,13 @@
 //!
 //! An operand is tried as the term that it is; as a plain integer or truth value, where it is one; and as the rest of a
 //! list that is all of it, where it is a list. A number says the forms of up to three operands.
+use kit_rows::{Outcome, canonical, elements, fields, is_atom, number, primitive, tagged, word};
 use prims::call;
 use prims_table::{Function, Gives, Primitive};
 use std::alloc::Global;
 use std::cmp::Ordering;
 use term_core::{Term, View};
 use term_operand::Operand;
-use test_rows::{Outcome, canonical, elements, fields, is_atom, number, primitive, tagged, word};
 
 /// In how many forms three operands are tried.
 pub(crate) const FORMS: usize = 27;

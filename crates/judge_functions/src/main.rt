@@ -11,11 +11,11 @@ mod calls;
 mod operands;
 mod values;
 
+use kit_rows::{Kinds, judge_streams};
 use std::alloc::Global;
 use std::io;
 use std::process::ExitCode;
 use term_core::Term;
-use test_rows::{Kinds, judge_streams};
 
 /// The kinds of rows of functions.
 struct FunctionKinds;

@@ -1,5 +1,6 @@
 //! Operands: the term that each is, its values, a list taken apart, the limits of a rest.
 use crate::calls::operand;
+use kit_rows::{Outcome, canonical, elements, refused, size_of, text, word};
 use prims::call;
 use prims_table::{Comparison, Function, Primitive};
 use std::alloc::Global;
@@ -7,7 +8,6 @@ use term_build::copy_tail;
 use term_core::Term;
 use term_operand::Operand;
 use term_text::read_terms;
-use test_rows::{Outcome, canonical, elements, refused, size_of, text, word};
 
 /// Whether an operand is exactly equal to a term.
 fn is_equal(term: &Term, operand: Operand<'_>) -> bool {

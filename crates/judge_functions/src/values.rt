@@ -1,12 +1,12 @@
 //! Values: what calls over them give, borrowed or made, and what is read of their copies.
 use crate::calls::{is_in_form, operand, operands};
 use crate::operands::with_values;
+use kit_rows::{Outcome, elements, primitive, tagged, word};
 use prims::call_values;
 use prims_table::Primitive;
 use std::alloc::Global;
 use term_core::Term;
 use term_operand::{Operand, Value};
-use test_rows::{Outcome, elements, primitive, tagged, word};
 
 const fn is_borrowed(value: &Value<'_>) -> bool {
     !matches!(value, Value::Made(_))

@@ -6,16 +6,16 @@
 //!
 //! - `plays`: the rows, with memory and with each request refused in turn: `PartCalls` says which part plays a row.
 //!
-//! The steps of a row, turns, operations and replies are in `test_parts`.
+//! The steps of a row, turns, operations and replies are in `kit_parts`.
 #![tactic(auto)]
 
 mod plays;
 
+use kit_rows::{Kinds, judge_streams};
 use std::alloc::Global;
 use std::io;
 use std::process::ExitCode;
 use term_core::Term;
-use test_rows::{Kinds, judge_streams};
 
 /// The kinds of rows of parts.
 struct PartKinds;

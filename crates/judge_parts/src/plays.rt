@@ -1,4 +1,6 @@
 //! Rows that are played, once with memory and again with each request for memory refused in turn.
+use kit_parts::{Options, Setting, byte, kind_of, made, open_fault_text, steps_text};
+use kit_rows::{Calls, elements, short, swept, word, written};
 use part_core::{OpenFault, Part, TableKind};
 use part_hash::HashPart;
 use part_order::OrderPart;
@@ -6,8 +8,6 @@ use part_plain::PlainPart;
 use std::alloc::{Allocator, Global};
 use term_core::Term;
 use term_text::read_terms;
-use test_parts::{Options, Setting, byte, kind_of, made, open_fault_text, steps_text};
-use test_rows::{Calls, elements, short, swept, word, written};
 
 /// With memory, and with each request refused in turn.
 const FORMS: usize = 2;

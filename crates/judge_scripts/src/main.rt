@@ -8,6 +8,7 @@
 ghost use Rattle.std.specs.Prelude.{IsTrue};
 ghost use Rattle.part_core.specs.declared.kind.TableKind.TheVariants.{Set};
 
+use kit_rows::{Kinds, Outcome, elements, judge_streams};
 use part_core::Part;
 use part_hash::HashPart;
 use part_order::OrderPart;
@@ -18,7 +19,6 @@ use std::process::ExitCode;
 use std::sync::Wait;
 use term_core::Term;
 use term_text::{read_terms, write_term};
-use test_rows::{Kinds, Outcome, elements, judge_streams};
 use tool_script::run_script;
 
 /// With sets in plain parts, and with sets in hashed parts.

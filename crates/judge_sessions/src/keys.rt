@@ -1,7 +1,7 @@
 //! Keys, and the objects that sessions put in at them.
+use kit_rows::{fields, number};
 use std::alloc::Global;
 use term_core::Term;
-use test_rows::{fields, number};
 
 /// How many sessions a table has at most.
 pub(crate) const SESSIONS: u32 = 16;

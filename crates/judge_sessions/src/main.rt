@@ -21,6 +21,7 @@ mod walking;
 mod worker;
 mod wrong;
 
+use kit_rows::{fields, is_atom, number, short};
 use part_core::TableKind;
 use part_hash::HashPart;
 use part_order::OrderPart;
@@ -33,7 +34,6 @@ use std::thread::Threads;
 use tables::Options;
 use term_core::Term;
 use term_text::read_terms;
-use test_rows::{fields, is_atom, number, short};
 
 /// The kind of table that a term names.
 fn kind_of(term: &Term) -> Option<TableKind> {

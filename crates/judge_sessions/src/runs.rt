@@ -1,6 +1,6 @@
 //! A table of many sessions, each on a thread of its own.
 ghost use Rattle.std.specs.Prelude.{◌≡◌, ◌<◌, All, IfSome};
-ghost use Rattle.test_members.specs.Members.{AreMembers};
+ghost use Rattle.kit_members.specs.Members.{AreMembers};
 ghost use Rattle.tables.specs.Opened.{AllOpened};
 ghost use Rattle.tables.specs.Sessions.{IsOpened};
 
@@ -9,6 +9,7 @@ use crate::keys::{KEYS, Object, key_term};
 use crate::worker::Worker;
 use crate::wrong::{Failure, Wrong};
 use gate::Closed;
+use kit_members::members_of;
 use part_core::Part;
 use part_hash::HashPart;
 use std::alloc::Global;
@@ -16,7 +17,6 @@ use std::sync::Wait;
 use std::thread::{self, Threads, join};
 use tables::{At, Options, Session, Table, Turns, part_of_key};
 use term_core::Term;
-use test_members::members_of;
 
 /// A run: what the table is opened with, how many of its sessions are members, by which another makes its selections,
 /// and the calls of each session that is none.

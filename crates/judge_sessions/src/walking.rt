@@ -1,18 +1,18 @@
 //! Walks of a session, some by the members that it has, and its fixes.
 ghost use Rattle.std.specs.Prelude.{◌≡◌};
-ghost use Rattle.test_members.specs.Members.{AreMembers};
+ghost use Rattle.kit_members.specs.Members.{AreMembers};
 
 use crate::event::Event;
 use crate::keys::{COUNTED, KEYS, OPEN, Object, key_term, object_of};
 use crate::worker::Worker;
+use kit_members::{counted, deleted, selected};
+use kit_rows::{number, term_of};
 use mspec_reader::read_spec;
 use std::alloc::Global;
 use std::sync::Wait;
 use std::thread::Threads;
 use tables::{Turns, fix, unfix};
 use term_core::Term;
-use test_members::{counted, deleted, selected};
-use test_rows::{number, term_of};
 use walks::{Query, Step, first, next, select_limit, select_more};
 
 /// The most pieces of a walk, and the most keys of a tour.

@@ -1,6 +1,6 @@
 //! A session that makes random calls and records what it is answered.
 ghost use Rattle.std.specs.Prelude.{◌≡◌};
-ghost use Rattle.test_members.specs.Members.{AreMembers};
+ghost use Rattle.kit_members.specs.Members.{AreMembers};
 
 use crate::event::Event;
 use crate::keys::{COUNTED, KEYS, OPEN, OWN, Object, key_term, object_of};

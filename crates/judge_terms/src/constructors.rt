@@ -3,15 +3,15 @@ ghost use Rattle.std.specs.Prelude.{◌≡◌, [], ◌∷◌, pos, IfSome};
 ghost use Rattle.term_core.specs.Datum.Datum.{integer};
 ghost use Rattle.term_core.specs.MapPairs.{keys_of};
 
+use kit_rows::{
+    Calls, Outcome, canonical, length, name, refused, size_of, swept, text, word, written,
+};
 use std::alloc::{Allocator, Global};
 use term_build::{
     are_apart, atom_of_text, copy_all, copy_tail, make_list, make_map, make_tuple, map_of_pairs,
 };
 use term_core::{Fault, ListParts, Refused, Term, View};
 use term_text::read_terms;
-use test_rows::{
-    Calls, Outcome, canonical, length, name, refused, size_of, swept, text, word, written,
-};
 
 /// What a call makes of terms, or the refusal with all of them.
 type Made<A> = Result<Term<A>, Refused<Vec<Term<A>, A>>>;

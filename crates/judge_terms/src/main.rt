@@ -11,11 +11,11 @@
 mod constructors;
 mod texts;
 
+use kit_rows::{Kinds, judge_streams};
 use std::alloc::Global;
 use std::io;
 use std::process::ExitCode;
 use term_core::Term;
-use test_rows::{Kinds, judge_streams};
 
 /// The kinds of rows of texts and of terms.
 struct TermKinds;

@@ -1,10 +1,10 @@
 //! Texts read and written, the order of terms, their hashes.
+use kit_rows::{Outcome, digits, text, word, written};
 use std::alloc::Global;
 use std::cmp::Ordering;
 use term_core::Term;
 use term_order::{compare, key_hash};
 use term_text::{TextFault, read_terms};
-use test_rows::{Outcome, digits, text, word, written};
 
 /// The number and the byte of a fault.
 fn fault_text(alloc: Global, fault: TextFault) -> Option<Vec<u8>> {

@@ -19,7 +19,7 @@ use Rattle.walk_core.specs.Moments.{Span, span, IsMoment, IsMet, Mark, IsAnswer,
 use Rattle.walk_core.specs.Once.{IsOnce}
 use Rattle.walk_core.specs.Walk.{Walk, is_all, is_done, is_in_parts}
 use Rattle.walk_core.specs.Walk.Position.{Over}
-use Rattle.walk_plan.specs.declared.query.Query.{Query}
+use Rattle.walk_query.specs.declared.query.Query.{Query}
 use Rattle.walks.specs.Query.{plan_of}
 use Rattle.parallel_select.specs.Joined.{PartWalks, IsPartMoment, IsUnanswered, AreAnswers, FindTogether, AreAt, part_answers_at, place_of, shared_walks}
 use Rattle.parallel_select.specs.Laws.{IsAnsweredWithin, IsWell}

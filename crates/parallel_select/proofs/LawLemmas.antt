@@ -19,7 +19,7 @@ use Rattle.walk_core.proofs.GoesLemmas.{begins_so_far, drifted_grown, ends_answe
 use Rattle.walk_core.proofs.GrowthLemmas.{grown_gathers}
 use Rattle.walk_core.proofs.OnceLemmas.{begins_once, grown_once, stops_once}
 use Rattle.walk_core.proofs.StepLemmas.{turned_grown}
-use Rattle.walk_plan.specs.declared.query.Query.{Query}
+use Rattle.walk_query.specs.declared.query.Query.{Query}
 use Rattle.walks.specs.Own.{is_fixed_first}
 use Rattle.parallel_select.specs.Laws.{IsAnsweredWithin, IsGatheredWithin, IsWell}
 use Rattle.parallel_select.specs.Parts.{part_walk, ChangesFix, Selects, Passes, CeasesAt, Works, Ceases}

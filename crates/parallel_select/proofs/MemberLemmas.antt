@@ -8,7 +8,7 @@ use Rattle.term_core.specs.Datum.{Datum}
 use Rattle.part_core.specs.Acts.{Purpose}
 use Rattle.part_core.specs.Acts.Purpose.{Answers}
 use Rattle.tables.specs.Turns.{Home, Views}
-use Rattle.walk_plan.specs.declared.query.Query.{Query}
+use Rattle.walk_query.specs.declared.query.Query.{Query}
 use Rattle.parallel_select.specs.Parts.{answers_of, is_share, number_gained, part_walk, Broken, Works}
 use Rattle.parallel_select.specs.Workers.{Did, Each, EachAdding, EachAnswers, EachBroken, EachTallied, Tallied}
 use Rattle.parallel_select.proofs.StretchLemmas.{gained_below}

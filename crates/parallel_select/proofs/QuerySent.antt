@@ -6,8 +6,8 @@ use Rattle.std.proofs.CrossingOver.{crosses}
 use Rattle.std.specs.declared.alloc.Allocator.{Ghosts}
 use Rattle.term_core.proofs.term.Term.TheLaws.TheKnot.{both_send-Term}
 use Rattle.term_core.specs.contracts.term.Term.{the_row as term_row}
-use Rattle.walk_plan.specs.contracts.plan.NamedKeys.{the_row as keys_row}
-use Rattle.walk_plan.specs.contracts.query.Query.{the_row as query_row}
+use Rattle.walk_query.specs.contracts.plan.NamedKeys.{the_row as keys_row}
+use Rattle.walk_query.specs.contracts.query.Query.{the_row as query_row}
 use Rattle.parallel_select.specs.contracts.workers.Plan.{the_row as plan_row}
 use Rattle.parallel_select.proofs.Sent.{term_sync, verified_sync}
 

@@ -8,7 +8,7 @@ use Rattle.term_core.specs.contracts.term.Term.{the_row as term_row}
 use Rattle.mcode.proofs.frame.Frame.TheSendSync as frame
 use Rattle.mcode.proofs.instr.Instr.TheSendSync as instr
 use Rattle.mcode.specs.contracts.code.Code.{the_row as code_row}
-use Rattle.verifier_ops.proofs.op.Op.TheSendSync as op
+use Rattle.mcode_fused.proofs.op.Op.TheSendSync as op
 use Rattle.verifier.specs.contracts.verified.Verified.{the_row as verified_row}
 
 module _ (A : RattleType) (g : Ghosts A.Denot) (s : IsSend A) (y : IsSync A) (f : Frees g g.dealloc_token) where

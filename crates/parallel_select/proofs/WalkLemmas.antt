@@ -13,8 +13,8 @@ use Rattle.tables.specs.Options.{settings_of}
 use Rattle.tables.specs.Turns.{Home}
 use Rattle.walk_core.specs.Walk.{Walk, Position, IsPlan, IsWalk, is_all, is_in_parts, at_part, at_key, named_at, named_count, next_position, part_at, scope_at, start_of}
 use Rattle.walk_core.specs.Walk.Position.{InPart, AtNamed, Over}
-use Rattle.walk_plan.specs.declared.query.Query.{Query}
-use Rattle.walk_plan.specs.Plan.{AreVisited}
+use Rattle.walk_query.specs.declared.query.Query.{Query}
+use Rattle.walk_query.specs.Plan.{AreVisited}
 use Rattle.walks.specs.Query.{plan_of}
 use Rattle.parallel_select.specs.Parts.{part_walk, plan_in, stands_in}
 use Rattle.parallel_select.proofs.KeyLemmas.{distinct_filter, unnamed}

@@ -10,7 +10,7 @@ use Rattle.part_core.proofs.KeyLemmas.{by_test}
 use Rattle.tables.specs.declared.options.Options.{Options}
 use Rattle.tables.specs.Turns.{Home, Views, Follows}
 use Rattle.walk_core.specs.Walk.{Walk}
-use Rattle.walk_plan.specs.declared.query.Query.{Query}
+use Rattle.walk_query.specs.declared.query.Query.{Query}
 use Rattle.parallel_select.specs.Parts.{part_walk, is_share, answers_of, Works, Broken, Counted, BrokenAt, IsTotal}
 use Rattle.parallel_select.specs.Workers.{AreOfOneTable, Each, EachAdding, Did, EachAnswers, EachBroken, AreJoined, AreBothJoined, Tallied, EachTallied, Gathered, GatheredEach}
 use Rattle.parallel_select.proofs.WorkLemmas.{works_by, broken_at_end}

@@ -13,7 +13,7 @@ use Rattle.tables.specs.Options.{settings_of}
 use Rattle.tables.specs.Turns.{Home, Views}
 use Rattle.walk_core.specs.Moments.{Span, IsMoment, Mark, IsGrown, ArePlaced, answers_at}
 use Rattle.walk_core.specs.Walk.{Walk}
-use Rattle.walk_plan.specs.declared.query.Query.{Query}
+use Rattle.walk_query.specs.declared.query.Query.{Query}
 use Rattle.parallel_select.specs.Parts.{walk_through}
 use Rattle.parallel_select.specs.Workers.{EachAnswers, EachTallied}
 

@@ -8,7 +8,7 @@ use Rattle.walk_core.specs.Moments.{span, Gathers, IsAnswer, IsGrown, AreLegal, 
 use Rattle.walk_core.specs.Once.{IsOnce}
 use Rattle.walk_core.specs.Walk.{Walk, Position, is_done}
 use Rattle.walk_core.specs.Walk.Position.{Over}
-use Rattle.walk_plan.specs.declared.query.Query.{Query}
+use Rattle.walk_query.specs.declared.query.Query.{Query}
 use Rattle.parallel_select.specs.Parts.{part_walk, Works, Ceases}
 
 -- Within what a worker did, a walk that came to its end: it covered each key once, and what it gained is its answer, in

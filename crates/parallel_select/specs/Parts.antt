@@ -17,7 +17,7 @@ use Rattle.tables.specs.Turns.{Home, Views, Turned}
 use Rattle.walk_core.specs.Goes.{way, whole, Goes, Stops}
 use Rattle.walk_core.specs.Walk.{Walk, Position, start_of}
 use Rattle.walk_core.specs.Walk.Position.{Over}
-use Rattle.walk_plan.specs.declared.query.Query.{Query}
+use Rattle.walk_query.specs.declared.query.Query.{Query}
 use Rattle.walks.specs.Own.{is_fixed_first}
 use Rattle.walks.specs.Query.{plan_of}
 use Rattle.parallel_select.specs.declared.gained.Gained.{Gained}

@@ -5,7 +5,7 @@ use Rattle.part_core.specs.Acts.{Purpose}
 use Rattle.part_core.specs.Acts.Purpose.{Answers}
 use Rattle.tables.specs.Turns.{Home, Views, Follows}
 use Rattle.walk_core.specs.Walk.{Walk}
-use Rattle.walk_plan.specs.declared.query.Query.{Query}
+use Rattle.walk_query.specs.declared.query.Query.{Query}
 use Rattle.parallel_select.specs.Parts.{part_walk, is_share, answers_of, Works, Broken, Counted, BrokenAt, IsTotal}
 
 -- sessions of one table

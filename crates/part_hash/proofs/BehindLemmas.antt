@@ -22,9 +22,9 @@ use Rattle.part_hash.specs.declared.places.Place.{Place}
 use Rattle.part_hash.specs.Places.{Standing, places_where, slot_at, spread}
 use Rattle.part_hash.specs.Standing.{IsRising, Stands}
 use Rattle.part_hash.specs.Classes.{made_from}
-use Rattle.part_stored.specs.Sets.{rows_from}
+use Rattle.part_engine.specs.Sets.{rows_from}
 use Rattle.part_hash.proofs.WriteLemmas.{IsOwn, all_own}
-use Rattle.part_stored.proofs.WalkLemmas.{walk_behind}
+use Rattle.part_engine.proofs.WalkLemmas.{walk_behind}
 
 -- rows with the first of a key
 pub record IsSplit (k : Datum) (list : List Standing) : Type 0 where

@@ -5,8 +5,8 @@ use Rattle.term_core.specs.Datum.{Datum}
 use Rattle.term_operand.specs.Order.{is_same}
 use Rattle.part_core.specs.Rows.{Row, is_live, rows_at_key}
 use Rattle.part_core.proofs.KeyLemmas.{by_test}
-use Rattle.part_stored.specs.Shown.{rows_exchanged}
-use Rattle.part_stored.proofs.SetLemmas.{stays}
+use Rattle.part_engine.specs.Shown.{rows_exchanged}
+use Rattle.part_engine.proofs.SetLemmas.{stays}
 
 -- the row of the key stays if it is live
 left_live : (k : Datum) (os : List Datum) (rows : List Row) → is_live (k, os) ≡ true → rows_at_key k (λ _. os) rows ≡ filter (stays k) (rows_at_key k (λ _. os) rows)

@@ -10,7 +10,7 @@ use Rattle.term_core.specs.Datum.{Datum}
 use Rattle.part_core.specs.Rows.{Row}
 use Rattle.part_hash.specs.declared.places.Place.{Place}
 use Rattle.part_hash.specs.Places.{rows_of}
-use Rattle.part_stored.proofs.WalkLemmas.{all_objects}
+use Rattle.part_engine.proofs.WalkLemmas.{all_objects}
 
 -- ---- the rows at places
 

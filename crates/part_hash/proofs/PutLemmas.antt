@@ -13,7 +13,7 @@ use Rattle.part_core.specs.After.{slots_after}
 use Rattle.part_core.proofs.AfterLemmas.{slots_same}
 use Rattle.part_core.proofs.KeyLemmas.{by_test, same_from}
 use Rattle.part_core.proofs.RowLemmas.{unwritten, no_objects}
-use Rattle.part_stored.specs.Sets.{with_key}
+use Rattle.part_engine.specs.Sets.{with_key}
 
 pub key_there : (k : Datum) (rows : List Row) → has_row rows k ≡ true → with_key k rows ≡ rows
 key_there k rows there = rw there refl

@@ -5,12 +5,12 @@ ghost use Rattle.term_core.specs.Datum.Datum.{nil};
 ghost use Rattle.term_operand.specs.Order.{is_same};
 ghost use Rattle.part_core.specs.Rows.{Row as AnyRow};
 ghost use Rattle.part_core.specs.Settings.{is_object, key_of};
-ghost use Rattle.part_stored.specs.Dead.{one_dead};
+ghost use Rattle.part_engine.specs.Dead.{one_dead};
 ghost use Rattle.part_hash.specs.Standing.{Stands};
 
 use crate::store::Store;
 use part_core::Settings;
-use part_stored::{dead_held, key_of};
+use part_engine::{dead_held, key_of};
 use std::alloc::Allocator;
 use term_core::Term;
 

@@ -9,13 +9,13 @@ ghost use Rattle.part_core.specs.After.{slots_after};
 ghost use Rattle.part_core.specs.Settings.{is_object, key_of};
 ghost use Rattle.part_core.specs.Rows.{Row as AnyRow, is_empty, is_live, objects_at, with_object};
 ghost use Rattle.part_hash.specs.Standing.{Stands};
-ghost use Rattle.part_stored.specs.Sets.{with_key};
+ghost use Rattle.part_engine.specs.Sets.{with_key};
 
 use crate::adding::add;
 use crate::row::Row;
 use crate::store::Store;
 use part_core::Settings;
-use part_stored::key_of;
+use part_engine::key_of;
 use slab::Slab;
 use std::alloc::{AllocError, Allocator};
 use term_core::Term;

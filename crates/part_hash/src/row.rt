@@ -1,6 +1,6 @@
 //! A row that remembers how many were made before it.
 use part_core::Held;
-use part_stored::HashedRow;
+use part_engine::HashedRow;
 use std::alloc::Allocator;
 use std::marker::Model;
 use term_core::Term;

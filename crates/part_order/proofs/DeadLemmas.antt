@@ -10,8 +10,8 @@ use Rattle.term_core.specs.Order.{datum_cmp}
 use Rattle.term_core.specs.OrderLaws.{datum_cmp_total}
 use Rattle.term_operand.specs.Order.{is_same}
 use Rattle.part_core.specs.Rows.{Row, has_row, objects_at}
-use Rattle.part_stored.specs.Dead.{dead_rows, one_dead}
-use Rattle.part_stored.proofs.DeadLemmas.{there_is}
+use Rattle.part_engine.specs.Dead.{dead_rows, one_dead}
+use Rattle.part_engine.proofs.DeadLemmas.{there_is}
 
 less : (n m d : ℕ) → n + m ≡ d → (m ≤ d) × (d - m ≡ n)
 less n m d e = (omega (arith, e), omega (arith, e))

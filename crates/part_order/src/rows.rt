@@ -4,7 +4,7 @@ use crate::tree::{
     Tree, dead_gone, goes, is_put, keep_live, let_go, put_back, put_down, swap_held,
 };
 use part_core::{FIRST_SLOTS, Held, Scope, Settings, TableKind};
-use part_stored::{Rows, SeenRow, dead_in, key_of};
+use part_engine::{Rows, SeenRow, dead_in, key_of};
 use std::alloc::{AllocError, Allocator, Global};
 use std::marker::Model;
 use term_core::Term;
@@ -21,7 +21,7 @@ impl<A: Allocator> Model for OrderRows<A> {
     ghost use Rattle.std.specs.Coded.{codes};
     ghost use Rattle.term_core.specs.Datum.{Datum};
     ghost use Rattle.term_core.specs.DatumCode.{datum_code};
-    ghost use Rattle.part_stored.specs.Dead.{dead_rows};
+    ghost use Rattle.part_engine.specs.Dead.{dead_rows};
 
     ghost Value = { List (Datum × List Datum) };
 
@@ -133,8 +133,8 @@ impl<A: Allocator> OrderRows<A> {
 impl<A: Allocator + Copy> Rows<A> for OrderRows<A> {
     ghost use Rattle.std.specs.Prelude.{◌≡◌, ◌<◌, ◌++◌, IsTrue, IfOk};
     ghost use Rattle.part_core.specs.Ops.{scope_of};
-    ghost use Rattle.part_stored.specs.Shown.{Shown, AreSound};
-    ghost use Rattle.part_stored.specs.Looks.{is_placed, looked_at};
+    ghost use Rattle.part_engine.specs.Shown.{Shown, AreSound};
+    ghost use Rattle.part_engine.specs.Looks.{is_placed, looked_at};
     ghost use Rattle.part_order.specs.Served.{serves, IsShown};
 
     ghost serves = { serves };

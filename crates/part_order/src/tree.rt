@@ -6,7 +6,7 @@ ghost use Rattle.term_operand.specs.Order.{is_same};
 ghost use Rattle.part_core.specs.Rows.{has_row, is_empty, objects_at};
 
 use part_core::Held;
-use part_stored::dead_in;
+use part_engine::dead_in;
 use std::alloc::Allocator;
 use std::collections::BTreeMap;
 use std::mem;

@@ -7,10 +7,10 @@ use Rattle.std.proofs.lemmas.List.Elements.{filter-append}
 use Rattle.term_core.specs.Datum.{Datum}
 use Rattle.term_operand.specs.Order.{is_same}
 use Rattle.part_core.specs.Rows.{Row, is_live, has_row, rows_at_key}
-use Rattle.part_stored.specs.Shown.{rows_exchanged}
+use Rattle.part_engine.specs.Shown.{rows_exchanged}
 use Rattle.part_plain.specs.Places.{IsPlace}
 use Rattle.part_plain.proofs.PlaceLemmas.{none_behind, place_row, place_set, written_at}
-use Rattle.part_stored.proofs.SetLemmas.{stays, others_stay}
+use Rattle.part_engine.proofs.SetLemmas.{stays, others_stay}
 
 -- without the row of the key, if it is dead
 without_dead : (k : Datum) (before : List Row) (row : Row) (after : List Row) → has_row before k ≡ false → is_same k row.0 ≡ true → has_row after k ≡ false → filter (stays k) (before ++ row ∷ after) ≡ before ++ (if is_live row then row ∷ after else after)

@@ -9,7 +9,7 @@ use Rattle.part_core.specs.declared.settings.Settings.{Settings}
 use Rattle.part_core.specs.Settings.{class_at}
 use Rattle.part_core.specs.Rows.{Row}
 use Rattle.part_core.specs.Visits.{in_class}
-use Rattle.part_stored.proofs.WalkLemmas.{all_objects}
+use Rattle.part_engine.proofs.WalkLemmas.{all_objects}
 
 -- ---- the rows of a class
 

@@ -19,8 +19,8 @@ use Rattle.part_core.specs.declared.settings.Settings.{Settings}
 use Rattle.part_core.specs.Settings.{class_at}
 use Rattle.part_core.specs.Visits.{in_class, walk_order}
 use Rattle.part_core.specs.Replies.{rows_past}
-use Rattle.part_stored.specs.Sets.{rows_from}
-use Rattle.part_stored.proofs.WalkLemmas.{walk_behind as behind_in_walk}
+use Rattle.part_engine.specs.Sets.{rows_from}
+use Rattle.part_engine.proofs.WalkLemmas.{walk_behind as behind_in_walk}
 
 -- rows without the key hide none behind them
 pub lookup_past : (k : Datum) (before rest : List Row) → has_row before k ≡ false → lookup (is_same k) (before ++ rest) ≡ lookup (is_same k) rest

@@ -13,7 +13,7 @@ use Rattle.part_core.specs.Rows.{Row, is_empty, is_live, has_row, objects_at, ro
 use Rattle.part_core.proofs.KeyLemmas.{by_test, same_from}
 use Rattle.part_core.proofs.RowLemmas.{keys_new_distinct, no_objects}
 use Rattle.part_plain.specs.Places.{IsPlace}
-use Rattle.part_stored.specs.Sets.{with_key}
+use Rattle.part_engine.specs.Sets.{with_key}
 use Rattle.part_plain.proofs.PlaceLemmas.{lookup_past, place_objects, place_written, written_at}
 
 -- ---- a row for a key

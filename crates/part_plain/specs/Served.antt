@@ -2,9 +2,9 @@
 use Rattle.std.specs.Prelude.{ℕ, ◌≡◌, IsTrue, List}
 use Rattle.part_core.specs.declared.settings.Settings.{Settings}
 use Rattle.part_core.specs.Rows.{Row}
-use Rattle.part_stored.specs.Dead.{dead_rows}
-use Rattle.part_stored.specs.Shown.{Shown}
-use Rattle.part_stored.specs.Sets.{serves}
+use Rattle.part_engine.specs.Dead.{dead_rows}
+use Rattle.part_engine.specs.Shown.{Shown}
+use Rattle.part_engine.specs.Sets.{serves}
 
 -- these rows, in so many slots, are those of a table that is served, and so many of them are dead
 pub record IsShown (o : Settings) (list : List Row) (size : ℕ) (dead : ℕ) (w : Shown) : Type 0 where

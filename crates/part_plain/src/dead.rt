@@ -4,11 +4,11 @@ ghost use Rattle.std.specs.Map.{lookup};
 ghost use Rattle.term_core.specs.Datum.Datum.{nil};
 ghost use Rattle.term_operand.specs.Order.{is_same};
 ghost use Rattle.part_core.specs.Settings.{is_object, key_of};
-ghost use Rattle.part_stored.specs.Dead.{one_dead};
+ghost use Rattle.part_engine.specs.Dead.{one_dead};
 
 use crate::places::held_of;
 use part_core::Settings;
-use part_stored::{HashedRow, dead_held, key_of};
+use part_engine::{HashedRow, dead_held, key_of};
 use std::alloc::Allocator;
 use term_core::Term;
 

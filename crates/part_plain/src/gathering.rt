@@ -5,7 +5,7 @@ ghost use Rattle.part_core.specs.Settings.{class_at};
 ghost use Rattle.part_core.specs.Visits.{in_class, walk_order};
 
 use part_core::Settings;
-use part_stored::HashedRow;
+use part_engine::HashedRow;
 use std::alloc::{AllocError, Allocator};
 use term_core::Term;
 

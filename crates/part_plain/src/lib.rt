@@ -1,6 +1,6 @@
 //! The rows of a set in one list.
 //!
-//! The one contract: `PlainRows` keeps the trait `Rows` of `part_stored`, for sets alone. What the rows show is their
+//! The one contract: `PlainRows` keeps the trait `Rows` of `part_engine`, for sets alone. What the rows show is their
 //! list and the number that is kept as that of their slots, with a count of the dead among them (`IsShown` of
 //! `specs/Served.antt`). That no key has two rows isn't kept: it is a premise of `Rows`.
 //!
@@ -19,7 +19,7 @@ mod putting;
 mod rows;
 mod walking;
 
-use part_stored::StoredPart;
+use part_engine::StoredPart;
 pub use rows::PlainRows;
 
 /// A part of a set whose rows stand in one list, as they were made: each operation looks through them for its key, by

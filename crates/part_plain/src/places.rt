@@ -8,7 +8,7 @@ ghost use Rattle.part_core.specs.Rows.{has_row};
 ghost use Rattle.part_plain.specs.Places.{IsPlace};
 
 use part_core::Held;
-use part_stored::HashedRow;
+use part_engine::HashedRow;
 use std::alloc::Allocator;
 use term_core::Term;
 

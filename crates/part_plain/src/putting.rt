@@ -8,11 +8,11 @@ ghost use Rattle.part_core.specs.declared.kind.TableKind.TheVariants.{Set};
 ghost use Rattle.part_core.specs.Settings.{is_object, key_of};
 ghost use Rattle.part_core.specs.Rows.{is_empty, objects_at, with_object};
 ghost use Rattle.part_plain.specs.Places.{IsPlace};
-ghost use Rattle.part_stored.specs.Sets.{with_key};
+ghost use Rattle.part_engine.specs.Sets.{with_key};
 
 use crate::places::place_of;
 use part_core::Settings;
-use part_stored::{HashedRow, key_of};
+use part_engine::{HashedRow, key_of};
 use std::alloc::{AllocError, Allocator};
 use term_core::Term;
 

@@ -5,11 +5,11 @@ ghost use Rattle.part_core.specs.declared.kind.TableKind.TheVariants.{Set};
 ghost use Rattle.part_core.specs.Replies.{first_live, rows_past};
 ghost use Rattle.part_core.specs.Rows.{has_row};
 ghost use Rattle.part_core.specs.Visits.{in_class, walk_order};
-ghost use Rattle.part_stored.specs.Sets.{rows_from};
+ghost use Rattle.part_engine.specs.Sets.{rows_from};
 
 use crate::places::place_of;
 use part_core::Settings;
-use part_stored::{HashedRow, class_of};
+use part_engine::{HashedRow, class_of};
 use std::alloc::Allocator;
 use term_core::Term;
 

@@ -15,9 +15,9 @@ use Rattle.slab.proofs.Entry.TheSendSync as entry
 use Rattle.term_core.proofs.term.Term.TheLaws.TheKnot.{both_send-Term}
 use Rattle.term_core.specs.contracts.term.Term.{the_row as term_row}
 use Rattle.part_core.specs.contracts.held.Held.{the_row as held_row}
-use Rattle.part_stored.specs.contracts.hashed.HashedRow.{the_row as hashed_row}
-use Rattle.part_stored.specs.contracts.stored.StoredPart.{the_row as stored_row}
-use Rattle.part_stored.proofs.stored.StoredPart.TheSendSync as stored
+use Rattle.part_engine.specs.contracts.hashed.HashedRow.{the_row as hashed_row}
+use Rattle.part_engine.specs.contracts.stored.StoredPart.{the_row as stored_row}
+use Rattle.part_engine.proofs.stored.StoredPart.TheSendSync as stored
 use Rattle.part_plain.specs.contracts.rows.PlainRows.{the_row as plain_rows}
 use Rattle.part_hash.proofs.places.Slot.TheSendSync as slot
 use Rattle.part_hash.specs.contracts.row.Row.{the_row as hash_row}

@@ -1,7 +1,7 @@
 //! The allocator that refuses chosen requests, and sweeps over them.
+use kit_alloc::{Failing, Plan, SweepOutcome, sweep};
 use std::alloc::{AllocError, Allocator, Global};
 use std::thread;
-use test_alloc::{Failing, Plan, SweepOutcome, sweep};
 
 /// Makes four requests, one after another, and answers which were granted.
 fn four_requests<A: Allocator + Copy>(heap: A) -> [bool; 4] {

@@ -4,13 +4,13 @@ ghost use Rattle.tables.specs.Options.{settings_of};
 
 use crate::objects::object;
 use crate::pairs::last_two;
+use kit_alloc::{Failing, sweep};
 use part_core::{Fault, OpenFault, Part, TableKind};
 use part_plain::PlainPart;
 use std::alloc::{Allocator, Global};
 use std::sync::Wait;
 use tables::{Options, Table, Turns, delete, delete_object, fix, insert, member, unfix};
 use term_core::Term;
-use test_alloc::{Failing, sweep};
 
 /// How often a sweep runs at most.
 const RUNS: u64 = 1_000;

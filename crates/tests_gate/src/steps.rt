@@ -5,6 +5,7 @@ ghost use Rattle.tables.specs.Sessions.{IsOpened};
 use crate::objects::object;
 use crate::pairs::last_two;
 use gate::Closed;
+use kit_rows::{fields, number};
 use part_core::{Part, TableKind};
 use part_plain::PlainPart;
 use std::alloc::Global;
@@ -12,7 +13,6 @@ use std::sync::Wait;
 use std::thread::{Threads, join};
 use tables::{Options, Session, Table, Turns, delete, insert, lookup};
 use term_core::Term;
-use test_rows::{fields, number};
 
 /// How many objects each of two sessions puts in beside the other.
 const BESIDE: u32 = 400;

@@ -4,6 +4,7 @@ ghost use Rattle.tables.specs.Sessions.{IsOpened};
 
 use crate::objects::object;
 use crate::pairs::last_two;
+use kit_rows::{number, term_of};
 use mspec_reader::read_spec;
 use part_core::{Cursor, Fault, Look, Part, PartOp, Scope, TableKind};
 use part_hash::HashPart;
@@ -12,7 +13,6 @@ use std::sync::Wait;
 use std::thread::{Threads, join};
 use tables::{Options, Session, Table, Turns, delete, fix, insert};
 use term_core::Term;
-use test_rows::{number, term_of};
 use walks::{Continuation, Query, Step, select_limit, select_more};
 
 /// How many keys there are.

@@ -6,6 +6,7 @@ ghost use Rattle.tables.specs.Options.{settings_of};
 ghost use Rattle.tables.specs.Sessions.{IsOpened};
 
 use crate::pairs::last_two;
+use kit_flags::is_raised;
 use part_core::{Fault, OpenFault, Part, PartOp, Reply, TableKind};
 use part_plain::PlainPart;
 use std::alloc::{AllocError, Global};
@@ -14,7 +15,6 @@ use std::sync::{Arc, Wait};
 use std::thread::{Threads, join};
 use tables::{Options, Session, Table, Turns, member};
 use term_core::Term;
-use test_flags::is_raised;
 
 /// A part which raises a flag at each operation, and looks whether the other part's is up.
 #[derive(Drop)]

@@ -1,4 +1,6 @@
 //! Functions: operands and values that are copied, and what takes no memory.
+use kit_alloc::Failing;
+use kit_rows::{is_atom, term_of};
 use prims::{call, call_values};
 use prims_table::{BooleanFunction, Comparison, Extreme, Function, Primitive, TupleFunction};
 use std::alloc::{Allocator, Global};
@@ -6,8 +8,6 @@ use std::test::*;
 use term_core::Term;
 use term_operand::{Operand, Value};
 use term_text::read_terms;
-use test_alloc::Failing;
-use test_rows::{is_atom, term_of};
 
 /// Whether `max` of a term and of the number one as a plain operand gives the first.
 fn is_first_given(number: &Term) -> bool {

@@ -1,7 +1,7 @@
 //! Calls with each request for memory refused in turn.
 use crate::{functions, text};
+use kit_alloc::sweep;
 use std::alloc::{Allocator, Global};
-use test_alloc::sweep;
 
 /// Calls that take memory.
 #[derive(Clone, Copy, Debug)]

@@ -1,9 +1,9 @@
 //! Terms: what takes no memory, and that a limit is told without it.
+use kit_alloc::Failing;
 use std::alloc::Global;
 use term_core::Fault::{self, TooLong};
 use term_core::{ShortRow, Term};
 use term_text::{read_terms, write_term};
-use test_alloc::Failing;
 
 /// Whether the term is this text's and one level deep.
 fn is_leaf(alloc: Global, term: &Term, text: &str) -> bool {

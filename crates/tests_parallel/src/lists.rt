@@ -1,6 +1,7 @@
 //! The answers on lists of objects: each object's at its place, as a run of its own gives it, of few objects and of
 //! many; and with each request for memory refused in turn.
 use compiler::compile;
+use kit_alloc::Failing;
 use machine::run;
 use mspec_reader::read_spec;
 use parallel_select::run_list;
@@ -9,7 +10,6 @@ use std::test::*;
 use std::thread::Threads;
 use term_core::{Term, View};
 use term_text::read_terms;
-use test_alloc::Failing;
 use verifier::Verified;
 
 /// It answers with each number that is even.

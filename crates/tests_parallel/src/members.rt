@@ -5,6 +5,8 @@ ghost use Rattle.tables.specs.Sessions.{IsOpened};
 ghost use Rattle.parallel_select.specs.Workers.{AreOfOneTable};
 
 use crate::seats::Seat;
+use kit_members::opened;
+use kit_rows::{digits, listed, numbered, term_of, word};
 use mspec_reader::read_spec;
 use parallel_select::{count_parts, delete_parts, select_parts};
 use part_core::{Part, TableKind};
@@ -15,8 +17,6 @@ use std::thread::Threads;
 use tables::{At, LocalAt, LocalTable, Options, Session, Table, Turns};
 use term_core::Term;
 use term_text::read_terms;
-use test_members::opened;
-use test_rows::{digits, listed, numbered, term_of, word};
 use walks::Query;
 
 /// What members do together.

@@ -5,6 +5,8 @@ ghost use Rattle.tables.specs.Sessions.{IsOpened};
 ghost use Rattle.parallel_select.specs.Workers.{AreOfOneTable};
 
 use crate::members::Call;
+use kit_alloc::Failing;
+use kit_members::{members_of, opened};
 use mspec_reader::read_spec;
 use parallel_select::{SelectFault, count_parts, delete_parts, select_parts};
 use part_core::{Part, TableKind};
@@ -15,8 +17,6 @@ use std::test::*;
 use std::thread::Threads;
 use tables::{Options, Session, Table, Turns};
 use term_text::read_terms;
-use test_alloc::Failing;
-use test_members::{members_of, opened};
 use walks::{Query, select_count};
 
 /// The memory of a run.

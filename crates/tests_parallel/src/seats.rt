@@ -1,9 +1,9 @@
 //! Members of a selection, one of which waits before its first turn until another has made one.
+use kit_flags::is_raised;
 use part_core::{Fault, PartOp, Reply};
 use std::alloc::Allocator;
 use std::sync::atomic::{AtomicBool, Ordering};
 use tables::{Options, Turns};
-use test_flags::is_raised;
 
 /// A session that raises a flag once it has made a turn.
 #[derive(Drop)]

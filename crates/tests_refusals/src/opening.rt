@@ -1,11 +1,11 @@
 //! Tables that are opened: options that can't be are refused as such, also where there is no memory, and none else are.
+use kit_alloc::Failing;
 use part_core::{OpenFault, Part, TableKind};
 use part_hash::HashPart;
 use part_order::OrderPart;
 use part_plain::PlainPart;
 use std::alloc::Global;
 use tables::{LocalTable, Options};
-use test_alloc::Failing;
 
 /// A kind of table, a place of the key, parts and sessions.
 type Numbers = (TableKind, u16, u8, u8);

@@ -1,8 +1,8 @@
 //! Queries with each request for memory refused in turn. Each answer here takes memory, so that the last request is one
 //! for the last line.
 use crate::sweeps::Written;
+use kit_alloc::{Failing, sweep};
 use std::alloc::Allocator;
-use test_alloc::{Failing, sweep};
 use tool_io::ToolFault;
 use tool_query::{tool_run, tool_test};
 

@@ -1,12 +1,12 @@
 //! Commands of the program with each request for memory refused in turn.
 use crate::queries::{MADE, MADE_LINES};
 use crate::sweeps::{Written, lines_in};
+use kit_alloc::{Failing, SweepOutcome, sweep};
+use kit_streams::FILE;
 use part_plain::PlainPart;
 use std::alloc::Global;
 use std::sync::Wait;
 use std::thread::Threads;
-use test_alloc::{Failing, SweepOutcome, sweep};
-use test_streams::FILE;
 use tool_cli::{Request, Told, run_request};
 
 /// Whether what was told is the line of want of memory, or nothing.

@@ -1,9 +1,9 @@
 //! Scans with each request for memory refused in turn, by one session and by several.
+use kit_alloc::{Failing, SweepOutcome, sweep};
 use part_plain::PlainPart;
 use std::alloc::Global;
 use std::sync::Wait;
 use std::thread::Threads;
-use test_alloc::{Failing, SweepOutcome, sweep};
 use tool_io::ToolFault;
 use tool_scan::{ScanOptions, tool_scan};
 

@@ -1,6 +1,6 @@
 //! Readers that fail, give one byte at a time or are interrupted.
+use kit_streams::{FailingReader, INPUT, SlowReader};
 use std::alloc::Global;
-use test_streams::{FailingReader, INPUT, SlowReader};
 use tool_io::{ToolFault, read_within};
 use tool_query::tool_run;
 

@@ -1,9 +1,9 @@
 //! Writers that fail, or hold all back until they are flushed.
+use kit_streams::{FILE, FailingWriter, HoldingWriter, INPUT};
 use part_hash::HashPart;
 use std::alloc::Global;
 use std::sync::Wait;
 use std::thread::Threads;
-use test_streams::{FILE, FailingWriter, HoldingWriter, INPUT};
 use tool_cli::{Request, Told, run_request, run_words};
 use tool_io::ToolFault;
 use tool_query::tool_run;

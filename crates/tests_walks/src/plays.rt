@@ -1,6 +1,7 @@
 //! Walks through a table of objects, each call asked once more where it is refused.
 ghost use Rattle.std.specs.Prelude.{◌≡◌, ◌<◌, IfSome};
 
+use kit_rows::{digits, listed, term_of, word};
 use mspec_reader::read_spec;
 use part_core::{Part, TableKind};
 use std::alloc::{Allocator, Global};
@@ -8,7 +9,6 @@ use std::sync::Wait;
 use tables::{LocalTable, Options, Turns, insert};
 use term_core::Term;
 use term_text::read_terms;
-use test_rows::{digits, listed, term_of, word};
 use walks::{
     Continuation, Query, Step, select, select_count, select_delete, select_limit, select_more,
 };

@@ -1,5 +1,6 @@
 //! Calls of walks with each request for memory refused in turn: asked again, each gives what it gives undisturbed.
 use crate::plays::{Call, Play, played};
+use kit_alloc::{Failing, SweepOutcome, sweep};
 use part_core::{Part, TableKind};
 use part_hash::HashPart;
 use part_order::OrderPart;
@@ -7,7 +8,6 @@ use part_plain::PlainPart;
 use std::alloc::{Allocator, Global};
 use std::sync::Wait;
 use std::test::*;
-use test_alloc::{Failing, SweepOutcome, sweep};
 
 /// The most requests of a play.
 const MOST_REQUESTS: u64 = 20_000;

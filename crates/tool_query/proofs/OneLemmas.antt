@@ -8,8 +8,8 @@ use Rattle.mspec_reader.specs.Laws.{HasOneReading}
 use Rattle.mspec_syntax.specs.Specification.{Specification}
 use Rattle.mspec_meaning.specs.Laws.{HasOneMeaning}
 use Rattle.compiler_clauses.specs.Clauses.{code_of}
-use Rattle.code_format.specs.File.{Spells as IsFile, file_bytes}
-use Rattle.code_format.specs.Laws.{OneCode}
+use Rattle.code_writer.specs.File.{Spells as IsFile, file_bytes}
+use Rattle.code_writer.specs.Laws.{OneCode}
 use Rattle.budget.specs.Laws.{HasOneBudget}
 use Rattle.budget.specs.Paths.{IsBudget}
 use Rattle.verifier.specs.Laws.{DepthIsOne}

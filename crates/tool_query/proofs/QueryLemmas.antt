@@ -18,8 +18,8 @@ use Rattle.mspec_syntax.specs.declared.fault.SpecFault.TheVariants as specificat
 use Rattle.mspec_meaning.specs.Meaning.{Means}
 use Rattle.compiler_clauses.specs.Clauses.{code_of}
 use Rattle.code_file.specs.Faults.{IsNoFile}
-use Rattle.code_format.specs.File.{Spells}
-use Rattle.code_format.specs.Laws.{OneCode}
+use Rattle.code_writer.specs.File.{Spells}
+use Rattle.code_writer.specs.Laws.{OneCode}
 use Rattle.code_file.specs.declared.fault.FileFault.{FileFault}
 use Rattle.code_file.specs.declared.fault.FileFault.TheVariants as file
 use Rattle.machine.specs.Laws.{RunsEndWithTheAnswer}

@@ -9,7 +9,7 @@ use Rattle.mcode.specs.Program.{Program}
 use Rattle.mspec_syntax.specs.Specification.{Specification}
 use Rattle.mspec_meaning.specs.Meaning.{Means}
 use Rattle.compiler_clauses.specs.Clauses.{code_of}
-use Rattle.code_format.specs.File.{Spells}
+use Rattle.code_writer.specs.File.{Spells}
 use Rattle.budget.specs.Paths.{IsBudget}
 use Rattle.verifier.specs.Typing.{IsTyped, IsDepth}
 use Rattle.tool_io.specs.Lines.{line}

@@ -11,7 +11,7 @@ use Rattle.mspec_syntax.specs.declared.fault.SpecFault.{SpecFault}
 use Rattle.mspec_syntax.specs.declared.fault.SpecFault.TheVariants as specification
 use Rattle.mspec_meaning.specs.Meaning.{Means}
 use Rattle.code_file.specs.Faults.{IsNoFile}
-use Rattle.code_format.specs.File.{Spells}
+use Rattle.code_writer.specs.File.{Spells}
 use Rattle.code_file.specs.declared.fault.FileFault.{FileFault}
 use Rattle.code_file.specs.declared.fault.FileFault.TheVariants as file
 use Rattle.verifier.specs.Faults.{IsFirstFault}

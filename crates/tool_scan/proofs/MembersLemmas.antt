@@ -13,7 +13,7 @@ use Rattle.part_core.specs.Acts.Said.{Nothing}
 use Rattle.tables.specs.Calls.{TurnedByObject}
 use Rattle.tables.specs.Turns.{Home, Views, Follows}
 use Rattle.tables.specs.declared.options.Options.{Options}
-use Rattle.walk_plan.specs.declared.query.Query.{Query}
+use Rattle.walk_query.specs.declared.query.Query.{Query}
 use Rattle.walks.specs.Query.{plan_of}
 use Rattle.parallel_select.specs.Parts.{part_walk, is_share, answers_of, Works}
 use Rattle.parallel_select.specs.Workers.{AreOfOneTable, Did, Each, EachAnswers}

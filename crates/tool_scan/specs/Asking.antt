@@ -7,7 +7,7 @@ use Rattle.mcode.specs.Program.{Program}
 use Rattle.mspec_syntax.specs.Specification.{Specification}
 use Rattle.mspec_meaning.specs.Meaning.{Means}
 use Rattle.tables.specs.Turns.{Home, Views}
-use Rattle.walk_plan.specs.Plan.{IsPlanOf}
+use Rattle.walk_query.specs.Plan.{IsPlanOf}
 use Rattle.tool_scan.specs.Members.{Scans}
 use Rattle.tool_scan.specs.Options.{table_of}
 use Rattle.tool_scan.specs.declared.options.ScanOptions.{ScanOptions}

@@ -7,8 +7,8 @@ use Rattle.mspec_syntax.specs.Specification.{Specification}
 use Rattle.mspec_reader.specs.Laws.{HasOneReading, ReadIsNotRefused, HasOneRefusal}
 use Rattle.mspec_meaning.specs.Laws.{HasOneMeaning}
 use Rattle.mspec_meaning.specs.Meaning.{Means}
-use Rattle.walk_plan.specs.Laws.{PlansAreOne}
-use Rattle.walk_plan.specs.Plan.{IsPlanOf}
+use Rattle.walk_query.specs.Laws.{PlansAreOne}
+use Rattle.walk_query.specs.Plan.{IsPlanOf}
 use Rattle.tool_script.specs.Course.{Step, Course, Gives, Comes}
 use Rattle.tool_script.specs.Course.Course.{Settled, Judging}
 use Rattle.tool_script.specs.Replied.{course, IsReply, AreReplies}

@@ -16,7 +16,7 @@ use Rattle.tables.specs.declared.options.Options.{Options}
 use Rattle.tables.specs.OneThread.{TableState}
 use Rattle.tables.specs.Turns.{Home, Views, Follows}
 use Rattle.walk_core.specs.Walk.{Position, named_count, start_by, start_of}
-use Rattle.walk_plan.specs.declared.query.Query.{Query}
+use Rattle.walk_query.specs.declared.query.Query.{Query}
 use Rattle.walks.specs.Alone.{IsAlong, IsPieceOf, IsSeen, StepsArePieces, WholeWalksSelect, WholeWalksCount, WholeWalksRemove}
 use Rattle.walks.specs.Counting.{FinishesCount}
 use Rattle.walks.specs.declared.continuation.Continuation.{Continuation}

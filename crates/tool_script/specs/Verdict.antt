@@ -9,7 +9,7 @@ use Rattle.mspec_syntax.specs.Specification.{Specification, IsWithinLimits}
 use Rattle.mspec_syntax.specs.declared.fault.SpecFault.{SpecFault}
 use Rattle.mspec_syntax.specs.declared.fault.SpecFault.TheVariants.{Memory}
 use Rattle.mspec_meaning.specs.Meaning.{Means}
-use Rattle.walk_plan.specs.Plan.{IsPlanOf}
+use Rattle.walk_query.specs.Plan.{IsPlanOf}
 
 -- one that answers so on each object, and by which a walk visits these keys, if it names them; or none, for this fault
 pub data Verdict : Type 0 where

@@ -3,7 +3,7 @@ ghost use Rattle.tool_script.specs.Laws.{RepliesAreOne};
 
 use mspec_meaning::one_answer_is_meant;
 use mspec_reader::{one_fault_is_refused, one_specification_is_read};
-use walk_plan::plans_are_one;
+use walk_query::plans_are_one;
 
 /// From a state on, terms have one list of replies: a term is read as one specification or refused for one fault, and a
 /// specification means one answer on each object and names one list of keys.

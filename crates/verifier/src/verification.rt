@@ -8,16 +8,16 @@ ghost use Rattle.verifier.specs.Pass.{IsWalked};
 ghost use Rattle.verifier_types.specs.Fit.{IsFrameFit};
 ghost use Rattle.verifier.specs.Typing.{IsTyped};
 ghost use Rattle.verifier.specs.Verified.{IsVerified};
-ghost use Rattle.verifier_ops.specs.Ops.{AreOps};
+ghost use Rattle.mcode_fused.specs.Ops.{AreOps};
 ghost use Rattle.verifier_types.specs.declared.fault.Fault.TheVariants.{Memory};
 
 use crate::pass::{Walk, step};
 use crate::verified::Verified;
 use budget::longest;
 use mcode::{Code, Frame};
+use mcode_fused::{Op, prepared};
 use std::alloc::Allocator;
 use term_core::Refused;
-use verifier_ops::{Op, prepared};
 use verifier_types::{Fault, MAX_DEPTH, key_counts};
 
 /// Whether all of these places are within a depth.

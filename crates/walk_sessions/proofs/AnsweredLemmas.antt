@@ -8,7 +8,7 @@ use Rattle.tables.specs.declared.options.Options.{Options}
 use Rattle.tables.specs.Sessions.{Sees, session_home}
 use Rattle.tables.specs.Turns.{Follows}
 use Rattle.walk_core.specs.Goes.{up_to}
-use Rattle.walk_plan.specs.declared.query.Query.{Query}
+use Rattle.walk_query.specs.declared.query.Query.{Query}
 use Rattle.walks.specs.Query.{walk_of}
 use Rattle.walks.specs.Whole.{Finishes}
 use Rattle.walk_sessions.specs.Answered.{IsAnsweredBy}

@@ -10,7 +10,7 @@ use Rattle.walk_core.specs.Moments.{span, IsAnswer, ArePlaced}
 use Rattle.walk_core.specs.Once.{IsOnce}
 use Rattle.walk_core.specs.Walk.{Walk, is_done}
 use Rattle.walk_core.specs.Walk.Position.{Over}
-use Rattle.walk_plan.specs.declared.query.Query.{Query}
+use Rattle.walk_query.specs.declared.query.Query.{Query}
 use Rattle.walks.specs.Query.{walk_of}
 
 -- the walk of a session by a query

@@ -24,7 +24,7 @@ use Rattle.walk_core.proofs.GoesLemmas.{begins_so_far, goes_grown, grown_legal}
 use Rattle.walk_core.proofs.TurnLemmas.{turned_drifts, drifts_nowhere}
 use Rattle.walks.specs.Counting.{CountsMore, CountsTo, StopsAtCount, FinishesCount, GivesUpCount}
 use Rattle.walks.specs.Own.{FixesFirst, Releases}
-use Rattle.walk_plan.specs.declared.query.Query.{Query}
+use Rattle.walk_query.specs.declared.query.Query.{Query}
 use Rattle.walks.specs.Query.{walk_of}
 use Rattle.walks.specs.Visits.{StopsAnywhere}
 use Rattle.walks.specs.Whole.{Wholly}

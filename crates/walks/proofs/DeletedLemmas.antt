@@ -34,8 +34,8 @@ use Rattle.walk_core.specs.Goes.{Way, way, Goes, Visits}
 use Rattle.walk_core.specs.Goes.Goes.{stays, goes}
 use Rattle.walk_core.specs.Walk.{IsPlan, Walk, Position, named_count, next_position, part_at, scope_at}
 use Rattle.walk_core.specs.Walk.Position.{Over}
-use Rattle.walk_plan.specs.declared.query.Query.{Query}
-use Rattle.walk_plan.specs.Plan.{AreVisited}
+use Rattle.walk_query.specs.declared.query.Query.{Query}
+use Rattle.walk_query.specs.Plan.{AreVisited}
 use Rattle.walks.specs.Counting.{FinishesCount}
 use Rattle.walks.specs.Own.{ChangedWhere, is_fixed_first}
 use Rattle.walks.specs.Query.{IsThere, plan_of, walk_of}

@@ -23,8 +23,8 @@ use Rattle.walk_core.specs.Moments.{AreLegal}
 use Rattle.walk_core.specs.Walk.{Walk, Position, IsPlan, IsWalk, IsPosition, is_all, is_in_parts, part_at, scope_at}
 use Rattle.walk_core.specs.Walk.Position.{Over}
 use Rattle.walk_core.proofs.GoesLemmas.{goes_position}
-use Rattle.walk_plan.specs.declared.query.Query.{Query}
-use Rattle.walk_plan.specs.Plan.{AreVisited}
+use Rattle.walk_query.specs.declared.query.Query.{Query}
+use Rattle.walk_query.specs.Plan.{AreVisited}
 use Rattle.walks.specs.Query.{plan_of, walk_of}
 use Rattle.walk_core.proofs.TurnLemmas.{turned_drifts, drifts_nowhere, never_outside}
 

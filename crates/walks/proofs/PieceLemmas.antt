@@ -16,7 +16,7 @@ use Rattle.walks.specs.declared.continuation.Step.{Step}
 use Rattle.walks.specs.declared.continuation.Step.TheVariants as step
 use Rattle.walks.specs.declared.position.Position as walk_position
 use Rattle.walks.specs.declared.position.Position.TheVariants as position
-use Rattle.walk_plan.specs.declared.query.Query.{Query}
+use Rattle.walk_query.specs.declared.query.Query.{Query}
 use Rattle.walk_core.proofs.GoesLemmas.{goes_so_far, begins_so_far, ends_answer, stops_so_far}
 use Rattle.walks.specs.declared.fault.WalkFault.{WalkFault}
 use Rattle.walks.specs.declared.fault.WalkFault.TheVariants as fault

@@ -20,7 +20,7 @@ use Rattle.tables.proofs.TurnLemmas.{answered_so}
 use Rattle.walk_core.specs.Goes.{way, whole, Visits}
 use Rattle.walk_core.specs.Walk.{Walk, Position, next_position, part_at, scope_at}
 use Rattle.walk_core.proofs.TurnLemmas.{turn_visits}
-use Rattle.walk_plan.specs.declared.query.Query.{Query}
+use Rattle.walk_query.specs.declared.query.Query.{Query}
 use Rattle.walks.specs.Query.{walk_of}
 use Rattle.walks.specs.Counting.{purpose_of, IsCount, CountsMore}
 use Rattle.walks.specs.Visits.{is_found, is_counted}

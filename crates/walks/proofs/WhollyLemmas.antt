@@ -30,7 +30,7 @@ use Rattle.tables.proofs.TurnLemmas.{turned_alone}
 use Rattle.walk_core.specs.Goes.{way, Goes}
 use Rattle.walk_core.specs.Walk.{Position}
 use Rattle.walk_core.specs.Walk.Position.{AtNamed, Over}
-use Rattle.walk_plan.specs.declared.query.Query.{Query}
+use Rattle.walk_query.specs.declared.query.Query.{Query}
 use Rattle.walks.specs.Counting.{FinishesCount}
 use Rattle.walks.specs.Own.{ChangedWhere, is_fixed_first}
 use Rattle.walks.specs.Query.{plan_of, walk_of}

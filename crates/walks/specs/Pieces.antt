@@ -7,7 +7,7 @@ use Rattle.walk_core.specs.Goes.{way, up_to, Goes, Stops}
 use Rattle.walk_core.specs.Moments.{Span, span, IsSoFar, IsAnswer, ArePlaced}
 use Rattle.walk_core.specs.Walk.{Walk, Position, start_of}
 use Rattle.walk_core.specs.Walk.Position.{Over}
-use Rattle.walk_plan.specs.declared.query.Query.{Query}
+use Rattle.walk_query.specs.declared.query.Query.{Query}
 use Rattle.walks.specs.declared.continuation.Continuation.{Continuation}
 use Rattle.walks.specs.declared.continuation.Step.{Step}
 use Rattle.walks.specs.declared.continuation.Step.TheVariants as step

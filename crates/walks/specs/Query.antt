@@ -8,8 +8,8 @@ use Rattle.tables.specs.declared.options.Options.{Options}
 use Rattle.tables.specs.Turns.{Home}
 use Rattle.walk_core.specs.Walk.{Walk}
 use Rattle.walk_core.specs.Walk as walk
-use Rattle.walk_plan.specs.declared.query.Query.{Query}
-use Rattle.walk_plan.specs.Plan.{plan_at}
+use Rattle.walk_query.specs.declared.query.Query.{Query}
+use Rattle.walk_query.specs.Plan.{plan_at}
 use Rattle.walks.specs.declared.kept.Kept.{Kept}
 use Rattle.walks.specs.declared.position.Position.{Position}
 use Rattle.walks.specs.declared.position.Position.TheVariants as position

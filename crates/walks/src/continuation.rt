@@ -5,7 +5,7 @@ use crate::kept::Kept;
 use crate::position::Position;
 use std::alloc::{Allocator, Global};
 use term_core::Term;
-use walk_plan::Query;
+use walk_query::Query;
 
 /// A walk in pieces under way.
 #[derive(Drop)]

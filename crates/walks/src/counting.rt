@@ -20,7 +20,7 @@ use std::alloc::Allocator;
 use std::sync::Wait;
 use tables::{Turns, turn_at};
 use verifier::Verified;
-use walk_plan::Query;
+use walk_query::Query;
 
 /// What becomes of the objects that answer true.
 #[derive(Clone, Copy)]

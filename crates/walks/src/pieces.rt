@@ -18,7 +18,7 @@ use std::alloc::Allocator;
 use std::sync::Wait;
 use tables::Turns;
 use term_core::{Refused, Term};
-use walk_plan::Query;
+use walk_query::Query;
 
 /// What a refused visit comes to: a walk that can't go on where it is was begun at another table.
 fn fault_of(fault: Fault) -> WalkFault

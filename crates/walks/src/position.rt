@@ -10,7 +10,7 @@ use part_core::{Cursor, Scope};
 use std::alloc::{Allocator, Global};
 use tables::{Turns, part_of_key};
 use term_core::Term;
-use walk_plan::Query;
+use walk_query::Query;
 
 /// How far a walk has come.
 #[derive(Drop)]

@@ -20,7 +20,7 @@ use std::sync::Wait;
 use tables::{Turns, turn_at};
 use term_core::Term;
 use verifier::Verified;
-use walk_plan::Query;
+use walk_query::Query;
 
 /// What a visit found, and where the walk goes on.
 fn found<A: Allocator>(reply: Reply<A>) -> (Vec<Term<A>, A>, Option<Cursor<A>>)

@@ -21,7 +21,7 @@ use std::alloc::{AllocError, Allocator};
 use std::sync::Wait;
 use tables::Turns;
 use term_core::{Refused, Term};
-use walk_plan::Query;
+use walk_query::Query;
 
 /// All answers of a walk.
 fn gather<R: Wait, A: Allocator + Copy, T: Turns<A>>(

@@ -1,5 +1,5 @@
 use Rattle.std.proofs.Common.{◌≡◌}
-use Rattle.test_members.specs.Members.{AreMembers}
+use Rattle.kit_members.specs.Members.{AreMembers}
 use Rattle.bench_parallel.proofs.parts.timed.Given as goal
 
 abbrev pub invariant-loop-round : goal.invariant-loop-round

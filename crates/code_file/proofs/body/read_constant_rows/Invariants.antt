@@ -1,6 +1,6 @@
 use Rattle.std.proofs.Common.{◌≡◌}
 use Rattle.term_core.specs.Sizes.{depth_limit}
-use Rattle.code_format.specs.Formats.{constant_format}
+use Rattle.code_writer.specs.Formats.{constant_format}
 use Rattle.code_file.specs.Parts.{with_constants}
 use Rattle.code_file.proofs.RowLemmas.{IsRowSoFar}
 use Rattle.code_file.proofs.body.read_constant_rows.Given as goal

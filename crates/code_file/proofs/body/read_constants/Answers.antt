@@ -1,6 +1,6 @@
 use Rattle.std.proofs.lemmas.Result.{err_from_is_err_and, IfErr-weaker}
 use Rattle.term_core.specs.Sizes.{depth_limit}
-use Rattle.code_format.specs.Formats.{constant_format}
+use Rattle.code_writer.specs.Formats.{constant_format}
 use Rattle.code_file.specs.Due.Row.{constants}
 use Rattle.code_file.proofs.RowLemmas.{counted_short, counted_stop}
 use Rattle.code_file.proofs.body.read_constants.Goals as goal

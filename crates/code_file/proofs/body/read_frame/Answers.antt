@@ -3,8 +3,8 @@ use Rattle.std.proofs.Common.{◌≡◌, ◌<◌, refl, sym, subst, rules}
 use Rattle.std.specs.Prelude.{IfSome, IfErr}
 use Rattle.mcode.specs.Frame.{frame_of}
 use Rattle.mcode.specs.declared.fault.Fault.TheVariants.{Memory}
-use Rattle.code_format.specs.Format.{Begins}
-use Rattle.code_format.specs.Formats.{u16_format}
+use Rattle.code_writer.specs.Format.{Begins}
+use Rattle.code_writer.specs.Formats.{u16_format}
 use Rattle.code_file.proofs.RowLemmas.{not_so}
 use Rattle.code_file.proofs.BodyLemmas.{frame_short, frame_rest_stop, frame_unordered, next_begins, frame_memory}
 use Rattle.code_file.proofs.body.read_frame.Goals as goal

@@ -1,5 +1,5 @@
 use Rattle.std.proofs.Common.{◌≡◌}
-use Rattle.code_format.specs.Formats.{instruction_format}
+use Rattle.code_writer.specs.Formats.{instruction_format}
 use Rattle.code_file.specs.Parts.{with_instructions}
 use Rattle.code_file.proofs.RowLemmas.{IsRowSoFar}
 use Rattle.code_file.proofs.body.read_instr_rows.Given as goal

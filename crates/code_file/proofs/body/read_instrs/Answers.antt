@@ -1,5 +1,5 @@
 use Rattle.std.proofs.lemmas.Result.{err_from_is_err_and, IfErr-weaker}
-use Rattle.code_format.specs.Formats.{instruction_format}
+use Rattle.code_writer.specs.Formats.{instruction_format}
 use Rattle.code_file.specs.Due.Row.{instructions}
 use Rattle.code_file.proofs.RowLemmas.{counted_short, counted_stop}
 use Rattle.code_file.proofs.body.read_instrs.Goals as goal

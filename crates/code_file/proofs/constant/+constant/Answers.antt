@@ -5,7 +5,7 @@ use Rattle.term_core.specs.Datum.Datum.{tuple, map}
 use Rattle.term_core.specs.Datum.{items_of, entries_of, cells}
 use Rattle.term_core.specs.ShortRow.{row_items}
 use Rattle.term_core.specs.declared.fault.Fault.TheVariants.{Memory}
-use Rattle.code_format.specs.Formats.{constant_format, pair_format, RisingPairs}
+use Rattle.code_writer.specs.Formats.{constant_format, pair_format, RisingPairs}
 use Rattle.code_file.specs.Due.{BeginsWith}
 use Rattle.code_file.proofs.RowLemmas.{row_start, row_step, plain_step, not_so}
 use Rattle.code_file.proofs.LevelLemmas.{tag_short, level_past, nil_begins, tag_unnamed, elements_stop, tuple_short, tuple_stop, tuple_begins, made, pair_key_stop, pair_value_stop, key_unordered, pair_begins, pairs_stop, map_short, map_stop, map_begins, map_of_one, map_made, map_term, list_short, list_stop, tail_stop, tail_joined, tail_no_cell, list_begins}

@@ -1,7 +1,7 @@
 -- The recursion goes down by the levels that are left.
 use Rattle.std.proofs.Common.{◌+◌, ◌*◌, ◌-◌}
 use Rattle.term_core.specs.ShortRow.{row_items}
-use Rattle.code_format.specs.Formats.{constant_format, pair_format, RisingPairs}
+use Rattle.code_writer.specs.Formats.{constant_format, pair_format, RisingPairs}
 use Rattle.code_file.proofs.RowLemmas.{IsRowSoFar}
 use Rattle.code_file.proofs.constant.+constant.Given as goal
 

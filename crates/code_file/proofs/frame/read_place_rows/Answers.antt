@@ -1,6 +1,6 @@
 use Rattle.std.proofs.lemmas.Result.{err_from_is_err_and}
 use Rattle.mcode.specs.Program.{Rise, place_number}
-use Rattle.code_format.specs.Formats.{place_format}
+use Rattle.code_writer.specs.Formats.{place_format}
 use Rattle.code_file.proofs.RowLemmas.{row_step}
 use Rattle.code_file.proofs.FrameLemmas.{place_row_stop}
 use Rattle.code_file.proofs.frame.read_place_rows.Goals as goal

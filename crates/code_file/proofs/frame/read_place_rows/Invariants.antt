@@ -1,5 +1,5 @@
 use Rattle.mcode.specs.Program.{Rise, place_number}
-use Rattle.code_format.specs.Formats.{place_format}
+use Rattle.code_writer.specs.Formats.{place_format}
 use Rattle.code_file.proofs.RowLemmas.{IsRowSoFar}
 use Rattle.code_file.proofs.frame.read_place_rows.Given as goal
 

@@ -1,6 +1,6 @@
 use Rattle.std.proofs.lemmas.Result.{err_from_is_err_and}
 use Rattle.mcode.specs.Program.{Rise, place_number}
-use Rattle.code_format.specs.Formats.{u16_format, place_format}
+use Rattle.code_writer.specs.Formats.{u16_format, place_format}
 use Rattle.code_file.specs.Due.Row.{places}
 use Rattle.code_file.proofs.RowLemmas.{such_counted_short, such_counted_stop, such_counted_begins}
 use Rattle.code_file.proofs.frame.read_places.Goals as goal

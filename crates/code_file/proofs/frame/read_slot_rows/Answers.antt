@@ -1,6 +1,6 @@
 use Rattle.std.proofs.lemmas.Result.{err_from_is_err_and}
 use Rattle.mcode.specs.Program.{Rise}
-use Rattle.code_format.specs.Formats.{u8_format}
+use Rattle.code_writer.specs.Formats.{u8_format}
 use Rattle.code_file.proofs.FrameLemmas.{slot_row_stop}
 use Rattle.code_file.proofs.RowLemmas.{row_step}
 use Rattle.code_file.proofs.frame.read_slot_rows.Goals as goal

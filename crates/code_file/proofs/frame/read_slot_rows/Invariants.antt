@@ -1,5 +1,5 @@
 use Rattle.mcode.specs.Program.{Rise}
-use Rattle.code_format.specs.Formats.{u8_format}
+use Rattle.code_writer.specs.Formats.{u8_format}
 use Rattle.code_file.proofs.RowLemmas.{IsRowSoFar}
 use Rattle.code_file.proofs.frame.read_slot_rows.Given as goal
 

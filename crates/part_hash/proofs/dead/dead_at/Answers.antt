@@ -4,7 +4,7 @@ use Rattle.std.proofs.lemmas.Bool.{ne_eqb}
 use Rattle.std.specs.Map.{lookup}
 use Rattle.term_core.specs.Datum.{Datum}
 use Rattle.term_operand.specs.Order.{is_same}
-use Rattle.part_stored.specs.Dead.{one_dead}
+use Rattle.part_engine.specs.Dead.{one_dead}
 use Rattle.part_hash.proofs.dead.dead_at.Goals as goal
 
 pub returns : goal.returns

@@ -1,8 +1,8 @@
 use Rattle.std.proofs.Common.{◌++◌, ap, ◌∙◌, List}
 use Rattle.std.specs.Prelude.{flat_map}
 use Rattle.part_core.specs.Rows.{Row}
-use Rattle.part_stored.specs.Sets.{rows_from}
-use Rattle.part_stored.proofs.WalkLemmas.{walk_unordered, class_next, classes_all}
+use Rattle.part_engine.specs.Sets.{rows_from}
+use Rattle.part_engine.proofs.WalkLemmas.{walk_unordered, class_next, classes_all}
 use Rattle.part_hash.proofs.gathering.gather.Goals as goal
 
 pub loop-class-preserved : goal.loop-class-preserved

@@ -4,7 +4,7 @@ use Rattle.std.specs.Option.{option_to_list}
 use Rattle.std.proofs.lemmas.List.{append-nil}
 use Rattle.part_core.specs.Rows.{Row}
 use Rattle.part_core.proofs.KeyedLemmas.{none_there}
-use Rattle.part_stored.proofs.SetLemmas.{alone}
+use Rattle.part_engine.proofs.SetLemmas.{alone}
 use Rattle.part_hash.proofs.looking.look_at.Goals as goal
 
 pub returns-in_ok-look_at_row : goal.returns-in_ok-look_at_row

@@ -8,7 +8,7 @@ use Rattle.part_core.specs.Settings.{key_of}
 use Rattle.part_core.specs.Rows.{Row, is_empty, is_live, has_row, objects_at, rows_at_key}
 use Rattle.part_core.proofs.AfterLemmas.{slots_same}
 use Rattle.part_hash.specs.Standing.{Stands}
-use Rattle.part_stored.specs.Sets.{with_key}
+use Rattle.part_engine.specs.Sets.{with_key}
 use Rattle.part_hash.proofs.WriteLemmas.{stands_written}
 use Rattle.part_hash.proofs.PutLemmas.{key_there, put_at_key, live_there, stays_out, puts_free, puts_replacing, slots_kept, slots_written}
 use Rattle.part_hash.proofs.putting.put.Goals as goal

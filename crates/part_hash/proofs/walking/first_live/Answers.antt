@@ -1,6 +1,6 @@
 use Rattle.std.proofs.Common.{ap, ◌∙◌}
 use Rattle.part_core.specs.Replies.{first_live}
-use Rattle.part_stored.proofs.WalkLemmas.{walk_unordered}
+use Rattle.part_engine.proofs.WalkLemmas.{walk_unordered}
 use Rattle.part_hash.proofs.walking.first_live.Goals as goal
 
 pub returns : goal.returns

@@ -2,7 +2,7 @@ use Rattle.std.proofs.Common.{sym, ◌∙◌, ◌+◌}
 use Rattle.part_core.specs.Visits.{in_class}
 use Rattle.part_core.proofs.LiveLemmas.{live_first, live_later}
 use Rattle.part_hash.specs.Classes.{made_from}
-use Rattle.part_stored.specs.Sets.{rows_from}
+use Rattle.part_engine.specs.Sets.{rows_from}
 use Rattle.part_hash.proofs.walking.live_behind.Goals as goal
 
 pub returns-in-Some : goal.returns-in-Some

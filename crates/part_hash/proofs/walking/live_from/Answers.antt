@@ -4,8 +4,8 @@ use Rattle.part_core.specs.Rows.{Row}
 use Rattle.part_core.specs.Visits.{in_class}
 use Rattle.part_core.proofs.LiveLemmas.{live_first, live_later}
 use Rattle.part_hash.specs.Classes.{made_from}
-use Rattle.part_stored.specs.Sets.{rows_from}
-use Rattle.part_stored.proofs.WalkLemmas.{rows_step, rows_none}
+use Rattle.part_engine.specs.Sets.{rows_from}
+use Rattle.part_engine.proofs.WalkLemmas.{rows_step, rows_none}
 use Rattle.part_hash.proofs.BehindLemmas.{all_from}
 use Rattle.part_hash.proofs.walking.live_from.Goals as goal
 

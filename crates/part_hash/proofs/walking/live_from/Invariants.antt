@@ -1,7 +1,7 @@
 use Rattle.std.proofs.Common.{◌≡◌, List}
 use Rattle.part_core.specs.Replies.{first_live}
 use Rattle.part_core.specs.Rows.{Row}
-use Rattle.part_stored.specs.Sets.{rows_from}
+use Rattle.part_engine.specs.Sets.{rows_from}
 use Rattle.part_hash.specs.Standing.{Stands}
 use Rattle.part_hash.proofs.walking.live_from.Given as goal
 

@@ -11,7 +11,7 @@ use Rattle.part_hash.specs.declared.places.Place.{Place}
 use Rattle.part_hash.specs.Holes.{IsAlone}
 use Rattle.part_hash.specs.Places.{spread}
 use Rattle.part_hash.specs.Classes.{made_from}
-use Rattle.part_stored.specs.Sets.{rows_from}
+use Rattle.part_engine.specs.Sets.{rows_from}
 use Rattle.part_hash.proofs.AloneLemmas.{alone_at}
 use Rattle.part_hash.proofs.AddLemmas.{base_some}
 use Rattle.part_hash.proofs.WriteLemmas.{None≢Some, some_is}

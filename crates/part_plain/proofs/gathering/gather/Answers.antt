@@ -1,8 +1,8 @@
 use Rattle.std.proofs.Common.{◌++◌, ◌∙◌, ap}
 use Rattle.std.specs.Prelude.{flat_map, List}
 use Rattle.part_core.specs.Rows.{Row}
-use Rattle.part_stored.specs.Sets.{rows_from}
-use Rattle.part_stored.proofs.WalkLemmas.{class_next, classes_all, walk_unordered}
+use Rattle.part_engine.specs.Sets.{rows_from}
+use Rattle.part_engine.proofs.WalkLemmas.{class_next, classes_all, walk_unordered}
 use Rattle.part_plain.proofs.gathering.gather.Goals as goal
 
 pub loop-class-preserved : goal.loop-class-preserved

@@ -1,6 +1,6 @@
 use Rattle.std.proofs.Common.{◌≡◌, ◌++◌}
 use Rattle.std.specs.Prelude.{flat_map}
-use Rattle.part_stored.specs.Sets.{rows_from}
+use Rattle.part_engine.specs.Sets.{rows_from}
 use Rattle.part_plain.proofs.gathering.gather.Given as goal
 
 abbrev pub invariant-loop-class : goal.invariant-loop-class

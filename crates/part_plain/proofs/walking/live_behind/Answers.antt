@@ -3,7 +3,7 @@ use Rattle.std.proofs.lemmas.List.{take_rest}
 use Rattle.part_core.specs.Replies.{first_live}
 use Rattle.part_core.specs.Visits.{in_class}
 use Rattle.part_core.proofs.LiveLemmas.{live_first, live_later}
-use Rattle.part_stored.specs.Sets.{rows_from}
+use Rattle.part_engine.specs.Sets.{rows_from}
 use Rattle.part_plain.proofs.walking.live_behind.Goals as goal
 
 pub returns-in-Some : goal.returns-in-Some

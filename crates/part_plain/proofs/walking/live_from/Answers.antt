@@ -2,8 +2,8 @@ use Rattle.std.proofs.Common.{sym, ap, ◌∙◌, ◌+◌}
 use Rattle.part_core.specs.Replies.{first_live}
 use Rattle.part_core.specs.Visits.{in_class}
 use Rattle.part_core.proofs.LiveLemmas.{live_first, live_later}
-use Rattle.part_stored.specs.Sets.{rows_from}
-use Rattle.part_stored.proofs.WalkLemmas.{rows_step, rows_none}
+use Rattle.part_engine.specs.Sets.{rows_from}
+use Rattle.part_engine.proofs.WalkLemmas.{rows_step, rows_none}
 use Rattle.part_plain.proofs.walking.live_from.Goals as goal
 
 pub returns-in-Some : goal.returns-in-Some

@@ -2,7 +2,7 @@ use Rattle.std.proofs.Common.{◌≡◌, ◌<◌, ◌++◌, ◌+◌, ◌/◌, �
 use Rattle.part_core.specs.Replies.{first_live}
 use Rattle.part_core.specs.Settings.{class_at}
 use Rattle.part_core.specs.Visits.{in_class}
-use Rattle.part_stored.specs.Sets.{rows_from}
+use Rattle.part_engine.specs.Sets.{rows_from}
 use Rattle.part_plain.proofs.PlaceLemmas.{walk_behind}
 use Rattle.part_plain.proofs.walking.live_past.Goals as goal
 

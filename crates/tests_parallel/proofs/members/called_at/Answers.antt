@@ -1,5 +1,5 @@
 use Rattle.std.proofs.Common.{ap}
-use Rattle.test_members.proofs.TableLemmas.{of_one_table}
+use Rattle.kit_members.proofs.TableLemmas.{of_one_table}
 use Rattle.tests_parallel.proofs.members.called_at.Goals as goal
 
 pub called-requires-clause-table : goal.called-requires-clause-table

@@ -1,5 +1,5 @@
 use Rattle.std.proofs.Common.{◌≡◌}
-use Rattle.test_members.specs.Members.{AreMembers}
+use Rattle.kit_members.specs.Members.{AreMembers}
 use Rattle.judge_sessions.proofs.worker.Worker.run.Given as goal
 
 abbrev pub invariant-loop-call : goal.invariant-loop-call

@@ -1,7 +1,7 @@
 use Rattle.std.proofs.Common.{◌≡◌, ◌+◌, ◌-◌, ap, sym, ◌∙◌, arith}
-use Rattle.part_stored.specs.Dead.{dead_rows}
-use Rattle.part_stored.proofs.DeadLemmas.{exchanged_dead, one_comes}
-use Rattle.part_stored.proofs.SetLemmas.{exchanged_none}
+use Rattle.part_engine.specs.Dead.{dead_rows}
+use Rattle.part_engine.proofs.DeadLemmas.{exchanged_dead, one_comes}
+use Rattle.part_engine.proofs.SetLemmas.{exchanged_none}
 use Rattle.part_hash.proofs.ShownLemmas.{dead_within}
 use Rattle.part_hash.proofs.rows.HashRowsRows.exchange.Goals as goal
 

@@ -1,6 +1,6 @@
 use Rattle.std.proofs.Common.{List, sym, subst, ◌∙◌}
 use Rattle.part_core.specs.Rows.{Row}
-use Rattle.part_stored.proofs.DeadLemmas.{live_left, none_dead}
+use Rattle.part_engine.proofs.DeadLemmas.{live_left, none_dead}
 use Rattle.part_hash.specs.Standing.{Stands}
 use Rattle.part_hash.proofs.rows.HashRowsRows.keep_live.Goals as goal
 

@@ -1,7 +1,7 @@
 use Rattle.std.specs.Prelude.{unwrap_or}
 use Rattle.term_core.specs.Datum.Datum.{nil}
-use Rattle.part_stored.proofs.DeadLemmas.{put_dead}
-use Rattle.part_stored.proofs.SetLemmas.{set_served}
+use Rattle.part_engine.proofs.DeadLemmas.{put_dead}
+use Rattle.part_engine.proofs.SetLemmas.{set_served}
 use Rattle.part_hash.proofs.ShownLemmas.{shown_either}
 use Rattle.part_hash.proofs.rows.HashRowsRows.put.Goals as goal
 

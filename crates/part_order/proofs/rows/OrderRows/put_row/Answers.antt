@@ -1,7 +1,7 @@
 use Rattle.std.proofs.Common.{◌≤◌, ◌-◌, ap, sym, subst, ◌∙◌}
 use Rattle.std.specs.BTreeMap.{insert_entry}
 use Rattle.term_core.specs.Order.{datum_cmp}
-use Rattle.part_stored.specs.Dead.{dead_rows}
+use Rattle.part_engine.specs.Dead.{dead_rows}
 use Rattle.part_order.proofs.DeadLemmas.{put_over_dead}
 use Rattle.part_order.proofs.rows.OrderRows.put_row.Goals as goal
 

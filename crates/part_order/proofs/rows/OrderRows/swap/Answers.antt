@@ -1,5 +1,5 @@
 use Rattle.std.proofs.Common.{◌≤◌, ◌+◌, ◌-◌, ap, sym, subst, ◌∙◌}
-use Rattle.part_stored.specs.Dead.{dead_rows}
+use Rattle.part_engine.specs.Dead.{dead_rows}
 use Rattle.part_order.proofs.DeadLemmas.{exchanged_dead}
 use Rattle.part_order.proofs.TreeLemmas.{set_nowhere}
 use Rattle.part_order.proofs.rows.OrderRows.swap.Goals as goal

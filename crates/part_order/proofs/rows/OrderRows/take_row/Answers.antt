@@ -1,5 +1,5 @@
 use Rattle.std.proofs.Common.{◌≤◌, ◌-◌, ap, sym, subst, ◌∙◌}
-use Rattle.part_stored.specs.Dead.{dead_rows}
+use Rattle.part_engine.specs.Dead.{dead_rows}
 use Rattle.part_order.proofs.DeadLemmas.{taken_out}
 use Rattle.part_order.proofs.rows.OrderRows.take_row.Goals as goal
 

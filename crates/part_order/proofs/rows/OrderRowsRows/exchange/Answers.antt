@@ -1,5 +1,5 @@
 use Rattle.std.proofs.Common.{sym, ◌∙◌}
-use Rattle.part_stored.proofs.SetLemmas.{written, exchanged_there, exchanged_out}
+use Rattle.part_engine.proofs.SetLemmas.{written, exchanged_there, exchanged_out}
 use Rattle.part_order.proofs.ShownLemmas.{apart_shown, exchange_shows}
 use Rattle.part_order.proofs.rows.OrderRowsRows.exchange.Goals as goal
 

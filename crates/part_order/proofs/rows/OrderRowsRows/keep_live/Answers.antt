@@ -1,8 +1,8 @@
 use Rattle.std.proofs.Common.{◌≡◌, List, ap, sym, subst, ◌∙◌, arith}
 use Rattle.std.specs.Prelude.{filter}
 use Rattle.part_core.specs.Rows.{Row, is_live}
-use Rattle.part_stored.specs.Dead.{dead_rows}
-use Rattle.part_stored.proofs.DeadLemmas.{live_left, none_dead}
+use Rattle.part_engine.specs.Dead.{dead_rows}
+use Rattle.part_engine.proofs.DeadLemmas.{live_left, none_dead}
 use Rattle.part_order.proofs.ShownLemmas.{live_shows}
 use Rattle.part_order.proofs.rows.OrderRowsRows.keep_live.Goals as goal
 

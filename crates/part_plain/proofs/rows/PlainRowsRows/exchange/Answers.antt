@@ -3,9 +3,9 @@ use Rattle.std.specs.List.{IsDistinct}
 use Rattle.std.specs.Map.{keys_of}
 use Rattle.term_operand.specs.Order.{is_same}
 use Rattle.part_core.specs.Rows.{Row}
-use Rattle.part_stored.specs.Dead.{dead_rows}
-use Rattle.part_stored.proofs.DeadLemmas.{exchanged_dead, one_comes}
-use Rattle.part_stored.proofs.SetLemmas.{exchanged_none}
+use Rattle.part_engine.specs.Dead.{dead_rows}
+use Rattle.part_engine.proofs.DeadLemmas.{exchanged_dead, one_comes}
+use Rattle.part_engine.proofs.SetLemmas.{exchanged_none}
 use Rattle.part_plain.proofs.ShownLemmas.{dead_within, shown_exchange}
 use Rattle.part_plain.proofs.rows.PlainRowsRows.exchange.Goals as goal
 

@@ -1,7 +1,7 @@
 use Rattle.std.proofs.Common.{ap, sym, ◌∙◌}
 use Rattle.std.specs.Prelude.{filter}
 use Rattle.part_core.specs.Rows.{is_live}
-use Rattle.part_stored.proofs.DeadLemmas.{live_left, none_dead}
+use Rattle.part_engine.proofs.DeadLemmas.{live_left, none_dead}
 use Rattle.part_plain.proofs.rows.PlainRowsRows.keep_live.Goals as goal
 
 pub returns-then-self-eq0 : goal.returns-then-self-eq0

@@ -6,9 +6,9 @@ use Rattle.term_core.specs.Datum.Datum.{nil}
 use Rattle.term_operand.specs.Order.{is_same}
 use Rattle.part_core.specs.Settings.{key_of}
 use Rattle.part_core.specs.Rows.{Row, is_empty, objects_at}
-use Rattle.part_stored.specs.Dead.{dead_rows}
-use Rattle.part_stored.proofs.DeadLemmas.{going_of, put_dead}
-use Rattle.part_stored.proofs.SetLemmas.{set_served}
+use Rattle.part_engine.specs.Dead.{dead_rows}
+use Rattle.part_engine.proofs.DeadLemmas.{going_of, put_dead}
+use Rattle.part_engine.proofs.SetLemmas.{set_served}
 use Rattle.part_plain.proofs.ShownLemmas.{shown_either, slots_of}
 use Rattle.part_plain.proofs.rows.PlainRowsRows.put.Goals as goal
 

@@ -1,7 +1,0 @@
-use Rattle.code_format.specs.Spelling.{place_bytes}
-use Rattle.code_format.specs.File.{HoldsPlace}
-use Rattle.code_format.proofs.WriteLemmas.{IsWritten}
-use Rattle.code_format.proofs.frame.put_places.Given as goal
-
-abbrev pub invariant-loop-place : goal.invariant-loop-place
-invariant-loop-place g l = IsWritten place_bytes HoldsPlace l.places l.place-index l.initial.out.items l.out.items

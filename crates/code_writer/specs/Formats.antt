@@ -1,0 +1,167 @@
+-- The formats of the parts of a code file.
+use Rattle.std.specs.Prelude.{ℕ, ℤ, ◌≡◌, ◌<◌, ◌≤◌, ◌≢◌, ◌^◌, List, [], ◌∷◌, ◌++◌, length, FitsSigned}
+use Rattle.std.specs.Int.{w64}
+use Rattle.std.specs.Str.{IsUtf8}
+use Rattle.std.specs.List.{AllByRecursion}
+use Rattle.prims_table.specs.Numbers.{function_number, arithmetic_number}
+use Rattle.prims_table.specs.declared.prim.Function.{Function}
+use Rattle.prims_table.specs.declared.prim.Arithmetic.{Arithmetic}
+use Rattle.term_core.specs.Datum.{Datum, entries_of}
+use Rattle.term_core.specs.Datum.Datum.{cons}
+use Rattle.term_core.specs.Limits.{IsSound, depth}
+use Rattle.term_core.specs.MapPairs.{AreRising}
+use Rattle.term_core.specs.Sizes.{depth_limit, list_limit, binary_limit}
+use Rattle.mcode.specs.Program.{Frame, Rise, place_number, frame_number, Program}
+use Rattle.mcode.specs.declared.kind.Kind.{Kind}
+use Rattle.mcode.specs.declared.kind.Kind.TheVariants as kind
+use Rattle.mcode.specs.declared.instr.Instr.{Instr}
+use Rattle.code_writer.specs.Opcodes.{opcode_number}
+use Rattle.code_writer.specs.declared.opcode.Opcode.{Opcode}
+use Rattle.code_writer.specs.Spelling.{u16_bytes, u32_bytes, i64_bytes, constant_bytes, instruction_bytes, kind_bytes, frame_bytes}
+use Rattle.code_writer.specs.File.{IsU8, IsU16, HoldsArguments, HoldsSize}
+use Rattle.code_writer.specs.Format.{Format, both, counted, such}
+
+abbrev pub u8_format : Format ℕ
+u8_format = record { spell = λ n. n ∷ []; Fits = IsU8 }
+
+abbrev pub u16_format : Format ℕ
+u16_format = record { spell = u16_bytes; Fits = IsU16 }
+
+abbrev pub u32_format : Format ℕ
+u32_format = record { spell = u32_bytes; Fits = λ n. n < 2 ^ 32 }
+
+abbrev pub i64_format : Format ℤ
+i64_format = record { spell = i64_bytes; Fits = FitsSigned w64 }
+
+-- so many bytes
+abbrev pub bytes_format : ℕ → Format (List ℕ)
+bytes_format n = record { spell = λ bs. bs; Fits = λ bs. length bs ≡ n }
+
+-- an instruction
+abbrev pub instruction_format : Format Instr
+instruction_format = record { spell = instruction_bytes; Fits = HoldsArguments }
+
+-- a term at most so deep
+abbrev pub constant_format : ℕ → Format Datum
+constant_format room =
+    record {
+      spell = constant_bytes;
+      Fits = λ d. IsSound d × (depth d ≤ room);
+    }
+
+abbrev pub opcode_format : Format Opcode
+opcode_format = record { spell = λ o. opcode_number o ∷ []; Fits = λ _. Unit {0} }
+
+-- a function of the table of calls
+abbrev pub function_format : Format Function
+function_format = record { spell = λ f. function_number f ∷ []; Fits = λ _. Unit {0} }
+
+-- a function of two integers
+abbrev pub arithmetic_format : Format Arithmetic
+arithmetic_format = record { spell = λ a. arithmetic_number a ∷ []; Fits = λ _. Unit {0} }
+
+-- a kind that says something
+abbrev pub kind_format : Format Kind
+kind_format = record { spell = kind_bytes; Fits = λ k. HoldsSize k × (k ≢ kind.Any) }
+
+abbrev pub place_format : Format (ℕ × Kind)
+place_format = both u16_format kind_format
+
+-- the places of a frame
+abbrev pub places_format : Format (List (ℕ × Kind))
+places_format = such (counted u16_format place_format) (Rise place_number)
+
+-- the slots of a frame
+abbrev pub slots_format : Format (List ℕ)
+slots_format =
+    record {
+      spell = λ vs. u16_bytes (length vs) ++ vs;
+      Fits = λ vs. (IsU16 (length vs) × AllByRecursion IsU8 vs) × Rise (λ slot. slot) vs;
+    }
+
+-- what a frame has but the number of its instruction
+abbrev pub frame_rest_format : Format (ℕ × (List (ℕ × Kind) × List ℕ))
+frame_rest_format = both u16_format (both places_format slots_format)
+
+abbrev pub frame_format : Format Frame
+frame_format =
+    record {
+      spell = frame_bytes;
+      Fits = λ f. (both u16_format frame_rest_format).Fits
+          (f.pc, (f.depth, (f.places, f.slots)));
+    }
+
+-- ---- terms
+
+-- the bytes of an atom
+abbrev pub utf8_format : Format (List ℕ)
+utf8_format =
+    record {
+      spell = λ bs. u16_bytes (length bs) ++ bs;
+      Fits = λ bs. IsU16 (length bs) × IsUtf8 bs;
+    }
+
+-- how many bytes a binary has
+abbrev pub size_format : Format ℕ
+size_format = record { spell = u32_bytes; Fits = λ n. n ≤ binary_limit }
+
+-- the bytes of a binary
+abbrev pub binary_format : Format (List ℕ)
+binary_format =
+    record {
+      spell = λ bs. u32_bytes (length bs) ++ bs;
+      Fits = λ bs. length bs ≤ binary_limit;
+    }
+
+-- the elements of a tuple
+abbrev pub tuple_format : ℕ → Format (List Datum)
+tuple_format room = counted u16_format (constant_format room)
+
+-- a key and its value
+abbrev pub pair_format : ℕ → Format (Datum × Datum)
+pair_format room = both (constant_format room) (constant_format room)
+
+-- keys that rise
+abbrev pub RisingPairs : List (Datum × Datum) → Type 0
+RisingPairs ps = AreRising (entries_of ps)
+
+-- the pairs of a map
+abbrev pub map_format : ℕ → Format (List (Datum × Datum))
+map_format room = such (counted u16_format (pair_format room)) RisingPairs
+
+-- no list that is not empty
+abbrev pub IsNoCell : Datum → Type 0
+IsNoCell (cons head tail) = ⊥
+IsNoCell d = Unit {0}
+
+-- how many elements a list may have
+abbrev pub IsListLength : ℕ → Type 0
+IsListLength n = (0 < n) × (n ≤ list_limit)
+
+-- the number of a list's elements
+abbrev pub length_format : Format ℕ
+length_format = record { spell = u32_bytes; Fits = IsListLength }
+
+-- the elements of a list and its tail
+abbrev pub list_format : ℕ → Format (List Datum × Datum)
+list_format room =
+    both (counted length_format (constant_format room)) (such (constant_format room) IsNoCell)
+
+-- ---- the body of a file
+
+abbrev pub constants_format : Format (List Datum)
+constants_format = counted u16_format (constant_format depth_limit)
+
+abbrev pub instructions_format : Format (List Instr)
+instructions_format = counted u16_format instruction_format
+
+abbrev pub frames_format : Format (List Frame)
+frames_format = such (counted u16_format frame_format) (Rise frame_number)
+
+-- what follows the number of slots
+abbrev pub body_format : Format (List Datum × (List Instr × List Frame))
+body_format = both constants_format (both instructions_format frames_format)
+
+-- code but for the number of its slots
+abbrev pub body_of : Program → List Datum × (List Instr × List Frame)
+body_of p = (p.constants, (p.instructions, p.frames))

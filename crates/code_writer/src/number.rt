@@ -1,0 +1,37 @@
+//! Numbers at the end of a file that is written.
+ghost use Rattle.std.specs.Prelude.{◌≡◌, ◌++◌, ◌∷◌, [], OnOk};
+ghost use Rattle.code_writer.specs.Spelling.{u16_bytes, u32_bytes, i64_bytes};
+
+use std::alloc::{AllocError, Allocator};
+
+/// Appends a byte.
+pub(crate) fn put_u8<A: Allocator>(byte: u8, out: &mut Vec<u8, A>) -> Result<(), AllocError>
+    ensures { OnOk result (out.new.items ≡ out.old.items ++ byte ∷ []) }
+{
+    out.push(byte)?;
+    Ok(())
+}
+
+/// Appends a number in two bytes.
+#[tactic(auto, unfolding(crate::specs::Spelling::u16_bytes))]
+pub(crate) fn put_u16<A: Allocator>(number: u16, out: &mut Vec<u8, A>) -> Result<(), AllocError>
+    ensures { OnOk result (out.new.items ≡ out.old.items ++ u16_bytes number) }
+{
+    out.extend_from_slice(&number.to_be_bytes())
+}
+
+/// Appends a number in four bytes.
+#[tactic(auto, unfolding(crate::specs::Spelling::u32_bytes))]
+pub(crate) fn put_u32<A: Allocator>(number: u32, out: &mut Vec<u8, A>) -> Result<(), AllocError>
+    ensures { OnOk result (out.new.items ≡ out.old.items ++ u32_bytes number) }
+{
+    out.extend_from_slice(&number.to_be_bytes())
+}
+
+/// Appends a whole number in eight bytes.
+#[tactic(auto, unfolding(crate::specs::Spelling::i64_bytes))]
+pub(crate) fn put_i64<A: Allocator>(number: i64, out: &mut Vec<u8, A>) -> Result<(), AllocError>
+    ensures { OnOk result (out.new.items ≡ out.old.items ++ i64_bytes number) }
+{
+    out.extend_from_slice(&number.to_be_bytes())
+}

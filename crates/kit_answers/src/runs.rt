@@ -1,0 +1,105 @@
+//! What code answers on objects.
+use crate::codes::CodeTerms;
+use kit_rows::{Outcome, elements, is_atom, text, word};
+use machine::{Machine, run, run_true};
+use std::alloc::Global;
+use term_core::Term;
+use term_text::read_terms;
+use verifier::Verified;
+
+/// The text of an answer and of the number of instructions that were executed.
+fn answer_text(alloc: Global, answer: Option<&Term>, executed: u32) -> Option<Vec<u8>> {
+    let out = Outcome::tuple(alloc);
+    let out = match answer {
+        Some(answer) => out.word("answer").term(answer),
+        None => out.word("none"),
+    };
+    out.number(executed as usize).end()
+}
+
+/// Whether an answer is the atom `true`.
+fn is_true(answer: Option<&Term>) -> bool {
+    match answer {
+        Some(answer) => is_atom(answer, "true"),
+        None => false,
+    }
+}
+
+/// The text of what `run` gave, with which what `run_true` gave has to agree.
+fn outcome(
+    alloc: Global,
+    answer: Option<&Term>,
+    executed: u32,
+    tested: (bool, u32),
+) -> Option<Vec<u8>> {
+    if tested == (is_true(answer), executed) {
+        answer_text(alloc, answer, executed)
+    } else {
+        word(alloc, "run_true_differs")
+    }
+}
+
+/// The answer of verified code on an object.
+fn ran(alloc: Global, code: &Verified, object: &Term) -> Option<Vec<u8>> {
+    let tested = run_true(alloc, code, object).ok()?;
+    let (answer, executed) = run(alloc, code, object).ok()?;
+    outcome(alloc, answer.as_ref(), executed, tested)
+}
+
+/// The answer of a machine on an object.
+fn ran_by<'a>(alloc: Global, machine: &mut Machine<'a, '_>, object: &'a Term) -> Option<Vec<u8>> {
+    let tested = machine.run_true(object).ok()?;
+    let (answer, executed) = machine.run(object).ok()?;
+    outcome(alloc, answer.as_ref(), executed, tested)
+}
+
+/// Puts the answer of a machine on an object at the end.
+fn with_ran_by<'a>(
+    alloc: Global,
+    out: Outcome,
+    machine: &mut Machine<'a, '_>,
+    object: &'a Term,
+) -> Outcome {
+    match ran_by(alloc, machine, object) {
+        Some(answer) => out.text(answer.as_slice()),
+        None => out.word("out_of_memory"),
+    }
+}
+
+/// The answers of one machine on these objects, one after the other.
+fn ran_each(alloc: Global, code: &Verified, objects: &[Term]) -> Option<Vec<u8>> {
+    let mut machine = Machine::new(&alloc, code).ok()?;
+    let mut out = Outcome::list(alloc);
+    for object in objects {
+        out = with_ran_by(alloc, out, &mut machine, object);
+    }
+    machine.finish();
+    out.end()
+}
+
+/// The answer of the code that a term says.
+fn ran_code<C: CodeTerms>(alloc: Global, code: &Term, object: &Term) -> Option<Vec<u8>> {
+    ran(alloc, &C::verified_of(alloc, code)?, object)
+}
+
+/// The answers of the code on each of a list of objects, by one machine.
+fn ran_code_on_each<C: CodeTerms>(alloc: Global, code: &Term, objects: &Term) -> Option<Vec<u8>> {
+    let code = C::verified_of(alloc, code)?;
+    ran_each(alloc, &code, elements(objects)?)
+}
+
+/// The answer of the code on the first term of a text.
+fn ran_on_text<C: CodeTerms>(alloc: Global, code: &Term, given: &Term) -> Option<Vec<u8>> {
+    let objects = read_terms(alloc, text(alloc, given)?.as_slice()).ok()?;
+    ran_code::<C>(alloc, code, objects.first()?)
+}
+
+/// What comes of a row of runs.
+pub fn came<C: CodeTerms>(alloc: Global, kind: &str, parts: &[Term]) -> Option<Vec<u8>> {
+    match (kind, parts) {
+        ("run", [code, object, _]) => ran_code::<C>(alloc, code, object),
+        ("run_text", [code, given, _]) => ran_on_text::<C>(alloc, code, given),
+        ("run_each", [code, objects, _]) => ran_code_on_each::<C>(alloc, code, objects),
+        _ => None,
+    }
+}

@@ -1,0 +1,162 @@
+//! Instructions in a row.
+//!
+//! An instruction without operands is an atom, `load`; one with operands a tuple, `{tuple,2,4}`, `{call,hd,1,5}`,
+//! `{arith,'+',7}`: its name, what it needs, and where it jumps to. In a list of instructions `{Count,[Instruction]}`
+//! stands for so many times the same.
+use kit_rows::{arithmetic, elements, fields, function, name, number, short};
+use mcode::Instr;
+use std::alloc::Allocator;
+use term_core::Term;
+
+/// The instruction of a name, without operands.
+fn bare(name: &str) -> Option<Instr> {
+    match name {
+        "load" => Some(Instr::Load),
+        "dup" => Some(Instr::Dup),
+        "drop" => Some(Instr::Drop),
+        "head" => Some(Instr::Head),
+        "tail" => Some(Instr::Tail),
+        "answer" => Some(Instr::Answer),
+        "no_answer" => Some(Instr::NoAnswer),
+        _ => None,
+    }
+}
+
+/// The instruction of a name and one number.
+fn with_one(name: &str, operand: u16) -> Option<Instr> {
+    match name {
+        "const" => Some(Instr::Const { constant: operand }),
+        "get" => Some(Instr::Get {
+            slot: u8::try_from(operand).ok()?,
+        }),
+        "bind" => Some(Instr::Bind {
+            slot: u8::try_from(operand).ok()?,
+        }),
+        "field" => Some(Instr::Field { index: operand }),
+        "jump" => Some(Instr::Jump { target: operand }),
+        "cons" => Some(Instr::Cons { otherwise: operand }),
+        "map" => Some(Instr::Map { otherwise: operand }),
+        "equal" => Some(Instr::Equal { otherwise: operand }),
+        "int" => Some(Instr::Int { otherwise: operand }),
+        "bool" => Some(Instr::Bool { otherwise: operand }),
+        "branch" => Some(Instr::Branch { otherwise: operand }),
+        "make_cons" => Some(Instr::MakeCons { otherwise: operand }),
+        _ => None,
+    }
+}
+
+/// The instruction of a name, a number and where it jumps to.
+fn with_two(name: &str, operand: u16, otherwise: u16) -> Option<Instr> {
+    match name {
+        "tuple" => Some(Instr::Tuple {
+            size: operand,
+            otherwise,
+        }),
+        "value" => Some(Instr::Value {
+            key: operand,
+            otherwise,
+        }),
+        "make_tuple" => Some(Instr::MakeTuple {
+            size: operand,
+            otherwise,
+        }),
+        "make_map" => Some(Instr::MakeMap {
+            keys: operand,
+            otherwise,
+        }),
+        _ => None,
+    }
+}
+
+/// The instruction that computes the function of a name, of two integers.
+fn arith<A: Allocator>(named: &Term<A>, otherwise: u16) -> Option<Instr> {
+    Some(Instr::Arith {
+        function: arithmetic(named)?,
+        otherwise,
+    })
+}
+
+/// The instruction that calls the function of a name.
+fn call<A: Allocator>(named: &Term<A>, arguments: u16, otherwise: u16) -> Option<Instr> {
+    Some(Instr::Call {
+        function: function(named)?,
+        arguments,
+        otherwise,
+    })
+}
+
+/// The instruction of a name and operands. The last of several says where it jumps to.
+fn with_operands<A: Allocator>(name: &str, operands: &[Term<A>]) -> Option<Instr> {
+    let last = short(operands.last()?)?;
+    match operands {
+        [_] => with_one(name, last),
+        [named, _] if name == "arith" => arith(named, last),
+        [operand, _] => with_two(name, short(operand)?, last),
+        [named, arguments, _] if name == "call" => call(named, short(arguments)?, last),
+        _ => None,
+    }
+}
+
+/// The instruction that a tuple of a name and operands says.
+fn of_fields<A: Allocator + Copy>(heap: A, fields: &[Term<A>]) -> Option<Instr> {
+    let (first, operands) = fields.split_first()?;
+    with_operands(name(heap, first)?.as_str(), operands)
+}
+
+/// The instruction that a term says.
+pub fn instruction<A: Allocator + Copy>(heap: A, term: &Term<A>) -> Option<Instr> {
+    match fields(term) {
+        Some(fields) => of_fields(heap, fields),
+        None => bare(name(heap, term)?.as_str()),
+    }
+}
+
+/// Adds each of these instructions.
+fn push_all<A: Allocator + Copy>(
+    heap: A,
+    out: &mut Vec<Instr, A>,
+    terms: &[Term<A>],
+) -> Option<()> {
+    for term in terms {
+        out.push(instruction(heap, term)?).ok()?;
+    }
+    Some(())
+}
+
+/// Adds these instructions so many times.
+fn push_repeated<A: Allocator + Copy>(
+    heap: A,
+    out: &mut Vec<Instr, A>,
+    count: u32,
+    unit: &Term<A>,
+) -> Option<()> {
+    let mut instructions = Vec::new(heap);
+    push_all(heap, &mut instructions, elements(unit)?)?;
+    for _ in 0..count {
+        out.extend_from_slice(instructions.as_slice()).ok()?;
+    }
+    Some(())
+}
+
+/// Adds what a member of a list of instructions says.
+fn push_member<A: Allocator + Copy>(
+    heap: A,
+    out: &mut Vec<Instr, A>,
+    member: &Term<A>,
+) -> Option<()> {
+    if let Some([count, unit]) = fields(member)
+        && let Some(count) = number(count)
+    {
+        return push_repeated(heap, out, count, unit);
+    }
+    out.push(instruction(heap, member)?).ok()
+}
+
+/// The instructions that a list says.
+pub fn instructions<A: Allocator + Copy>(heap: A, list: &Term<A>) -> Option<Vec<Instr, A>> {
+    let mut out = Vec::new(heap);
+    for member in elements(list)? {
+        push_member(heap, &mut out, member)?;
+    }
+    Some(out)
+}

@@ -1,0 +1,72 @@
+//! Queries of a session over its whole table: by members of a selection, where it has any, else by itself.
+ghost use Rattle.std.specs.Prelude.{◌≡◌};
+ghost use Rattle.kit_members.specs.Members.{AreMembers};
+
+use parallel_select::{count_parts, delete_parts, select_parts};
+use std::alloc::Global;
+use std::sync::Wait;
+use std::thread::Threads;
+use tables::Turns;
+use term_core::Term;
+use walks::{Query, select, select_count, select_delete};
+
+/// What a query answers; none for want of memory.
+pub fn selected<R: Threads + Wait + Sync, T: Turns<Global>, M: Turns<Global> + Send>(
+    rt: &R,
+    alloc: Global,
+    turns: &mut T,
+    members: &mut [M],
+    query: &Query,
+) -> Option<Vec<Term>>
+    requires ready { T.is_ready turns.old }
+    requires members { AreMembers M.is_ready M.home members.old }
+    ensures ready { T.is_ready turns.new }
+    ensures same { T.home turns.new ≡ T.home turns.old }
+    ensures members { AreMembers M.is_ready M.home members.new }
+{
+    if members.is_empty() {
+        select(rt, alloc, turns, query).ok()
+    } else {
+        select_parts(rt, alloc, members, query).ok()
+    }
+}
+
+/// How many objects answer true; none for want of memory.
+pub fn counted<R: Threads + Wait + Sync, T: Turns<Global>, M: Turns<Global> + Send>(
+    rt: &R,
+    turns: &mut T,
+    members: &mut [M],
+    query: &Query,
+) -> Option<u64>
+    requires ready { T.is_ready turns.old }
+    requires members { AreMembers M.is_ready M.home members.old }
+    ensures ready { T.is_ready turns.new }
+    ensures same { T.home turns.new ≡ T.home turns.old }
+    ensures members { AreMembers M.is_ready M.home members.new }
+{
+    if members.is_empty() {
+        select_count(rt, turns, query).ok()
+    } else {
+        count_parts(rt, members, query).ok()
+    }
+}
+
+/// Deletes them, and tells how many there were; none for want of memory.
+pub fn deleted<R: Threads + Wait + Sync, T: Turns<Global>, M: Turns<Global> + Send>(
+    rt: &R,
+    turns: &mut T,
+    members: &mut [M],
+    query: &Query,
+) -> Option<u64>
+    requires ready { T.is_ready turns.old }
+    requires members { AreMembers M.is_ready M.home members.old }
+    ensures ready { T.is_ready turns.new }
+    ensures same { T.home turns.new ≡ T.home turns.old }
+    ensures members { AreMembers M.is_ready M.home members.new }
+{
+    if members.is_empty() {
+        select_delete(rt, turns, query).ok()
+    } else {
+        delete_parts(rt, members, query).ok()
+    }
+}

@@ -1,0 +1,168 @@
+//! Operations that terms say.
+ghost use Rattle.std.specs.Prelude.{◌<◌, IfSome};
+ghost use Rattle.part_core.specs.Acts.{IsAsked};
+ghost use Rattle.part_core.specs.Ops.{act_of};
+
+use compiler::compile;
+use kit_rows::{fields, is_atom, number};
+use mspec_reader::read_spec;
+use part_core::{Cursor, Look, PartOp, Scope, TableKind};
+use std::alloc::Allocator;
+use term_core::{Term, View};
+use verifier::Verified;
+
+/// The kind of a table that a term names.
+pub fn kind_of<A: Allocator>(term: &Term<A>) -> Option<TableKind> {
+    for kind in [
+        TableKind::Set,
+        TableKind::OrderedSet,
+        TableKind::Bag,
+        TableKind::DuplicateBag,
+    ] {
+        if is_atom(term, kind_name(kind)) {
+            return Some(kind);
+        }
+    }
+    None
+}
+
+/// The name of a kind of a table.
+const fn kind_name(kind: TableKind) -> &'static str {
+    match kind {
+        TableKind::Set => "set",
+        TableKind::OrderedSet => "ordered_set",
+        TableKind::Bag => "bag",
+        TableKind::DuplicateBag => "duplicate_bag",
+    }
+}
+
+/// The names of operations.
+const NAMES: [&str; 15] = [
+    "fix",
+    "unfix",
+    "release",
+    "first",
+    "next",
+    "insert",
+    "insert_new",
+    "lookup",
+    "member",
+    "delete",
+    "delete_object",
+    "take",
+    "visit",
+    "visit_count",
+    "visit_delete",
+];
+
+/// The name, of some, that a term is.
+fn name_among<A: Allocator>(term: &Term<A>, names: &[&'static str]) -> Option<&'static str> {
+    for name in names {
+        if is_atom(term, name) {
+            return Some(*name);
+        }
+    }
+    None
+}
+
+/// The name of an operation that a term is.
+pub(crate) fn name_of<A: Allocator>(term: &Term<A>) -> Option<&'static str> {
+    name_among(term, &NAMES)
+}
+
+/// The number of at most 8 bits that a term is.
+pub fn byte<A: Allocator>(term: &Term<A>) -> Option<u8> {
+    u8::try_from(number(term)?).ok()
+}
+
+/// The number of answers that a term wants, at least 1.
+pub(crate) fn wanted_of<A: Allocator>(term: &Term<A>) -> Option<u64>
+    ensures { IfSome result (λ wanted. 0 < wanted) }
+{
+    let wanted = match term.view() {
+        View::Integer(value) => u64::try_from(value).ok()?,
+        _ => return None,
+    };
+    if wanted == 0 { None } else { Some(wanted) }
+}
+
+/// The code of the specification that a term is.
+pub(crate) fn code_of<A: Allocator + Copy>(heap: A, term: &Term<A>) -> Option<Verified<A>> {
+    compile(heap, &read_spec(heap, term).ok()?).ok()
+}
+
+/// The cursor that a term says: `{class,Base,Class}` or `{behind,Key}`.
+pub(crate) fn cursor_of<A: Allocator + Copy>(term: &Term<A>) -> Option<Cursor<A>> {
+    match fields(term)? {
+        [tag, base, class] if is_atom(tag, "class") => Some(Cursor::Class {
+            base: number(base)?,
+            class: number(class)?,
+        }),
+        [tag, key] if is_atom(tag, "behind") => Some(Cursor::Behind(key.copy().ok()?)),
+        _ => None,
+    }
+}
+
+/// The key of a term `{named,Key}`.
+pub(crate) fn named_key<A: Allocator>(term: &Term<A>) -> Option<&Term<A>> {
+    match fields(term)? {
+        [tag, key] if is_atom(tag, "named") => Some(key),
+        _ => None,
+    }
+}
+
+/// The operation of a name that needs nothing else.
+pub(crate) fn bare<'a, A: Allocator>(name: &str) -> Option<PartOp<'a, A>>
+    ensures { IfSome result (λ op. IsAsked (act_of op)) }
+{
+    match name {
+        "fix" => Some(PartOp::Fix),
+        "unfix" => Some(PartOp::Unfix),
+        "release" => Some(PartOp::Release),
+        "first" => Some(PartOp::First),
+        _ => None,
+    }
+}
+
+/// The operation of a name on an object or a key.
+pub(crate) fn keyed<'a, A: Allocator + Copy>(
+    name: &str,
+    operand: &'a Term<A>,
+) -> Option<PartOp<'a, A>>
+    ensures { IfSome result (λ op. IsAsked (act_of op)) }
+{
+    match name {
+        "insert" => Some(PartOp::Insert(Some(operand.copy().ok()?))),
+        "insert_new" => Some(PartOp::InsertNew(Some(operand.copy().ok()?))),
+        "lookup" => Some(PartOp::Lookup(operand)),
+        "member" => Some(PartOp::Member(operand)),
+        "delete" => Some(PartOp::Delete(operand)),
+        "delete_object" => Some(PartOp::DeleteObject(operand)),
+        "take" => Some(PartOp::Take(operand)),
+        "next" => Some(PartOp::Next(operand)),
+        _ => None,
+    }
+}
+
+/// The visit of a name.
+pub(crate) fn visit<'a, A: Allocator>(
+    name: &str,
+    code: &'a Verified<A>,
+    scope: Scope<'a, A>,
+    wanted: u64,
+) -> Option<PartOp<'a, A>>
+    requires { 0 < wanted }
+    ensures { IfSome result (λ op. IsAsked (act_of op)) }
+{
+    let look = Look {
+        code,
+        scope,
+        wanted,
+    };
+    match name {
+        "visit" => Some(PartOp::Visit(look)),
+        "visit_count" => Some(PartOp::VisitCount(look)),
+        "visit_delete" => Some(PartOp::VisitDelete(look)),
+        _ => None,
+    }
+}

@@ -1,0 +1,211 @@
+//! The steps of a row, one after the other.
+ghost use Rattle.std.specs.Prelude.{◌≡◌, ◌<◌};
+ghost use Rattle.part_core.specs.Acts.{IsAsked};
+ghost use Rattle.part_core.specs.Ops.{act_of};
+
+use crate::operations::{
+    bare, byte, code_of, cursor_of, keyed, name_of, named_key, visit, wanted_of,
+};
+use crate::replies::{answer_text, objects_text};
+use crate::turns::{Turn, answer, objects};
+use kit_rows::{Outcome, canonical, fields, is_atom, number};
+use part_core::{Part, PartOp, Scope};
+use std::alloc::{Allocator, Global};
+use term_core::Term;
+use verifier::Verified;
+
+/// What comes of an operation.
+fn came_of<'a, A: Allocator, P: Part<A>>(
+    alloc: Global,
+    part: &mut P,
+    turn: Turn,
+    mut op: PartOp<'a, A>,
+) -> Option<Vec<u8>>
+    requires session { turn.session < (P.settings part.old).sessions }
+    requires asked { IsAsked (act_of op) }
+    ensures { P.settings part.new ≡ P.settings part.old }
+{
+    let answer = answer(part, turn, &mut op);
+    answer_text(alloc, &answer)
+}
+
+/// What comes of a visit by code, in a scope.
+fn visited_in<'a, A: Allocator, P: Part<A>>(
+    alloc: Global,
+    part: &mut P,
+    turn: Turn,
+    name: &str,
+    code: &'a Verified<A>,
+    scope: Scope<'a, A>,
+    wanted: u64,
+) -> Option<Vec<u8>>
+    requires session { turn.session < (P.settings part.old).sessions }
+    requires wanted { 0 < wanted }
+    ensures { P.settings part.new ≡ P.settings part.old }
+{
+    came_of(alloc, part, turn, visit(name, code, scope, wanted)?)
+}
+
+/// What comes of a visit that a term says: its name, a specification, a place and the number of answers that is wanted.
+fn visited<A: Allocator + Copy, P: Part<A>>(
+    alloc: Global,
+    heap: A,
+    part: &mut P,
+    turn: Turn,
+    op: &[Term<A>],
+) -> Option<Vec<u8>>
+    requires { turn.session < (P.settings part.old).sessions }
+    ensures { P.settings part.new ≡ P.settings part.old }
+{
+    let [tag, specification, place, wanted] = op else {
+        return None;
+    };
+    let name = name_of(tag)?;
+    let code = code_of(heap, specification)?;
+    let wanted = wanted_of(wanted)?;
+    if is_atom(place, "begin") {
+        return visited_in(alloc, part, turn, name, &code, Scope::Begin, wanted);
+    }
+    if let Some(key) = named_key(place) {
+        return visited_in(alloc, part, turn, name, &code, Scope::Named(key), wanted);
+    }
+    let cursor = cursor_of(place)?;
+    visited_in(
+        alloc,
+        part,
+        turn,
+        name,
+        &code,
+        Scope::After(&cursor),
+        wanted,
+    )
+}
+
+/// The objects of a part, as a text.
+fn all_objects<A: Allocator + Copy, P: Part<A>>(
+    alloc: Global,
+    heap: A,
+    part: &P,
+    turn: Turn,
+) -> Option<Vec<u8>> {
+    let objects = objects(heap, part, turn).ok()?;
+    objects_text(alloc, objects.as_slice())
+}
+
+/// What comes of the operation that a term says.
+fn came<A: Allocator + Copy, P: Part<A>>(
+    alloc: Global,
+    heap: A,
+    part: &mut P,
+    turn: Turn,
+    op: &Term<A>,
+) -> Option<Vec<u8>>
+    requires { turn.session < (P.settings part.old).sessions }
+    ensures { P.settings part.new ≡ P.settings part.old }
+{
+    if is_atom(op, "objects") {
+        return all_objects(alloc, heap, part, turn);
+    }
+    match fields(op) {
+        None => came_of(alloc, part, turn, bare(name_of(op)?)?),
+        Some([tag, operand]) => {
+            let op = keyed(name_of(tag)?, operand)?;
+            came_of(alloc, part, turn, op)
+        }
+        Some(op) => visited(alloc, heap, part, turn, op),
+    }
+}
+
+/// Where a row is: who may ask, and whether a request for memory may be refused.
+#[derive(Clone, Copy)]
+pub struct Setting {
+    /// How many sessions use the part, numbered from 0.
+    pub sessions: u8,
+    /// Whether a request for memory may be refused.
+    pub is_scarce: bool,
+}
+
+/// A step with the reply that came.
+fn step_once<A: Allocator + Copy, P: Part<A>>(
+    alloc: Global,
+    heap: A,
+    part: &mut P,
+    setting: Setting,
+    step: &Term<A>,
+) -> Option<Vec<u8>>
+    requires { (P.settings part.old).sessions ≡ setting.sessions }
+    ensures { P.settings part.new ≡ P.settings part.old }
+{
+    let [session, op, _reply] = fields(step)? else {
+        return None;
+    };
+    let session = byte(session)?;
+    if setting.sessions <= session {
+        return None;
+    }
+    let turn = Turn {
+        session,
+        is_scarce: setting.is_scarce,
+    };
+    let reply = came(alloc, heap, part, turn, op)?;
+    let out = Outcome::tuple(alloc).number(usize::from(session)).term(op);
+    out.text(reply.as_slice()).end()
+}
+
+/// So many times a step, with the reply that came, up to the first that isn't what is wanted.
+fn step_often<A: Allocator + Copy, P: Part<A>>(
+    alloc: Global,
+    heap: A,
+    part: &mut P,
+    setting: Setting,
+    count: u32,
+    step: &Term<A>,
+) -> Option<Vec<u8>>
+    requires { (P.settings part.old).sessions ≡ setting.sessions }
+    ensures { P.settings part.new ≡ P.settings part.old }
+{
+    let wanted = canonical(alloc, step)?;
+    for done in 0..count {
+        let came = step_once(alloc, heap, part, setting, step)?;
+        if came.as_slice() != wanted.as_slice() {
+            let out = Outcome::tuple(alloc).number(done as usize);
+            return out.text(came.as_slice()).end();
+        }
+    }
+    let out = Outcome::tuple(alloc).number(count as usize);
+    out.text(wanted.as_slice()).end()
+}
+
+/// A step, or `{Count,Step}` for so many times the same, with the reply that came.
+fn step_text<A: Allocator + Copy, P: Part<A>>(
+    alloc: Global,
+    heap: A,
+    part: &mut P,
+    setting: Setting,
+    step: &Term<A>,
+) -> Option<Vec<u8>>
+    requires { (P.settings part.old).sessions ≡ setting.sessions }
+    ensures { P.settings part.new ≡ P.settings part.old }
+{
+    match fields(step)? {
+        [count, step] => step_often(alloc, heap, part, setting, number(count)?, step),
+        _ => step_once(alloc, heap, part, setting, step),
+    }
+}
+
+/// The steps of a row, each with the reply that came.
+pub fn steps_text<A: Allocator + Copy, P: Part<A>>(
+    alloc: Global,
+    heap: A,
+    part: &mut P,
+    setting: Setting,
+    steps: &[Term<A>],
+) -> Option<Vec<u8>>
+    requires { (P.settings part.old).sessions ≡ setting.sessions }
+{
+    let mut out = Outcome::list(alloc);
+    for step in steps {
+        out = out.text(step_text(alloc, heap, part, setting, step)?.as_slice());
+    }
+    out.end()
+}

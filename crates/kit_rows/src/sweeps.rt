@@ -1,0 +1,54 @@
+//! Calls with each request for memory refused in turn.
+use crate::outcome::word;
+use crate::texts::text;
+use kit_alloc::{Failing, sweep};
+use std::alloc::{Allocator, Global};
+use term_core::Term;
+
+/// Calls on a text that a program knows.
+pub trait Calls {
+    /// The most requests for memory that one call makes.
+    const MOST_REQUESTS: u64;
+
+    /// What comes of the call of a name on a text, with memory from `heap`: a text. None where the call wants memory
+    /// and leaves all as it was.
+    fn outcome<A: Allocator + Copy>(
+        alloc: Global,
+        heap: A,
+        call: &str,
+        given: &[u8],
+    ) -> Option<Vec<u8>>;
+}
+
+/// Whether the same comes of a call or memory is wanted, whichever request is refused.
+fn is_swept<C: Calls>(alloc: Global, call: &str, given: &[u8], wanted: &[u8]) -> bool {
+    sweep(alloc, C::MOST_REQUESTS, |heap: &Failing<Global>| {
+        match C::outcome(alloc, heap, call, given) {
+            Some(out) => out.as_slice() == wanted,
+            None => heap.was_refused(),
+        }
+    })
+    .is_complete()
+}
+
+/// What comes of a call, with memory and with each request refused in turn.
+pub fn swept<C: Calls>(alloc: Global, call: &str, given: &[u8]) -> Option<Vec<u8>> {
+    let out = C::outcome(alloc, alloc, call, given)?;
+    if is_swept::<C>(alloc, call, given, out.as_slice()) {
+        Some(out)
+    } else {
+        word(alloc, "another_without_memory")
+    }
+}
+
+/// What comes of a row of a text and of what is wanted, whose kind is `swept_` and what is called.
+pub fn swept_row<C: Calls>(alloc: Global, kind: &str, parts: &[Term]) -> Option<Vec<u8>> {
+    let [given, _] = parts else {
+        return None;
+    };
+    if kind.starts_with("swept_") {
+        swept::<C>(alloc, kind, text(alloc, given)?.as_slice())
+    } else {
+        None
+    }
+}

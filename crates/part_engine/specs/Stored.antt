@@ -1,0 +1,29 @@
+-- What it means that a part with such rows is in a state, and what an operation leads to.
+use Rattle.std.specs.Prelude.{ℕ, ◌≡◌, Option, Some, None}
+use Rattle.part_core.specs.declared.settings.Settings.{Settings}
+use Rattle.part_core.specs.Acts.{Act, Answer, History}
+use Rattle.part_core.specs.Replies.{reply_of}
+use Rattle.part_core.specs.After.{after}
+use Rattle.part_core.specs.States.{IsState}
+use Rattle.part_core.specs.Legal.{state_after, IsLegal}
+use Rattle.part_engine.specs.Shown.{Shown, state_of}
+use Rattle.part_engine.specs.declared.stored.StoredPart.{StoredPart}
+
+-- a part is in a state after a history, which is legal
+pub record IsAfter {R A : Type 0} (shows : Settings → R → Shown → Type 0) (p : StoredPart R A) (log : History) : Type 0 where
+  pub shown : Shown
+  pub there : shows p.settings p.rows shown
+  pub state : state_after p.settings log ≡ state_of shown p.fixes.items p.base
+  pub legal : IsLegal p.settings log
+
+-- A part in such a state is in the state after an operation, and what is answered is that of the state before it; for
+-- want of memory nothing is answered, and the state is as before.
+abbrev pub Leads : {R A : Type 0} → (Settings → R → Shown → Type 0) → StoredPart R A → ℕ → Act → Option Answer → StoredPart R A → Type 0
+Leads shows p n act None q =
+    (w : Shown) → shows p.settings p.rows w
+    → (v : Shown) × shows p.settings q.rows v × (state_of v q.fixes.items q.base ≡ state_of w p.fixes.items p.base)
+Leads shows p n act (Some answer) q =
+    (w : Shown) → shows p.settings p.rows w → IsState p.settings (state_of w p.fixes.items p.base)
+    → (answer ≡ reply_of p.settings (state_of w p.fixes.items p.base) n act)
+    × ((v : Shown) × shows p.settings q.rows v
+    × (state_of v q.fixes.items q.base ≡ after p.settings (state_of w p.fixes.items p.base) n act))

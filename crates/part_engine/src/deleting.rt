@@ -1,0 +1,211 @@
+//! Visits that delete.
+ghost use Rattle.std.specs.Prelude.{ℕ, ◌≡◌, ◌≤◌, ◌-◌, ◌++◌, [], ◌∷◌, IsTrue, IfOk, All, filter, length, min, sum_by, take};
+ghost use Rattle.std.specs.Option.{option_map};
+ghost use Rattle.part_core.specs.Acts.Act.{Visit};
+ghost use Rattle.part_core.specs.Acts.Purpose.{Deletes};
+ghost use Rattle.part_core.specs.Ops.{answer_in, cursor_of, scope_of};
+ghost use Rattle.part_core.specs.Replies.{most_counted};
+ghost use Rattle.part_core.specs.Rows.{is_fixed};
+ghost use Rattle.part_core.specs.States.{IsRow};
+ghost use Rattle.part_core.specs.Visits.{answers_of, is_true, yield_of_rows};
+ghost use Rattle.part_engine.specs.Deletions.{rows_left, shown_swept, IsChosen};
+ghost use Rattle.part_engine.specs.Looks.{is_placed, rows_until};
+ghost use Rattle.part_engine.specs.Shown.{Shown, AreSound, shown_exchanged};
+ghost use Rattle.part_engine.specs.Stored.{Leads};
+
+use crate::looking::{Reach, is_over};
+use crate::rows::Rows;
+use crate::seen::SeenRow;
+use crate::stored::StoredPart;
+use machine::Machine;
+use part_core::{Cursor, Fault, Held, Look, Reply, Settings, is_fixed};
+use std::alloc::{AllocError, Allocator};
+use std::marker::Model;
+use term_core::Term;
+use verifier::Verified;
+
+/// What is left of a key's objects.
+#[derive(Drop)]
+struct Left<A: Allocator> {
+    key: Term<A>,
+    held: Held<A>,
+}
+
+impl<A: Allocator> Model for Left<A> {
+    ghost use Rattle.std.specs.Prelude.{List};
+    ghost use Rattle.std.specs.Coded.{codes};
+    ghost use Rattle.term_core.specs.Datum.{Datum};
+    ghost use Rattle.term_core.specs.DatumCode.{datum_code};
+
+    ghost Value = { Datum × List Datum };
+
+    ghost coded = { Prim.hlevel (codes, datum_code) };
+
+    ghost view = { λ left. (left.key, left.held) };
+}
+
+/// What a visit that deletes has found.
+#[derive(Drop)]
+struct Chosen<A: Allocator> {
+    /// What is left at the keys of which objects go.
+    left: Vec<Left<A>, A>,
+    /// How many go.
+    total: u64,
+    /// Where the walk goes on.
+    next: Option<Cursor<A>>,
+}
+
+impl<A: Allocator> Left<A> {
+    ghost use Rattle.part_core.specs.declared.settings.Settings.{Settings as AnySettings};
+
+    /// Writes it in the place of what is held of its key.
+    fn write<R: Rows<A>>(self, settings: Settings, rows: &mut R, keeps: bool)
+        ensures { (w : Shown) → R.shows settings rows.old w → AreSound settings w
+            → R.shows settings rows.new (shown_exchanged self.0 self.1 keeps w) }
+    {
+        let mut held = self.held;
+        rows.exchange(settings, &self.key, &mut held, keeps);
+    }
+}
+
+/// Puts what is left of a row behind others where objects of it answer true, and counts these.
+fn sort_out<'r, A: Allocator + Copy>(
+    machine: &mut Machine<'r, '_, A>,
+    row: &SeenRow<'r, A>,
+    left: &mut Vec<Left<A>, A>,
+) -> Result<u64, AllocError>
+    ensures code { machine.new.code ≡ machine.old.code }
+    ensures left { IfOk result (λ count. left.new.items ≡ left.old.items ++ rows_left machine.old.code (row.now ∷ [])) }
+    ensures count { IfOk result (λ count. count ≡ length (filter (is_true machine.old.code) row.now.1)) }
+{
+    let Some(object) = row.held().object() else {
+        return Ok(0);
+    };
+    let (holds, _executed) = machine.run_true(object)?;
+    if !holds {
+        return Ok(0);
+    }
+    let key = row.key().copy()?;
+    left.push(Left {
+        key,
+        held: Held::none(),
+    })?;
+    Ok(1)
+}
+
+/// Sorts rows out, and adds to a total how many objects go, until there are as many as are wanted where it stops there.
+fn sort_until<'r, A: Allocator + Copy>(
+    machine: &mut Machine<'r, '_, A>,
+    rows: &[SeenRow<'r, A>],
+    stops: bool,
+    wanted: u64,
+    left: &mut Vec<Left<A>, A>,
+    total: &mut u64,
+) -> Result<Reach, AllocError>
+    requires left { left.old.items ≡ [] }
+    requires total { total.old ≡ 0 }
+    ensures inside { IfOk result (λ reach. reach.rows ≤ length rows.now) }
+    ensures rows { IfOk result (λ reach. take reach.rows rows.now
+        ≡ rows_until stops (answers_of Deletes machine.old.code) wanted rows.now) }
+    ensures left { IfOk result (λ reach. reach.left
+        ≡ wanted - sum_by (answers_of Deletes machine.old.code) (take reach.rows rows.now)) }
+    ensures sorted { IfOk result (λ reach. left.new.items ≡ rows_left machine.old.code (take reach.rows rows.now)) }
+    ensures total { IfOk result (λ reach. total.new
+        ≡ min (length (yield_of_rows Deletes machine.old.code (take reach.rows rows.now))) most_counted) }
+{
+    let mut wanting = wanted;
+    for place in 0..rows.len() {
+        let count = sort_out(machine, &rows[place], left)?;
+        wanting = wanting.saturating_sub(count);
+        *total = total.saturating_add(count);
+        if is_over(stops, wanting) {
+            return Ok(Reach {
+                rows: place + 1,
+                left: wanting,
+            });
+        }
+    }
+    Ok(Reach {
+        rows: rows.len(),
+        left: wanting,
+    })
+}
+
+/// Sorts rows out by one machine.
+fn sort<'r, A: Allocator + Copy>(
+    heap: &A,
+    code: &'r Verified<A>,
+    rows: &[SeenRow<'r, A>],
+    stops: bool,
+    wanted: u64,
+    left: &mut Vec<Left<A>, A>,
+) -> Result<(u64, Reach), AllocError>
+    requires { left.old.items ≡ [] }
+    ensures inside { IfOk result (λ r. r.1.rows ≤ length rows.now) }
+    ensures rows { IfOk result (λ r. take r.1.rows rows.now
+        ≡ rows_until stops (answers_of Deletes code.now) wanted rows.now) }
+    ensures left { IfOk result (λ r. r.1.left
+        ≡ wanted - sum_by (answers_of Deletes code.now) (take r.1.rows rows.now)) }
+    ensures sorted { IfOk result (λ r. left.new.items ≡ rows_left code.now (take r.1.rows rows.now)) }
+    ensures total { IfOk result (λ r. r.0
+        ≡ min (length (yield_of_rows Deletes code.now (take r.1.rows rows.now))) most_counted) }
+{
+    let mut machine = Machine::new(heap, code)?;
+    let mut total = 0;
+    let reach = sort_until(&mut machine, rows, stops, wanted, left, &mut total);
+    machine.finish();
+    Ok((total, reach?))
+}
+
+impl<R: Rows<A> + Drop, A: Allocator + Copy> StoredPart<R, A> {
+    /// What a visit deletes, and where the walk goes on. All objects are looked at before the first goes.
+    fn choose(&self, look: &Look<'_, A>) -> Result<Chosen<A>, AllocError>
+        requires { IsTrue (is_placed self.now.settings (scope_of look.now.scope)) }
+        ensures { IfOk result (λ chosen. (w : Shown) → R.shows self.now.settings self.now.rows w → AreSound self.now.settings w
+            → IsChosen self.now.settings self.now.base look.now.code.now (scope_of look.now.scope) look.now.wanted w.rows
+            chosen.left.items chosen.total (option_map cursor_of chosen.next)) }
+    {
+        let rows = self.look(&look.scope)?;
+        let stops = self.stops(&look.scope);
+        let mut left = Vec::new(self.alloc);
+        let (total, reach) = sort(
+            &self.alloc,
+            look.code,
+            rows.as_slice(),
+            stops,
+            look.wanted,
+            &mut left,
+        )?;
+        let next = self.next_of(&look.scope, rows.as_slice(), reach)?;
+        Ok(Chosen { left, total, next })
+    }
+
+    /// Writes what is left at keys. Where nothing is left a row goes, unless some session fixes the part.
+    fn sweep(&mut self, left: Vec<Left<A>, A>)
+        ensures settings { self.new.settings ≡ self.old.settings }
+        ensures fixes { self.new.fixes.items ≡ self.old.fixes.items }
+        ensures base { self.new.base ≡ self.old.base }
+        ensures rows { (w : Shown) → R.shows self.old.settings self.old.rows w → AreSound self.old.settings w
+            → All (IsRow self.old.settings) left.items
+            → R.shows self.old.settings self.new.rows (shown_swept (is_fixed self.old.fixes.items) left.items w) }
+    {
+        let keeps = is_fixed(self.fixes.as_slice());
+        for row in left {
+            row.write(self.settings, &mut self.rows, keeps);
+        }
+    }
+
+    /// Deletes the objects that answer true, and counts them, at most 2^64 - 1.
+    pub(crate) fn visit_delete(&mut self, look: &Look<'_, A>) -> Result<Reply<A>, Fault>
+        ensures settings { self.new.settings ≡ self.old.settings }
+        ensures leads { (n : ℕ) → Leads R.shows self.old n
+            (Visit Deletes look.now.code.now (scope_of look.now.scope) look.now.wanted) (answer_in result) self.new }
+    {
+        if !self.is_inside(&look.scope) {
+            return Err(Fault::CursorOutside);
+        }
+        let Chosen { left, total, next } = self.choose(look)?;
+        self.sweep(left);
+        Ok(Reply::Counted(total, next))
+    }
+}

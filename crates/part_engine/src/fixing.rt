@@ -1,0 +1,71 @@
+//! Operations on the counts of fixes.
+ghost use Rattle.std.specs.Prelude.{ℕ, ◌≡◌, ◌<◌, Some, IfErr, if◌then◌else◌};
+ghost use Rattle.part_core.specs.Acts.Act.{Fix, Unfix, Release};
+ghost use Rattle.part_core.specs.Acts.Answer.{Replied};
+ghost use Rattle.part_core.specs.Ops.{answer_in, said_of};
+ghost use Rattle.part_core.specs.Rows.{is_fixed};
+ghost use Rattle.part_engine.specs.Shown.{Shown, shown_live};
+ghost use Rattle.part_engine.specs.Stored.{Leads};
+
+use crate::rows::Rows;
+use crate::stored::StoredPart;
+use part_core::{Fault, Reply, fixes_at, is_fixed};
+use std::alloc::Allocator;
+
+impl<R: Rows<A> + Drop, A: Allocator> StoredPart<R, A> {
+    /// Unless some session fixes the part, lets dead rows go, and takes the number of slots for the base.
+    fn settle(&mut self)
+        ensures settings { self.new.settings ≡ self.old.settings }
+        ensures fixes { self.new.fixes.items ≡ self.old.fixes.items }
+        ensures rows { (w : Shown) → R.shows self.old.settings self.old.rows w
+            → R.shows self.old.settings self.new.rows (if is_fixed self.old.fixes.items then w else shown_live w) }
+        ensures base { (w : Shown) → R.shows self.old.settings self.old.rows w
+            → self.new.base ≡ (if is_fixed self.old.fixes.items then self.old.base else w.slots) }
+    {
+        if is_fixed(self.fixes.as_slice()) {
+            return;
+        }
+        self.rows.keep_live();
+        self.base = self.rows.slots();
+    }
+
+    /// Fixes the part once more, at most 65,535 times for a session.
+    pub(crate) fn fix(&mut self, session: u8) -> Result<Reply<A>, Fault>
+        requires { session < self.old.settings.sessions }
+        ensures settings { self.new.settings ≡ self.old.settings }
+        ensures leads { Leads R.shows self.old session Fix (answer_in result) self.new }
+        ensures refused { IfErr result (λ fault. fault ≡ Fault.FixLimit) }
+    {
+        let Some(count) = fixes_at(self.fixes.as_slice(), session).checked_add(1) else {
+            return Err(Fault::FixLimit);
+        };
+        self.fixes[usize::from(session)] = count;
+        Ok(Reply::Done)
+    }
+
+    /// Releases one fix of the session.
+    pub(crate) fn unfix(&mut self, session: u8) -> Result<Reply<A>, Fault>
+        requires { session < self.old.settings.sessions }
+        ensures settings { self.new.settings ≡ self.old.settings }
+        ensures leads { Leads R.shows self.old session Unfix (answer_in result) self.new }
+        ensures refused { IfErr result (λ fault. fault ≡ Fault.NotFixed) }
+    {
+        let Some(count) = fixes_at(self.fixes.as_slice(), session).checked_sub(1) else {
+            return Err(Fault::NotFixed);
+        };
+        self.fixes[usize::from(session)] = count;
+        self.settle();
+        Ok(Reply::Done)
+    }
+
+    /// Releases all fixes of the session.
+    pub(crate) fn release(&mut self, session: u8) -> Reply<A>
+        requires { session < self.old.settings.sessions }
+        ensures settings { self.new.settings ≡ self.old.settings }
+        ensures leads { Leads R.shows self.old session Release (Some (Replied (said_of result))) self.new }
+    {
+        self.fixes[usize::from(session)] = 0;
+        self.settle();
+        Reply::Done
+    }
+}

@@ -1,0 +1,151 @@
+//! Where a visit looks, how far it comes, and where the walk goes on.
+ghost use Rattle.std.specs.Prelude.{ℕ, ◌≡◌, ◌≤◌, ◌<◌, ◌+◌, ◌-◌, ◌&&◌, ◌||◌, ◌==◌, IsTrue, IfOk, sum_by, take, length, List};
+ghost use Rattle.std.specs.Option.{option_map};
+ghost use Rattle.part_core.specs.Ops.{cursor_of, scope_of};
+ghost use Rattle.part_core.specs.Rows.{Row};
+ghost use Rattle.part_core.specs.Visits.{is_inside, most_rows, next_class, next_key};
+ghost use Rattle.part_engine.specs.Shown.{Shown, AreSound, state_of};
+ghost use Rattle.part_engine.specs.Looks.{is_placed, looked_at, next_after, stops};
+
+use crate::rows::Rows;
+use crate::seen::SeenRow;
+use crate::stored::StoredPart;
+use part_core::{Cursor, MOST_ROWS, Scope, is_base};
+use std::alloc::{AllocError, Allocator};
+
+/// How far a visit came.
+#[derive(Clone, Copy)]
+pub(crate) struct Reach {
+    /// How many rows it saw.
+    pub(crate) rows: usize,
+    /// How many answers are still wanted.
+    pub(crate) left: u64,
+}
+
+/// Whether a visit is over where so many answers are still wanted.
+pub(crate) fn is_over(stops: bool, left: u64) -> bool
+    ensures { result ≡ (stops && (left == 0)) }
+{
+    stops && left == 0
+}
+
+/// The next class.
+fn class_behind<A: Allocator>(base: u32, class: u32) -> Option<Cursor<A>>
+    requires { class < base }
+    ensures { option_map cursor_of result ≡ next_class base class }
+{
+    if class + 1 < base {
+        Some(Cursor::Class {
+            base,
+            class: class + 1,
+        })
+    } else {
+        None
+    }
+}
+
+/// Whether a visit of an ordered set stopped before its end.
+fn is_stopped(reach: Reach) -> bool
+    ensures { result ≡ ((reach.left == 0) || (reach.rows == most_rows)) }
+{
+    reach.left == 0 || reach.rows == MOST_ROWS
+}
+
+/// Behind the last row that a visit of an ordered set saw, unless there was none further.
+fn key_behind<A: Allocator + Copy>(
+    rows: &[SeenRow<'_, A>],
+    reach: Reach,
+) -> Result<Option<Cursor<A>>, AllocError>
+    requires { reach.rows ≤ length rows.now }
+    ensures { IfOk result (λ next. (answers : Row → ℕ) (wanted : ℕ)
+        → reach.left ≡ wanted - sum_by answers (take reach.rows rows.now)
+        → option_map cursor_of next ≡ next_key answers wanted (take reach.rows rows.now)) }
+{
+    if !is_stopped(reach) {
+        return Ok(None);
+    }
+    match rows[..reach.rows].last() {
+        Some(row) => Ok(Some(Cursor::Behind(row.key().copy()?))),
+        None => Ok(None),
+    }
+}
+
+impl<R: Rows<A> + Drop, A: Allocator> StoredPart<R, A> {
+    /// Whether a walk can go on there.
+    pub(crate) fn is_inside(&self, scope: &Scope<'_, A>) -> bool
+        ensures inside { (w : Shown) (fixes : List ℕ)
+            → is_inside self.now.settings (state_of w fixes self.now.base) (scope_of scope.now) ≡ result }
+        ensures placed { IsTrue result → IsTrue (is_placed self.now.settings (scope_of scope.now)) }
+    {
+        let is_ordered = self.settings.kind.is_ordered();
+        match scope {
+            Scope::Begin => true,
+            Scope::Named(_) => true,
+            Scope::After(cursor) => match cursor {
+                Cursor::Class { base, class } => {
+                    !is_ordered && is_base(*base) && *base <= self.base && *class < *base
+                }
+                Cursor::Behind(_) => is_ordered,
+            },
+        }
+    }
+
+    /// Whether a visit stops once it has the answers that are wanted.
+    pub(crate) fn stops(&self, scope: &Scope<'_, A>) -> bool
+        ensures { result ≡ stops self.now.settings (scope_of scope.now) }
+    {
+        match scope {
+            Scope::Begin => self.settings.kind.is_ordered(),
+            Scope::Named(_) => false,
+            Scope::After(cursor) => match cursor {
+                Cursor::Class { .. } => false,
+                Cursor::Behind(_) => true,
+            },
+        }
+    }
+}
+
+impl<R: Rows<A> + Drop, A: Allocator + Copy> StoredPart<R, A> {
+    /// The rows that a visit may look at.
+    pub(crate) fn look<'r>(
+        &'r self,
+        scope: &Scope<'_, A>,
+    ) -> Result<Vec<SeenRow<'r, A>, A>, AllocError>
+        requires { IsTrue (is_placed self.now.settings (scope_of scope.now)) }
+        ensures { IfOk result (λ rows. (w : Shown) → R.shows self.now.settings self.now.rows w → AreSound self.now.settings w
+            → rows.items ≡ looked_at self.now.settings self.now.base (scope_of scope.now) w.rows) }
+    {
+        let mut rows = Vec::new(self.alloc);
+        self.rows.look(self.settings, self.base, scope, &mut rows)?;
+        Ok(rows)
+    }
+
+    /// Where the walk goes on behind a visit that saw so much of these rows, none at its end.
+    pub(crate) fn next_of(
+        &self,
+        scope: &Scope<'_, A>,
+        rows: &[SeenRow<'_, A>],
+        reach: Reach,
+    ) -> Result<Option<Cursor<A>>, AllocError>
+        requires rows { reach.rows ≤ length rows.now }
+        requires placed { IsTrue (is_placed self.now.settings (scope_of scope.now)) }
+        ensures { IfOk result (λ next. (answers : Row → ℕ) (wanted : ℕ)
+            → reach.left ≡ wanted - sum_by answers (take reach.rows rows.now)
+            → option_map cursor_of next ≡ next_after self.now.settings self.now.base (scope_of scope.now) answers wanted
+            (take reach.rows rows.now)) }
+    {
+        match scope {
+            Scope::Begin => {
+                if self.settings.kind.is_ordered() {
+                    return key_behind(rows, reach);
+                }
+                Ok(class_behind(self.base, 0))
+            }
+            Scope::Named(_) => Ok(None),
+            Scope::After(cursor) => match cursor {
+                Cursor::Class { base, class } => Ok(class_behind(*base, *class)),
+                Cursor::Behind(_) => key_behind(rows, reach),
+            },
+        }
+    }
+}

@@ -1,0 +1,59 @@
+//! The order of a walk.
+ghost use Rattle.std.specs.Prelude.{ℕ, ◌≡◌, ◌||◌, IfOk};
+ghost use Rattle.std.specs.Option.{option_copied};
+ghost use Rattle.part_core.specs.Acts.Act.{First, Next};
+ghost use Rattle.part_core.specs.Ops.{answer_in};
+ghost use Rattle.part_core.specs.Rows.{has_row};
+ghost use Rattle.part_core.specs.Settings.{is_ordered};
+ghost use Rattle.part_engine.specs.Shown.{Shown, AreSound};
+ghost use Rattle.part_engine.specs.Stored.{Leads};
+
+use crate::rows::Rows;
+use crate::stored::StoredPart;
+use part_core::{Fault, Reply};
+use std::alloc::{AllocError, Allocator};
+use term_core::Term;
+
+/// A copy of a key, none where there is none.
+fn copied<A: Allocator + Copy>(key: Option<&Term<A>>) -> Result<Option<Term<A>>, AllocError>
+    ensures { IfOk result (λ copy. copy ≡ option_copied key.entry) }
+{
+    match key {
+        Some(key) => Ok(Some(key.copy()?)),
+        None => Ok(None),
+    }
+}
+
+impl<R: Rows<A> + Drop, A: Allocator> StoredPart<R, A> {
+    /// Whether a key has a place in the order of a walk: in a set where it has a row.
+    fn has_place(&self, key: &Term<A>) -> bool
+        ensures { (w : Shown) → R.shows self.now.settings self.now.rows w → AreSound self.now.settings w
+            → result ≡ (is_ordered self.now.settings.kind || has_row w.rows key.now) }
+    {
+        if self.settings.kind.is_ordered() {
+            return true;
+        }
+        self.rows.held(self.settings, key).is_some()
+    }
+}
+
+impl<R: Rows<A> + Drop, A: Allocator + Copy> StoredPart<R, A> {
+    /// The first key in the order of a walk.
+    pub(crate) fn first(&self) -> Result<Reply<A>, Fault>
+        ensures { (n : ℕ) → Leads R.shows self.now n First (answer_in result) self.now }
+    {
+        let key = copied(self.rows.first_key(self.settings, self.base))?;
+        Ok(Reply::AtKey(key))
+    }
+
+    /// The key behind one: in a set of one that has a row, dead or live.
+    pub(crate) fn next(&self, key: &Term<A>) -> Result<Reply<A>, Fault>
+        ensures { (n : ℕ) → Leads R.shows self.now n (Next key.now) (answer_in result) self.now }
+    {
+        if !self.has_place(key) {
+            return Err(Fault::BadKey);
+        }
+        let next = copied(self.rows.key_behind(self.settings, self.base, key))?;
+        Ok(Reply::AtKey(next))
+    }
+}

@@ -1,0 +1,122 @@
+//! Operations that write at one key.
+ghost use Rattle.std.specs.Prelude.{ℕ, ◌≡◌, ◌<◌, Some, None, IfErr, OnOk, OnErr, unwrap_or, if◌then◌else◌};
+ghost use Rattle.term_core.specs.Datum.Datum.{nil};
+ghost use Rattle.part_core.specs.Settings.{is_object};
+ghost use Rattle.part_core.specs.Acts.Act.{Insert, InsertNew, Delete, DeleteObject, Take};
+ghost use Rattle.part_core.specs.Acts.Answer.{Replied};
+ghost use Rattle.part_core.specs.Ops.{answer_in, said_of};
+ghost use Rattle.part_core.specs.Rows.{is_fixed};
+ghost use Rattle.part_engine.specs.Shown.{Shown};
+ghost use Rattle.part_engine.specs.Stored.{Leads};
+
+use crate::rows::Rows;
+use crate::stored::StoredPart;
+use part_core::{Fault, Held, Reply, Settings, is_fixed, key_in};
+use std::alloc::Allocator;
+use term_core::Term;
+
+/// Whether there is an object, which has an element at the key's place.
+fn is_object<A: Allocator>(settings: Settings, object: &Option<Term<A>>) -> bool
+    ensures { result ≡ is_object settings (unwrap_or object.now nil) }
+{
+    match object {
+        Some(object) => key_in(settings.keypos, object).is_some(),
+        None => false,
+    }
+}
+
+/// Lets what was held of a key go.
+fn let_go<A: Allocator>(_held: Held<A>) {}
+
+impl<R: Rows<A> + Drop, A: Allocator> StoredPart<R, A> {
+    /// The base of walks that begin: the number of slots, but the one that it was while some session fixes the part.
+    fn base_now(&self) -> u32
+        ensures base { (w : Shown) → R.shows self.now.settings self.now.rows w
+            → result ≡ (if is_fixed self.now.fixes.items then self.now.base else w.slots) }
+        ensures some { 0 < result }
+    {
+        if is_fixed(self.fixes.as_slice()) {
+            self.base
+        } else {
+            self.rows.slots()
+        }
+    }
+
+    /// Puts an object in, in the place of the one with its key.
+    pub(crate) fn insert(&mut self, object: &mut Option<Term<A>>) -> Result<Reply<A>, Fault>
+        ensures settings { self.new.settings ≡ self.old.settings }
+        ensures leads { (n : ℕ) → Leads R.shows self.old n (Insert (unwrap_or object.old nil)) (answer_in result) self.new }
+        ensures spent { OnOk result (object.new ≡ None) }
+        ensures back { OnErr result (object.new ≡ object.old) }
+    {
+        if !is_object(self.settings, object) {
+            return Err(Fault::TooSmall);
+        }
+        self.rows.put(self.settings, object, true)?;
+        self.base = self.base_now();
+        Ok(Reply::Done)
+    }
+
+    /// Puts an object in if its key has none.
+    pub(crate) fn insert_new(&mut self, object: &mut Option<Term<A>>) -> Result<Reply<A>, Fault>
+        ensures settings { self.new.settings ≡ self.old.settings }
+        ensures leads { (n : ℕ) → Leads R.shows self.old n (InsertNew (unwrap_or object.old nil)) (answer_in result) self.new }
+        ensures spent { OnOk result (object.new ≡ None) }
+        ensures back { OnErr result (object.new ≡ object.old) }
+    {
+        if !is_object(self.settings, object) {
+            return Err(Fault::TooSmall);
+        }
+        let fresh = self.rows.put(self.settings, object, false)?;
+        self.base = self.base_now();
+        Ok(Reply::Flag(fresh))
+    }
+
+    /// Deletes the objects of a key.
+    pub(crate) fn delete(&mut self, key: &Term<A>) -> Reply<A>
+        ensures settings { self.new.settings ≡ self.old.settings }
+        ensures leads { (n : ℕ) → Leads R.shows self.old n (Delete key.now) (Some (Replied (said_of result))) self.new }
+    {
+        let keeps = is_fixed(self.fixes.as_slice());
+        let mut held = Held::none();
+        self.rows.exchange(self.settings, key, &mut held, keeps);
+        let_go(held);
+        Reply::Done
+    }
+
+    /// Deletes the objects that are equal to one.
+    pub(crate) fn delete_object(&mut self, object: &Term<A>) -> Result<Reply<A>, Fault>
+        ensures settings { self.new.settings ≡ self.old.settings }
+        ensures leads { (n : ℕ) → Leads R.shows self.old n (DeleteObject object.now) (answer_in result) self.new }
+        ensures refused { IfErr result (λ fault. fault ≡ Fault.TooSmall) }
+    {
+        let Some(key) = key_in(self.settings.keypos, object) else {
+            return Err(Fault::TooSmall);
+        };
+        let keeps = is_fixed(self.fixes.as_slice());
+        let mut held = Held::none();
+        if !self.rows.exchange(self.settings, key, &mut held, true) {
+            let_go(held);
+            return Ok(Reply::Done);
+        }
+        held.remove(object);
+        self.rows.exchange(self.settings, key, &mut held, keeps);
+        let_go(held);
+        Ok(Reply::Done)
+    }
+}
+
+impl<R: Rows<A> + Drop, A: Allocator + Copy> StoredPart<R, A> {
+    /// Deletes the objects of a key and answers them.
+    pub(crate) fn take(&mut self, key: &Term<A>) -> Result<Reply<A>, Fault>
+        ensures settings { self.new.settings ≡ self.old.settings }
+        ensures leads { (n : ℕ) → Leads R.shows self.old n (Take key.now) (answer_in result) self.new }
+    {
+        let objects = self.objects_of(key)?;
+        let keeps = is_fixed(self.fixes.as_slice());
+        let mut held = Held::none();
+        self.rows.exchange(self.settings, key, &mut held, keeps);
+        let_go(held);
+        Ok(Reply::Objects(objects))
+    }
+}

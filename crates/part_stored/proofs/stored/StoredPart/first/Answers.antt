@@ -1,8 +1,0 @@
-use Rattle.std.proofs.Common.{◌∙◌}
-use Rattle.part_stored.proofs.LeadLemmas.{first_says, sound}
-use Rattle.part_stored.proofs.stored.StoredPart.first.Goals as goal
-
-pub returns : goal.returns
-returns g c = λ n w there state.
-    let s = first_says c.args.self.now.settings w c.args.self.now.fixes.items c.args.self.now.base n c.in_ok-key.key state (c.in_ok-key.ensures ∙ c.first_key.ensures w there (sound c.args.self.now.settings w c.args.self.now.fixes.items c.args.self.now.base state)) in
-    (s.0, (w, there, s.1))

@@ -1,9 +1,0 @@
-use mir.Syntax.{Dict}
-use denote.RattleType.{RattleType}
-use denote.Param.Send.{Frees}
-use Rattle.std.specs.declared.alloc.Allocator.{Ghosts}
-use Rattle.test_alloc.specs.contracts.failing.FailingAllocator.TheImpl.{ghosts}
-
--- a block goes back in whichever thread the inner allocator takes it
-pub frees : (B : RattleType) (g : Ghosts B.Denot) (d e : Dict) → Frees g g.dealloc_token → Frees (ghosts B g d e) (ghosts B g d e).dealloc_token
-frees B g d e f = record { frees = λ heap. f.frees heap.inner }

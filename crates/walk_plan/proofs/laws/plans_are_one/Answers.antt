@@ -1,5 +1,0 @@
-use Rattle.walk_plan.proofs.PlanLemmas.{one_plan}
-use Rattle.walk_plan.proofs.laws.plans_are_one.Goals as goal
-
-pub returns : goal.returns
-returns c = λ keypos ordered spec a b first second. one_plan keypos ordered spec a b first second

@@ -1,0 +1,50 @@
+-- The keys that heads name, one after the other.
+use Rattle.std.proofs.Common.{◌≡◌, ℕ, zero, suc, ◌-◌, ◌<◌, ◌≤◌, Option, Some, None, Bor, List, [], ◌∷◌, length, get_or, refl, sym, ap, subst, arith}
+use Rattle.std.specs.Prelude.{MatchOption}
+use Rattle.std.specs.List.{All, HoldsAt}
+use Rattle.std.proofs.lemmas.List.Elements.{All-get_or}
+use Rattle.mspec_syntax.specs.Pattern.{Pattern, patterns_of, cells_of, own_term}
+use Rattle.mspec_syntax.specs.Sound.{IsSoundPattern, AreSoundPatterns, IsSoundClause}
+use Rattle.mspec_syntax.specs.Specification.{Clause}
+use Rattle.walk_query.specs.Named.{spelled_at, key_among, key_named}
+
+-- an element that is there, and one that isn't
+abbrev pub IsFound : Option (Bor Pattern) → List Pattern → ℕ → Type 0
+IsFound o ps n = MatchOption o (length ps ≤ n) (λ x. (n < length ps) × HoldsAt (λ y. x.now ≡ y) ps n)
+
+spelled-here : (x : Bor Pattern) (ps : List Pattern) (n : ℕ) → IsFound (Some x) ps n → own_term x.now ≡ spelled_at (patterns_of ps) n
+spelled-here x [] n found = absurd (omega (arith, found.0))
+spelled-here x (p ∷ ps) zero found = ap own_term (found.1 p)
+spelled-here x (p ∷ ps) (suc n) found = spelled-here x ps n (omega (arith, found.0), found.1)
+
+spelled-past : (ps : List Pattern) (n : ℕ) → length ps ≤ n → None ≡ spelled_at (patterns_of ps) n
+spelled-past [] n past = refl
+spelled-past (p ∷ ps) zero past = absurd (omega arith)
+spelled-past (p ∷ ps) (suc n) past = spelled-past ps n (omega arith)
+
+pub sound-here : (x : Bor Pattern) (ps : List Pattern) (n : ℕ) → IsFound (Some x) ps n → AreSoundPatterns (patterns_of ps) → IsSoundPattern x.now
+sound-here x [] n found s = absurd (omega (arith, found.0))
+sound-here x (p ∷ ps) zero found s = subst IsSoundPattern (sym (found.1 p)) s.0
+sound-here x (p ∷ ps) (suc n) found s = sound-here x ps n (omega (arith, found.0), found.1) s.1
+
+-- the key is the element with one less before it than its number
+pub key-here : (x : Bor Pattern) (ps : List Pattern) (keypos n : ℕ) → n ≡ keypos - 1 → (keypos ≡ 0 → ⊥) → IsFound (Some x) ps n → own_term x.now ≡ key_among keypos (patterns_of ps)
+key-here x ps zero n is some found = absurd (some refl)
+key-here x ps (suc m) n is some found =
+    let same : n ≡ m = omega (arith, is) in
+    spelled-here x ps m (subst (IsFound (Some x) ps) same found)
+
+pub key-past : (ps : List Pattern) (keypos n : ℕ) → n ≡ keypos - 1 → (keypos ≡ 0 → ⊥) → length ps ≤ n → None ≡ key_among keypos (patterns_of ps)
+key-past ps zero n is some past = absurd (some refl)
+key-past ps (suc m) n is some past = spelled-past ps m (omega (arith, is, past))
+
+-- a list names no key
+pub no-key : (ps : List Pattern) (t p : Pattern) (keypos : ℕ) → cells_of ps t ≡ p → 0 < length ps → None ≡ key_named keypos p
+no-key [] t p keypos is some = absurd (omega arith)
+no-key (x ∷ ps) t p keypos is some = ap (key_named keypos) is
+
+-- the head of a clause is sound
+pub sound-head : (cs : List Clause) (i : ℕ) (c : Clause) (p : Pattern) → i < length cs → c ≡ get_or cs i c → p ≡ c.head → All IsSoundClause cs → IsSoundPattern p
+sound-head cs i c p h is same all =
+    let sound : IsSoundClause c = subst IsSoundClause (sym is) (All-get_or IsSoundClause cs i c h all) in
+    subst IsSoundPattern (sym same) sound.head

@@ -1,0 +1,102 @@
+//! The keys that heads name.
+ghost use Rattle.std.specs.Prelude.{◌≡◌, [], IfOk, OnOk, option_map};
+ghost use Rattle.std.specs.List.{All, list_any};
+ghost use Rattle.mspec_syntax.specs.Pattern.{patterns_of};
+ghost use Rattle.mspec_syntax.specs.Sound.{IsSoundClause, IsSoundPattern, AreSoundPatterns};
+ghost use Rattle.term_operand.specs.Order.{is_same};
+ghost use Rattle.walk_query.specs.Named.{key_among, key_named, with_key, named_from, named_by};
+
+use crate::spelled::spelled;
+use mspec_syntax::{Clause, Pattern, PatternKind, Spec};
+use std::alloc::{AllocError, Allocator};
+use term_core::Term;
+
+/// The key among the elements of a head, if one stands at this position, which is counted from 1.
+fn key_among<A: Allocator + Copy>(
+    alloc: A,
+    elements: &[Pattern<A>],
+    keypos: u16,
+) -> Result<Option<Term<A>>, AllocError>
+    requires { AreSoundPatterns (patterns_of elements.now) }
+    ensures { IfOk result (λ key. key ≡ key_among keypos (patterns_of elements.now)) }
+{
+    if keypos == 0 {
+        return Ok(None);
+    }
+    match elements.get(usize::from(keypos) - 1) {
+        Some(element) => spelled(alloc, element),
+        None => Ok(None),
+    }
+}
+
+/// The key that a head names, if it names one.
+fn key_named<A: Allocator + Copy>(
+    alloc: A,
+    head: &Pattern<A>,
+    keypos: u16,
+) -> Result<Option<Term<A>>, AllocError>
+    requires { IsSoundPattern head.now }
+    ensures { IfOk result (λ key. key ≡ key_named keypos head.now) }
+{
+    match head.kind() {
+        PatternKind::Anything => Ok(None),
+        PatternKind::Variable(_) => Ok(None),
+        PatternKind::Literal(_) => Ok(None),
+        PatternKind::Tuple(elements) => key_among(alloc, elements.as_slice(), keypos),
+        PatternKind::List(_, _) => Ok(None),
+        PatternKind::Map(_) => Ok(None),
+    }
+}
+
+/// Whether the key is one of these.
+fn is_among<A: Allocator>(keys: &[Term<A>], key: &Term<A>) -> bool
+    ensures { result ≡ list_any (is_same key.now) keys.now }
+{
+    keys.iter().any(|other| key.cmp(other).is_eq())
+}
+
+/// Puts a key behind the others, unless it is one of them.
+fn put_key<A: Allocator>(keys: &mut Vec<Term<A>, A>, key: Term<A>) -> Result<(), AllocError>
+    ensures { OnOk result (keys.new.items ≡ with_key keys.old.items key) }
+{
+    if is_among(keys.as_slice(), &key) {
+        return Ok(());
+    }
+    match keys.push(key) {
+        Ok(()) => Ok(()),
+        Err(_) => Err(AllocError),
+    }
+}
+
+/// The keys that the heads of clauses name, if each names one.
+fn keys_of<A: Allocator + Copy>(
+    alloc: A,
+    clauses: &[Clause<A>],
+    keypos: u16,
+) -> Result<Option<Vec<Term<A>, A>>, AllocError>
+    requires { All IsSoundClause clauses.now }
+    ensures { IfOk result (λ keys. option_map (λ found. found.items) keys
+        ≡ named_from keypos [] clauses.now) }
+{
+    let mut keys = Vec::new(alloc);
+    for clause in clauses {
+        let Some(key) = key_named(alloc, clause.head(), keypos)? else {
+            return Ok(None);
+        };
+        put_key(&mut keys, key)?;
+    }
+    Ok(Some(keys))
+}
+
+/// The keys that a specification names at this position, which is counted from 1: each once, in the order in which they
+/// are first named. None where a head names none. An `Err` is want of memory.
+pub fn named_keys<A: Allocator + Copy>(
+    alloc: A,
+    specification: &Spec<A>,
+    keypos: u16,
+) -> Result<Option<Vec<Term<A>, A>>, AllocError>
+    ensures { IfOk result (λ keys. option_map (λ found. found.items) keys
+        ≡ named_by keypos specification.now) }
+{
+    keys_of(alloc, specification.clauses(), keypos)
+}

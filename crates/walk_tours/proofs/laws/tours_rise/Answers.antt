@@ -1,5 +1,0 @@
-use Rattle.walk_tours.proofs.TourLemmas.{toured}
-use Rattle.walk_tours.proofs.laws.tours_rise.Goals as goal
-
-pub returns : goal.returns
-returns c = λ h t tour steady ordered. (toured h t tour steady).0.rising ordered
