@@ -1,6 +1,6 @@
 //! The rows of a set, found by their keys in the same time however many there are.
 //!
-//! The one contract: `HashRows` keeps the trait `Rows` of `part_engine`, for sets alone. Its rows lie in a slab; an
+//! The one contract: `HashRows` keeps the trait `Rows` of `part_rows`, for sets alone. Its rows lie in a slab; an
 //! index finds the key of the slab at a row's key, and each slot lists the places of its rows in the order in which
 //! they were made. `Stands` of `specs/Standing.antt` says what these have to do with the list of rows that is shown.
 //!

@@ -1,6 +1,6 @@
 //! The rows of a part for ordered sets, which stand in a tree by their keys.
 //!
-//! The one contract: `OrderRows` keeps the trait `Rows` of `part_engine`, for ordered sets alone. What it shows is the
+//! The one contract: `OrderRows` keeps the trait `Rows` of `part_rows`, for ordered sets alone. What it shows is the
 //! entries of its tree, the rows by rising key, in 8 slots (`IsShown` of `specs/Served.antt`).
 //!
 //! - `rows`: the type, which counts its dead rows, so that they are looked for only where there are some.

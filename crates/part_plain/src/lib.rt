@@ -1,6 +1,6 @@
 //! The rows of a set in one list.
 //!
-//! The one contract: `PlainRows` keeps the trait `Rows` of `part_engine`, for sets alone. What the rows show is their
+//! The one contract: `PlainRows` keeps the trait `Rows` of `part_rows`, for sets alone. What the rows show is their
 //! list and the number that is kept as that of their slots, with a count of the dead among them (`IsShown` of
 //! `specs/Served.antt`). That no key has two rows isn't kept: it is a premise of `Rows`.
 //!

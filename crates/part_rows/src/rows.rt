@@ -11,8 +11,8 @@ ghost use Rattle.part_core.specs.Rows.{has_row, is_empty, objects_at};
 ghost use Rattle.part_core.specs.Visits.{rows_behind, walk_order};
 ghost use Rattle.part_core.specs.Replies.{first_live, rows_past};
 ghost use Rattle.part_core.specs.Ops.{scope_of};
-ghost use Rattle.part_engine.specs.Shown.{Shown, AreSound, no_rows, shown_with, shown_exchanged, shown_live};
-ghost use Rattle.part_engine.specs.Looks.{is_placed, looked_at};
+ghost use Rattle.part_rows.specs.Shown.{Shown, AreSound, no_rows, shown_with, shown_exchanged, shown_live};
+ghost use Rattle.part_rows.specs.Looks.{is_placed, looked_at};
 
 use crate::seen::SeenRow;
 use part_core::{Held, Scope, Settings, TableKind};
