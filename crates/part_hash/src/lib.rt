@@ -12,12 +12,14 @@
 //!   exchanged, and rows that go; `dead`: how many dead rows come and go with these.
 //! - `walking`: the next live row of a class, by any base, with no memory (`specs/Classes.antt`); `looking`,
 //!   `gathering`: the rows of a class, which by another base than the number of slots are sorted from several slots.
+//! - `laws`: parts may be sent to other threads (`proofs/SendLemmas.antt`).
 #![tactic(auto)]
 
 mod adding;
 mod dead;
 mod gathering;
 mod index;
+mod laws;
 mod looking;
 mod places;
 mod putting;
@@ -27,6 +29,7 @@ mod rows;
 mod store;
 mod walking;
 
+pub use laws::hash_parts_may_be_sent;
 use part_engine::StoredPart;
 pub use rows::HashRows;
 

@@ -6,12 +6,15 @@
 //! - `rows`: the type, which counts its dead rows, so that they are looked for only where there are some.
 //! - `tree`: what is done with the row of a key in the tree.
 //! - `looking`: what a visit looks at, and the order of a walk.
+//! - `laws`: parts may be sent to other threads (`proofs/SendLemmas.antt`).
 #![tactic(auto)]
 
+mod laws;
 mod looking;
 mod rows;
 mod tree;
 
+pub use laws::order_parts_may_be_sent;
 use part_engine::StoredPart;
 pub use rows::OrderRows;
 
