@@ -1,6 +1,6 @@
 use Rattle.std.proofs.Common.{ap, subst, sym, ◌∙◌}
 use Rattle.std.proofs.lemmas.Result.{IfOk-weaker}
-use Rattle.tables.specs.declared.session.Session.{Session}
+use Rattle.gate.specs.declared.session.Session.{Session}
 use Rattle.tables.specs.declared.table.Table.{Table}
 use Rattle.tables.specs.Turns.{Home}
 use Rattle.walk_sessions.specs.Answered.{IsAnsweredBy}

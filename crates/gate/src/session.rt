@@ -1,13 +1,14 @@
-//! A session of a table whose parts have gates.
+//! A session: its passes through the gates of a table.
 ghost use Rattle.std.specs.Prelude.{ℕ, ◌≡◌, ◌≢◌, ◌<◌, ◌⊎◌, ◌++◌, None, Some, IsTrue, IfErr, IfOk, OnOk, [], ◌∷◌, slice_get};
 ghost use Rattle.part_core.specs.Acts.{IsAsked};
 ghost use Rattle.part_core.specs.Legal.{fix_count};
 ghost use Rattle.part_core.specs.Ops.{act_of, answer_in, object_in, takes_no_memory};
 ghost use Rattle.gate.specs.Views.{Ticket, GoesOn};
-ghost use Rattle.tables.specs.SessionFacts.{all_legal_prop};
-ghost use Rattle.tables.specs.Sessions.{AllLegal, IsTurnAt};
+ghost use Rattle.gate.specs.SessionFacts.{all_legal_prop};
+ghost use Rattle.gate.specs.Sessions.{AllLegal, IsTurnAt};
 
-use gate::{Gate, Pass};
+use crate::gate::Gate;
+use crate::pass::Pass;
 use part_core::{Fault, Part, PartOp, Reply};
 use std::alloc::{AllocError, Allocator, Global};
 use std::sync::Wait;
@@ -24,7 +25,7 @@ pub struct Session<P, A: Allocator = Global> {
 
 impl<P: Part<A> + Drop, A: Allocator> Session<P, A> {
     /// Does an operation at a part.
-    pub(crate) fn turn<'a, R: Wait>(
+    pub fn turn<'a, R: Wait>(
         &mut self,
         rt: &R,
         gate: &Gate<P, A>,
@@ -44,7 +45,7 @@ impl<P: Part<A> + Drop, A: Allocator> Session<P, A> {
     }
 
     /// Compares with another session what they have seen of a part.
-    pub(crate) fn meet_at(&mut self, other: &mut Session<P, A>, gate: &Gate<P, A>, part: u8)
+    pub fn meet_at(&mut self, other: &mut Session<P, A>, gate: &Gate<P, A>, part: u8)
         requires made { (pass : Ticket) × (slice_get self.old.passes.items part ≡ Some pass) × (pass.gate ≡ gate.now) }
         requires other_made { (pass : Ticket) × (slice_get other.old.passes.items part ≡ Some pass) × (pass.gate ≡ gate.now) }
         ensures same { (self.new.number ≡ self.old.number) × (self.new.passes.items ≡ self.old.passes.items) }
@@ -59,7 +60,7 @@ impl<P: Part<A> + Drop, A: Allocator> Session<P, A> {
     }
 
     /// Gives the session its pass at the next part, which has seen nothing.
-    pub(crate) fn give(&mut self, pass: Pass<P>) -> Result<(), AllocError>
+    pub fn give(&mut self, pass: Pass<P>) -> Result<(), AllocError>
         requires { pass.log ≡ [] }
         ensures number { self.new.number ≡ self.old.number }
         ensures given { IfOk result (λ _. self.new.passes.items ≡ self.old.passes.items ++ pass ∷ []) }
