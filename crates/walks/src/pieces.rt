@@ -4,20 +4,22 @@ ghost use Rattle.part_core.specs.Acts.Purpose.{Answers};
 ghost use Rattle.tables.specs.Turns.{Views, Follows};
 ghost use Rattle.walk_core.specs.Goes.{way, up_to, Goes, Stops};
 ghost use Rattle.walk_core.specs.Walk.{IsPosition};
-ghost use Rattle.walks.specs.Query.{IsWithin, kept_of, position_of, walk_of};
+ghost use Rattle.walk_core.specs.Positions.{position_of};
+ghost use Rattle.walks.specs.Query.{IsWithin, kept_of, walk_of};
 ghost use Rattle.walks.specs.Pieces.{IsOwn, IsPiece, IsWalkOf, IsStepOf, Steps, Begins, Continues, Keeps};
 ghost use Rattle.walks.specs.Visits.{StopsAnywhere};
 
 use crate::continuation::{Continuation, Step};
 use crate::fault::WalkFault;
 use crate::kept::Kept;
-use crate::position::{Position, named_count, start};
+use crate::position::{named_count, start};
 use crate::visit::visit_up_to;
 use part_core::Fault;
 use std::alloc::Allocator;
 use std::sync::Wait;
 use tables::Turns;
 use term_core::{Refused, Term};
+use walk_core::Position;
 use walk_query::Query;
 
 /// What a refused visit comes to: a walk that can't go on where it is was begun at another table.

@@ -9,17 +9,19 @@ ghost use Rattle.tables.specs.Turns.{Turned, Views, Follows};
 ghost use Rattle.walk_core.specs.Goes.{way, up_to, Visits, Goes, Stops};
 ghost use Rattle.walk_core.specs.Walk.{IsPosition, part_at, scope_at};
 ghost use Rattle.walk_core.specs.Walk.Position.{Over};
-ghost use Rattle.walks.specs.Query.{IsWithin, kept_of, position_of, walk_of};
+ghost use Rattle.walk_core.specs.Positions.{position_of};
+ghost use Rattle.walks.specs.Query.{IsWithin, kept_of, walk_of};
 ghost use Rattle.walks.specs.Visits.{is_found};
 
 use crate::kept::Kept;
-use crate::position::{Position, move_on, next_visit};
+use crate::position::{move_on, next_visit};
 use part_core::{Cursor, Fault, Look, PartOp, Reply, Scope};
 use std::alloc::Allocator;
 use std::sync::Wait;
 use tables::{Turns, turn_at};
 use term_core::Term;
 use verifier::Verified;
+use walk_core::Position;
 use walk_query::Query;
 
 /// What a visit found, and where the walk goes on.

@@ -6,12 +6,13 @@ ghost use Rattle.tables.specs.Turns.{Follows};
 ghost use Rattle.walk_core.specs.Goes.{way, up_to, whole, Stops};
 ghost use Rattle.walk_core.specs.Walk.{Position, start_of};
 ghost use Rattle.walk_core.specs.Walk.Position.{Over};
-ghost use Rattle.walks.specs.Counting.{purpose_of, StopsAtCount, FinishesCount, GivesUpCount};
+ghost use Rattle.walk_core.specs.Counting.{purpose_of};
+ghost use Rattle.walks.specs.Counting.{StopsAtCount, FinishesCount, GivesUpCount};
 ghost use Rattle.walks.specs.Query.{walk_of};
 ghost use Rattle.walks.specs.Visits.{StopsAnywhere};
 ghost use Rattle.walks.specs.Whole.{Finishes, GivesUp};
 
-use crate::counting::{Counting, count_on};
+use crate::counting::count_on;
 use crate::fault::WalkFault;
 use crate::kept::Kept;
 use crate::own::{fix_own, release_own};
@@ -21,6 +22,7 @@ use std::alloc::{AllocError, Allocator};
 use std::sync::Wait;
 use tables::Turns;
 use term_core::{Refused, Term};
+use walk_core::Counting;
 use walk_query::Query;
 
 /// All answers of a walk.
