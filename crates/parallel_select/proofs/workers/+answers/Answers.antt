@@ -2,7 +2,8 @@ use Rattle.std.proofs.Common.{◌≡◌, ◌<◌, ◌+◌, length, arith, rules}
 use Rattle.std.specs.Prelude.{map, vec_items}
 use denote.Param.Send.{sendable}
 use Rattle.std.proofs.CrossingOver.{crosses}
-use Rattle.parallel_select.proofs.QuerySent.{plan_sync, term_send}
+use Rattle.parallel_list.proofs.Sent.{term_send}
+use Rattle.parallel_select.proofs.QuerySent.{plan_sync}
 use Rattle.parallel_select.proofs.WorkersLemmas.{one_long, ones_answer_at, ones_broken_at}
 use Rattle.parallel_select.proofs.workers.+answers.Goals as goal
 

@@ -3,10 +3,9 @@ use Rattle.std.proofs.Common.{vec_items}
 use Rattle.std.proofs.CrossingOver.{crosses}
 use Rattle.mcode.specs.Answer.{answer_of}
 use Rattle.rayon.proofs.ListFacts.{IfOk-then}
-use Rattle.parallel_select.proofs.RunLemmas.{joined}
-use Rattle.parallel_select.proofs.QuerySent.{term_send}
-use Rattle.parallel_select.proofs.Sent.{term_sync, verified_sync}
-use Rattle.parallel_select.proofs.list.answer_runs.Goals as goal
+use Rattle.parallel_list.proofs.RunLemmas.{joined}
+use Rattle.parallel_list.proofs.Sent.{term_send, term_sync, verified_sync}
+use Rattle.parallel_list.proofs.list.answer_runs.Goals as goal
 
 pub map_runs-requires-send-F : goal.map_runs-requires-send-F
 map_runs-requires-send-F g c κs within = search (sendable, crosses, verified_sync) depth 30

@@ -3,8 +3,8 @@ use Rattle.std.specs.List.{AllZip, flat_map}
 use Rattle.rayon.specs.Lists.{chunks_of, chunks_slice, chunks_size, min_len_base}
 use Rattle.rayon.proofs.ListFacts.{IfOk-then}
 use Rattle.rayon.proofs.ToStd.{chunks_of-concat}
-use Rattle.parallel_select.proofs.RunLemmas.{collected}
-use Rattle.parallel_select.proofs.list.map_runs.Goals as goal
+use Rattle.parallel_list.proofs.RunLemmas.{collected}
+use Rattle.parallel_list.proofs.list.map_runs.Goals as goal
 
 pub returns : goal.returns
 returns g c =

@@ -1,6 +1,6 @@
 use Rattle.std.proofs.Common.{◌≡◌, ◌≤◌, length, map, take, vec_len, vec_capacity}
 use Rattle.mcode.specs.Answer.{answer_of}
-use Rattle.parallel_select.proofs.runs.answer_each.Given as goal
+use Rattle.parallel_list.proofs.runs.answer_each.Given as goal
 
 abbrev pub invariant-loop-place : goal.invariant-loop-place
 invariant-loop-place g l =

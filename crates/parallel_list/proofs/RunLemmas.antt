@@ -3,7 +3,7 @@ use Rattle.std.proofs.Common.{◌≡◌, List, [], ◌∷◌, ◌++◌, Bor, map
 use Rattle.std.specs.List.{AllZip, flat_map}
 use Rattle.std.specs.Prelude.{MatchResult}
 use Rattle.std.proofs.lemmas.List.{map-append}
-use Rattle.parallel_select.specs.Runs.{AreOfRuns}
+use Rattle.parallel_list.specs.Runs.{AreOfRuns}
 
 module _ {X Y V : Type 0} (values : V → List Y) (f : X → Y) where
   all_joined : (runs : List (Bor (List X))) (vs : List V) → AllZip (λ (run : Bor (List X)) v. values v ≡ map f run.now) runs vs

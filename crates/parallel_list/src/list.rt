@@ -2,7 +2,7 @@
 ghost use Rattle.std.specs.Prelude.{◌≡◌, ◌<◌, IfOk, Ok, map, vec_items};
 ghost use Rattle.std.specs.List.{flat_map};
 ghost use Rattle.mcode.specs.Answer.{answer_of};
-ghost use Rattle.parallel_select.specs.Runs.{AreOfRuns};
+ghost use Rattle.parallel_list.specs.Runs.{AreOfRuns};
 
 use crate::runs::answer_run;
 use rayon::current_num_threads;
