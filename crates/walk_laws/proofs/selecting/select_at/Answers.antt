@@ -3,9 +3,9 @@ use Rattle.std.proofs.lemmas.Result.{IfOk-weaker}
 use Rattle.gate.specs.declared.session.Session.{Session}
 use Rattle.tables.specs.declared.table.Table.{Table}
 use Rattle.tables.specs.Turns.{Home}
-use Rattle.walk_sessions.specs.Answered.{IsAnsweredBy}
-use Rattle.walk_sessions.proofs.AnsweredLemmas.{finishes_answered}
-use Rattle.walk_sessions.proofs.selecting.select_at.Goals as goal
+use Rattle.walk_laws.specs.Answered.{IsAnsweredBy}
+use Rattle.walk_laws.proofs.AnsweredLemmas.{finishes_answered}
+use Rattle.walk_laws.proofs.selecting.select_at.Goals as goal
 
 -- The session that is handed back is the one that the walk had: both stand in the same place.
 pub returns-clause-answered : goal.returns-clause-answered

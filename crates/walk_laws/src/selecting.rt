@@ -1,7 +1,7 @@
 //! A walk of a session at a table whose parts have gates.
 ghost use Rattle.std.specs.Prelude.{IfOk};
 ghost use Rattle.tables.specs.Sessions.{IsOpened};
-ghost use Rattle.walk_sessions.specs.Answered.{IsAnsweredBy};
+ghost use Rattle.walk_laws.specs.Answered.{IsAnsweredBy};
 
 use part_core::Part;
 use std::alloc::{AllocError, Allocator};

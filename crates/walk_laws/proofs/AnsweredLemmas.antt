@@ -11,7 +11,7 @@ use Rattle.walk_core.specs.Goes.{up_to}
 use Rattle.walk_query.specs.declared.query.Query.{Query}
 use Rattle.walks.specs.Query.{walk_of}
 use Rattle.walks.specs.Whole.{Finishes}
-use Rattle.walk_sessions.specs.Answered.{IsAnsweredBy}
+use Rattle.walk_laws.specs.Answered.{IsAnsweredBy}
 
 pub finishes_answered : {A : Type 0} (o : Options) (gates : List GateId) (number table : ℕ) (q : Query A) (before after : List Ticket)
     (answers : List Datum)
