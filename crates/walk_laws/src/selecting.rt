@@ -26,6 +26,6 @@ pub fn select_at<R: Wait, A: Allocator + Copy, P: Part<A> + Drop>(
 {
     let mut session = session;
     let mut at = table.at(rt, &mut session);
-    let answers = select(rt, alloc, &mut at, query);
+    let answers = select(alloc, &mut at, query);
     (session, answers)
 }

@@ -19,7 +19,6 @@ ghost use Rattle.walks.specs.Visits.{is_counted};
 use crate::position::{move_on, next_visit};
 use part_core::{Cursor, Fault, Reply, Scope};
 use std::alloc::Allocator;
-use std::sync::Wait;
 use tables::{Turns, turn_at};
 use verifier::Verified;
 use walk_core::{Counting, Position, count_op};
@@ -99,8 +98,7 @@ fn capped_sum(total: u64, count: u64) -> u64
 }
 
 /// Makes visits from where a walk is to its end, and adds up what they count.
-pub(crate) fn count_on<R: Wait, A: Allocator, T: Turns<A>>(
-    rt: &R,
+pub(crate) fn count_on<A: Allocator, T: Turns<A>>(
     turns: &mut T,
     query: &Query<A>,
     counting: Counting,
@@ -121,12 +119,12 @@ pub(crate) fn count_on<R: Wait, A: Allocator, T: Turns<A>>(
     ensures foreign { IfErr result (λ fault. fault ≢ Fault.Memory → (v : Views) → T.sees turns.old v
         → IsPosition (walk_of (T.home turns.old) (purpose_of counting) query.now) v (position_of at.old) → ⊥) }
 {
-    for _visit in rt.forever() {
+    for _visit in 0..u64::MAX {
         if at.is_over() {
             return Ok(());
         }
         let count = count_next(turns, query, counting, at)?;
         *total = capped_sum(*total, count);
     }
-    unreachable!()
+    Err(Fault::Memory)
 }
