@@ -6,6 +6,7 @@
 //!
 //! - What stands in a row: `parts`, names, numbers and lists; `texts`, a text, in pieces that may be repeated, and the
 //!   term that it says; `functions`, a function by its name; `sizes`, how deep and how long a term is.
+//! - `putting`: terms put behind others, for rows that are made.
 //! - `rows`: the rows of a text, judged by what a program says comes of each; `tally`: how many there were of each
 //!   kind; `outcome`: what came, as a text that is put together.
 //! - Rows of refused memory: `sweeps`, calls on a text with each request refused in turn; `without`, with each refused
@@ -15,6 +16,7 @@
 mod functions;
 mod outcome;
 mod parts;
+mod putting;
 mod rows;
 mod sizes;
 mod sweeps;
@@ -27,6 +29,7 @@ pub use outcome::{
     Outcome, canonical, digits, listed, numbered, refused, tagged, truth_name, word, written,
 };
 pub use parts::{elements, fields, is_atom, name, number, short};
+pub use putting::{put, put_copy, put_pair};
 pub use rows::{Kinds, judge_streams};
 pub use sizes::{length, size_of};
 pub use sweeps::{Calls, swept, swept_row};

@@ -19,10 +19,14 @@ pub trait Kinds {
     fn came(&self, alloc: Global, kind: &str, parts: &[Term], forms: usize) -> Option<Vec<u8>>;
 
     /// In how many forms the operands of a row of a kind are tried.
-    fn forms(kind: &str) -> usize;
+    fn forms(_kind: &str) -> usize {
+        1
+    }
 
     /// Whether a row of a kind wants a text in pieces, and not the canonical text of its last element.
-    fn wants_text(kind: &str) -> bool;
+    fn wants_text(_kind: &str) -> bool {
+        false
+    }
 }
 
 /// What comes of all rows.
