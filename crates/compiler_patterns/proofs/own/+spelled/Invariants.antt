@@ -2,7 +2,7 @@
 use Rattle.std.proofs.Common.{◌≡◌, ◌+◌, ◌*◌, ◌++◌, Some, map, drop}
 use Rattle.mspec_syntax.specs.Pattern.{own_term, pattern_size, patterns_size, patterns_of}
 use Rattle.mspec_syntax.specs.PatternView.{tail_pattern}
-use Rattle.walk_query.proofs.spelled.+spelled.Given as goal
+use Rattle.compiler_patterns.proofs.own.+spelled.Given as goal
 
 abbrev pub decreases-spelled : goal.decreases-spelled
 decreases-spelled g l = 3 * pattern_size l.pattern.now + 1

@@ -6,8 +6,8 @@ use Rattle.mspec_syntax.specs.PatternView.{tail_pattern}
 use Rattle.mspec_syntax.specs.Sound.{IsSoundPattern}
 use Rattle.mspec_syntax.proofs.SizeLemmas.{patterns_size-at, pattern_size-some, patterns_size-some, cells-size}
 use Rattle.compiler_patterns.proofs.SpelledLemmas.{sound-at, sound-cells, terms-more, back}
-use Rattle.walk_query.proofs.SpelledLemmas.{tuple-found, list-found, none-spelled, no-tuple, no-list, no-tail}
-use Rattle.walk_query.proofs.spelled.+spelled.Goals as goal
+use Rattle.compiler_patterns.proofs.FoundLemmas.{tuple-found, list-found, none-spelled, no-tuple, no-list, no-tail}
+use Rattle.compiler_patterns.proofs.own.+spelled.Goals as goal
 
 pub spelled-spelled_tuple-requires : goal.spelled-spelled_tuple-requires
 spelled-spelled_tuple-requires g t c κs within =

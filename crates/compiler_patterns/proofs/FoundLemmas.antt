@@ -1,4 +1,4 @@
--- The terms that patterns spell, or that they spell none.
+-- The term that a pattern spells, where it spells one.
 use Rattle.std.proofs.Common.{◌≡◌, ℕ, ◌<◌, Option, Some, None, List, map, length, get_or, refl, sym, ◌∙◌, ap}
 use Rattle.std.specs.Prelude.{Bool, true, false, ◌&&◌}
 use Rattle.std.specs.Option.{is_some}
@@ -14,6 +14,10 @@ use Rattle.compiler_patterns.proofs.SpelledLemmas.{tuple-spells, cells-spell, sp
 none-of : (o : Option Datum) → is_some o ≡ false → None ≡ o
 none-of None h = refl
 none-of (Some d) h = absurd (let q : true ≡ false = h in cc)
+
+pub no-none : (o : Option Datum) → is_some o ≡ true → None ≡ o → ⊥
+no-none None h none = absurd (let q : false ≡ true = h in cc)
+no-none (Some d) h none = absurd (cc)
 
 by_test : (b : Bool) (P : Type 0) → (b ≡ true → P) → (b ≡ false → P) → P
 by_test true P f g = f refl
