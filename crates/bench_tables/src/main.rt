@@ -24,7 +24,6 @@ use part_order::OrderPart;
 use std::alloc::Global;
 use std::io::{Read, Write};
 use std::process::ExitCode;
-use std::sync::Wait;
 use tables::Options;
 use term_core::Term;
 use term_text::read_terms;
@@ -95,29 +94,23 @@ fn task_of(arguments: &[String]) -> Option<Task<'_>> {
 
 /// Writes the lines of a task at tables of a kind of part. There are none where there is no such task or it can't be
 /// done.
-fn write_at<H: Wait, P: Part<Global> + Drop>(
+fn write_at<P: Part<Global> + Drop>(
     rt: &HostRuntime,
-    handle: &H,
     task: Task<'_>,
     load: Load<'_>,
     lines: &mut String,
 ) -> Option<()> {
     match task.word {
-        "times" => times::write::<H, P>(rt, handle, task.options, load, lines),
-        "hold" => times::hold::<H, P>(rt, handle, task.options, task.tables, load),
-        "longest" => times::write_longest::<H, P>(rt, handle, task.options, load, lines),
-        "found" => times::write_found::<H, P>(rt, handle, task.options, load, lines),
+        "times" => times::write::<P>(rt, task.options, load, lines),
+        "hold" => times::hold::<P>(rt, task.options, task.tables, load),
+        "longest" => times::write_longest::<P>(rt, task.options, load, lines),
+        "found" => times::write_found::<P>(rt, task.options, load, lines),
         _ => None,
     }
 }
 
 /// Writes the lines of a task with the objects of standard input.
-fn write_task<H: Wait>(
-    rt: &HostRuntime,
-    handle: &H,
-    task: Task<'_>,
-    lines: &mut String,
-) -> Option<()> {
+fn write_task(rt: &HostRuntime, task: Task<'_>, lines: &mut String) -> Option<()> {
     let objects = input(rt)?;
     let all = query(rt.alloc(), &specification(rt.alloc(), ALL)?)?;
     let specification = specification(rt.alloc(), SOME)?;
@@ -129,26 +122,21 @@ fn write_task<H: Wait>(
         specification: &specification,
     };
     if task.options.kind.is_ordered() {
-        write_at::<H, OrderPart<Global>>(rt, handle, task, load, lines)
+        write_at::<OrderPart<Global>>(rt, task, load, lines)
     } else {
-        write_at::<H, HashPart<Global>>(rt, handle, task, load, lines)
+        write_at::<HashPart<Global>>(rt, task, load, lines)
     }
 }
 
 /// Writes the lines of what the arguments ask for. There are none where they ask for nothing.
-fn write_lines<H: Wait>(
-    rt: &HostRuntime,
-    handle: &H,
-    arguments: &[String],
-    lines: &mut String,
-) -> Option<()> {
-    write_task(rt, handle, task_of(arguments)?, lines)
+fn write_lines(rt: &HostRuntime, arguments: &[String], lines: &mut String) -> Option<()> {
+    write_task(rt, task_of(arguments)?, lines)
 }
 
 fn main(rt: HostRuntime) -> anyhow::Result<ExitCode> {
     let arguments: Vec<String> = std::env::args(&rt)?.collect(rt.alloc())?;
     let mut lines = String::new(rt.alloc());
-    match write_lines(&rt, &rt, arguments.as_slice(), &mut lines) {
+    match write_lines(&rt, arguments.as_slice(), &mut lines) {
         Some(()) => {
             rt.stdout().write_all(lines.as_bytes())?;
             Ok(ExitCode::SUCCESS)

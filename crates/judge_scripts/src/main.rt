@@ -16,7 +16,6 @@ use part_plain::PlainPart;
 use std::alloc::Global;
 use std::io;
 use std::process::ExitCode;
-use std::sync::Wait;
 use term_core::Term;
 use term_text::{read_terms, write_term};
 use tool_script::run_script;
@@ -44,36 +43,30 @@ fn list_of(alloc: Global, terms: &[Term]) -> Option<Vec<u8>> {
 }
 
 /// What a script is replied, with sets in such parts: the list of the replies.
-fn replies<H: Wait, S: Part<Global> + Drop>(
-    rt: &H,
-    alloc: Global,
-    commands: &[Term],
-) -> Option<Vec<u8>>
+fn replies<S: Part<Global> + Drop>(alloc: Global, commands: &[Term]) -> Option<Vec<u8>>
     requires { IsTrue (S.serves Set) }
 {
     let script = script_of(alloc, commands)?;
     let mut reader = script.as_slice();
     let mut out: Vec<u8> = Vec::new(alloc);
-    run_script::<_, S, OrderPart<Global>, _, _, _>(rt, alloc, &mut reader, &mut out).ok()?;
+    run_script::<S, OrderPart<Global>, _, _, _>(alloc, &mut reader, &mut out).ok()?;
     list_of(alloc, read_terms(alloc, out.as_slice()).ok()?.as_slice())
 }
 
 /// The kind of rows of scripts.
 #[derive(Drop)]
-struct ScriptKinds<'a, H: Wait> {
-    rt: &'a H,
-}
+struct ScriptKinds;
 
-impl<H: Wait> Kinds for ScriptKinds<'_, H> {
+impl Kinds for ScriptKinds {
     fn came(&self, alloc: Global, kind: &str, parts: &[Term], forms: usize) -> Option<Vec<u8>> {
         let ("script", [commands, _wanted]) = (kind, parts) else {
             return None;
         };
         let commands = elements(commands)?;
         if forms == 0 {
-            replies::<_, PlainPart<Global>>(self.rt, alloc, commands)
+            replies::<PlainPart<Global>>(alloc, commands)
         } else {
-            replies::<_, HashPart<Global>>(self.rt, alloc, commands)
+            replies::<HashPart<Global>>(alloc, commands)
         }
     }
 
@@ -87,10 +80,5 @@ impl<H: Wait> Kinds for ScriptKinds<'_, H> {
 }
 
 fn main(rt: HostRuntime) -> io::Result<ExitCode> {
-    judge_streams(
-        &ScriptKinds { rt: &rt },
-        rt.alloc(),
-        &mut rt.stdin(),
-        &mut rt.stdout(),
-    )
+    judge_streams(&ScriptKinds, rt.alloc(), &mut rt.stdin(), &mut rt.stdout())
 }

@@ -6,7 +6,6 @@ use part_hash::HashPart;
 use part_order::OrderPart;
 use part_plain::PlainPart;
 use std::alloc::{Allocator, Global};
-use std::sync::Wait;
 use std::test::*;
 
 /// The most requests of a play.
@@ -126,20 +125,19 @@ const ORDERED_CASES: [Case<'static>; 4] = [
 ];
 
 /// Whether what comes of a case is right, none where there is no memory for the table and the query.
-fn is_right<P: Part<A> + Drop, R: Wait, A: Allocator + Copy>(
-    rt: &R,
+fn is_right<P: Part<A> + Drop, A: Allocator + Copy>(
     alloc: Global,
     heap: A,
     case: Case<'_>,
 ) -> Option<bool> {
-    let came = played::<P, R, A>(rt, alloc, heap, case.play)?;
+    let came = played::<P, A>(alloc, heap, case.play)?;
     Some(came.as_slice() == case.wanted.as_bytes())
 }
 
 macro_rules! swept {
-    ($part:ident, $rt:expr, $alloc:expr, $case:expr) => {
+    ($part:ident, $alloc:expr, $case:expr) => {
         sweep($alloc, MOST_REQUESTS, |heap| {
-            match is_right::<$part<&Failing<Global>>, _, &Failing<Global>>($rt, $alloc, heap, $case) {
+            match is_right::<$part<&Failing<Global>>, &Failing<Global>>($alloc, heap, $case) {
                 Some(is_right) => is_right,
                 None => heap.was_refused(),
             }
@@ -152,16 +150,16 @@ fn sets_asked_again_answer_as_undisturbed(rt: HostRuntime) {
     let alloc = rt.alloc();
     for case in SET_CASES {
         assert_eq!(rt;
-            is_right::<HashPart<Global>, _, Global>(&rt, alloc, alloc, case),
+            is_right::<HashPart<Global>, Global>(alloc, alloc, case),
             Some(true),
             "{case:?}"
         );
         assert_eq!(rt;
-            is_right::<PlainPart<Global>, _, Global>(&rt, alloc, alloc, case),
+            is_right::<PlainPart<Global>, Global>(alloc, alloc, case),
             Some(true),
             "{case:?}"
         );
-        let outcome = swept!(HashPart, &rt, alloc, case);
+        let outcome = swept!(HashPart, alloc, case);
         assert!(rt; outcome.is_complete(), "{case:?} {outcome:?}");
     }
 }
@@ -171,11 +169,11 @@ fn ordered_sets_asked_again_answer_as_undisturbed(rt: HostRuntime) {
     let alloc = rt.alloc();
     for case in ORDERED_CASES {
         assert_eq!(rt;
-            is_right::<OrderPart<Global>, _, Global>(&rt, alloc, alloc, case),
+            is_right::<OrderPart<Global>, Global>(alloc, alloc, case),
             Some(true),
             "{case:?}"
         );
-        let outcome = swept!(OrderPart, &rt, alloc, case);
+        let outcome = swept!(OrderPart, alloc, case);
         assert!(rt; outcome.is_complete(), "{case:?} {outcome:?}");
     }
 }

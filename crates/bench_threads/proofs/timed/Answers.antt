@@ -1,5 +1,5 @@
 use denote.Param.Send.{sendable}
-use Rattle.part_send.proofs.SendLemmas.{hash_part_send}
+use Rattle.part_hash.proofs.SendLemmas.{hash_part_send}
 use Rattle.bench_threads.proofs.timed.Goals as goal
 
 pub round-requires-send-P : goal.round-requires-send-P
