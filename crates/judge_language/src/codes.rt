@@ -1,0 +1,199 @@
+//! Code that is given by its parts or by its specification: what is built, its budget, and what the verifier says.
+use budget::{all_forward, longest};
+use compiler::compile;
+use kit_code::{
+    Built, CodeTerms, Part, Parts, accepted, build, code_of, instruction, is_code, parts_of,
+};
+use kit_rows::{Outcome, digits, fields, function, is_atom, primitive, short, truth_name, word};
+use mcode::Code;
+use mspec_reader::read_spec;
+use prims_table::Primitive;
+use std::alloc::{Allocator, Global};
+use term_core::Term;
+use verifier::{Fault, Verified, verify};
+
+const fn part_name(part: Part) -> &'static str {
+    match part {
+        Part::Slots => "slots",
+        Part::Constant => "constant",
+        Part::Instruction => "instruction",
+        Part::Frame => "frame",
+    }
+}
+
+/// How many constants, instructions and frames code has.
+fn counts(alloc: Global, code: &Code) -> Option<Vec<u8>> {
+    let out = Outcome::tuple(alloc).number(code.constants().len());
+    out.number(code.instructions().len())
+        .number(code.frames().len())
+        .end()
+}
+
+/// The beginning of the text of a part that was refused for a fault of this number.
+fn refused_part(alloc: Global, part: Part, number: u8) -> Outcome {
+    let out = Outcome::tuple(alloc).word("refused");
+    out.word(part_name(part)).number(usize::from(number))
+}
+
+/// The text of what a builder made.
+fn built_text(alloc: Global, built: &Built<Global>) -> Option<Vec<u8>> {
+    match built {
+        Built::Whole(code) => {
+            let counts = counts(alloc, code)?;
+            Outcome::tuple(alloc)
+                .word("built")
+                .text(counts.as_slice())
+                .end()
+        }
+        Built::NoSlots(number) => refused_part(alloc, Part::Slots, *number).end(),
+        Built::Refused(part, number, code) => {
+            let counts = counts(alloc, code)?;
+            refused_part(alloc, *part, *number)
+                .text(counts.as_slice())
+                .end()
+        }
+        Built::Wrong => word(alloc, "wrong"),
+    }
+}
+
+/// What a builder makes of the parts of code.
+fn built(alloc: Global, term: &Term) -> Option<Vec<u8>> {
+    let wanted = parts_of(alloc, term)?;
+    built_text(alloc, &build(alloc, parts_of(alloc, term)?, &wanted))
+}
+
+/// The depth of the frame of code at an instruction.
+fn frame_at(alloc: Global, code: &Code, pc: u16) -> Option<Vec<u8>> {
+    match code.frame_at(pc) {
+        Some(frame) => digits(alloc, u64::from(frame.depth)),
+        None => word(alloc, "none"),
+    }
+}
+
+/// Whether the function that an instruction calls by a name is the one of that name and of so many arguments.
+fn called(alloc: Global, name: &Term, arguments: u16) -> Option<Vec<u8>> {
+    let wanted = primitive(name, usize::from(arguments))?;
+    if Primitive::Function(function(name)?) == wanted {
+        word(alloc, "same")
+    } else {
+        word(alloc, "other")
+    }
+}
+
+/// Where an instruction may jump, and whether it goes on.
+fn leads(alloc: Global, term: &Term) -> Option<Vec<u8>> {
+    let instr = instruction(alloc, term)?;
+    let out = Outcome::tuple(alloc);
+    let out = match instr.target() {
+        Some(target) => out.number(usize::from(target)),
+        None => out.word("none"),
+    };
+    out.truth(instr.goes_on()).end()
+}
+
+/// The budget of code whose jumps go forward, with memory from `heap`.
+pub(crate) fn budget<A: Allocator + Copy>(
+    alloc: Global,
+    heap: A,
+    code: &Code<A>,
+) -> Option<Vec<u8>> {
+    if all_forward(code) {
+        digits(alloc, u64::from(longest(heap, code).ok()?))
+    } else {
+        word(alloc, "not_forward")
+    }
+}
+
+/// Whether all jumps go forward.
+fn forward(alloc: Global, code: &Code) -> Option<Vec<u8>> {
+    word(alloc, truth_name(all_forward(code)))
+}
+
+/// Whether verified code has the depths of these frames.
+fn are_depths(verified: &Verified, parts: &Parts<Global>) -> bool {
+    for frame in &parts.frames {
+        if verified.code().frame_at(frame.pc).is_none() {
+            return false;
+        }
+        if verified.frame_depth(frame.pc) != frame.depth {
+            return false;
+        }
+    }
+    true
+}
+
+/// The specification of a term `{compile,Specification}`.
+fn to_compile<A: Allocator>(term: &Term<A>) -> Option<&Term<A>> {
+    match fields(term)? {
+        [word, specification] if is_atom(word, "compile") => Some(specification),
+        _ => None,
+    }
+}
+
+/// The code of the specification that a term is read as.
+fn compiled_code<A: Allocator + Copy>(heap: A, specification: &Term<A>) -> Option<Verified<A>> {
+    compile(heap, &read_spec(heap, specification).ok()?).ok()
+}
+
+/// Code that is given by its parts, or by its specification in a term `{compile,Specification}`.
+pub(crate) struct GivenCode;
+
+impl CodeTerms for GivenCode {
+    fn verified_of<A: Allocator + Copy>(heap: A, term: &Term<A>) -> Option<Verified<A>> {
+        match to_compile(term) {
+            Some(specification) => compiled_code(heap, specification),
+            None => verify(heap, code_of(heap, term)?).ok(),
+        }
+    }
+}
+
+/// The number of a fault of code, and the instruction that it names; none for want of memory.
+pub(crate) fn refused(alloc: Global, fault: Fault) -> Option<Vec<u8>> {
+    let pc = usize::from(fault.pc()?);
+    let out = Outcome::tuple(alloc).word("refused");
+    out.number(usize::from(fault.number())).number(pc).end()
+}
+
+/// What the verifier says of code, which it keeps or hands back.
+fn verdict(alloc: Global, code: Code, parts: &Parts<Global>) -> Option<Vec<u8>> {
+    match verify(alloc, code) {
+        Ok(verified) if is_code(verified.code(), parts) && are_depths(&verified, parts) => {
+            accepted(alloc, &verified)
+        }
+        Err(handed_back) if is_code(&handed_back.value, parts) => {
+            refused(alloc, handed_back.fault)
+        }
+        _ => word(alloc, "other_code"),
+    }
+}
+
+/// What the verifier says of the code that a term says.
+fn verified(alloc: Global, term: &Term) -> Option<Vec<u8>> {
+    let parts = parts_of(alloc, term)?;
+    verdict(alloc, code_of(alloc, term)?, &parts)
+}
+
+/// Whether the code of a specification has these parts, and what the verifier says of it.
+fn compiled(alloc: Global, specification: &Term, code: &Term) -> Option<Vec<u8>> {
+    let verified = compiled_code(alloc, specification)?;
+    if is_code(verified.code(), &parts_of(alloc, code)?) {
+        accepted(alloc, &verified)
+    } else {
+        word(alloc, "other_code")
+    }
+}
+
+/// What comes of a row of code.
+pub(crate) fn came(alloc: Global, kind: &str, parts: &[Term]) -> Option<Vec<u8>> {
+    match (kind, parts) {
+        ("built", [code, _]) => built(alloc, code),
+        ("frame_at", [code, pc, _]) => frame_at(alloc, &code_of(alloc, code)?, short(pc)?),
+        ("function", [name, arguments, _]) => called(alloc, name, short(arguments)?),
+        ("leads", [instr, _]) => leads(alloc, instr),
+        ("forward", [code, _]) => forward(alloc, &code_of(alloc, code)?),
+        ("budget", [code, _]) => budget(alloc, alloc, &code_of(alloc, code)?),
+        ("verify", [code, _]) => verified(alloc, code),
+        ("compiled", [specification, code, _]) => compiled(alloc, specification, code),
+        _ => None,
+    }
+}

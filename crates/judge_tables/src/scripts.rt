@@ -1,0 +1,50 @@
+//! Rows of scripts: each is run with sets in plain parts and with sets in hashed parts.
+ghost use Rattle.std.specs.Prelude.{IsTrue};
+ghost use Rattle.part_core.specs.declared.kind.TableKind.TheVariants.{Set};
+
+use kit_rows::{elements, listed};
+use part_core::Part;
+use part_hash::HashPart;
+use part_order::OrderPart;
+use part_plain::PlainPart;
+use std::alloc::Global;
+use term_core::Term;
+use term_text::{read_terms, write_term};
+use tool_script::run_script;
+
+/// With sets in plain parts, and with sets in hashed parts.
+pub(crate) const FORMS: usize = 2;
+
+/// The text of commands, each with a dot behind it.
+fn script_of(alloc: Global, commands: &[Term]) -> Option<Vec<u8>> {
+    let mut text = Vec::new(alloc);
+    for command in commands {
+        write_term(command, &mut text).ok()?;
+        text.extend_from_slice(b".\n").ok()?;
+    }
+    Some(text)
+}
+
+/// What a script is replied, with sets in such parts: the list of the replies.
+fn replies<S: Part<Global> + Drop>(alloc: Global, commands: &[Term]) -> Option<Vec<u8>>
+    requires { IsTrue (S.serves Set) }
+{
+    let script = script_of(alloc, commands)?;
+    let mut reader = script.as_slice();
+    let mut out: Vec<u8> = Vec::new(alloc);
+    run_script::<S, OrderPart<Global>, _, _, _>(alloc, &mut reader, &mut out).ok()?;
+    listed(alloc, read_terms(alloc, out.as_slice()).ok()?.as_slice())
+}
+
+/// What comes of a row of scripts in one of the forms.
+pub(crate) fn came(alloc: Global, parts: &[Term], forms: usize) -> Option<Vec<u8>> {
+    let [commands, _wanted] = parts else {
+        return None;
+    };
+    let commands = elements(commands)?;
+    if forms == 0 {
+        replies::<PlainPart<Global>>(alloc, commands)
+    } else {
+        replies::<HashPart<Global>>(alloc, commands)
+    }
+}

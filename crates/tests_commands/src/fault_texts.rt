@@ -1,0 +1,388 @@
+//! The texts of refusals, which say in words what their numbers and arguments say: of each enum of refusals each
+//! variant, in the order of `TermFault`, `TextFault`, `SpecFault`, `BuildFault`, `FileFault`, `CodeFault`, `PartFault`,
+//! `OpenFault`, `WalkFault`, `SelectFault`, `Lost` and `ToolFault`. A text stands behind its number, where there is one,
+//! and one of code that is not verified also behind that of the instruction.
+use code_file::FileFault;
+use gate::Lost;
+use mcode::Fault as BuildFault;
+use mspec_syntax::SpecFault;
+use parallel_select::SelectFault;
+use part_core::{Fault as PartFault, OpenFault};
+use std::alloc::Global;
+use std::fmt::Display;
+use std::io::Write;
+use term_core::Fault as TermFault;
+use term_text::TextFault;
+use tool_io::ToolFault;
+use verifier::Fault as CodeFault;
+use walks::WalkFault;
+
+/// Puts a line with the number and the text of a refusal at the end; false for want of memory.
+fn put<F: Display + Drop>(lines: &mut Vec<u8>, number: u8, fault: F) -> bool {
+    write!(lines, "{number} {fault}\n").is_ok()
+}
+
+/// Puts a line with the text alone of a refusal at the end; false for want of memory.
+fn put_text<F: Display + Drop>(lines: &mut Vec<u8>, fault: F) -> bool {
+    write!(lines, "{fault}\n").is_ok()
+}
+
+const OF_TERMS: &str = "\
+1 out of memory
+2 the term is too deep
+3 the term is too long
+4 a key stands twice in a map
+";
+
+/// Whether each of them is told so.
+fn are_told_of_terms(alloc: Global) -> bool {
+    let mut lines = Vec::new(alloc);
+    let mut is_whole = true;
+    for fault in [
+        TermFault::Memory,
+        TermFault::TooDeep,
+        TermFault::TooLong,
+        TermFault::DuplicateKey,
+    ] {
+        is_whole = put(&mut lines, fault.number(), fault) && is_whole;
+    }
+    is_whole && lines.as_slice() == OF_TERMS.as_bytes()
+}
+
+#[test]
+fn faults_of_terms_are_told(rt: HostRuntime) {
+    assert!(rt; are_told_of_terms(rt.alloc()));
+}
+
+const OF_TEXTS: &str = "\
+1 out of memory
+2 at byte 1: the term is too deep
+3 at byte 2: the term is too long
+4 at byte 3: the key stands twice in its map
+5 at byte 4: syntax error
+6 at byte 5: not UTF-8
+7 at byte 6: the integer is out of range
+8 at byte 7: unsupported escape
+";
+
+/// Whether each of them is told so.
+fn are_told_of_texts(alloc: Global) -> bool {
+    let mut lines = Vec::new(alloc);
+    let mut is_whole = true;
+    for fault in [
+        TextFault::Memory,
+        TextFault::TooDeep(1),
+        TextFault::TooLong(2),
+        TextFault::DuplicateKey(3),
+        TextFault::Syntax(4),
+        TextFault::BadUtf8(5),
+        TextFault::IntegerRange(6),
+        TextFault::UnsupportedEscape(7),
+    ] {
+        is_whole = put(&mut lines, fault.number(), fault) && is_whole;
+    }
+    is_whole && lines.as_slice() == OF_TEXTS.as_bytes()
+}
+
+#[test]
+fn faults_of_texts_are_told(rt: HostRuntime) {
+    assert!(rt; are_told_of_texts(rt.alloc()));
+}
+
+const OF_SPECIFICATIONS: &str = "\
+1 out of memory
+10 the specification is no proper list
+11 clause 1 is no tuple of a head, conditions and a body
+12 the head of clause 2 is no variable, '_' or tuple
+13 the conditions of clause 3 are no list of conditions
+14 the body of clause 4 is no proper list with an element
+15 clause 5 calls what is no function of so many arguments
+16 clause 6 names the variable 60, which its head does not bind
+17 clause 7 has $ and digits that are no variable's name
+18 clause 8 has a term that is no expression
+19 a key of a map in the head of clause 9 holds a variable or '_'
+20 the specification is too large
+";
+
+/// Whether each of them is told so.
+fn are_told_of_specifications(alloc: Global) -> bool {
+    let mut lines = Vec::new(alloc);
+    let mut is_whole = true;
+    for fault in [
+        SpecFault::Memory,
+        SpecFault::NotAList,
+        SpecFault::NotAClause(1),
+        SpecFault::BadHead(2),
+        SpecFault::BadConditions(3),
+        SpecFault::BadBody(4),
+        SpecFault::UnknownCall(5),
+        SpecFault::Unbound(6, 60),
+        SpecFault::BadVariableName(7),
+        SpecFault::BadExpression(8),
+        SpecFault::VariableInMapKey(9),
+        SpecFault::TooLarge,
+    ] {
+        is_whole = put(&mut lines, fault.number(), fault) && is_whole;
+    }
+    is_whole && lines.as_slice() == OF_SPECIFICATIONS.as_bytes()
+}
+
+#[test]
+fn faults_of_specifications_are_told(rt: HostRuntime) {
+    assert!(rt; are_told_of_specifications(rt.alloc()));
+}
+
+const OF_BUILDING: &str = "\
+1 out of memory
+36 the code has too many parts of a kind
+37 the frame is out of order
+";
+
+/// Whether each of them is told so.
+fn are_told_of_building(alloc: Global) -> bool {
+    let mut lines = Vec::new(alloc);
+    let mut is_whole = true;
+    for fault in [
+        BuildFault::Memory,
+        BuildFault::Limit,
+        BuildFault::FrameOrder,
+    ] {
+        is_whole = put(&mut lines, fault.number(), fault) && is_whole;
+    }
+    is_whole && lines.as_slice() == OF_BUILDING.as_bytes()
+}
+
+#[test]
+fn faults_of_building_are_told(rt: HostRuntime) {
+    assert!(rt; are_told_of_building(rt.alloc()));
+}
+
+const OF_FILES: &str = "\
+1 out of memory
+30 no code file
+31 a code file of another version
+32 at byte 1: the code file ends too early
+33 at byte 2: the byte names nothing
+34 at byte 3: not as code files are written
+35 at byte 4: the code file goes on behind its end
+36 past a limit
+";
+
+/// Whether each of them is told so.
+fn are_told_of_files(alloc: Global) -> bool {
+    let mut lines = Vec::new(alloc);
+    let mut is_whole = true;
+    for fault in [
+        FileFault::Memory,
+        FileFault::BadMagic,
+        FileFault::BadVersion,
+        FileFault::Truncated(1),
+        FileFault::BadOpcode(2),
+        FileFault::NotCanonical(3),
+        FileFault::Trailing(4),
+        FileFault::Limit,
+    ] {
+        is_whole = put(&mut lines, fault.number(), fault) && is_whole;
+    }
+    is_whole && lines.as_slice() == OF_FILES.as_bytes()
+}
+
+#[test]
+fn faults_of_files_are_told(rt: HostRuntime) {
+    assert!(rt; are_told_of_files(rt.alloc()));
+}
+
+const OF_CODE: &str = "\
+1 out of memory
+0 40 instruction 0 finds too few operands
+1 41 instruction 1 finds an operand of the wrong kind
+2 42 instruction 2 names a slot that isn't bound
+3 43 instruction 3 jumps out of the code
+4 44 instruction 4 jumps back
+5 45 the frame at or of instruction 5 doesn't hold
+6 46 the code ends after instruction 6, which goes on
+7 47 instruction 7 names a constant that isn't what it needs
+65535 48 instruction 65535 leaves a stack that is too deep
+";
+
+/// Puts the number of the instruction at the end, where there is one; false for want of memory.
+fn put_place(lines: &mut Vec<u8>, pc: Option<u16>) -> bool {
+    match pc {
+        Some(pc) => write!(lines, "{pc} ").is_ok(),
+        None => true,
+    }
+}
+
+/// Whether each of them is told so.
+fn are_told_of_code(alloc: Global) -> bool {
+    let mut lines = Vec::new(alloc);
+    let mut is_whole = true;
+    for fault in [
+        CodeFault::Memory,
+        CodeFault::Underflow(0),
+        CodeFault::Kind(1),
+        CodeFault::Unbound(2),
+        CodeFault::JumpOutside(3),
+        CodeFault::JumpBack(4),
+        CodeFault::Frame(5),
+        CodeFault::FallsOff(6),
+        CodeFault::Constant(7),
+        CodeFault::Depth(65_535),
+    ] {
+        is_whole = put_place(&mut lines, fault.pc()) && is_whole;
+        is_whole = put(&mut lines, fault.number(), fault) && is_whole;
+    }
+    is_whole && lines.as_slice() == OF_CODE.as_bytes()
+}
+
+#[test]
+fn faults_of_code_are_told(rt: HostRuntime) {
+    assert!(rt; are_told_of_code(rt.alloc()));
+}
+
+const OF_PARTS: &str = "\
+1 out of memory
+50 the object is too small
+51 the part is fixed too often
+52 the part isn't fixed by the session
+53 the key has no row
+54 the cursor isn't the part's
+";
+
+/// Whether each of them is told so.
+fn are_told_of_parts(alloc: Global) -> bool {
+    let mut lines = Vec::new(alloc);
+    let mut is_whole = true;
+    for fault in [
+        PartFault::Memory,
+        PartFault::TooSmall,
+        PartFault::FixLimit,
+        PartFault::NotFixed,
+        PartFault::BadKey,
+        PartFault::CursorOutside,
+    ] {
+        is_whole = put(&mut lines, fault.number(), fault) && is_whole;
+    }
+    is_whole && lines.as_slice() == OF_PARTS.as_bytes()
+}
+
+#[test]
+fn faults_of_parts_are_told(rt: HostRuntime) {
+    assert!(rt; are_told_of_parts(rt.alloc()));
+}
+
+const OF_OPENING: &str = "\
+1 out of memory
+60 the options don't fit
+";
+
+/// Whether each of them is told so.
+fn are_told_of_opening(alloc: Global) -> bool {
+    let mut lines = Vec::new(alloc);
+    let mut is_whole = true;
+    for fault in [OpenFault::Memory, OpenFault::BadOptions] {
+        is_whole = put(&mut lines, fault.number(), fault) && is_whole;
+    }
+    is_whole && lines.as_slice() == OF_OPENING.as_bytes()
+}
+
+#[test]
+fn faults_of_opening_are_told(rt: HostRuntime) {
+    assert!(rt; are_told_of_opening(rt.alloc()));
+}
+
+const OF_WALKS: &str = "\
+1 out of memory
+62 the walk is another's
+63 the limit is 0
+";
+
+/// Whether each of them is told so.
+fn are_told_of_walks(alloc: Global) -> bool {
+    let mut lines = Vec::new(alloc);
+    let mut is_whole = true;
+    for fault in [
+        WalkFault::Memory,
+        WalkFault::StrangerContinuation,
+        WalkFault::BadLimit,
+    ] {
+        is_whole = put(&mut lines, fault.number(), fault) && is_whole;
+    }
+    is_whole && lines.as_slice() == OF_WALKS.as_bytes()
+}
+
+#[test]
+fn faults_of_walks_are_told(rt: HostRuntime) {
+    assert!(rt; are_told_of_walks(rt.alloc()));
+}
+
+const OF_SELECTIONS: &str = "\
+1 out of memory
+60 the members aren't 1 to 16
+";
+
+/// Whether each of them is told so.
+fn are_told_of_selections(alloc: Global) -> bool {
+    let mut lines = Vec::new(alloc);
+    let mut is_whole = true;
+    for fault in [SelectFault::Memory, SelectFault::BadOptions] {
+        is_whole = put(&mut lines, fault.number(), fault) && is_whole;
+    }
+    is_whole && lines.as_slice() == OF_SELECTIONS.as_bytes()
+}
+
+#[test]
+fn faults_of_selections_are_told(rt: HostRuntime) {
+    assert!(rt; are_told_of_selections(rt.alloc()));
+}
+
+/// Whether a part that can't be had back, which has no number, is told so.
+fn is_told_of_a_lost_part(alloc: Global) -> bool {
+    let mut lines = Vec::new(alloc);
+    put_text(&mut lines, Lost) && lines.as_slice() == b"the part is lost\n".as_slice()
+}
+
+#[test]
+fn a_lost_part_is_told(rt: HostRuntime) {
+    assert!(rt; is_told_of_a_lost_part(rt.alloc()));
+}
+
+/// Without their numbers, which stand in the line of each.
+const OF_COMMANDS: &str = "\
+out of memory
+at byte 3: syntax error
+other terms than the command reads
+clause 0 names the variable 7, which its head does not bind
+at byte 9: the code file ends too early
+instruction 2 finds too few operands
+a term is no object of the table
+an option is outside its range
+the input can't be read
+the output can't be written
+";
+
+/// Whether each of them is told so.
+fn are_told_of_commands(alloc: Global) -> bool {
+    let mut lines = Vec::new(alloc);
+    let mut is_whole = true;
+    for fault in [
+        ToolFault::Memory,
+        ToolFault::Text(TextFault::Syntax(3)),
+        ToolFault::BadInput,
+        ToolFault::Specification(SpecFault::Unbound(0, 7)),
+        ToolFault::File(FileFault::Truncated(9)),
+        ToolFault::Code(CodeFault::Underflow(2)),
+        ToolFault::TooSmall,
+        ToolFault::BadOptions,
+        ToolFault::ReadFailed,
+        ToolFault::WriteFailed,
+    ] {
+        is_whole = put_text(&mut lines, fault) && is_whole;
+    }
+    is_whole && lines.as_slice() == OF_COMMANDS.as_bytes()
+}
+
+#[test]
+fn faults_of_commands_are_told(rt: HostRuntime) {
+    assert!(rt; are_told_of_commands(rt.alloc()));
+}

@@ -1,0 +1,145 @@
+//! Writers that fail, or hold all back until they are flushed.
+use kit_streams::{FILE, FailingWriter, HoldingWriter, INPUT};
+use part_hash::HashPart;
+use std::alloc::Global;
+use std::sync::Wait;
+use std::thread::Threads;
+use tool_cli::{Request, Told, run_request, run_words};
+use tool_io::ToolFault;
+use tool_query::tool_run;
+use tool_scan::ScanOptions;
+
+/// Whether a command over this input has passed these lines on by its end, of a writer that holds them back.
+fn passes_on<H: Threads + Wait + Sync>(
+    rt: &H,
+    alloc: Global,
+    request: Request,
+    input: &str,
+    lines: &str,
+) -> bool {
+    let mut reader = input.as_bytes();
+    let mut writer = HoldingWriter {
+        held: Vec::new(alloc),
+        passed: Vec::new(alloc),
+    };
+    let mut err = Told::new(Vec::new(alloc));
+    let _status = run_request::<H, HashPart<Global>, _, _, _, _>(
+        rt,
+        alloc,
+        request,
+        &mut reader,
+        &mut writer,
+        &mut err,
+    );
+    writer.passed.as_slice() == lines.as_bytes()
+}
+
+/// An input of two objects, of which one matches.
+const MATCHED: &str = "[{{'$1'},[],['$1']}]. {1}. a.";
+
+/// The file of the code of a specification without clauses.
+const EMPTY: &str = "<<69,77,83,67,0,1,0,0,0,0,0,1,25,0,0>>.\n";
+
+#[test]
+fn all_lines_are_passed_on(rt: HostRuntime) {
+    let options = ScanOptions {
+        keypos: 1,
+        parts: 2,
+        workers: 2,
+    };
+    assert!(rt; passes_on(&rt, rt.alloc(), Request::Run, MATCHED, "1.\n"));
+    assert!(rt; passes_on(&rt, rt.alloc(), Request::Test, MATCHED, "{ok,1}.\nfalse.\n"));
+    assert!(rt; passes_on(&rt, rt.alloc(), Request::Compile, "[].", EMPTY));
+    assert!(rt; passes_on(&rt, rt.alloc(), Request::Verify, FILE, "{ok,2,1}.\n"));
+    assert!(rt;
+        passes_on(
+            &rt,
+            rt.alloc(),
+            Request::Script,
+            "{close}.",
+            "{error,65}.\n"
+        )
+    );
+    assert!(rt; passes_on(&rt, rt.alloc(), Request::Scan(options), INPUT, "2.\n1.\n"));
+}
+
+fn run_writing(alloc: Global, call: u32) -> Result<(), ToolFault> {
+    let mut reader = INPUT.as_bytes();
+    let mut writer = FailingWriter { calls_left: call };
+    tool_run(alloc, &mut reader, &mut writer)
+}
+
+#[test]
+fn a_writer_that_fails_is_refused(rt: HostRuntime) {
+    for call in 1..7 {
+        assert!(rt; run_writing(rt.alloc(), call) == Err(ToolFault::WriteFailed));
+    }
+    assert!(rt; run_writing(rt.alloc(), 60) == Ok(()));
+}
+
+/// The status of `help` where standard output fails behind its beginning, and whether it writes this on standard error.
+fn left_by_unwritten_help<H: Threads + Wait + Sync>(
+    rt: &H,
+    alloc: Global,
+    told: &str,
+) -> (u8, bool) {
+    let mut reader = "".as_bytes();
+    let mut out = FailingWriter { calls_left: 3 };
+    let mut err = Told::new(Vec::new(alloc));
+    let words = ["ets_tool", "help"];
+    let status = run_words(rt, alloc, words.as_slice(), &mut reader, &mut out, &mut err);
+    (status, err.writer.as_slice() == told.as_bytes())
+}
+
+#[test]
+fn help_that_cannot_be_written_is_refused(rt: HostRuntime) {
+    assert!(rt; left_by_unwritten_help(&rt, rt.alloc(), "error E71\n") == (4, true));
+}
+
+/// The status of `run` where the first term is no specification and standard error fails, and whether it is kept that
+/// it did.
+fn left_by_an_untold_refusal<H: Threads + Wait + Sync>(rt: &H, alloc: Global) -> (u8, bool) {
+    let mut reader = "a.".as_bytes();
+    let mut out = Vec::new(alloc);
+    let mut err = Told::new(FailingWriter { calls_left: 2 });
+    let status = run_request::<H, HashPart<Global>, _, _, _, _>(
+        rt,
+        alloc,
+        Request::Run,
+        &mut reader,
+        &mut out,
+        &mut err,
+    );
+    (status, err.has_failed)
+}
+
+/// Whether the same passes this line on of a standard error that holds it back, and whether it says that it failed.
+fn passed_on_of_a_refusal<H: Threads + Wait + Sync>(
+    rt: &H,
+    alloc: Global,
+    line: &str,
+) -> (bool, bool) {
+    let mut reader = "a.".as_bytes();
+    let mut out = Vec::new(alloc);
+    let mut err = Told::new(HoldingWriter {
+        held: Vec::new(alloc),
+        passed: Vec::new(alloc),
+    });
+    let _status = run_request::<H, HashPart<Global>, _, _, _, _>(
+        rt,
+        alloc,
+        Request::Run,
+        &mut reader,
+        &mut out,
+        &mut err,
+    );
+    let has_failed = err.has_failed;
+    let writer = err.writer;
+    (writer.passed.as_slice() == line.as_bytes(), has_failed)
+}
+
+#[test]
+fn a_refusal_is_told(rt: HostRuntime) {
+    assert!(rt; left_by_an_untold_refusal(&rt, rt.alloc()) == (2, true));
+    assert!(rt; passed_on_of_a_refusal(&rt, rt.alloc(), "error E10\n") == (true, false));
+}
