@@ -9,7 +9,7 @@
 //! - `specifications`: terms that are read as specifications, and what these and their code answer.
 //! - `sweeps`: the same, and runs, with each request for memory refused in turn, and what takes no memory.
 //!
-//! What code and specifications answer is in `kit_answers`.
+//! What code and specifications answer is in `kit_code`.
 #![tactic(auto)]
 
 mod codes;
@@ -34,7 +34,7 @@ impl Kinds for CodeKinds {
         if let Some(out) = specifications::came(alloc, kind, parts) {
             return Some(out);
         }
-        if let Some(out) = kit_answers::came::<GivenCode>(alloc, kind, parts) {
+        if let Some(out) = kit_code::came::<GivenCode>(alloc, kind, parts) {
             return Some(out);
         }
         sweeps::came(alloc, kind, parts)

@@ -1,5 +1,5 @@
 //! Terms that are read as specifications, and what these and their code answer.
-use kit_answers::{agrees, answers_of, answers_of_text};
+use kit_code::{agrees, answers_of, answers_of_text};
 use kit_rows::{Outcome, canonical, elements, numbered, text, word};
 use mspec_reader::read_spec;
 use mspec_syntax::SpecFault;

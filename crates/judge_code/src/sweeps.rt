@@ -1,7 +1,7 @@
 //! Calls with each request for memory refused in turn, and calls with each refused from the first one on that they
 //! make.
 use crate::codes::{self, GivenCode};
-use kit_answers::{accepted, answers_of_text, is_loaded, run_outcome};
+use kit_code::{accepted, answers_of_text, is_loaded, run_outcome};
 use kit_code::{Built, Parts, build, code_of, is_code, parts_of};
 use kit_rows::{Calls, Loads, swept_row, term_of, without_row, word};
 use mcode::Code;

@@ -2,7 +2,7 @@
 //! constants stands for so many of one.
 use crate::frame::{frames, same_frame};
 use crate::instr::instructions;
-use kit_rows::{elements, fields, is_atom, number, short};
+use kit_rows::{elements, fields, is_atom, number, put_copy, short};
 use mcode::{Builder, Code, Fault, Frame, Instr};
 use std::alloc::Allocator;
 use term_build::copy_all;
@@ -61,10 +61,11 @@ fn repeated<A: Allocator + Copy>(
     constant: &Term<A>,
 ) -> Option<Vec<Term<A>, A>> {
     let mut out = Vec::new(heap);
+    let mut is_whole = true;
     for _ in 0..count {
-        out.push(constant.copy().ok()?).ok()?;
+        is_whole = put_copy(&mut out, constant) && is_whole;
     }
-    Some(out)
+    if is_whole { Some(out) } else { None }
 }
 
 /// The constants that a term says.

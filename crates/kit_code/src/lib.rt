@@ -1,13 +1,25 @@
-//! Code of rows of tests: the one assembler of code from terms.
+//! Code of rows of tests: the one assembler of code from terms, and what code and specifications answer.
 //!
-//! What is read from a row is generic in the allocator, so that a test may refuse memory meanwhile.
+//! A program says what terms it takes for code (`CodeTerms`). What is read from a row is generic in the allocator, so
+//! that a test may refuse memory meanwhile.
 //!
 //! - `instr`: instructions; `frame`: frames; `code`: code of its parts, given to a builder.
+//! - `codes`: the verified code of a term.
+//! - `runs`: what it answers on objects; `loads`: the same of the code of a text and an object behind it.
+//! - `meanings`: what a specification answers, and whether its code answers that.
 #![tactic(auto)]
 
 mod code;
+mod codes;
 mod frame;
 mod instr;
+mod loads;
+mod meanings;
+mod runs;
 
 pub use code::{Built, Part, Parts, build, code_of, is_code, parts_of};
+pub use codes::{CodeTerms, accepted};
 pub use instr::{instruction, instructions};
+pub use loads::{is_loaded, run_outcome};
+pub use meanings::{agrees, answers_of, answers_of_text};
+pub use runs::came;

@@ -1,1 +1,2 @@
+pub mod SentLemmas
 pub mod TableLemmas

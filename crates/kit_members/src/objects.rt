@@ -8,8 +8,8 @@ use std::sync::Wait;
 use tables::{Options, Session, Table, Turns, insert};
 use term_core::Term;
 
-/// Puts objects into a table.
-fn put_all<A: Allocator + Copy, T: Turns<A>>(turns: &mut T, objects: &[Term<A>]) -> Option<()>
+/// Puts objects into a table; none for want of memory, or for a term that is no object.
+pub fn put_all<A: Allocator + Copy, T: Turns<A>>(turns: &mut T, objects: &[Term<A>]) -> Option<()>
     requires { T.is_ready turns.old }
     ensures ready { T.is_ready turns.new }
     ensures same { T.home turns.new ≡ T.home turns.old }

@@ -6,7 +6,7 @@ ghost use Rattle.tables.specs.Options.{settings_of};
 ghost use Rattle.tables.specs.Sessions.{IsOpened};
 
 use crate::pairs::last_two;
-use kit_flags::is_raised;
+use kit_members::is_raised;
 use part_core::{Fault, OpenFault, Part, PartOp, Reply, TableKind};
 use part_plain::PlainPart;
 use std::alloc::{AllocError, Global};

@@ -1,5 +1,5 @@
 //! Members of a selection, one of which waits before its first turn until another has made one.
-use kit_flags::is_raised;
+use kit_members::is_raised;
 use part_core::{Fault, PartOp, Reply};
 use std::alloc::Allocator;
 use std::sync::atomic::{AtomicBool, Ordering};

@@ -1,5 +1,5 @@
 use denote.Param.Send.{sendable}
-use Rattle.kit_part_send.proofs.SentLemmas.{refused_part_send}
+use Rattle.kit_members.proofs.SentLemmas.{refused_part_send}
 use Rattle.tests_parallel.proofs.refusals.make_run.Goals as goal
 
 pub called_by-requires-send-P : goal.called_by-requires-send-P

@@ -1,5 +1,5 @@
 use denote.Param.Send.{sendable}
-use Rattle.kit_part_send.proofs.SentLemmas.{refused_part_send}
+use Rattle.kit_members.proofs.SentLemmas.{refused_part_send}
 use Rattle.tests_refusals.proofs.scans.is_right.Goals as goal
 
 pub tool_scan-ended-requires-send-P : goal.tool_scan-ended-requires-send-P

@@ -1,5 +1,5 @@
 use denote.Param.Send.{sendable}
-use Rattle.kit_part_send.proofs.SentLemmas.{refused_part_send}
+use Rattle.kit_members.proofs.SentLemmas.{refused_part_send}
 use Rattle.tests_refusals.proofs.requests.Case.is_right.Goals as goal
 
 pub run_request-ended-requires-send-P : goal.run_request-ended-requires-send-P

@@ -1,15 +1,12 @@
 //! Flags that tests raise on one thread and look for on another.
-//!
-//! It promises nothing but that each look ends: whether a flag was seen is shown by tests.
-#![tactic(auto)]
-
 use std::hint;
 use std::sync::atomic::{AtomicBool, Ordering};
 
 /// How often a flag is looked for.
 pub const LOOKS: u32 = 10_000_000;
 
-/// Whether a flag is up within so many looks.
+/// Whether a flag is up within so many looks. That each look ends is all that is promised: whether a flag was seen is
+/// shown by tests.
 pub fn is_raised(flag: &AtomicBool) -> bool {
     for _look in 0..LOOKS {
         if flag.load(Ordering::SeqCst) {

@@ -1,6 +1,6 @@
 //! What a specification answers, and whether its code answers that.
 use compiler::compile;
-use kit_rows::{listed, word};
+use kit_rows::{listed, put, word};
 use machine::Machine;
 use mspec_meaning::evaluate;
 use mspec_reader::read_spec;
@@ -59,6 +59,20 @@ pub fn agrees<A: Allocator + Copy>(
     agree
 }
 
+/// Puts the answer of a specification on an object behind others, where there is one; false for want of memory.
+fn put_meant<A: Allocator + Copy>(
+    heap: A,
+    spec: &Spec<A>,
+    object: &Term<A>,
+    answers: &mut Vec<Term<A>, A>,
+) -> bool {
+    match evaluate(heap, spec, object) {
+        Ok(Some(answer)) => put(answers, answer),
+        Ok(None) => true,
+        Err(_) => false,
+    }
+}
+
 /// The answers of a specification on objects, with memory from `heap`.
 fn answers<A: Allocator + Copy>(
     alloc: Global,
@@ -67,12 +81,15 @@ fn answers<A: Allocator + Copy>(
     objects: &[Term<A>],
 ) -> Option<Vec<u8>> {
     let mut answers = Vec::new(heap);
+    let mut is_whole = true;
     for object in objects {
-        if let Some(answer) = evaluate(heap, spec, object).ok()? {
-            answers.push(answer).ok()?;
-        }
+        is_whole = put_meant(heap, spec, object, &mut answers) && is_whole;
     }
-    listed(alloc, answers.as_slice())
+    if is_whole {
+        listed(alloc, answers.as_slice())
+    } else {
+        None
+    }
 }
 
 /// The answers of the specification that a term is read as, where its code has the same.
