@@ -4,7 +4,8 @@ ghost use Rattle.term_core.specs.Datum.Datum.{integer};
 ghost use Rattle.term_core.specs.MapPairs.{keys_of};
 
 use kit_rows::{
-    Calls, Outcome, canonical, length, name, refused, size_of, swept, text, word, written,
+    Calls, Outcome, canonical, length, name, put, put_pair, refused, size_of, swept, text, word,
+    written,
 };
 use std::alloc::{Allocator, Global};
 use term_build::{
@@ -16,19 +17,31 @@ use term_text::read_terms;
 /// What a call makes of terms, or the refusal with all of them.
 type Made<A> = Result<Term<A>, Refused<Vec<Term<A>, A>>>;
 
+/// Puts a pair of a key and a value behind others; false for want of memory, or of one of them.
+fn put_next<A: Allocator>(
+    pairs: &mut Vec<(Term<A>, Term<A>), A>,
+    key: Option<Term<A>>,
+    value: Option<Term<A>>,
+) -> bool {
+    match (key, value) {
+        (Some(key), Some(value)) => put_pair(pairs, key, value),
+        _ => false,
+    }
+}
+
 /// These terms by twos, `None` for want of memory.
 fn paired<A: Allocator + Copy>(
     heap: A,
     terms: Vec<Term<A>, A>,
 ) -> Option<Vec<(Term<A>, Term<A>), A>> {
     let mut pairs = Vec::new(heap);
+    let mut is_whole = true;
     let count = terms.len() / 2;
     let mut terms = terms.into_iter();
     for _ in 0..count {
-        let key = terms.next()?;
-        pairs.push((key, terms.next()?)).ok()?;
+        is_whole = put_next(&mut pairs, terms.next(), terms.next()) && is_whole;
     }
-    Some(pairs)
+    if is_whole { Some(pairs) } else { None }
 }
 
 /// The keys and values of these pairs by turns, `None` for want of memory.
@@ -37,20 +50,22 @@ fn unpaired<A: Allocator + Copy>(
     pairs: Vec<(Term<A>, Term<A>), A>,
 ) -> Option<Vec<Term<A>, A>> {
     let mut terms = Vec::new(heap);
+    let mut is_whole = true;
     for (key, value) in pairs {
-        terms.push(key).ok()?;
-        terms.push(value).ok()?;
+        is_whole = put(&mut terms, key) && is_whole;
+        is_whole = put(&mut terms, value) && is_whole;
     }
-    Some(terms)
+    if is_whole { Some(terms) } else { None }
 }
 
 /// A list's elements with its tail behind them, `None` for want of memory.
 fn with_tail<A: Allocator + Copy>(parts: ListParts<A>) -> Option<Vec<Term<A>, A>> {
     let ListParts { mut elements, tail } = parts;
-    if let Some(tail) = tail {
-        elements.push(tail).ok()?;
-    }
-    Some(elements)
+    let is_whole = match tail {
+        Some(tail) => put(&mut elements, tail),
+        None => true,
+    };
+    if is_whole { Some(elements) } else { None }
 }
 
 fn list<A: Allocator + Copy>(

@@ -4,7 +4,7 @@ use Rattle.term_core.specs.Datum.Datum.{integer}
 use Rattle.term_core.specs.MapPairs.{are_apart}
 use Rattle.term_core.specs.Order.{datum_cmp}
 use Rattle.term_build.proofs.ByKeyLemmas.{apart_from_are_apart}
-use Rattle.judge_terms.proofs.constructors.mapped.Goals as goal
+use Rattle.judge_language.proofs.constructors.mapped.Goals as goal
 
 three_apart : are_apart (integer (pos 3) ∷ integer (pos 1) ∷ integer (pos 2) ∷ []) ≡ true
 unfolding datum_cmp

@@ -1,6 +1,6 @@
 //! Operands: the term that each is, its values, a list taken apart, the limits of a rest.
 use crate::calls::operand;
-use kit_rows::{Outcome, canonical, elements, refused, size_of, text, word};
+use kit_rows::{Outcome, canonical, elements, put, put_copy, refused, size_of, text, word};
 use prims::call;
 use prims_table::{Comparison, Function, Primitive};
 use std::alloc::Global;
@@ -50,12 +50,17 @@ fn tail(alloc: Global, tails: &Term) -> Option<Option<Term>> {
 
 /// The list of one more element, of these and of one tail or none.
 fn list(alloc: Global, listed: &Term, tails: &Term) -> Option<Term> {
+    let (listed, tail) = (elements(listed)?, tail(alloc, tails)?);
     let mut terms = Vec::new(alloc);
-    terms.push(Term::int(0)).ok()?;
-    for element in elements(listed)? {
-        terms.push(element.copy().ok()?).ok()?;
+    let mut is_whole = put(&mut terms, Term::int(0));
+    for element in listed {
+        is_whole = put_copy(&mut terms, element) && is_whole;
     }
-    Term::list(alloc, terms, tail(alloc, tails)?).ok()
+    if is_whole {
+        Term::list(alloc, terms, tail).ok()
+    } else {
+        None
+    }
 }
 
 /// The term that the rest of these elements and of one tail or none is, and the terms that are equal to it.

@@ -1,8 +1,9 @@
 //! Code that is given by its parts or by its specification: what is built, its budget, and what the verifier says.
 use budget::{all_forward, longest};
 use compiler::compile;
-use kit_code::{CodeTerms, accepted};
-use kit_code::{Built, Part, Parts, build, code_of, instruction, is_code, parts_of};
+use kit_code::{
+    Built, CodeTerms, Part, Parts, accepted, build, code_of, instruction, is_code, parts_of,
+};
 use kit_rows::{Outcome, digits, fields, function, is_atom, primitive, short, truth_name, word};
 use mcode::Code;
 use mspec_reader::read_spec;

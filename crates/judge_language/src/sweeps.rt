@@ -1,8 +1,10 @@
 //! Calls with each request for memory refused in turn, and calls with each refused from the first one on that they
 //! make.
 use crate::codes::{self, GivenCode};
-use kit_code::{accepted, answers_of_text, is_loaded, run_outcome};
-use kit_code::{Built, Parts, build, code_of, is_code, parts_of};
+use kit_code::{
+    Built, Parts, accepted, answers_of_text, build, code_of, is_code, is_loaded, parts_of,
+    run_outcome,
+};
 use kit_rows::{Calls, Loads, swept_row, term_of, without_row, word};
 use mcode::Code;
 use mspec_reader::read_spec;
