@@ -2,16 +2,15 @@
 # Times `ets_tool run`, as `rt run` builds it, over inputs that are made here: objects {N,a} in growing numbers, without and
 # with a condition, a term 255 deep, a list of a million integers, a map of 65,535 pairs in falling order, specifications of up to
 # 8,000 nodes and 256 variables, and a long list that a condition looks at. Time and memory are to be linear. Then it times
-# `bench_files`: the largest code verified, with frames at a third of its instructions and at nearly all; and `bench_machine`: what
+# `bench_code`: the largest code verified, with frames at a third of its instructions and at nearly all; and what
 # compiling, running and evaluating takes of a short specification over a million pairs, of growing bodies, and of a body that is one
 # long list.
 # usage: bench/run.sh
 set -eu
 top=$(cd "$(dirname "$0")/.." && pwd)
 program=$top/crates/ets_tool/out/ets_tool
-verifier=$top/crates/bench_files/out/bench_files
-machine=$top/crates/bench_machine/out/bench_machine
-for built in "$program" "$verifier" "$machine"; do
+code=$top/crates/bench_code/out/bench_code
+for built in "$program" "$code"; do
   [ -x "$built" ] || { echo "bench/run.sh: no program at $built: build it by 'rt run </dev/null' in its crate" >&2; exit 2; }
 done
 work=$(mktemp -d)
@@ -43,7 +42,7 @@ looked_at() {
 }
 measure_verifier() {
   name=$1 word=$2
-  { command time -f '%e %M' "$verifier" "$word" > "$work/out"; } 2> "$work/time"
+  { command time -f '%e %M' "$code" files "$word" > "$work/out"; } 2> "$work/time"
   printf '%-28s %8s counted  %s s, KB at most\n' "$name" "$(cat "$work/out")" "$(tail -n 1 "$work/time")"
 }
 measure() {
@@ -62,8 +61,8 @@ for n in 10000 100000 1000000; do looked_at "$n" > "$work/in"; measure "a list o
 measure_verifier "verify, a third framed" third
 measure_verifier "verify, nearly all framed" each
 { echo "[{{'_','\$1'},[],['\$1']}]."; yes '{1,true}.' | head -n 1000000; } > "$work/in"
-"$machine" objects < "$work/in"
-for n in 665 1330 2660; do nodes "$n" > "$work/in"; echo "$((n * 3)) nodes in a body"; "$machine" objects < "$work/in"; done
+"$code" machine objects < "$work/in"
+for n in 665 1330 2660; do nodes "$n" > "$work/in"; echo "$((n * 3)) nodes in a body"; "$code" machine objects < "$work/in"; done
 { awk 'BEGIN { printf "[{{'\''$1'\''},[],[['\''$1'\''"; for (i = 1; i < 7990; i++) printf ",'\''$1'\''"; print "]]}]." }'; yes '{1}.' | head -n 10000; } > "$work/in"
 echo "a list of 7,990 elements as the body"
-"$machine" objects < "$work/in"
+"$code" machine objects < "$work/in"

@@ -1,0 +1,122 @@
+//! The calls of a session at a table that one thread uses.
+//!
+//! Standard input is objects with their keys at the first place. They are put into a table of a kind and of so many
+//! parts, put in once more, looked up, asked for, counted by a query, selected by one with two conditions, at once and
+//! in pieces of 100, and deleted. The code of that query runs on each object, too, for what a selection takes beside
+//! its runs.
+//!
+//! - `times`: the nanoseconds of a call of each kind, the median of five rounds; those of a walk are divided by the
+//!   objects.
+//! - `longest`: the nanoseconds of the longest insert.
+//! - `hold`: nothing; the objects are put into as many tables as the last argument says, which are held until the end.
+//! - `found`: what comes of each kind of call.
+use crate::calls::Load;
+use crate::reading::{query, specification};
+use crate::times;
+use part_core::{Part, TableKind};
+use part_hash::HashPart;
+use part_order::OrderPart;
+use std::alloc::Global;
+use std::sync::Wait;
+use tables::Options;
+use term_core::Term;
+
+/// The specification that is true of all objects.
+const ALL: &[u8] = b"[{'_',[],[true]}].";
+/// One with two conditions.
+const SOME: &[u8] = b"[{{'$1','$2','_'},[{'>=','$1',1},{'<','$2',900000}],['$2']}].";
+
+/// What is done at which table, and at how many.
+#[derive(Clone, Copy)]
+pub(crate) struct Task<'a> {
+    word: &'a str,
+    options: Options,
+    tables: u8,
+}
+
+/// What is found at one set of one part.
+pub(crate) const FOUND: Task<'static> = Task {
+    word: "found",
+    options: Options {
+        name: 0,
+        kind: TableKind::Set,
+        keypos: 1,
+        parts: 1,
+        sessions: 1,
+    },
+    tables: 1,
+};
+
+/// The kind of a name.
+fn kind_of(name: &str) -> Option<TableKind> {
+    match name {
+        "set" => Some(TableKind::Set),
+        "ordered_set" => Some(TableKind::OrderedSet),
+        _ => None,
+    }
+}
+
+/// What a table is opened with: one session, and keys at the first place.
+fn options_of(kind: &str, parts: &str) -> Option<Options> {
+    Some(Options {
+        name: 0,
+        kind: kind_of(kind)?,
+        keypos: 1,
+        parts: parts.parse().ok()?,
+        sessions: 1,
+    })
+}
+
+/// What these words ask for.
+pub(crate) fn task_of(words: &[String]) -> Option<Task<'_>> {
+    let [word, kind, parts, tables] = words else {
+        return None;
+    };
+    Some(Task {
+        word: word.as_str(),
+        options: options_of(kind.as_str(), parts.as_str())?,
+        tables: tables.as_str().parse().ok()?,
+    })
+}
+
+/// Writes the lines of a task at tables of a kind of part. There are none where there is no such task or it can't be
+/// done.
+fn write_at<H: Wait, P: Part<Global> + Drop>(
+    rt: &HostRuntime,
+    handle: &H,
+    task: Task<'_>,
+    load: Load<'_>,
+    lines: &mut String,
+) -> Option<()> {
+    match task.word {
+        "times" => times::write::<H, P>(rt, handle, task.options, load, lines),
+        "hold" => times::hold::<H, P>(rt, handle, task.options, task.tables, load),
+        "longest" => times::write_longest::<H, P>(rt, handle, task.options, load, lines),
+        "found" => times::write_found::<H, P>(rt, handle, task.options, load, lines),
+        _ => None,
+    }
+}
+
+/// Writes the lines of a task with these objects.
+pub(crate) fn write<H: Wait>(
+    rt: &HostRuntime,
+    handle: &H,
+    task: Task<'_>,
+    objects: &[Term],
+    lines: &mut String,
+) -> Option<()> {
+    let all = query(rt.alloc(), &specification(rt.alloc(), ALL)?)?;
+    let specification = specification(rt.alloc(), SOME)?;
+    let some = query(rt.alloc(), &specification)?;
+    let load = Load {
+        objects,
+        all: &all,
+        some: &some,
+        specification: &specification,
+    };
+    if task.options.kind.is_ordered() {
+        write_at::<H, OrderPart<Global>>(rt, handle, task, load, lines)
+    } else {
+        write_at::<H, HashPart<Global>>(rt, handle, task, load, lines)
+    }
+}
