@@ -4,7 +4,6 @@ use kit_rows::{is_atom, term_of};
 use prims::{call, call_values};
 use prims_table::{BooleanFunction, Comparison, Extreme, Function, Primitive, TupleFunction};
 use std::alloc::{Allocator, Global};
-use std::test::*;
 use term_core::Term;
 use term_operand::{Operand, Value};
 use term_text::read_terms;
@@ -26,7 +25,7 @@ fn is_first_given_of(heap: Global, text: &str) -> Option<bool> {
 
 #[test]
 fn of_equal_operands_the_first_is_given(rt: HostRuntime) {
-    assert_eq!(rt; is_first_given_of(rt.alloc(), "1."), Some(true));
+    assert!(rt; is_first_given_of(rt.alloc(), "1.") == Some(true));
 }
 
 /// Whether an operand is exactly equal to a term.
@@ -134,7 +133,7 @@ fn and_without_memory(heap: Global, count: usize) -> Option<Option<bool>> {
 
 #[test]
 fn sixteen_borrowed_values_take_no_memory(rt: HostRuntime) {
-    assert_eq!(rt; and_without_memory(rt.alloc(), 1), Some(Some(true)));
-    assert_eq!(rt; and_without_memory(rt.alloc(), 16), Some(Some(true)));
-    assert_eq!(rt; and_without_memory(rt.alloc(), 17), Some(None));
+    assert!(rt; and_without_memory(rt.alloc(), 1) == Some(Some(true)));
+    assert!(rt; and_without_memory(rt.alloc(), 16) == Some(Some(true)));
+    assert!(rt; and_without_memory(rt.alloc(), 17) == Some(None));
 }

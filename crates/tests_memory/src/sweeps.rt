@@ -1,6 +1,6 @@
 //! Calls with each request for memory refused in turn.
 use crate::{functions, text};
-use kit_alloc::sweep;
+use kit_alloc::{SweepOutcome, sweep};
 use std::alloc::{Allocator, Global};
 
 /// Calls that take memory.
@@ -28,15 +28,20 @@ fn is_right<A: Allocator + Copy>(alloc: Global, heap: A, case: Case) -> Option<b
     }
 }
 
+/// How a sweep over the requests of calls ends.
+fn swept(alloc: Global, case: Case) -> SweepOutcome {
+    sweep(alloc, 2_000, |heap| match is_right(alloc, heap, case) {
+        Some(is_right) => is_right,
+        None => heap.was_refused(),
+    })
+}
+
 #[test]
 fn each_request_is_refused_in_turn(rt: HostRuntime) {
     let alloc = rt.alloc();
     for case in CASES {
-        assert_eq!(rt; is_right(alloc, alloc, case), Some(true), "{case:?}");
-        let outcome = sweep(alloc, 2_000, |heap| match is_right(alloc, heap, case) {
-            Some(is_right) => is_right,
-            None => heap.was_refused(),
-        });
+        assert!(rt; is_right(alloc, alloc, case) == Some(true), "{case:?}");
+        let outcome = swept(alloc, case);
         assert!(rt; outcome.is_complete(), "{case:?} {outcome:?}");
     }
 }

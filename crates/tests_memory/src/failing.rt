@@ -1,0 +1,235 @@
+//! The allocator that refuses chosen requests, and sweeps over them.
+use kit_alloc::{Failing, Plan, SweepOutcome, sweep};
+use std::alloc::{AllocError, Allocator, Global};
+use std::thread::{self, Threads};
+
+/// Makes four requests, one after another, and answers which were granted.
+fn four_requests<A: Allocator + Copy>(heap: A) -> [bool; 4] {
+    [
+        Box::new(heap, 1u8).is_ok(),
+        Box::new(heap, 2u8).is_ok(),
+        Box::new(heap, 3u8).is_ok(),
+        Box::new(heap, 4u8).is_ok(),
+    ]
+}
+
+/// Code under test that makes three requests, and answers a number.
+fn sum_of_three<A: Allocator + Copy>(heap: A) -> Result<u64, AllocError> {
+    let one = Box::new(heap, 1u64)?;
+    let two = Box::new(heap, 2u64)?;
+    let three = Box::new(heap, 3u64)?;
+    Ok(one.saturating_add(*two).saturating_add(*three))
+}
+
+/// Code under test that hides that it was refused.
+fn sum_or_zero<A: Allocator + Copy>(heap: A) -> u64 {
+    match sum_of_three(heap) {
+        Ok(sum) => sum,
+        Err(AllocError) => 0,
+    }
+}
+
+fn up_to<A: Allocator>(heap: A, count: u8) -> Result<Vec<u8, A>, AllocError> {
+    let mut numbers = Vec::new(heap);
+    for number in 0..count {
+        numbers.push(number)?;
+    }
+    Ok(numbers)
+}
+
+/// How many numbers there are up to one, and the last of them.
+fn end_of<A: Allocator>(heap: A, count: u8) -> Option<(usize, u8)> {
+    let numbers = up_to(heap, count).ok()?;
+    Some((numbers.len(), *numbers.last()?))
+}
+
+/// How many of four requests were granted.
+fn granted_of(requests: [bool; 4]) -> usize {
+    let mut granted: usize = 0;
+    for is_granted in requests {
+        if is_granted {
+            granted = granted.saturating_add(1);
+        }
+    }
+    granted
+}
+
+/// Which of four requests are granted under a plan, how many were counted, whether one was refused, and the plan.
+fn granted_under(alloc: Global, plan: Plan) -> ([bool; 4], u64, bool, Plan) {
+    let heap = Failing::new(alloc, plan);
+    let granted = four_requests(&heap);
+    (granted, heap.requests(), heap.was_refused(), heap.plan())
+}
+
+#[test]
+fn refuses_what_its_plan_says(rt: HostRuntime) {
+    for (plan, granted, refused) in [
+        (Plan::Never, [true, true, true, true], false),
+        (Plan::Once(1), [false, true, true, true], true),
+        (Plan::Once(3), [true, true, false, true], true),
+        (Plan::Once(5), [true, true, true, true], false),
+        (Plan::From(1), [false, false, false, false], true),
+        (Plan::From(3), [true, true, false, false], true),
+        (Plan::From(5), [true, true, true, true], false),
+    ] {
+        let came = granted_under(rt.alloc(), plan);
+        assert!(rt; came == (granted, 4, refused, plan), "under {plan:?}");
+    }
+}
+
+/// How many numbers a vec grows to and the last of them, whether it took several requests, and whether one was refused.
+fn grown(alloc: Global) -> (Option<(usize, u8)>, bool, bool) {
+    let heap = Failing::counting(alloc);
+    let end = end_of(&heap, 100);
+    (end, heap.requests() > 1, heap.was_refused())
+}
+
+#[test]
+fn grows_a_vec_where_memory_is_ample(rt: HostRuntime) {
+    assert!(rt; grown(rt.alloc()) == (Some((100, 99)), true, false));
+}
+
+/// The number at which a vec is first refused to grow.
+fn first_refused<A: Allocator>(numbers: &mut Vec<u8, A>) -> Option<usize> {
+    for number in 0..100u8 {
+        if numbers.push(number).is_err() {
+            return Some(usize::from(number));
+        }
+    }
+    None
+}
+
+/// Whether a vec that is refused to grow keeps the numbers before, whether its allocator says that it refused, whether
+/// the growth that is asked again is granted, and how many requests there were.
+fn grown_again(alloc: Global) -> (bool, bool, bool, u64) {
+    let heap = Failing::refusing_nth(alloc, 2);
+    let mut numbers = Vec::new(&heap);
+    let refused = first_refused(&mut numbers);
+    let are_kept = refused == Some(numbers.len());
+    let was_refused = heap.was_refused();
+    let is_granted = numbers.push(7).is_ok();
+    (are_kept, was_refused, is_granted, heap.requests())
+}
+
+#[test]
+fn refuses_the_growth_of_a_vec(rt: HostRuntime) {
+    assert!(rt; grown_again(rt.alloc()) == (true, true, true, 3));
+}
+
+/// Of an allocator over another one: which of four requests it grants, how many it and the other one counted, and
+/// whether it and the other one refused one.
+type Nested = ([bool; 4], (u64, u64), (bool, bool));
+
+fn nested(inner: &Failing<Global>, outer: &Failing<&Failing<Global>>) -> Nested {
+    let granted = four_requests(outer);
+    let requests = (outer.requests(), inner.requests());
+    (
+        granted,
+        requests,
+        (outer.was_refused(), inner.was_refused()),
+    )
+}
+
+/// What comes of an allocator that refuses the second request, over one that refuses none.
+fn refused_outside(alloc: Global) -> Nested {
+    let inner = Failing::counting(alloc);
+    let outer = Failing::refusing_nth(&inner, 2);
+    nested(&inner, &outer)
+}
+
+#[test]
+fn passes_on_what_it_does_not_refuse(rt: HostRuntime) {
+    let came = refused_outside(rt.alloc());
+    assert!(rt; came == ([true, false, true, true], (4, 3), (true, false)));
+}
+
+/// What comes of an allocator that refuses no request, over one that refuses from the second on.
+fn refused_inside(alloc: Global) -> Nested {
+    let inner = Failing::refusing_from(alloc, 2);
+    let outer = Failing::counting(&inner);
+    nested(&inner, &outer)
+}
+
+#[test]
+fn tells_its_refusals_from_those_of_the_inner_allocator(rt: HostRuntime) {
+    let came = refused_inside(rt.alloc());
+    assert!(rt; came == ([true, false, false, false], (4, 4), (false, true)));
+}
+
+/// How a sweep over three requests ends, whether that is complete, and the plan of its last run.
+fn swept(alloc: Global) -> (SweepOutcome, bool, Plan) {
+    let mut last = Plan::Never;
+    let outcome = sweep(alloc, 100, |heap| {
+        last = heap.plan();
+        match sum_of_three(heap) {
+            Ok(sum) => sum == 6,
+            Err(AllocError) => heap.was_refused(),
+        }
+    });
+    (outcome, outcome.is_complete(), last)
+}
+
+#[test]
+fn sweeps_until_no_request_is_refused(rt: HostRuntime) {
+    assert!(rt; swept(rt.alloc()) == (SweepOutcome::Complete { runs: 4 }, true, Plan::Once(4)));
+}
+
+/// How a sweep over three requests ends that has at most so many runs.
+fn swept_within(alloc: Global, runs: u64) -> SweepOutcome {
+    sweep(alloc, runs, |heap: &Failing<Global>| {
+        sum_of_three(heap).is_ok() || heap.was_refused()
+    })
+}
+
+#[test]
+fn sweeps_no_further_than_told(rt: HostRuntime) {
+    for (runs, outcome) in [
+        (0, SweepOutcome::OutOfRuns),
+        (3, SweepOutcome::OutOfRuns),
+        (4, SweepOutcome::Complete { runs: 4 }),
+    ] {
+        assert!(rt; swept_within(rt.alloc(), runs) == outcome, "within {runs}");
+    }
+}
+
+/// How sweeps end over code that hides each refusal, and over code that misses the third request.
+fn misbehaved(alloc: Global) -> (SweepOutcome, SweepOutcome) {
+    let hidden = sweep(alloc, 100, |heap| sum_or_zero(heap) == 6);
+    let third = sweep(alloc, 100, |heap| four_requests(heap)[2]);
+    (hidden, third)
+}
+
+#[test]
+fn stops_at_the_first_run_that_does_not_behave_well(rt: HostRuntime) {
+    let (hidden, third) = misbehaved(rt.alloc());
+    assert!(rt; hidden == SweepOutcome::Misbehaved { request: 1 });
+    assert!(rt; third == SweepOutcome::Misbehaved { request: 3 });
+    assert!(rt; !third.is_complete() && !SweepOutcome::OutOfRuns.is_complete());
+}
+
+/// How many requests of two threads are granted by an allocator that refuses from the sixth on, how many there were,
+/// and whether one was refused.
+fn granted_to_two<R: Threads>(rt: &R, alloc: Global) -> (usize, u64, bool) {
+    let heap = Failing::refusing_from(alloc, 6);
+    let (here, there) = thread::join(rt, || four_requests(&heap), || four_requests(&heap));
+    let granted = granted_of(here).saturating_add(granted_of(there));
+    (granted, heap.requests(), heap.was_refused())
+}
+
+#[test]
+fn counts_the_requests_of_two_threads(rt: HostRuntime) {
+    assert!(rt; granted_to_two(&rt, rt.alloc()) == (5, 8, true));
+}
+
+/// How many numbers a vec has that is let go in another thread; none for want of memory.
+fn length_elsewhere<R: Threads>(rt: &R, alloc: Global) -> Option<usize> {
+    let heap = Failing::counting(alloc);
+    let numbers = up_to(&heap, 9).ok()?;
+    let (count, ()) = thread::join(rt, move || numbers.len(), || ());
+    Some(count)
+}
+
+#[test]
+fn frees_a_block_in_another_thread(rt: HostRuntime) {
+    assert!(rt; length_elsewhere(&rt, rt.alloc()) == Some(9));
+}
