@@ -1,8 +1,8 @@
 //! Queries with each request for memory refused in turn. Each answer here takes memory, so that the last request is one
 //! for the last line.
 use crate::sweeps::Written;
-use kit_alloc::{Failing, sweep};
-use std::alloc::Allocator;
+use kit_alloc::{Failing, SweepOutcome, sweep};
+use std::alloc::{Allocator, Global};
 use tool_io::ToolFault;
 use tool_query::{tool_run, tool_test};
 
@@ -30,9 +30,8 @@ fn is_right_or_out_of_memory<B: Allocator>(
     }
 }
 
-#[test]
-fn each_request_refused_in_turn(rt: HostRuntime) {
-    let alloc = rt.alloc();
+/// How a sweep over the requests of `run` ends, and how many lines it wrote with the last refused.
+fn swept_run(alloc: Global) -> (SweepOutcome, usize) {
     let mut so_far = Written { lines: 0 };
     let result = sweep(alloc, 2_000, |heap| {
         let mut reader = MADE.as_bytes();
@@ -40,13 +39,17 @@ fn each_request_refused_in_turn(rt: HostRuntime) {
         let ended = tool_run(heap, &mut reader, &mut written);
         is_right_or_out_of_memory(ended, heap, written.as_slice(), MADE_LINES, &mut so_far)
     });
-    assert!(rt; result.is_complete(), "{result:?}");
-    assert_eq!(rt; so_far.lines, 2);
+    (result, so_far.lines)
 }
 
 #[test]
-fn each_request_of_a_test_refused_in_turn(rt: HostRuntime) {
-    let alloc = rt.alloc();
+fn each_request_refused_in_turn(rt: HostRuntime) {
+    let (result, lines) = swept_run(rt.alloc());
+    assert!(rt; result.is_complete() && lines == 2, "{result:?} {lines}");
+}
+
+/// The same of `test`.
+fn swept_test(alloc: Global) -> (SweepOutcome, usize) {
     let input =
         "[{{'$1'},[{is_list,'$1'}],[{{{hd,'$1'},['$$'|'$_'],#{k=>'$1'}}}]}]. {1}. {[2]}. {[3]}.";
     let lines = "false.\n{ok,{2,[[[2]]|{[2]}],#{k=>[2]}}}.\n{ok,{3,[[[3]]|{[3]}],#{k=>[3]}}}.\n";
@@ -57,6 +60,11 @@ fn each_request_of_a_test_refused_in_turn(rt: HostRuntime) {
         let ended = tool_test(heap, &mut reader, &mut written);
         is_right_or_out_of_memory(ended, heap, written.as_slice(), lines, &mut so_far)
     });
-    assert!(rt; result.is_complete(), "{result:?}");
-    assert_eq!(rt; so_far.lines, 2);
+    (result, so_far.lines)
+}
+
+#[test]
+fn each_request_of_a_test_refused_in_turn(rt: HostRuntime) {
+    let (result, lines) = swept_test(rt.alloc());
+    assert!(rt; result.is_complete() && lines == 2, "{result:?} {lines}");
 }

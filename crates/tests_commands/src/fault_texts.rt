@@ -1,10 +1,12 @@
 //! The texts of refusals, which say in words what their numbers and arguments say: of each enum of refusals each
 //! variant, in the order of `TermFault`, `TextFault`, `SpecFault`, `BuildFault`, `FileFault`, `CodeFault`, `PartFault`,
-//! `OpenFault` and `ToolFault`. A text stands behind its number, and one of code that is not verified also behind that
-//! of the instruction.
+//! `OpenFault`, `WalkFault`, `SelectFault`, `Lost` and `ToolFault`. A text stands behind its number, where there is one,
+//! and one of code that is not verified also behind that of the instruction.
 use code_file::FileFault;
+use gate::Lost;
 use mcode::Fault as BuildFault;
 use mspec_syntax::SpecFault;
+use parallel_select::SelectFault;
 use part_core::{Fault as PartFault, OpenFault};
 use std::alloc::Global;
 use std::fmt::Display;
@@ -13,10 +15,16 @@ use term_core::Fault as TermFault;
 use term_text::TextFault;
 use tool_io::ToolFault;
 use verifier::Fault as CodeFault;
+use walks::WalkFault;
 
-/// Puts a line with the number and the text of a refusal at the end.
-fn put<F: Display + Drop>(lines: &mut Vec<u8>, number: u8, fault: F) -> Option<()> {
-    write!(lines, "{number} {fault}\n").ok()
+/// Puts a line with the number and the text of a refusal at the end; false for want of memory.
+fn put<F: Display + Drop>(lines: &mut Vec<u8>, number: u8, fault: F) -> bool {
+    write!(lines, "{number} {fault}\n").is_ok()
+}
+
+/// Puts a line with the text alone of a refusal at the end; false for want of memory.
+fn put_text<F: Display + Drop>(lines: &mut Vec<u8>, fault: F) -> bool {
+    write!(lines, "{fault}\n").is_ok()
 }
 
 const OF_TERMS: &str = "\
@@ -26,23 +34,24 @@ const OF_TERMS: &str = "\
 4 a key stands twice in a map
 ";
 
-fn texts_of_terms(alloc: Global) -> Option<Vec<u8>> {
+/// Whether each of them is told so.
+fn are_told_of_terms(alloc: Global) -> bool {
     let mut lines = Vec::new(alloc);
+    let mut is_whole = true;
     for fault in [
         TermFault::Memory,
         TermFault::TooDeep,
         TermFault::TooLong,
         TermFault::DuplicateKey,
     ] {
-        put(&mut lines, fault.number(), fault)?;
+        is_whole = put(&mut lines, fault.number(), fault) && is_whole;
     }
-    Some(lines)
+    is_whole && lines.as_slice() == OF_TERMS.as_bytes()
 }
 
 #[test]
 fn faults_of_terms_are_told(rt: HostRuntime) {
-    let texts = texts_of_terms(rt.alloc());
-    assert!(rt; texts.is_some_and(|lines| lines.as_slice() == OF_TERMS.as_bytes()));
+    assert!(rt; are_told_of_terms(rt.alloc()));
 }
 
 const OF_TEXTS: &str = "\
@@ -56,8 +65,10 @@ const OF_TEXTS: &str = "\
 8 at byte 7: unsupported escape
 ";
 
-fn texts_of_texts(alloc: Global) -> Option<Vec<u8>> {
+/// Whether each of them is told so.
+fn are_told_of_texts(alloc: Global) -> bool {
     let mut lines = Vec::new(alloc);
+    let mut is_whole = true;
     for fault in [
         TextFault::Memory,
         TextFault::TooDeep(1),
@@ -68,15 +79,14 @@ fn texts_of_texts(alloc: Global) -> Option<Vec<u8>> {
         TextFault::IntegerRange(6),
         TextFault::UnsupportedEscape(7),
     ] {
-        put(&mut lines, fault.number(), fault)?;
+        is_whole = put(&mut lines, fault.number(), fault) && is_whole;
     }
-    Some(lines)
+    is_whole && lines.as_slice() == OF_TEXTS.as_bytes()
 }
 
 #[test]
 fn faults_of_texts_are_told(rt: HostRuntime) {
-    let texts = texts_of_texts(rt.alloc());
-    assert!(rt; texts.is_some_and(|lines| lines.as_slice() == OF_TEXTS.as_bytes()));
+    assert!(rt; are_told_of_texts(rt.alloc()));
 }
 
 const OF_SPECIFICATIONS: &str = "\
@@ -94,8 +104,10 @@ const OF_SPECIFICATIONS: &str = "\
 20 the specification is too large
 ";
 
-fn texts_of_specifications(alloc: Global) -> Option<Vec<u8>> {
+/// Whether each of them is told so.
+fn are_told_of_specifications(alloc: Global) -> bool {
     let mut lines = Vec::new(alloc);
+    let mut is_whole = true;
     for fault in [
         SpecFault::Memory,
         SpecFault::NotAList,
@@ -110,15 +122,14 @@ fn texts_of_specifications(alloc: Global) -> Option<Vec<u8>> {
         SpecFault::VariableInMapKey(9),
         SpecFault::TooLarge,
     ] {
-        put(&mut lines, fault.number(), fault)?;
+        is_whole = put(&mut lines, fault.number(), fault) && is_whole;
     }
-    Some(lines)
+    is_whole && lines.as_slice() == OF_SPECIFICATIONS.as_bytes()
 }
 
 #[test]
 fn faults_of_specifications_are_told(rt: HostRuntime) {
-    let texts = texts_of_specifications(rt.alloc());
-    assert!(rt; texts.is_some_and(|lines| lines.as_slice() == OF_SPECIFICATIONS.as_bytes()));
+    assert!(rt; are_told_of_specifications(rt.alloc()));
 }
 
 const OF_BUILDING: &str = "\
@@ -127,22 +138,23 @@ const OF_BUILDING: &str = "\
 37 the frame is out of order
 ";
 
-fn texts_of_building(alloc: Global) -> Option<Vec<u8>> {
+/// Whether each of them is told so.
+fn are_told_of_building(alloc: Global) -> bool {
     let mut lines = Vec::new(alloc);
+    let mut is_whole = true;
     for fault in [
         BuildFault::Memory,
         BuildFault::Limit,
         BuildFault::FrameOrder,
     ] {
-        put(&mut lines, fault.number(), fault)?;
+        is_whole = put(&mut lines, fault.number(), fault) && is_whole;
     }
-    Some(lines)
+    is_whole && lines.as_slice() == OF_BUILDING.as_bytes()
 }
 
 #[test]
 fn faults_of_building_are_told(rt: HostRuntime) {
-    let texts = texts_of_building(rt.alloc());
-    assert!(rt; texts.is_some_and(|lines| lines.as_slice() == OF_BUILDING.as_bytes()));
+    assert!(rt; are_told_of_building(rt.alloc()));
 }
 
 const OF_FILES: &str = "\
@@ -156,8 +168,10 @@ const OF_FILES: &str = "\
 36 past a limit
 ";
 
-fn texts_of_files(alloc: Global) -> Option<Vec<u8>> {
+/// Whether each of them is told so.
+fn are_told_of_files(alloc: Global) -> bool {
     let mut lines = Vec::new(alloc);
+    let mut is_whole = true;
     for fault in [
         FileFault::Memory,
         FileFault::BadMagic,
@@ -168,15 +182,14 @@ fn texts_of_files(alloc: Global) -> Option<Vec<u8>> {
         FileFault::Trailing(4),
         FileFault::Limit,
     ] {
-        put(&mut lines, fault.number(), fault)?;
+        is_whole = put(&mut lines, fault.number(), fault) && is_whole;
     }
-    Some(lines)
+    is_whole && lines.as_slice() == OF_FILES.as_bytes()
 }
 
 #[test]
 fn faults_of_files_are_told(rt: HostRuntime) {
-    let texts = texts_of_files(rt.alloc());
-    assert!(rt; texts.is_some_and(|lines| lines.as_slice() == OF_FILES.as_bytes()));
+    assert!(rt; are_told_of_files(rt.alloc()));
 }
 
 const OF_CODE: &str = "\
@@ -192,16 +205,18 @@ const OF_CODE: &str = "\
 65535 48 instruction 65535 leaves a stack that is too deep
 ";
 
-/// Puts the number of the instruction at the end, where there is one.
-fn put_place(lines: &mut Vec<u8>, pc: Option<u16>) -> Option<()> {
+/// Puts the number of the instruction at the end, where there is one; false for want of memory.
+fn put_place(lines: &mut Vec<u8>, pc: Option<u16>) -> bool {
     match pc {
-        Some(pc) => write!(lines, "{pc} ").ok(),
-        None => Some(()),
+        Some(pc) => write!(lines, "{pc} ").is_ok(),
+        None => true,
     }
 }
 
-fn texts_of_code(alloc: Global) -> Option<Vec<u8>> {
+/// Whether each of them is told so.
+fn are_told_of_code(alloc: Global) -> bool {
     let mut lines = Vec::new(alloc);
+    let mut is_whole = true;
     for fault in [
         CodeFault::Memory,
         CodeFault::Underflow(0),
@@ -214,16 +229,15 @@ fn texts_of_code(alloc: Global) -> Option<Vec<u8>> {
         CodeFault::Constant(7),
         CodeFault::Depth(65_535),
     ] {
-        put_place(&mut lines, fault.pc())?;
-        put(&mut lines, fault.number(), fault)?;
+        is_whole = put_place(&mut lines, fault.pc()) && is_whole;
+        is_whole = put(&mut lines, fault.number(), fault) && is_whole;
     }
-    Some(lines)
+    is_whole && lines.as_slice() == OF_CODE.as_bytes()
 }
 
 #[test]
 fn faults_of_code_are_told(rt: HostRuntime) {
-    let texts = texts_of_code(rt.alloc());
-    assert!(rt; texts.is_some_and(|lines| lines.as_slice() == OF_CODE.as_bytes()));
+    assert!(rt; are_told_of_code(rt.alloc()));
 }
 
 const OF_PARTS: &str = "\
@@ -235,8 +249,10 @@ const OF_PARTS: &str = "\
 54 the cursor isn't the part's
 ";
 
-fn texts_of_parts(alloc: Global) -> Option<Vec<u8>> {
+/// Whether each of them is told so.
+fn are_told_of_parts(alloc: Global) -> bool {
     let mut lines = Vec::new(alloc);
+    let mut is_whole = true;
     for fault in [
         PartFault::Memory,
         PartFault::TooSmall,
@@ -245,15 +261,14 @@ fn texts_of_parts(alloc: Global) -> Option<Vec<u8>> {
         PartFault::BadKey,
         PartFault::CursorOutside,
     ] {
-        put(&mut lines, fault.number(), fault)?;
+        is_whole = put(&mut lines, fault.number(), fault) && is_whole;
     }
-    Some(lines)
+    is_whole && lines.as_slice() == OF_PARTS.as_bytes()
 }
 
 #[test]
 fn faults_of_parts_are_told(rt: HostRuntime) {
-    let texts = texts_of_parts(rt.alloc());
-    assert!(rt; texts.is_some_and(|lines| lines.as_slice() == OF_PARTS.as_bytes()));
+    assert!(rt; are_told_of_parts(rt.alloc()));
 }
 
 const OF_OPENING: &str = "\
@@ -261,18 +276,75 @@ const OF_OPENING: &str = "\
 60 the options don't fit
 ";
 
-fn texts_of_opening(alloc: Global) -> Option<Vec<u8>> {
+/// Whether each of them is told so.
+fn are_told_of_opening(alloc: Global) -> bool {
     let mut lines = Vec::new(alloc);
+    let mut is_whole = true;
     for fault in [OpenFault::Memory, OpenFault::BadOptions] {
-        put(&mut lines, fault.number(), fault)?;
+        is_whole = put(&mut lines, fault.number(), fault) && is_whole;
     }
-    Some(lines)
+    is_whole && lines.as_slice() == OF_OPENING.as_bytes()
 }
 
 #[test]
 fn faults_of_opening_are_told(rt: HostRuntime) {
-    let texts = texts_of_opening(rt.alloc());
-    assert!(rt; texts.is_some_and(|lines| lines.as_slice() == OF_OPENING.as_bytes()));
+    assert!(rt; are_told_of_opening(rt.alloc()));
+}
+
+const OF_WALKS: &str = "\
+1 out of memory
+62 the walk is another's
+63 the limit is 0
+";
+
+/// Whether each of them is told so.
+fn are_told_of_walks(alloc: Global) -> bool {
+    let mut lines = Vec::new(alloc);
+    let mut is_whole = true;
+    for fault in [
+        WalkFault::Memory,
+        WalkFault::StrangerContinuation,
+        WalkFault::BadLimit,
+    ] {
+        is_whole = put(&mut lines, fault.number(), fault) && is_whole;
+    }
+    is_whole && lines.as_slice() == OF_WALKS.as_bytes()
+}
+
+#[test]
+fn faults_of_walks_are_told(rt: HostRuntime) {
+    assert!(rt; are_told_of_walks(rt.alloc()));
+}
+
+const OF_SELECTIONS: &str = "\
+1 out of memory
+60 the members aren't 1 to 16
+";
+
+/// Whether each of them is told so.
+fn are_told_of_selections(alloc: Global) -> bool {
+    let mut lines = Vec::new(alloc);
+    let mut is_whole = true;
+    for fault in [SelectFault::Memory, SelectFault::BadOptions] {
+        is_whole = put(&mut lines, fault.number(), fault) && is_whole;
+    }
+    is_whole && lines.as_slice() == OF_SELECTIONS.as_bytes()
+}
+
+#[test]
+fn faults_of_selections_are_told(rt: HostRuntime) {
+    assert!(rt; are_told_of_selections(rt.alloc()));
+}
+
+/// Whether a part that can't be had back, which has no number, is told so.
+fn is_told_of_a_lost_part(alloc: Global) -> bool {
+    let mut lines = Vec::new(alloc);
+    put_text(&mut lines, Lost) && lines.as_slice() == b"the part is lost\n".as_slice()
+}
+
+#[test]
+fn a_lost_part_is_told(rt: HostRuntime) {
+    assert!(rt; is_told_of_a_lost_part(rt.alloc()));
 }
 
 /// Without their numbers, which stand in the line of each.
@@ -289,8 +361,10 @@ the input can't be read
 the output can't be written
 ";
 
-fn texts_of_commands(alloc: Global) -> Option<Vec<u8>> {
+/// Whether each of them is told so.
+fn are_told_of_commands(alloc: Global) -> bool {
     let mut lines = Vec::new(alloc);
+    let mut is_whole = true;
     for fault in [
         ToolFault::Memory,
         ToolFault::Text(TextFault::Syntax(3)),
@@ -303,13 +377,12 @@ fn texts_of_commands(alloc: Global) -> Option<Vec<u8>> {
         ToolFault::ReadFailed,
         ToolFault::WriteFailed,
     ] {
-        write!(lines, "{fault}\n").ok()?;
+        is_whole = put_text(&mut lines, fault) && is_whole;
     }
-    Some(lines)
+    is_whole && lines.as_slice() == OF_COMMANDS.as_bytes()
 }
 
 #[test]
 fn faults_of_commands_are_told(rt: HostRuntime) {
-    let texts = texts_of_commands(rt.alloc());
-    assert!(rt; texts.is_some_and(|lines| lines.as_slice() == OF_COMMANDS.as_bytes()));
+    assert!(rt; are_told_of_commands(rt.alloc()));
 }

@@ -9,13 +9,14 @@ use tool_io::ToolFault;
 use tool_query::tool_run;
 use tool_scan::ScanOptions;
 
-/// What a command over this input has passed on by its end, of a writer that holds it back.
-fn passed_on<H: Threads + Wait + Sync>(
+/// Whether a command over this input has passed these lines on by its end, of a writer that holds them back.
+fn passes_on<H: Threads + Wait + Sync>(
     rt: &H,
     alloc: Global,
     request: Request,
     input: &str,
-) -> Vec<u8> {
+    lines: &str,
+) -> bool {
     let mut reader = input.as_bytes();
     let mut writer = HoldingWriter {
         held: Vec::new(alloc),
@@ -30,29 +31,36 @@ fn passed_on<H: Threads + Wait + Sync>(
         &mut writer,
         &mut err,
     );
-    writer.passed
+    writer.passed.as_slice() == lines.as_bytes()
 }
+
+/// An input of two objects, of which one matches.
+const MATCHED: &str = "[{{'$1'},[],['$1']}]. {1}. a.";
+
+/// The file of the code of a specification without clauses.
+const EMPTY: &str = "<<69,77,83,67,0,1,0,0,0,0,0,1,25,0,0>>.\n";
 
 #[test]
 fn all_lines_are_passed_on(rt: HostRuntime) {
-    let input = "[{{'$1'},[],['$1']}]. {1}. a.";
-    let run = passed_on(&rt, rt.alloc(), Request::Run, input);
-    assert!(rt; run.as_slice() == b"1.\n".as_slice());
-    let test = passed_on(&rt, rt.alloc(), Request::Test, input);
-    assert!(rt; test.as_slice() == b"{ok,1}.\nfalse.\n".as_slice());
-    let file = passed_on(&rt, rt.alloc(), Request::Compile, "[].");
-    assert!(rt; file.as_slice() == b"<<69,77,83,67,0,1,0,0,0,0,0,1,25,0,0>>.\n".as_slice());
-    let verdict = passed_on(&rt, rt.alloc(), Request::Verify, FILE);
-    assert!(rt; verdict.as_slice() == b"{ok,2,1}.\n".as_slice());
-    let replies = passed_on(&rt, rt.alloc(), Request::Script, "{close}.");
-    assert!(rt; replies.as_slice() == b"{error,65}.\n".as_slice());
     let options = ScanOptions {
         keypos: 1,
         parts: 2,
         workers: 2,
     };
-    let scan = passed_on(&rt, rt.alloc(), Request::Scan(options), INPUT);
-    assert!(rt; scan.as_slice() == b"2.\n1.\n".as_slice());
+    assert!(rt; passes_on(&rt, rt.alloc(), Request::Run, MATCHED, "1.\n"));
+    assert!(rt; passes_on(&rt, rt.alloc(), Request::Test, MATCHED, "{ok,1}.\nfalse.\n"));
+    assert!(rt; passes_on(&rt, rt.alloc(), Request::Compile, "[].", EMPTY));
+    assert!(rt; passes_on(&rt, rt.alloc(), Request::Verify, FILE, "{ok,2,1}.\n"));
+    assert!(rt;
+        passes_on(
+            &rt,
+            rt.alloc(),
+            Request::Script,
+            "{close}.",
+            "{error,65}.\n"
+        )
+    );
+    assert!(rt; passes_on(&rt, rt.alloc(), Request::Scan(options), INPUT, "2.\n1.\n"));
 }
 
 fn run_writing(alloc: Global, call: u32) -> Result<(), ToolFault> {
@@ -69,20 +77,23 @@ fn a_writer_that_fails_is_refused(rt: HostRuntime) {
     assert!(rt; run_writing(rt.alloc(), 60) == Ok(()));
 }
 
-/// The status of `help` where standard output fails behind its beginning, and what it writes on standard error.
-fn left_by_unwritten_help<H: Threads + Wait + Sync>(rt: &H, alloc: Global) -> (u8, Vec<u8>) {
+/// The status of `help` where standard output fails behind its beginning, and whether it writes this on standard error.
+fn left_by_unwritten_help<H: Threads + Wait + Sync>(
+    rt: &H,
+    alloc: Global,
+    told: &str,
+) -> (u8, bool) {
     let mut reader = "".as_bytes();
     let mut out = FailingWriter { calls_left: 3 };
     let mut err = Told::new(Vec::new(alloc));
     let words = ["ets_tool", "help"];
     let status = run_words(rt, alloc, words.as_slice(), &mut reader, &mut out, &mut err);
-    (status, err.writer)
+    (status, err.writer.as_slice() == told.as_bytes())
 }
 
 #[test]
 fn help_that_cannot_be_written_is_refused(rt: HostRuntime) {
-    let (status, err) = left_by_unwritten_help(&rt, rt.alloc());
-    assert!(rt; status == 4 && err.as_slice() == b"error E71\n".as_slice());
+    assert!(rt; left_by_unwritten_help(&rt, rt.alloc(), "error E71\n") == (4, true));
 }
 
 /// The status of `run` where the first term is no specification and standard error fails, and whether it is kept that
@@ -102,8 +113,12 @@ fn left_by_an_untold_refusal<H: Threads + Wait + Sync>(rt: &H, alloc: Global) ->
     (status, err.has_failed)
 }
 
-/// What the same passes on of a standard error that holds it back, and whether it says that it failed.
-fn passed_on_of_a_refusal<H: Threads + Wait + Sync>(rt: &H, alloc: Global) -> (Vec<u8>, bool) {
+/// Whether the same passes this line on of a standard error that holds it back, and whether it says that it failed.
+fn passed_on_of_a_refusal<H: Threads + Wait + Sync>(
+    rt: &H,
+    alloc: Global,
+    line: &str,
+) -> (bool, bool) {
     let mut reader = "a.".as_bytes();
     let mut out = Vec::new(alloc);
     let mut err = Told::new(HoldingWriter {
@@ -120,12 +135,11 @@ fn passed_on_of_a_refusal<H: Threads + Wait + Sync>(rt: &H, alloc: Global) -> (V
     );
     let has_failed = err.has_failed;
     let writer = err.writer;
-    (writer.passed, has_failed)
+    (writer.passed.as_slice() == line.as_bytes(), has_failed)
 }
 
 #[test]
 fn a_refusal_is_told(rt: HostRuntime) {
     assert!(rt; left_by_an_untold_refusal(&rt, rt.alloc()) == (2, true));
-    let (line, has_failed) = passed_on_of_a_refusal(&rt, rt.alloc());
-    assert!(rt; line.as_slice() == b"error E10\n".as_slice() && !has_failed);
+    assert!(rt; passed_on_of_a_refusal(&rt, rt.alloc(), "error E10\n") == (true, false));
 }

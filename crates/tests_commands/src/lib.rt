@@ -1,4 +1,6 @@
-//! Tests of refusals: commands with each request for memory refused in turn, and what refusals are called.
+//! Tests of commands: with each request for memory refused in turn, with readers and writers that fail, give little at a
+//! time or hold back, and what refusals are called. Inputs with what is written on them are rows that the built program
+//! is tried on, in `crates/ets_tool/rows`.
 //!
 //! It has no code of its own. What a test here calls is proved in its own crate once, and not a second time with its
 //! tests.
@@ -7,6 +9,8 @@
 //!   `sweeps`: how many lines each of them writes where memory runs out. `scans`: scans by several sessions, and their
 //!   own refusals.
 //! - `opening`: options of tables that can't be opened, with memory and without.
+//! - `readers`: what is read of readers that fail, give one byte at a time or are interrupted; `writers`: what is
+//!   written to writers that fail, or hold all back until they are flushed.
 //! - `fault_texts`: what each refusal is called, enum by enum.
 #![tactic(auto)]
 
@@ -17,8 +21,12 @@ mod opening;
 #[cfg(test)]
 mod queries;
 #[cfg(test)]
+mod readers;
+#[cfg(test)]
 mod requests;
 #[cfg(test)]
 mod scans;
 #[cfg(test)]
 mod sweeps;
+#[cfg(test)]
+mod writers;
