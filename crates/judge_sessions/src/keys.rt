@@ -1,5 +1,5 @@
 //! Keys, and the objects that sessions put in at them.
-use kit_rows::{fields, number};
+use kit_rows::{fields, number, put};
 use std::alloc::Global;
 use term_core::Term;
 
@@ -31,10 +31,14 @@ impl Object {
     /// The object as a term.
     pub(crate) fn term(self, alloc: Global) -> Option<Term> {
         let mut elements = Vec::with_capacity(alloc, 3).ok()?;
-        elements.push(key_term(self.key)).ok()?;
-        elements.push(Term::int(i64::from(self.session))).ok()?;
-        elements.push(Term::int(i64::from(self.sequence))).ok()?;
-        Term::tuple(alloc, elements).ok()
+        let is_whole = put(&mut elements, key_term(self.key))
+            && put(&mut elements, Term::int(i64::from(self.session)))
+            && put(&mut elements, Term::int(i64::from(self.sequence)));
+        if is_whole {
+            Term::tuple(alloc, elements).ok()
+        } else {
+            None
+        }
     }
 
     /// The object that a term is.
