@@ -6,7 +6,6 @@ use machine::run;
 use mspec_reader::read_spec;
 use parallel_select::run_list;
 use std::alloc::{AllocError, Allocator, Global};
-use std::test::*;
 use std::thread::Threads;
 use term_core::{Term, View};
 use term_text::read_terms;
@@ -138,14 +137,14 @@ fn refusals<R: Threads + Sync>(rt: &R, alloc: Global, count: usize) -> Option<u6
 #[test]
 fn answers_each_object_at_its_place(rt: HostRuntime) {
     for count in [0, 1, 3, 1_000, 2_047, 2_048, 2_049, 5_000] {
-        assert_eq!(rt; answered(&rt, rt.alloc(), count), Some((count, true, true)));
+        assert!(rt; answered(&rt, rt.alloc(), count) == Some((count, true, true)), "{count}");
     }
 }
 
 #[test]
 fn is_refused_where_memory_is(rt: HostRuntime) {
     // The answers of few objects are one run.
-    assert_eq!(rt; refusals(&rt, rt.alloc(), 3), Some(1));
+    assert!(rt; refusals(&rt, rt.alloc(), 3) == Some(1));
     // Those of many are several, which are put together.
     let many = refusals(&rt, rt.alloc(), 5_000);
     assert!(rt; many.is_some_and(|requests| requests > 3));

@@ -1,13 +1,12 @@
 //! Calls of walks with each request for memory refused in turn: asked again, each gives what it gives undisturbed.
 use crate::plays::{Call, Play, played};
-use kit_alloc::{Failing, SweepOutcome, sweep};
+use kit_alloc::{Failing, sweep};
 use part_core::{Part, TableKind};
 use part_hash::HashPart;
 use part_order::OrderPart;
 use part_plain::PlainPart;
 use std::alloc::{Allocator, Global};
 use std::sync::Wait;
-use std::test::*;
 
 /// The most requests of a play.
 const MOST_REQUESTS: u64 = 20_000;
@@ -136,46 +135,60 @@ fn is_right<P: Part<A> + Drop, R: Wait, A: Allocator + Copy>(
     Some(came.as_slice() == case.wanted.as_bytes())
 }
 
-macro_rules! swept {
-    ($part:ident, $rt:expr, $alloc:expr, $case:expr) => {
-        sweep($alloc, MOST_REQUESTS, |heap| {
-            match is_right::<$part<&Failing<Global>>, _, &Failing<Global>>($rt, $alloc, heap, $case) {
-                Some(is_right) => is_right,
-                None => heap.was_refused(),
-            }
-        })
-    };
+/// Whether a case is right at sets of hashed and of plain parts, and at those of hashed parts with each request refused
+/// in turn.
+fn holds_at_sets<R: Wait>(rt: &R, alloc: Global, case: Case<'_>) -> bool {
+    let outcome = sweep(alloc, MOST_REQUESTS, |heap: &Failing<Global>| {
+        match is_right::<HashPart<&Failing<Global>>, _, &Failing<Global>>(rt, alloc, heap, case) {
+            Some(is_right) => is_right,
+            None => heap.was_refused(),
+        }
+    });
+    outcome.is_complete()
+        && is_right::<HashPart<Global>, _, Global>(rt, alloc, alloc, case) == Some(true)
+        && is_right::<PlainPart<Global>, _, Global>(rt, alloc, alloc, case) == Some(true)
+}
+
+/// Whether a case is right at an ordered set, also with each request refused in turn.
+fn holds_at_ordered_sets<R: Wait>(rt: &R, alloc: Global, case: Case<'_>) -> bool {
+    let outcome = sweep(alloc, MOST_REQUESTS, |heap: &Failing<Global>| {
+        match is_right::<OrderPart<&Failing<Global>>, _, &Failing<Global>>(rt, alloc, heap, case) {
+            Some(is_right) => is_right,
+            None => heap.was_refused(),
+        }
+    });
+    outcome.is_complete()
+        && is_right::<OrderPart<Global>, _, Global>(rt, alloc, alloc, case) == Some(true)
+}
+
+/// The first of these cases that doesn't hold at sets.
+fn first_wrong<R: Wait>(rt: &R, alloc: Global, cases: &[Case<'_>]) -> Option<usize> {
+    for (place, case) in cases.iter().enumerate() {
+        if !holds_at_sets(rt, alloc, *case) {
+            return Some(place);
+        }
+    }
+    None
+}
+
+/// The first of these cases that doesn't hold at ordered sets.
+fn first_wrong_ordered<R: Wait>(rt: &R, alloc: Global, cases: &[Case<'_>]) -> Option<usize> {
+    for (place, case) in cases.iter().enumerate() {
+        if !holds_at_ordered_sets(rt, alloc, *case) {
+            return Some(place);
+        }
+    }
+    None
 }
 
 #[test]
 fn sets_asked_again_answer_as_undisturbed(rt: HostRuntime) {
-    let alloc = rt.alloc();
-    for case in SET_CASES {
-        assert_eq!(rt;
-            is_right::<HashPart<Global>, _, Global>(&rt, alloc, alloc, case),
-            Some(true),
-            "{case:?}"
-        );
-        assert_eq!(rt;
-            is_right::<PlainPart<Global>, _, Global>(&rt, alloc, alloc, case),
-            Some(true),
-            "{case:?}"
-        );
-        let outcome = swept!(HashPart, &rt, alloc, case);
-        assert!(rt; outcome.is_complete(), "{case:?} {outcome:?}");
-    }
+    let wrong = first_wrong(&rt, rt.alloc(), &SET_CASES);
+    assert!(rt; wrong == None, "{wrong:?}");
 }
 
 #[test]
 fn ordered_sets_asked_again_answer_as_undisturbed(rt: HostRuntime) {
-    let alloc = rt.alloc();
-    for case in ORDERED_CASES {
-        assert_eq!(rt;
-            is_right::<OrderPart<Global>, _, Global>(&rt, alloc, alloc, case),
-            Some(true),
-            "{case:?}"
-        );
-        let outcome = swept!(OrderPart, &rt, alloc, case);
-        assert!(rt; outcome.is_complete(), "{case:?} {outcome:?}");
-    }
+    let wrong = first_wrong_ordered(&rt, rt.alloc(), &ORDERED_CASES);
+    assert!(rt; wrong == None, "{wrong:?}");
 }
