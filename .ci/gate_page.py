@@ -1,10 +1,12 @@
 """The tables of docs/GATE.md that scripts keep: each stands between two comments, and has a row for each crate."""
 import hashlib
 import os
+import textwrap
 
 TOP = os.path.dirname(os.path.dirname(os.path.abspath(__file__)))
 PAGE = f"{TOP}/docs/GATE.md"
 TRIED = "edits tried"
+STALE = "edits to be tried again"
 
 
 def read():
@@ -49,6 +51,12 @@ def below(name, named):
     return sorted(found)
 
 
+def edits_of(name, tier):
+    """How many edits of a tier a crate has."""
+    folder = f"{TOP}/crates/{name}/{tier}"
+    return len([it for it in os.listdir(folder) if it.endswith(".edit")]) if os.path.isdir(folder) else 0
+
+
 def files_of(name, folder):
     """The files of a crate's folder, by their paths in the crate."""
     root = f"{TOP}/crates/{name}"
@@ -85,7 +93,17 @@ def record_edits(name, count, result):
     replace(TRIED, head + [known[it] for it in sorted(known)])
 
 
-def stale(names):
-    """Those of the crates whose further edits, or what they depend on, differ from what they were last tried over."""
+def stale():
+    """The crates whose further edits, or what they depend on, differ from what they were last tried over, and how many have such edits."""
     named, (_, known) = crates(), rows()
-    return [it for it in names if not known.get(it, "").endswith(f"| {digest(it, named)} |")]
+    names = [it for it in named if edits_of(it, "more-edits")]
+    return [it for it in names if not known.get(it, "").endswith(f"| {digest(it, named)} |")], len(names)
+
+
+def record_stale():
+    """Writes the line that names the crates whose further edits are to be tried again, and returns it."""
+    found, count = stale()
+    line = f"Tried over what is here: those of {count - len(found)} of {count} crates."
+    line += f" To be tried again: {', '.join(f'`{it}`' for it in found)}." if found else ""
+    replace(STALE, textwrap.wrap(line, 120, break_on_hyphens=False))
+    return line

@@ -5,7 +5,6 @@ use machine::run;
 use mspec_syntax::Spec;
 use part_core::{Fault, key_in};
 use std::alloc::{AllocError, Global};
-use std::sync::Wait;
 use tables::{Turns, delete, insert, lookup, member};
 use term_core::{Refused, Term};
 use walks::{Query, Step, select, select_count, select_limit, select_more};
@@ -104,8 +103,7 @@ fn run_on_each(alloc: Global, query: &Query, objects: &[Term]) -> Option<u64> {
 }
 
 /// How many answers the pieces of a walk have, of which there are at most so many.
-fn in_pieces<R: Wait, T: Turns<Global>>(
-    rt: &R,
+fn in_pieces<T: Turns<Global>>(
     alloc: Global,
     session: &mut T,
     specification: &Spec,
@@ -117,12 +115,12 @@ fn in_pieces<R: Wait, T: Turns<Global>>(
 {
     let query = Query::from_spec(alloc, specification, 1).ok()?;
     let mut count: u64 = 0;
-    let mut step = select_limit(rt, alloc, session, query, PIECE).ok()?;
+    let mut step = select_limit(alloc, session, query, PIECE).ok()?;
     for _piece in 0..most {
         match step {
             Step::Piece(answers, walk) => {
                 count = count.saturating_add(answers.len() as u64);
-                step = select_more(rt, alloc, session, walk).ok()?;
+                step = select_more(alloc, session, walk).ok()?;
             }
             Step::End(_query) => return Some(count),
         }
@@ -131,8 +129,7 @@ fn in_pieces<R: Wait, T: Turns<Global>>(
 }
 
 /// Does the work, and says how many objects it puts in, finds, counts or answers on.
-pub(crate) fn done<R: Wait, T: Turns<Global>>(
-    rt: &R,
+pub(crate) fn done<T: Turns<Global>>(
     alloc: Global,
     session: &mut T,
     work: Work,
@@ -145,11 +142,11 @@ pub(crate) fn done<R: Wait, T: Turns<Global>>(
     match work {
         Work::Each(call) => Some(made_with_each(session, call, load.objects)? as u64),
         Work::Run => run_on_each(alloc, load.some, load.objects),
-        Work::Count => select_count(rt, session, load.all).ok(),
-        Work::Select => Some(select(rt, alloc, session, load.some).ok()?.len() as u64),
+        Work::Count => select_count(session, load.all).ok(),
+        Work::Select => Some(select(alloc, session, load.some).ok()?.len() as u64),
         Work::Pieces => {
             let most = load.objects.len().saturating_add(1);
-            in_pieces(rt, alloc, session, load.specification, most)
+            in_pieces(alloc, session, load.specification, most)
         }
     }
 }

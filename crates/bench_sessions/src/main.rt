@@ -68,7 +68,7 @@ fn write_each<H: Threads + Wait + Clock + Sync>(
     lines: &mut String,
 ) -> Option<()> {
     let objects = input(rt)?;
-    on_table::write(rt, handle, on_table::FOUND, objects.as_slice(), lines)?;
+    on_table::write(rt, on_table::FOUND, objects.as_slice(), lines)?;
     write_found(rt, handle, OBJECTS, lines)?;
     on_threads::write(
         handle,
@@ -90,7 +90,7 @@ fn write_lines<H: Threads + Wait + Clock + Sync>(
     match bench.as_str() {
         "tables" => {
             let task = on_table::task_of(words)?;
-            on_table::write(rt, handle, task, input(rt)?.as_slice(), lines)
+            on_table::write(rt, task, input(rt)?.as_slice(), lines)
         }
         "parallel" => write_parallel(rt, handle, words, lines),
         "threads" => {

@@ -17,7 +17,6 @@ use part_core::{Part, TableKind};
 use part_hash::HashPart;
 use part_order::OrderPart;
 use std::alloc::Global;
-use std::sync::Wait;
 use tables::Options;
 use term_core::Term;
 
@@ -81,26 +80,24 @@ pub(crate) fn task_of(words: &[String]) -> Option<Task<'_>> {
 
 /// Writes the lines of a task at tables of a kind of part. There are none where there is no such task or it can't be
 /// done.
-fn write_at<H: Wait, P: Part<Global> + Drop>(
+fn write_at<P: Part<Global> + Drop>(
     rt: &HostRuntime,
-    handle: &H,
     task: Task<'_>,
     load: Load<'_>,
     lines: &mut String,
 ) -> Option<()> {
     match task.word {
-        "times" => times::write::<H, P>(rt, handle, task.options, load, lines),
-        "hold" => times::hold::<H, P>(rt, handle, task.options, task.tables, load),
-        "longest" => times::write_longest::<H, P>(rt, handle, task.options, load, lines),
-        "found" => times::write_found::<H, P>(rt, handle, task.options, load, lines),
+        "times" => times::write::<P>(rt, task.options, load, lines),
+        "hold" => times::hold::<P>(rt, task.options, task.tables, load),
+        "longest" => times::write_longest::<P>(rt, task.options, load, lines),
+        "found" => times::write_found::<P>(rt, task.options, load, lines),
         _ => None,
     }
 }
 
 /// Writes the lines of a task with these objects.
-pub(crate) fn write<H: Wait>(
+pub(crate) fn write(
     rt: &HostRuntime,
-    handle: &H,
     task: Task<'_>,
     objects: &[Term],
     lines: &mut String,
@@ -115,8 +112,8 @@ pub(crate) fn write<H: Wait>(
         specification: &specification,
     };
     if task.options.kind.is_ordered() {
-        write_at::<H, OrderPart<Global>>(rt, handle, task, load, lines)
+        write_at::<OrderPart<Global>>(rt, task, load, lines)
     } else {
-        write_at::<H, HashPart<Global>>(rt, handle, task, load, lines)
+        write_at::<HashPart<Global>>(rt, task, load, lines)
     }
 }

@@ -6,7 +6,6 @@ use crate::timing::{ROUNDS, median, since};
 use part_core::Part;
 use std::alloc::Global;
 use std::slice;
-use std::sync::Wait;
 use std::time::Instant;
 use tables::{LocalTable, Options};
 
@@ -50,9 +49,8 @@ pub(crate) fn opened<P: Part<Global> + Drop>(
 }
 
 /// Does the work in a session at a table, and times it.
-fn timed<H: Wait, P: Part<Global> + Drop>(
+fn timed<P: Part<Global> + Drop>(
     rt: &HostRuntime,
-    handle: &H,
     table: &mut LocalTable<P>,
     work: Work,
     load: Load<'_>,
@@ -62,7 +60,7 @@ fn timed<H: Wait, P: Part<Global> + Drop>(
 {
     let mut session = table.at(0);
     let began = Instant::now(rt).ok()?;
-    let objects = done(handle, rt.alloc(), &mut session, work, load)?;
+    let objects = done(rt.alloc(), &mut session, work, load)?;
     Some(Outcome {
         nanoseconds: since(rt, began)?,
         objects,
@@ -70,9 +68,8 @@ fn timed<H: Wait, P: Part<Global> + Drop>(
 }
 
 /// What comes of a round at an empty table.
-fn round<H: Wait, P: Part<Global> + Drop>(
+fn round<P: Part<Global> + Drop>(
     rt: &HostRuntime,
-    handle: &H,
     options: Options,
     load: Load<'_>,
 ) -> Option<[Outcome; WORKS]> {
@@ -82,21 +79,20 @@ fn round<H: Wait, P: Part<Global> + Drop>(
         objects: 0,
     }; WORKS];
     for work in 0..WORKS {
-        outcomes[work] = timed(rt, handle, &mut table, ROUND[work], load)?;
+        outcomes[work] = timed(rt, &mut table, ROUND[work], load)?;
     }
     Some(outcomes)
 }
 
 /// The nanoseconds of each work in each round.
-fn rounds<H: Wait, P: Part<Global> + Drop>(
+fn rounds<P: Part<Global> + Drop>(
     rt: &HostRuntime,
-    handle: &H,
     options: Options,
     load: Load<'_>,
 ) -> Option<[[u64; ROUNDS]; WORKS]> {
     let mut times = [[0; ROUNDS]; WORKS];
     for number in 0..ROUNDS {
-        let outcomes = round::<H, P>(rt, handle, options, load)?;
+        let outcomes = round::<P>(rt, options, load)?;
         for work in 0..WORKS {
             times[work][number] = outcomes[work].nanoseconds;
         }
@@ -105,14 +101,13 @@ fn rounds<H: Wait, P: Part<Global> + Drop>(
 }
 
 /// Writes the nanoseconds of a call of each kind, the median of the rounds.
-pub(crate) fn write<H: Wait, P: Part<Global> + Drop>(
+pub(crate) fn write<P: Part<Global> + Drop>(
     rt: &HostRuntime,
-    handle: &H,
     options: Options,
     load: Load<'_>,
     lines: &mut String,
 ) -> Option<()> {
-    let times = rounds::<H, P>(rt, handle, options, load)?;
+    let times = rounds::<P>(rt, options, load)?;
     let count = u64::try_from(load.objects.len()).ok()?.max(1);
     for work in 0..NAMES.len() {
         let name = NAMES[work];
@@ -123,9 +118,8 @@ pub(crate) fn write<H: Wait, P: Part<Global> + Drop>(
 }
 
 /// The nanoseconds of the longest insert.
-fn longest_insert<H: Wait, P: Part<Global> + Drop>(
+fn longest_insert<P: Part<Global> + Drop>(
     rt: &HostRuntime,
-    handle: &H,
     table: &mut LocalTable<P>,
     load: Load<'_>,
 ) -> Option<u64>
@@ -137,29 +131,27 @@ fn longest_insert<H: Wait, P: Part<Global> + Drop>(
             objects: slice::from_ref(object),
             ..load
         };
-        let outcome = timed(rt, handle, table, Work::Each(Call::Insert), one)?;
+        let outcome = timed(rt, table, Work::Each(Call::Insert), one)?;
         longest = outcome.nanoseconds.max(longest);
     }
     Some(longest)
 }
 
 /// Writes what the longest insert takes: that which doubles the most slots.
-pub(crate) fn write_longest<H: Wait, P: Part<Global> + Drop>(
+pub(crate) fn write_longest<P: Part<Global> + Drop>(
     rt: &HostRuntime,
-    handle: &H,
     options: Options,
     load: Load<'_>,
     lines: &mut String,
 ) -> Option<()> {
     let mut table = opened::<P>(rt.alloc(), options)?;
-    let longest = longest_insert(rt, handle, &mut table, load)?;
+    let longest = longest_insert(rt, &mut table, load)?;
     writeln!(lines, "longest insert {longest} ns").ok()
 }
 
 /// Writes how many objects each work of a round finds.
-pub(crate) fn write_found<H: Wait, P: Part<Global> + Drop>(
+pub(crate) fn write_found<P: Part<Global> + Drop>(
     rt: &HostRuntime,
-    handle: &H,
     options: Options,
     load: Load<'_>,
     lines: &mut String,
@@ -175,7 +167,7 @@ pub(crate) fn write_found<H: Wait, P: Part<Global> + Drop>(
         run,
         _delete,
         last,
-    ] = round::<H, P>(rt, handle, options, load)?;
+    ] = round::<P>(rt, options, load)?;
     writeln!(
         lines,
         "{} inserted, {} once more, {} found, {} there",
@@ -191,28 +183,26 @@ pub(crate) fn write_found<H: Wait, P: Part<Global> + Drop>(
 }
 
 /// A table with the objects.
-fn filled<H: Wait, P: Part<Global> + Drop>(
+fn filled<P: Part<Global> + Drop>(
     rt: &HostRuntime,
-    handle: &H,
     options: Options,
     load: Load<'_>,
 ) -> Option<LocalTable<P>> {
     let mut table = opened::<P>(rt.alloc(), options)?;
-    let _outcome = timed(rt, handle, &mut table, Work::Each(Call::Insert), load)?;
+    let _outcome = timed(rt, &mut table, Work::Each(Call::Insert), load)?;
     Some(table)
 }
 
 /// Puts the objects into so many tables, and holds them all.
-pub(crate) fn hold<H: Wait, P: Part<Global> + Drop>(
+pub(crate) fn hold<P: Part<Global> + Drop>(
     rt: &HostRuntime,
-    handle: &H,
     options: Options,
     tables: u8,
     load: Load<'_>,
 ) -> Option<()> {
     let mut held: Vec<LocalTable<P>> = Vec::new(rt.alloc());
     for _table in 0..tables {
-        held.push(filled::<H, P>(rt, handle, options, load)?).ok()?;
+        held.push(filled::<P>(rt, options, load)?).ok()?;
     }
     Some(())
 }

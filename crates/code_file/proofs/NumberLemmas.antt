@@ -1,5 +1,6 @@
 -- Numbers and rows of bytes that are read.
 use Rattle.std.specs.Int.{w16, w32, w64, to_be_bytes, from_be_bytes, cast_unsigned, cast_signed}
+use Rattle.byteorder.specs.Endian.{big_number}
 use Rattle.std.proofs.Common.{◌≡◌, ℕ, ℤ, ◌<◌, ◌≤◌, ◌^◌, List, ◌++◌, length, get_or, take, drop, refl, sym, ap, ◌∙◌, arith, inl, inr}
 use Rattle.std.proofs.lemmas.Nat.{be_bytes_2, be_bytes_4, be_bytes_8}
 use Rattle.std.proofs.lemmas.Int.{of_z-to_z}
@@ -51,35 +52,45 @@ bytes_read n bytes front rest long front_is rest_is = record {
   parts = rw (front_is, rest_is) (sym (take-append-drop n bytes));
 }
 
-pub u16_read : (bytes front rest : List ℕ) (n : ℕ) → AreBytesAt bytes → 2 ≤ length bytes → front ≡ take 2 bytes → rest ≡ drop 2 bytes → n ≡ from_be_bytes w16 front → Begins u16_format bytes n rest
+-- the number in so many bytes is the one that std reads there
+same_2 : (bytes : List ℕ) → big_number 2 bytes ≡ from_be_bytes w16 bytes
+same_2 bytes = omega arith
+
+same_4 : (bytes : List ℕ) → big_number 4 bytes ≡ from_be_bytes w32 bytes
+same_4 bytes = omega arith
+
+same_8 : (bytes : List ℕ) → big_number 8 bytes ≡ from_be_bytes w64 bytes
+same_8 bytes = omega arith
+
+pub u16_read : (bytes front rest : List ℕ) (n : ℕ) → AreBytesAt bytes → 2 ≤ length bytes → front ≡ take 2 bytes → rest ≡ drop 2 bytes → n ≡ big_number 2 front → Begins u16_format bytes n rest
 unfolding u16_bytes
 u16_read bytes front rest n fits long front_is rest_is n_is =
     let front_fits : AreBytesAt front = rw front_is (AreBytesAt-take 2 bytes fits) in
     let front_long : length front ≡ 2 = ap length front_is ∙ omega (arith, length-take 2 bytes) in
     record {
       fits = omega (arith, n_is, front_fits 0, front_fits 1);
-      parts = sym (take-append-drop 2 bytes) ∙ ap (λ (t : List ℕ). t ++ drop 2 bytes) (sym front_is ∙ sym (be_bytes_2 front n front_long front_fits n_is)) ∙ ap (λ t. to_be_bytes w16 n ++ t) (sym rest_is);
+      parts = sym (take-append-drop 2 bytes) ∙ ap (λ (t : List ℕ). t ++ drop 2 bytes) (sym front_is ∙ sym (be_bytes_2 front n front_long front_fits (n_is ∙ same_2 front))) ∙ ap (λ t. to_be_bytes w16 n ++ t) (sym rest_is);
     }
 
-pub u32_read : (bytes front rest : List ℕ) (n : ℕ) → AreBytesAt bytes → 4 ≤ length bytes → front ≡ take 4 bytes → rest ≡ drop 4 bytes → n ≡ from_be_bytes w32 front → Begins u32_format bytes n rest
+pub u32_read : (bytes front rest : List ℕ) (n : ℕ) → AreBytesAt bytes → 4 ≤ length bytes → front ≡ take 4 bytes → rest ≡ drop 4 bytes → n ≡ big_number 4 front → Begins u32_format bytes n rest
 unfolding u32_bytes
 u32_read bytes front rest n fits long front_is rest_is n_is =
     let front_fits : AreBytesAt front = rw front_is (AreBytesAt-take 4 bytes fits) in
     let front_long : length front ≡ 4 = ap length front_is ∙ omega (arith, length-take 4 bytes) in
     record {
       fits = omega (arith, n_is, front_fits 0, front_fits 1, front_fits 2, front_fits 3);
-      parts = sym (take-append-drop 4 bytes) ∙ ap (λ (t : List ℕ). t ++ drop 4 bytes) (sym front_is ∙ sym (be_bytes_4 front n front_long front_fits n_is)) ∙ ap (λ t. to_be_bytes w32 n ++ t) (sym rest_is);
+      parts = sym (take-append-drop 4 bytes) ∙ ap (λ (t : List ℕ). t ++ drop 4 bytes) (sym front_is ∙ sym (be_bytes_4 front n front_long front_fits (n_is ∙ same_4 front))) ∙ ap (λ t. to_be_bytes w32 n ++ t) (sym rest_is);
     }
 
-pub i64_read : (bytes front rest : List ℕ) (z : ℤ) → AreBytesAt bytes → 8 ≤ length bytes → front ≡ take 8 bytes → rest ≡ drop 8 bytes → z ≡ cast_signed w64 (from_be_bytes w64 front) → Begins i64_format bytes z rest
+pub i64_read : (bytes front rest : List ℕ) (z : ℤ) → AreBytesAt bytes → 8 ≤ length bytes → front ≡ take 8 bytes → rest ≡ drop 8 bytes → z ≡ cast_signed w64 (big_number 8 front) → Begins i64_format bytes z rest
 unfolding i64_bytes
 i64_read bytes front rest z fits long front_is rest_is z_is =
     let front_fits : AreBytesAt front = rw front_is (AreBytesAt-take 8 bytes fits) in
     let front_long : length front ≡ 8 = ap length front_is ∙ omega (arith, length-take 8 bytes) in
-    let n : ℕ = from_be_bytes w64 front in
+    let n : ℕ = big_number 8 front in
     let low : n < 2 ^ 64 = omega (arith, front_fits 0, front_fits 1, front_fits 2, front_fits 3, front_fits 4, front_fits 5, front_fits 6, front_fits 7) in
     let back : cast_unsigned w64 z ≡ n = ap (cast_unsigned w64) z_is ∙ of_z-to_z w64 n low in
     record {
       fits = rw z_is (sfits_to_z {w = w64} {n = n} (record { fits = low }));
-      parts = sym (take-append-drop 8 bytes) ∙ ap (λ (t : List ℕ). t ++ drop 8 bytes) (sym front_is ∙ sym (be_bytes_8 front (cast_unsigned w64 z) front_long front_fits back)) ∙ ap (λ t. to_be_bytes w64 (cast_unsigned w64 z) ++ t) (sym rest_is);
+      parts = sym (take-append-drop 8 bytes) ∙ ap (λ (t : List ℕ). t ++ drop 8 bytes) (sym front_is ∙ sym (be_bytes_8 front (cast_unsigned w64 z) front_long front_fits (back ∙ same_8 front))) ∙ ap (λ t. to_be_bytes w64 (cast_unsigned w64 z) ++ t) (sym rest_is);
     }

@@ -3,6 +3,7 @@ ghost use Rattle.code_writer.specs.Formats.{u8_format, u16_format, u32_format, i
 ghost use Rattle.code_file.specs.Reads.{Reads, IsCut};
 
 use crate::stop::{FileCause, FileStop};
+use byteorder::{BigEndian, ByteOrder};
 
 /// So many bytes, and what follows them.
 pub(crate) fn take(bytes: &[u8], count: usize) -> Result<(&[u8], &[u8]), FileStop>
@@ -33,7 +34,7 @@ pub fn read_u16(bytes: &[u8]) -> Result<(u16, &[u8]), FileStop>
         return Err(FileStop::At(FileCause::Truncated, 0));
     }
     let (front, rest) = bytes.split_at(2);
-    Ok((u16::from_be_bytes([front[0], front[1]]), rest))
+    Ok((BigEndian::read_u16(front), rest))
 }
 
 /// A number of four bytes.
@@ -44,8 +45,7 @@ pub(crate) fn read_u32(bytes: &[u8]) -> Result<(u32, &[u8]), FileStop>
         return Err(FileStop::At(FileCause::Truncated, 0));
     }
     let (front, rest) = bytes.split_at(4);
-    let number = u32::from_be_bytes([front[0], front[1], front[2], front[3]]);
-    Ok((number, rest))
+    Ok((BigEndian::read_u32(front), rest))
 }
 
 /// A whole number of eight bytes.
@@ -56,8 +56,5 @@ pub(crate) fn read_i64(bytes: &[u8]) -> Result<(i64, &[u8]), FileStop>
         return Err(FileStop::At(FileCause::Truncated, 0));
     }
     let (front, rest) = bytes.split_at(8);
-    let number = i64::from_be_bytes([
-        front[0], front[1], front[2], front[3], front[4], front[5], front[6], front[7],
-    ]);
-    Ok((number, rest))
+    Ok((BigEndian::read_i64(front), rest))
 }

@@ -1,8 +1,9 @@
 -- Numbers have one spelling, which no other begins.
 use Rattle.std.specs.Prelude.{FitsSigned}
-use Rattle.std.specs.Int.{w16, w32, w64, from_be_bytes, cast_unsigned, cast_signed}
-use Rattle.std.proofs.Common.{◌≡◌, ℕ, ℤ, ◌<◌, ◌^◌, List, length, get_or, take, drop, refl, sym, ap, ◌∙◌, arith}
-use Rattle.std.proofs.lemmas.Nat.{from_be_bytes-to_be_bytes_2, from_be_bytes-to_be_bytes_4, from_be_bytes-to_be_bytes_8}
+use Rattle.std.specs.Int.{w64, cast_unsigned, cast_signed}
+use Rattle.byteorder.specs.Endian.{big_number}
+use Rattle.byteorder.specs.Numbers.{big_number-reads_back, length-bytes_high_first}
+use Rattle.std.proofs.Common.{◌≡◌, ℕ, ℤ, ◌<◌, ◌^◌, List, [], length, get_or, take, drop, sym, ap, ◌∙◌, arith}
 use Rattle.std.proofs.lemmas.Int.{to_z-of_z}
 use Rattle.std.proofs.Math.Facts.{Fits-of_z}
 use Rattle.std.proofs.lemmas.List.{take_at, drop_at}
@@ -23,39 +24,39 @@ fixed F n read long back = record {
 
 pub length-u16_bytes : (n : ℕ) → length (u16_bytes n) ≡ 2
 unfolding u16_bytes
-length-u16_bytes n = refl
+length-u16_bytes n = length-bytes_high_first 2 n
 
 pub length-u32_bytes : (n : ℕ) → length (u32_bytes n) ≡ 4
 unfolding u32_bytes
-length-u32_bytes n = refl
+length-u32_bytes n = length-bytes_high_first 4 n
 
 pub length-i64_bytes : (z : ℤ) → length (i64_bytes z) ≡ 8
 unfolding i64_bytes
-length-i64_bytes z = refl
+length-i64_bytes z = length-bytes_high_first 8 (cast_unsigned w64 z)
 
-u16_back : (n : ℕ) → n < 2 ^ 16 → from_be_bytes w16 (u16_bytes n) ≡ n
+u16_back : (n : ℕ) → n < 2 ^ 16 → big_number 2 (u16_bytes n) ≡ n
 unfolding u16_bytes
-u16_back n fits = from_be_bytes-to_be_bytes_2 n fits
+u16_back n fits = big_number-reads_back 2 n [] fits
 
-u32_back : (n : ℕ) → n < 2 ^ 32 → from_be_bytes w32 (u32_bytes n) ≡ n
+u32_back : (n : ℕ) → n < 2 ^ 32 → big_number 4 (u32_bytes n) ≡ n
 unfolding u32_bytes
-u32_back n fits = from_be_bytes-to_be_bytes_4 n fits
+u32_back n fits = big_number-reads_back 4 n [] fits
 
-i64_back : (z : ℤ) → FitsSigned w64 z → cast_signed w64 (from_be_bytes w64 (i64_bytes z)) ≡ z
+i64_back : (z : ℤ) → FitsSigned w64 z → cast_signed w64 (big_number 8 (i64_bytes z)) ≡ z
 unfolding i64_bytes
-i64_back z fits = ap (cast_signed w64) (from_be_bytes-to_be_bytes_8 (cast_unsigned w64 z) (omega (arith, Fits-of_z {w = w64} {z = z} fits))) ∙ to_z-of_z w64 z fits
+i64_back z fits = ap (cast_signed w64) (big_number-reads_back 8 (cast_unsigned w64 z) [] (omega (arith, Fits-of_z {w = w64} {z = z} fits))) ∙ to_z-of_z w64 z fits
 
 pub u8_free : IsPrefixFree u8_format
 u8_free = record { one = λ bytes x y r s h k. (ap (λ bs. get_or bs 0 0) (sym h.parts ∙ k.parts), ap (drop 1) (sym h.parts ∙ k.parts)) }
 
 pub u16_free : IsPrefixFree u16_format
-u16_free = fixed u16_format 2 (from_be_bytes w16) length-u16_bytes u16_back
+u16_free = fixed u16_format 2 (big_number 2) length-u16_bytes u16_back
 
 pub u32_free : IsPrefixFree u32_format
-u32_free = fixed u32_format 4 (from_be_bytes w32) length-u32_bytes u32_back
+u32_free = fixed u32_format 4 (big_number 4) length-u32_bytes u32_back
 
 pub i64_free : IsPrefixFree i64_format
-i64_free = fixed i64_format 8 (λ bs. cast_signed w64 (from_be_bytes w64 bs)) length-i64_bytes i64_back
+i64_free = fixed i64_format 8 (λ bs. cast_signed w64 (big_number 8 bs)) length-i64_bytes i64_back
 
 pub bytes_free : (n : ℕ) → IsPrefixFree (bytes_format n)
 bytes_free n = record {

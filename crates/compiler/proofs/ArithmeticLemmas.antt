@@ -13,7 +13,8 @@ use Rattle.mcode.specs.Program.{Program}
 use Rattle.mcode.specs.declared.kind.Kind.{Kind}
 use Rattle.mcode.specs.declared.kind.Kind.TheVariants as kind
 use Rattle.mspec_syntax.specs.declared.mode.Mode.{Mode}
-use Rattle.mspec_meaning.specs.Made.{failed, or_failed}
+use Rattle.mspec_match.specs.Failure.{failed}
+use Rattle.mspec_meaning.specs.Made.{or_failed}
 use Rattle.mspec_meaning.specs.Called.{called}
 use Rattle.mspec_meaning.specs.Meaning.{before}
 use Rattle.compiler_assembly.specs.Line.{plain}

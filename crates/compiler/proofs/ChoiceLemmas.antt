@@ -8,7 +8,7 @@ use Rattle.mcode.specs.Program.{Program, Frame, frame_at}
 use Rattle.mcode.specs.declared.kind.Kind.{Kind}
 use Rattle.mspec_syntax.specs.declared.mode.Mode.{Mode}
 use Rattle.mspec_syntax.specs.declared.mode.Mode.TheVariants.{Condition, Body}
-use Rattle.mspec_meaning.specs.Made.{failed}
+use Rattle.mspec_match.specs.Failure.{failed}
 use Rattle.mspec_meaning.specs.Decided.{and_at, and_step, or_at, or_step}
 use Rattle.compiler_assembly.specs.Line.{plain, before_label}
 use Rattle.compiler_assembly.specs.Assembled.{resolved}

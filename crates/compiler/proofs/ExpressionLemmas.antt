@@ -27,7 +27,8 @@ use Rattle.mspec_syntax.specs.Sound.{IsSoundExpression, AreSoundExpressions, Are
 use Rattle.mspec_syntax.specs.declared.mode.Mode.{Mode}
 use Rattle.mspec_syntax.specs.declared.mode.Mode.TheVariants.{Condition, Body}
 use Rattle.mspec_match.specs.Match.{Substitution, domain, lookup}
-use Rattle.mspec_meaning.specs.Made.{failed, made_of}
+use Rattle.mspec_match.specs.Failure.{failed}
+use Rattle.mspec_meaning.specs.Made.{made_of}
 use Rattle.mspec_meaning.specs.Called.{called}
 use Rattle.mspec_meaning.specs.Meaning.{before, at_key, joined, value_at, argument_values, entry_values as pair_values, all_true, any_true}
 use Rattle.mspec_meaning.proofs.MeaningLemmas.{value-some, lookup-some}

@@ -10,7 +10,8 @@ use Rattle.mcode.specs.Machine.{Bindings, jump}
 use Rattle.mcode.specs.Program.{Program}
 use Rattle.mcode.specs.declared.kind.Kind.{Kind}
 use Rattle.mspec_syntax.specs.declared.mode.Mode.{Mode}
-use Rattle.mspec_meaning.specs.Made.{failed, or_failed}
+use Rattle.mspec_match.specs.Failure.{failed}
+use Rattle.mspec_meaning.specs.Made.{or_failed}
 use Rattle.compiler_assembly.specs.Stands.{Stands}
 use Rattle.compiler_assembly.specs.Assembled.{resolved}
 use Rattle.compiler_expressions.specs.Expressions.{failure, exit_lines, cell_lines}

@@ -1,4 +1,5 @@
 pub mod WrittenLemmas
 pub mod SpelledLemmas
+pub mod FoundLemmas
 pub mod WritableLemmas
 pub mod WriteLemmas

@@ -8,7 +8,7 @@
 //!
 //! - Code that grows from the left, and which slots are bound behind it: `draft.rt`, `specs/Written.antt`. The lines of
 //!   a variable, whichever variables are known before: `slots.rt`, `variable_lines` of `specs/Leaves.antt`.
-//! - Patterns that spell a term, which is one constant of the code: `own.rt`.
+//! - Patterns that spell a term, which is one constant of the code, and that term (`spelled`): `own.rt`.
 //! - The lines of each kind of pattern: `write.rt`; those of a head: `head.rt`.
 #![tactic(auto)]
 
@@ -19,3 +19,4 @@ mod slots;
 mod write;
 
 pub use head::write_head;
+pub use own::spelled;

@@ -1,5 +1,5 @@
-//! Patterns that spell a term: neither a variable, `'_'` nor a map stands in them.
-ghost use Rattle.std.specs.Prelude.{◌≡◌, ℕ, ◌<◌, ◌≤◌, false, true, Some, length, map, drop, IfOk};
+//! Patterns that spell a term: neither a variable, `'_'` nor a map stands in them. The term that they spell.
+ghost use Rattle.std.specs.Prelude.{◌≡◌, ℕ, ◌<◌, ◌≤◌, false, true, Some, length, map, drop, IfOk, MatchOption};
 ghost use Rattle.mspec_syntax.specs.Pattern.{own_term, patterns_of, cells_of};
 ghost use Rattle.mspec_syntax.specs.Pattern.Pattern.{tuple_of};
 ghost use Rattle.mspec_syntax.specs.PatternView.{tail_pattern};
@@ -72,43 +72,97 @@ pub(crate) fn open_elements<A: Allocator>(
     0
 }
 
-/// The term that a pattern spells.
-#[cycle(own)]
-fn own_term<A: Allocator + Copy>(alloc: A, pattern: &Pattern<A>) -> Result<Term<A>, AllocError>
-    requires sound { IsSoundPattern pattern.now }
-    requires spells { spells pattern.now ≡ true }
-    ensures { IfOk result (λ term. own_term pattern.now ≡ Some term) }
+/// The term that a pattern spells, if it spells one.
+#[cycle(spelled)]
+pub fn spelled<A: Allocator + Copy>(
+    alloc: A,
+    pattern: &Pattern<A>,
+) -> Result<Option<Term<A>>, AllocError>
+    requires { IsSoundPattern pattern.now }
+    ensures { IfOk result (λ found. found ≡ own_term pattern.now) }
 {
     match pattern.kind() {
-        PatternKind::Anything => unreachable!(),
-        PatternKind::Variable(_) => unreachable!(),
-        PatternKind::Literal(term) => term.copy(),
-        PatternKind::Tuple(elements) => own_tuple(alloc, elements.as_slice()),
-        PatternKind::List(elements, tail) => own_list(alloc, elements.as_slice(), tail),
-        PatternKind::Map(_) => unreachable!(),
+        PatternKind::Anything => Ok(None),
+        PatternKind::Variable(_) => Ok(None),
+        PatternKind::Literal(term) => Ok(Some(term.copy()?)),
+        PatternKind::Tuple(elements) => spelled_tuple(alloc, elements.as_slice()),
+        PatternKind::List(elements, tail) => spelled_list(alloc, elements.as_slice(), tail),
+        PatternKind::Map(_) => Ok(None),
     }
 }
 
-/// The terms that patterns spell.
-#[cycle(own)]
-fn own_terms<A: Allocator + Copy>(
+/// The terms that patterns spell, if each of them spells one.
+#[cycle(spelled)]
+fn spelled_all<A: Allocator + Copy>(
     alloc: A,
     patterns: &[Pattern<A>],
-) -> Result<Vec<Term<A>, A>, AllocError>
-    requires sound { AreSoundPatterns (patterns_of patterns.now) }
-    requires spells { all_spell patterns.now ≡ true }
-    ensures { IfOk result (λ terms. map own_term patterns.now ≡ map Some terms.items) }
+) -> Result<Option<Vec<Term<A>, A>>, AllocError>
+    requires { AreSoundPatterns (patterns_of patterns.now) }
+    ensures { IfOk result (λ found. MatchOption found (all_spell patterns.now ≡ false)
+        (λ terms. map own_term patterns.now ≡ map Some terms.items)) }
 {
     let mut terms = Vec::with_capacity(alloc, patterns.len())?;
     for pattern in patterns {
-        let term = own_term(alloc, pattern)?;
+        let Some(term) = spelled(alloc, pattern)? else {
+            return Ok(None);
+        };
         terms.push(term)?;
     }
-    Ok(terms)
+    Ok(Some(terms))
 }
 
-/// The tuple that a pattern of these elements spells.
-#[cycle(own)]
+/// The tuple that a pattern of these elements spells, if it spells one.
+#[cycle(spelled)]
+fn spelled_tuple<A: Allocator + Copy>(
+    alloc: A,
+    elements: &[Pattern<A>],
+) -> Result<Option<Term<A>>, AllocError>
+    requires { IsSoundPattern (tuple_of (patterns_of elements.now)) }
+    ensures { IfOk result (λ found. found ≡ own_term (tuple_of (patterns_of elements.now))) }
+{
+    let Some(terms) = spelled_all(alloc, elements)? else {
+        return Ok(None);
+    };
+    make_tuple(alloc, terms)
+}
+
+/// The list that a pattern of these elements and this tail spells, if it spells one.
+#[cycle(spelled)]
+fn spelled_list<A: Allocator + Copy>(
+    alloc: A,
+    elements: &[Pattern<A>],
+    tail: &Option<Box<Pattern<A>, A>>,
+) -> Result<Option<Term<A>>, AllocError>
+    requires elements { 0 < length elements.now }
+    requires sound { IsSoundPattern (cells_of elements.now (tail_pattern tail.now)) }
+    ensures { IfOk result (λ found. found
+        ≡ own_term (cells_of elements.now (tail_pattern tail.now))) }
+{
+    let Some(terms) = spelled_all(alloc, elements)? else {
+        return Ok(None);
+    };
+    let Some(end) = spelled_tail(alloc, tail)? else {
+        return Ok(None);
+    };
+    make_list(alloc, terms, end)
+}
+
+/// The term that the tail of a list spells, if it spells one, `[]` where there is none.
+#[cycle(spelled)]
+fn spelled_tail<A: Allocator + Copy>(
+    alloc: A,
+    tail: &Option<Box<Pattern<A>, A>>,
+) -> Result<Option<Term<A>>, AllocError>
+    requires { IsSoundPattern (tail_pattern tail.now) }
+    ensures { IfOk result (λ found. found ≡ own_term (tail_pattern tail.now)) }
+{
+    match tail {
+        None => Ok(Some(Term::nil())),
+        Some(tail) => spelled(alloc, tail),
+    }
+}
+
+/// The tuple that a pattern of these elements spells, each of which spells a term.
 pub(crate) fn own_tuple<A: Allocator + Copy>(
     alloc: A,
     elements: &[Pattern<A>],
@@ -117,15 +171,13 @@ pub(crate) fn own_tuple<A: Allocator + Copy>(
     requires spells { all_spell elements.now ≡ true }
     ensures { IfOk result (λ term. own_term (tuple_of (patterns_of elements.now)) ≡ Some term) }
 {
-    let terms = own_terms(alloc, elements)?;
-    match make_tuple(alloc, terms)? {
+    match spelled_tuple(alloc, elements)? {
         Some(tuple) => Ok(tuple),
         None => unreachable!(),
     }
 }
 
-/// The list that a pattern of these elements and this tail spells.
-#[cycle(own)]
+/// The list that a pattern of these elements and this tail spells, which all spell terms.
 pub(crate) fn own_list<A: Allocator + Copy>(
     alloc: A,
     elements: &[Pattern<A>],
@@ -137,26 +189,8 @@ pub(crate) fn own_list<A: Allocator + Copy>(
     ensures { IfOk result (λ term. own_term (cells_of elements.now (tail_pattern tail.now))
         ≡ Some term) }
 {
-    let terms = own_terms(alloc, elements)?;
-    let tail = own_tail(alloc, tail)?;
-    match make_list(alloc, terms, tail)? {
+    match spelled_list(alloc, elements, tail)? {
         Some(list) => Ok(list),
         None => unreachable!(),
-    }
-}
-
-/// The term that the tail of a list spells, `[]` where there is none.
-#[cycle(own)]
-fn own_tail<A: Allocator + Copy>(
-    alloc: A,
-    tail: &Option<Box<Pattern<A>, A>>,
-) -> Result<Term<A>, AllocError>
-    requires sound { IsSoundPattern (tail_pattern tail.now) }
-    requires spells { spells (tail_pattern tail.now) ≡ true }
-    ensures { IfOk result (λ term. own_term (tail_pattern tail.now) ≡ Some term) }
-{
-    match tail {
-        None => Ok(Term::nil()),
-        Some(tail) => own_term(alloc, tail),
     }
 }

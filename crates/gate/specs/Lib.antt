@@ -1,3 +1,5 @@
 pub mod Views
 pub mod Rule
 pub mod Steps
+pub mod Sessions
+pub mod SessionFacts

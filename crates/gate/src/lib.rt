@@ -7,6 +7,7 @@
 //!
 //! - `gate`: the gate and its calls. `pass`: what a session goes through it with. `closed`: gates that were given up
 //!   together. `lost`: why a gate can't give the part out.
+//! - `session`: a session's passes through the gates of a table, by the numbers of the parts (`specs/Sessions.antt`).
 //! - `view`, `rule`: what each pass knows, as the rule sees it that holds between any two steps at the gate
 //!   (`specs/Rule.antt`), and what each step tells (`specs/Steps.antt`).
 #![tactic(auto)]
@@ -16,9 +17,11 @@ mod gate;
 mod lost;
 mod pass;
 mod rule;
+mod session;
 mod view;
 
 pub use closed::Closed;
 pub use gate::Gate;
 pub use lost::Lost;
 pub use pass::Pass;
+pub use session::Session;

@@ -43,25 +43,20 @@ fn record_all(worker: &mut Worker, answers: &[Term]) -> Option<()> {
 }
 
 /// All objects, in pieces; between two pieces the session writes where others write, too.
-fn pieces<R: Wait, T: Turns<Global>>(
-    rt: &R,
-    alloc: Global,
-    turns: &mut T,
-    worker: &mut Worker,
-) -> Option<()>
+fn pieces<T: Turns<Global>>(alloc: Global, turns: &mut T, worker: &mut Worker) -> Option<()>
     requires { T.is_ready turns.old }
     ensures ready { T.is_ready turns.new }
     ensures same { T.home turns.new ≡ T.home turns.old }
 {
     let limit = u64::from(worker.below(50)).saturating_add(1);
     let all = query(alloc, "[{'$1',[],['$1']}].")?;
-    let mut step = select_limit(rt, alloc, turns, all, limit).ok()?;
+    let mut step = select_limit(alloc, turns, all, limit).ok()?;
     for _piece in 0..MOST {
         match step {
             Step::Piece(answers, walk) => {
                 record_piece(worker, answers.as_slice())?;
                 worker.call_at_shared_key(alloc, turns)?;
-                step = select_more(rt, alloc, turns, walk).ok()?;
+                step = select_more(alloc, turns, walk).ok()?;
             }
             Step::End(_query) => return Some(()),
         }
@@ -287,7 +282,7 @@ pub(crate) fn walk<R: Threads + Wait + Sync, T: Turns<Global>, M: Turns<Global> 
         }
         6 => {
             worker.record(Event::Begun)?;
-            pieces(rt, alloc, turns, worker)?;
+            pieces(alloc, turns, worker)?;
             worker.record(Event::Ended)
         }
         7 => {

@@ -18,19 +18,15 @@ use kit_rows::{Kinds, judge_streams};
 use std::alloc::Global;
 use std::io;
 use std::process::ExitCode;
-use std::sync::Wait;
 use term_core::Term;
 
 /// The kinds of rows of parts and of scripts.
-#[derive(Drop)]
-struct TableKinds<'a, H: Wait> {
-    rt: &'a H,
-}
+struct TableKinds;
 
-impl<H: Wait> Kinds for TableKinds<'_, H> {
+impl Kinds for TableKinds {
     fn came(&self, alloc: Global, kind: &str, parts: &[Term], forms: usize) -> Option<Vec<u8>> {
         match kind {
-            "script" => scripts::came(self.rt, alloc, parts, forms),
+            "script" => scripts::came(alloc, parts, forms),
             _ => plays::came(alloc, kind, parts, forms),
         }
     }
@@ -44,10 +40,5 @@ impl<H: Wait> Kinds for TableKinds<'_, H> {
 }
 
 fn main(rt: HostRuntime) -> io::Result<ExitCode> {
-    judge_streams(
-        &TableKinds { rt: &rt },
-        rt.alloc(),
-        &mut rt.stdin(),
-        &mut rt.stdout(),
-    )
+    judge_streams(&TableKinds, rt.alloc(), &mut rt.stdin(), &mut rt.stdout())
 }

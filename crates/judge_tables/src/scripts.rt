@@ -8,7 +8,6 @@ use part_hash::HashPart;
 use part_order::OrderPart;
 use part_plain::PlainPart;
 use std::alloc::Global;
-use std::sync::Wait;
 use term_core::Term;
 use term_text::{read_terms, write_term};
 use tool_script::run_script;
@@ -27,34 +26,25 @@ fn script_of(alloc: Global, commands: &[Term]) -> Option<Vec<u8>> {
 }
 
 /// What a script is replied, with sets in such parts: the list of the replies.
-fn replies<H: Wait, S: Part<Global> + Drop>(
-    rt: &H,
-    alloc: Global,
-    commands: &[Term],
-) -> Option<Vec<u8>>
+fn replies<S: Part<Global> + Drop>(alloc: Global, commands: &[Term]) -> Option<Vec<u8>>
     requires { IsTrue (S.serves Set) }
 {
     let script = script_of(alloc, commands)?;
     let mut reader = script.as_slice();
     let mut out: Vec<u8> = Vec::new(alloc);
-    run_script::<_, S, OrderPart<Global>, _, _, _>(rt, alloc, &mut reader, &mut out).ok()?;
+    run_script::<S, OrderPart<Global>, _, _, _>(alloc, &mut reader, &mut out).ok()?;
     listed(alloc, read_terms(alloc, out.as_slice()).ok()?.as_slice())
 }
 
 /// What comes of a row of scripts in one of the forms.
-pub(crate) fn came<H: Wait>(
-    rt: &H,
-    alloc: Global,
-    parts: &[Term],
-    forms: usize,
-) -> Option<Vec<u8>> {
+pub(crate) fn came(alloc: Global, parts: &[Term], forms: usize) -> Option<Vec<u8>> {
     let [commands, _wanted] = parts else {
         return None;
     };
     let commands = elements(commands)?;
     if forms == 0 {
-        replies::<_, PlainPart<Global>>(rt, alloc, commands)
+        replies::<PlainPart<Global>>(alloc, commands)
     } else {
-        replies::<_, HashPart<Global>>(rt, alloc, commands)
+        replies::<HashPart<Global>>(alloc, commands)
     }
 }

@@ -5,7 +5,6 @@ use denote.RattleType.{RattleType}
 use denote.Ref.{ShrRef}
 use denote.Param.Send.{IsSend, IsSync, Frees, sendable}
 use Rattle.std.proofs.Crossing as heap
-use Rattle.std.proofs.CrossingOver.{crosses}
 use Rattle.std_heap.specs.contracts.Global as Heap
 use Rattle.std_heap.specs.contracts.GlobalAllocator.TheImpl.{ghosts as heap_ghosts}
 use Rattle.std.specs.declared.alloc.Allocator.{Ghosts}
@@ -13,8 +12,8 @@ use Rattle.std.specs.contracts.prelude.RefAllocator.TheImpl.{ghosts as lent_ghos
 use Rattle.kit_alloc.specs.contracts.failing.Failing.{the_row as failing_row}
 use Rattle.kit_alloc.specs.contracts.failing.FailingAllocator.TheImpl.{ghosts as failing_ghosts}
 use Rattle.kit_alloc.proofs.failing.FailingAllocator.TheSendSync as failing
-use Rattle.part_engine.proofs.stored.StoredPart.TheSendSync as stored
-use Rattle.part_send.proofs.SendLemmas.{plain_rows_send}
+use Rattle.part_engine.proofs.SendLemmas.{part_send}
+use Rattle.part_plain.proofs.SendLemmas.{plain_rows_send}
 use Rattle.part_plain.specs.contracts.rows.PlainRows.{the_row as plain_rows}
 use Rattle.part_engine.specs.contracts.stored.StoredPart.{the_row as stored_row}
 
@@ -30,10 +29,6 @@ lent_sync ℓ κ = search (sendable, failing_sync)
 -- a block goes back to what is lent
 lent_frees : (A : RattleType) (g : Ghosts A.Denot) (d e : Dict) → Frees g g.dealloc_token → Frees (lent_ghosts A g d e) (lent_ghosts A g d e).dealloc_token
 lent_frees A g d e f = record { frees = λ r. f.frees r.now }
-
-module _ (A : RattleType) (g : Ghosts A.Denot) (s : IsSend A) (y : IsSync A) (f : Frees g g.dealloc_token) where
-  part_send : (R : RattleType) → IsSend R → IsSend (stored_row R A g)
-  part_send R r = search (sendable, crosses, stored.the_send) depth 40
 
 -- rows and part hold the allocator for a lifetime each
 module _ (ℓ ℓ' : Lifetime) (κ κ' : Lft) (d e f h : Dict) where

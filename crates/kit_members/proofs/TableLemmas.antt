@@ -4,7 +4,7 @@ use Rattle.std.specs.Prelude.{All}
 use Rattle.std.proofs.lemmas.List.Elements.{All-map, All-weaker, All-head, All-tail}
 use Rattle.std.proofs.lemmas.Option.{slice_get-get_or}
 use Rattle.tables.specs.declared.options.Options.{Options}
-use Rattle.tables.specs.declared.session.Session.{Session}
+use Rattle.gate.specs.declared.session.Session.{Session}
 use Rattle.tables.specs.Opened.{AllOpened}
 use Rattle.tables.specs.Sessions.{IsOpened}
 use Rattle.tables.specs.Turns.{Home}

@@ -25,7 +25,7 @@ pub fn selected<R: Threads + Wait + Sync, T: Turns<Global>, M: Turns<Global> + S
     ensures members { AreMembers M.is_ready M.home members.new }
 {
     if members.is_empty() {
-        select(rt, alloc, turns, query).ok()
+        select(alloc, turns, query).ok()
     } else {
         select_parts(rt, alloc, members, query).ok()
     }
@@ -45,7 +45,7 @@ pub fn counted<R: Threads + Wait + Sync, T: Turns<Global>, M: Turns<Global> + Se
     ensures members { AreMembers M.is_ready M.home members.new }
 {
     if members.is_empty() {
-        select_count(rt, turns, query).ok()
+        select_count(turns, query).ok()
     } else {
         count_parts(rt, members, query).ok()
     }
@@ -65,7 +65,7 @@ pub fn deleted<R: Threads + Wait + Sync, T: Turns<Global>, M: Turns<Global> + Se
     ensures members { AreMembers M.is_ready M.home members.new }
 {
     if members.is_empty() {
-        select_delete(rt, turns, query).ok()
+        select_delete(turns, query).ok()
     } else {
         delete_parts(rt, members, query).ok()
     }

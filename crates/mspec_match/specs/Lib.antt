@@ -1,3 +1,4 @@
 pub mod Match
 pub mod Slots
+pub mod Failure
 pub mod Laws

@@ -4,7 +4,7 @@ use Rattle.term_operand.specs.Operand.{boolean_of, boolean}
 use Rattle.term_operand.specs.Value.{value_datum}
 use Rattle.term_core.specs.Datum.{Datum}
 use Rattle.mspec_syntax.specs.declared.mode.Mode.{Mode}
-use Rattle.mspec_meaning.specs.Made.{failed}
+use Rattle.mspec_match.specs.Failure.{failed}
 use Rattle.mspec_meaning.specs.declared.decided.Verdict.{Verdict}
 use Rattle.mspec_meaning.specs.declared.decided.Verdict.TheVariants as verdict
 

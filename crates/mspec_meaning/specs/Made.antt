@@ -1,15 +1,9 @@
--- What stands for an expression that fails, and what is made of the values of others.
+-- What is made of the values of expressions, and what stands there where it fails.
 use Rattle.std.specs.Prelude.{Option, Some, None, List}
 use Rattle.term_core.specs.Datum.{Datum, cells}
 use Rattle.term_core.specs.Limits.{within_limits}
-use Rattle.mspec_syntax.specs.Mode.{exit_term}
+use Rattle.mspec_match.specs.Failure.{failed}
 use Rattle.mspec_syntax.specs.declared.mode.Mode.{Mode}
-use Rattle.mspec_syntax.specs.declared.mode.Mode.TheVariants.{Condition, Body}
-
--- what stands for an expression that fails: no value in a condition, 'EXIT' in a body
-abbrev pub failed : Mode → Option Datum
-failed Condition = None
-failed Body = Some exit_term
 
 -- a value where there is one, else what stands for a failure
 abbrev pub or_failed : Mode → Option Datum → Option Datum

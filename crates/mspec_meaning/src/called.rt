@@ -1,5 +1,6 @@
 //! Calls of functions over values.
 use crate::environment::Environment;
+use mspec_match::failure;
 use prims::call_values;
 use prims_table::Primitive;
 use std::alloc::{AllocError, Allocator};
@@ -26,7 +27,7 @@ impl<'s, 'a, A: Allocator + Copy> Environment<'s, 'a, A> {
         };
         match call_values(self.heap(), function, values.as_slice())? {
             Some(value) => Ok(Some(value)),
-            None => self.failure(),
+            None => failure(self.alloc(), self.mode()),
         }
     }
 }

@@ -1,5 +1,6 @@
 //! Arguments of `andalso` and `orelse`.
 use crate::environment::Environment;
+use mspec_match::failure;
 use std::alloc::{AllocError, Allocator};
 use term_operand::Value;
 
@@ -38,7 +39,7 @@ impl<'s, 'a, A: Allocator + Copy> Environment<'s, 'a, A> {
                 }
                 Ok(Verdict::Ends(Some(Value::Bool(decides))))
             }
-            None => Ok(Verdict::Ends(self.failure()?)),
+            None => Ok(Verdict::Ends(failure(self.alloc(), self.mode())?)),
         }
     }
 }

@@ -4,8 +4,8 @@
 //! (`Means`, in `specs/Meaning.antt`), or that no memory was given.
 //!
 //! - What the value of an expression depends on, where it stands, what the variables are bound to, and the object:
-//!   `environment.rt`. What comes of the values of its parts: terms that are made, and what stands for a failure,
-//!   `made.rt`; calls, `called.rt`; arguments of `andalso` and `orelse`, `decided.rt`.
+//!   `environment.rt`. What comes of the values of its parts: terms that are made, `made.rt`; calls,
+//!   `called.rt`; arguments of `andalso` and `orelse`, `decided.rt`. What stands for a failure: `mspec_match::failure`.
 //! - The values of expressions: `value.rt`. A value is borrowed until it is put into a term or is the answer
 //!   (`term_operand::Value`).
 //! - Clauses and specifications: `clauses.rt`. When a head matches: `mspec_match`.

@@ -4,7 +4,7 @@ ghost use Rattle.std.specs.Option.{option_map};
 ghost use Rattle.term_operand.specs.Value.{value_datum};
 
 use crate::environment::Environment;
-use mspec_syntax::{Mode, exit_term};
+use mspec_match::failure;
 use std::alloc::{AllocError, Allocator};
 use term_build::{make_list, make_map, make_tuple};
 use term_core::Term;
@@ -60,17 +60,7 @@ impl<'s, 'a, A: Allocator + Copy> Environment<'s, 'a, A> {
     ghost use Rattle.term_core.specs.Datum.Datum.{nil, tuple, map};
     ghost use Rattle.term_core.specs.MapPairs.{AreRising};
     ghost use Rattle.mspec_match.specs.Match.{values_of};
-    ghost use Rattle.mspec_meaning.specs.Made.{failed, joined_to, made, made_of, or_failed};
-
-    /// The value of what fails: none in a condition, `'EXIT'` in a body.
-    pub fn failure(&self) -> Result<Option<Value<'a, A>>, AllocError>
-        ensures { IfOk result (λ value. option_map value_datum value ≡ failed self.now.mode) }
-    {
-        match self.mode() {
-            Mode::Condition => Ok(None),
-            Mode::Body => Ok(Some(Value::Made(exit_term(self.alloc())?))),
-        }
-    }
+    ghost use Rattle.mspec_meaning.specs.Made.{joined_to, made, made_of, or_failed};
 
     /// A term that was made, else the value of what fails.
     fn or_failure(&self, made: Option<Term<A>>) -> Result<Option<Value<'a, A>>, AllocError>
@@ -79,7 +69,7 @@ impl<'s, 'a, A: Allocator + Copy> Environment<'s, 'a, A> {
     {
         match made {
             Some(term) => Ok(Some(Value::Made(term))),
-            None => self.failure(),
+            None => failure(self.alloc(), self.mode()),
         }
     }
 

@@ -108,6 +108,13 @@ gains_until h w at before_all g k f before now then is_at walk open_still legal 
     let t = visit s.0 s.1 in
     (t.0, t.1, missed h w (start_of w) at before_all g k f v s.0 t.0 is_at walk open_still (begins_so_far w v walk).position (legal s.0 s.1) (legal_then t.0 t.1) s.2 t.2)
 
+-- visits, and then none: what was gained so far
+pub gains_so_far : {A : Type 0} (h : Home) (w : Walk) (first at : Position) (before_all g : Gained A) (before now : Views → Type 0) → ((v : Views) → now v → AreLegal h.options v) → Follows before now (GoesGaining h w first at before_all g) → Follows before now (StopsGaining h w first before_all g)
+gains_so_far h w first at before_all g before now legal so_far v b =
+    let s = so_far v b in
+    let went = s.2 in
+    (s.0, s.1, (at, went.0, (s.0, went.1, drifts_nowhere h s.0 (legal s.0 s.1)), λ earlier is. counted_too g (earlier ++ went.0) (went.2 earlier is)))
+
 -- ---- named keys
 
 -- the visit of the next key

@@ -1,5 +1,3 @@
-mod Sent
-mod RunLemmas
 mod VisitLemmas
 mod KeyLemmas
 mod GainLemmas

@@ -1,20 +1,15 @@
--- Queries may be seen by other threads, and answers handed to them.
+-- Queries may be seen by other threads.
 use denote.Ref.{NamedLft}
 use denote.RattleType.{RattleType}
 use denote.Param.Send.{IsSend, IsSync, Frees, sendable}
 use Rattle.std.proofs.CrossingOver.{crosses}
 use Rattle.std.specs.declared.alloc.Allocator.{Ghosts}
-use Rattle.term_core.proofs.term.Term.TheLaws.TheKnot.{both_send-Term}
-use Rattle.term_core.specs.contracts.term.Term.{the_row as term_row}
 use Rattle.walk_query.specs.contracts.plan.NamedKeys.{the_row as keys_row}
 use Rattle.walk_query.specs.contracts.query.Query.{the_row as query_row}
 use Rattle.parallel_select.specs.contracts.workers.Plan.{the_row as plan_row}
-use Rattle.parallel_select.proofs.Sent.{term_sync, verified_sync}
+use Rattle.parallel_list.proofs.Sent.{term_sync, verified_sync}
 
 module _ (A : RattleType) (g : Ghosts A.Denot) (s : IsSend A) (y : IsSync A) (f : Frees g g.dealloc_token) where
-  pub term_send : IsSend (term_row A g)
-  term_send = search (sendable, crosses, both_send-Term) depth 40
-
   keys_sync : IsSync (keys_row A g)
   keys_sync = search (sendable, crosses, term_sync) depth 40
 

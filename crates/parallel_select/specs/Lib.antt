@@ -1,4 +1,3 @@
-pub mod Runs
 pub mod Gained
 pub mod Parts
 pub mod Workers

@@ -1,11 +1,9 @@
 //! Selection by several threads.
 //!
-//! The contracts: `run_list` gives the answers of code on a list of objects, in their order, whatever the number of
-//! threads. `select_parts`, `count_parts` and `delete_parts` make one walk through each part of a table, each by the
-//! session of one worker (`specs/Parts.antt`), and over every interleaving what a walk gains is its answer
-//! (`specs/Laws.antt`).
+//! The contracts: `select_parts`, `count_parts` and `delete_parts` make one walk through each part of a table, each by
+//! the session of one worker (`specs/Parts.antt`), and over every interleaving what a walk gains is its answer
+//! (`specs/Laws.antt`). `run_list` of `parallel_list`, the answers on a list of objects, is passed on.
 //!
-//! - `list`: the runs of a list, in threads; `runs`: a run of objects, which one machine answers.
 //! - `gained`: what walks gain; `visits`: the visits of a walk through one part;
 //!   `part`: such a walk with the fix of its own; `worker`: the walks of one worker; `workers`: workers side by side;
 //!   `selecting`: the calls; `fault`: their refusals; `laws`: what the walks mean.
@@ -14,9 +12,7 @@
 mod fault;
 mod gained;
 mod laws;
-mod list;
 mod part;
-mod runs;
 mod selecting;
 mod visits;
 mod worker;
@@ -24,5 +20,5 @@ mod workers;
 
 pub use fault::SelectFault;
 pub use laws::{broken_parts_are_gathered, counts_join, parts_are_answered, parts_join};
-pub use list::{LEAST_RUN, run_list};
+pub use parallel_list::{LEAST_RUN, run_list};
 pub use selecting::{MOST_MEMBERS, count_parts, delete_parts, select_parts};

@@ -12,7 +12,6 @@ ghost use Rattle.parallel_select.specs.Parts.{part_walk, ChangesFix, FixesFirst,
 use crate::gained::{Asking, Gained};
 use crate::visits::visit_part;
 use std::alloc::{AllocError, Allocator};
-use std::sync::Wait;
 use tables::{Turns, fix_at, unfix_at};
 use walks::Query;
 
@@ -50,8 +49,7 @@ fn release<A: Allocator, T: Turns<A>>(turns: &mut T, part: u8, own: bool)
 
 /// Walks through a part, with a fix of its own if the session doesn't fix the part. That is released at the end, also
 /// where the walk is refused.
-pub(crate) fn select_part<R: Wait, A: Allocator, T: Turns<A>>(
-    rt: &R,
+pub(crate) fn select_part<A: Allocator, T: Turns<A>>(
     turns: &mut T,
     query: &Query<A>,
     asking: Asking,
@@ -70,7 +68,7 @@ pub(crate) fn select_part<R: Wait, A: Allocator, T: Turns<A>>(
         (CeasesGaining (T.home turns.old) (part_walk (T.home turns.old) (purpose_of asking) query.now part) gained.old gained.new)) }
 {
     let own = fix_first(turns, part);
-    let walked = visit_part(rt, turns, query, asking, part, gained);
+    let walked = visit_part(turns, query, asking, part, gained);
     release(turns, part, own);
     walked
 }

@@ -9,7 +9,6 @@ use crate::fault::SelectFault;
 use crate::gained::Asking;
 use crate::workers::{Plan, answer_each, tally_each};
 use std::alloc::{AllocError, Allocator};
-use std::sync::Wait;
 use std::thread::Threads;
 use tables::Turns;
 use term_core::{Refused, Term};
@@ -41,7 +40,7 @@ fn join_lists<A: Allocator + Copy>(
 }
 
 /// The answers of each part, by a worker for each member.
-fn answer_parts_of<R: Threads + Wait + Sync, A: Allocator + Copy + Send + Sync, T: Turns<A> + Send>(
+fn answer_parts_of<R: Threads + Sync, A: Allocator + Copy + Send + Sync, T: Turns<A> + Send>(
     rt: &R,
     alloc: A,
     members: &mut [T],
@@ -71,11 +70,12 @@ fn answer_parts_of<R: Threads + Wait + Sync, A: Allocator + Copy + Send + Sync, 
 /// of a set that the session doesn't fix is fixed first, and released at the walk's end, also where it is refused. The
 /// answers stand in the order of the parts. Where there aren't 1 to 16 members, it is refused before any turn; want of
 /// memory is told once all workers have ended.
-pub fn select_parts<
-    R: Threads + Wait + Sync,
-    A: Allocator + Copy + Send + Sync,
-    T: Turns<A> + Send,
->(rt: &R, alloc: A, members: &mut [T], query: &Query<A>) -> Result<Vec<Term<A>, A>, SelectFault>
+pub fn select_parts<R: Threads + Sync, A: Allocator + Copy + Send + Sync, T: Turns<A> + Send>(
+    rt: &R,
+    alloc: A,
+    members: &mut [T],
+    query: &Query<A>,
+) -> Result<Vec<Term<A>, A>, SelectFault>
     requires ready { All T.is_ready members.old }
     requires table { AreOfOneTable (map T.home members.old) }
     ensures ready { All T.is_ready members.new }
@@ -100,7 +100,7 @@ pub fn select_parts<
 }
 
 /// Counts, or deletes and counts, by a worker for each member; a refusal has the number until then.
-fn tally_parts<R: Threads + Wait + Sync, A: Allocator + Copy + Send + Sync, T: Turns<A> + Send>(
+fn tally_parts<R: Threads + Sync, A: Allocator + Copy + Send + Sync, T: Turns<A> + Send>(
     rt: &R,
     members: &mut [T],
     query: &Query<A>,
@@ -135,7 +135,7 @@ fn tally_parts<R: Threads + Wait + Sync, A: Allocator + Copy + Send + Sync, T: T
 }
 
 /// How many objects of a table answer `true` to a query, at most 2^64 - 1, by workers as in `select_parts`.
-pub fn count_parts<R: Threads + Wait + Sync, A: Allocator + Copy + Send + Sync, T: Turns<A> + Send>(
+pub fn count_parts<R: Threads + Sync, A: Allocator + Copy + Send + Sync, T: Turns<A> + Send>(
     rt: &R,
     members: &mut [T],
     query: &Query<A>,
@@ -159,11 +159,11 @@ pub fn count_parts<R: Threads + Wait + Sync, A: Allocator + Copy + Send + Sync, 
 
 /// Deletes the objects of a table that answer `true` to a query, each in the turn in which it was asked, and answers
 /// how many, at most 2^64 - 1, by workers as in `select_parts`; a refusal has the number until then.
-pub fn delete_parts<
-    R: Threads + Wait + Sync,
-    A: Allocator + Copy + Send + Sync,
-    T: Turns<A> + Send,
->(rt: &R, members: &mut [T], query: &Query<A>) -> Result<u64, Refused<u64, SelectFault>>
+pub fn delete_parts<R: Threads + Sync, A: Allocator + Copy + Send + Sync, T: Turns<A> + Send>(
+    rt: &R,
+    members: &mut [T],
+    query: &Query<A>,
+) -> Result<u64, Refused<u64, SelectFault>>
     requires ready { All T.is_ready members.old }
     requires table { AreOfOneTable (map T.home members.old) }
     ensures ready { All T.is_ready members.new }

@@ -13,9 +13,9 @@ ghost use Rattle.parallel_select.specs.Parts.{part_walk, Visited, Missed, GoesGa
 use crate::gained::{Asking, Gained, visit_op};
 use part_core::{Cursor, Fault, Scope};
 use std::alloc::{AllocError, Allocator};
-use std::sync::Wait;
 use tables::{Turns, part_of_key, turn_at};
 use term_core::Term;
+use walk_core::scope_from;
 use walks::Query;
 
 /// Makes one visit, and takes in what it told.
@@ -42,16 +42,6 @@ fn visit<A: Allocator, T: Turns<A>>(
     match gained.take_in(reply) {
         Ok(next) => Ok(next),
         Err(_) => Err(Fault::Memory),
-    }
-}
-
-/// What a visit looks at that goes on from a cursor, or begins.
-fn scope_from<A: Allocator>(cursor: &Option<Cursor<A>>) -> Scope<'_, A>
-    ensures { scope_of result ≡ scope_from (option_map cursor_of cursor.now) }
-{
-    match cursor {
-        Some(cursor) => Scope::After(cursor),
-        None => Scope::Begin,
     }
 }
 
@@ -91,8 +81,7 @@ fn visit_from<A: Allocator, T: Turns<A>>(
 }
 
 /// Makes the visits of a walk through a part that are left.
-fn visit_rest<R: Wait, A: Allocator, T: Turns<A>>(
-    rt: &R,
+fn visit_rest<A: Allocator, T: Turns<A>>(
     turns: &mut T,
     query: &Query<A>,
     asking: Asking,
@@ -115,19 +104,18 @@ fn visit_rest<R: Wait, A: Allocator, T: Turns<A>>(
         (StopsGaining (T.home turns.old) (part_walk (T.home turns.old) (purpose_of asking) query.now part)
         (start_of (part_walk (T.home turns.old) (purpose_of asking) query.now part)) gained.old gained.new)) }
 {
-    for _visit in rt.forever() {
+    for _visit in 0..u64::MAX {
         match visit_from(turns, query, asking, part, cursor, gained) {
             Ok(true) => (),
             Ok(false) => return Ok(()),
             Err(_) => return Err(AllocError),
         }
     }
-    unreachable!()
+    Err(AllocError)
 }
 
 /// Makes the visits of a walk through a part.
-fn visit_all<R: Wait, A: Allocator, T: Turns<A>>(
-    rt: &R,
+fn visit_all<A: Allocator, T: Turns<A>>(
     turns: &mut T,
     query: &Query<A>,
     asking: Asking,
@@ -149,7 +137,7 @@ fn visit_all<R: Wait, A: Allocator, T: Turns<A>>(
         (start_of (part_walk (T.home turns.old) (purpose_of asking) query.now part)) gained.old gained.new)) }
 {
     let mut cursor = None;
-    visit_rest(rt, turns, query, asking, part, &mut cursor, gained)
+    visit_rest(turns, query, asking, part, &mut cursor, gained)
 }
 
 /// Lets go of where a walk would go on.
@@ -217,8 +205,7 @@ fn visit_keys<A: Allocator, T: Turns<A>>(
 }
 
 /// Makes the visits of a walk through a part, or through the named keys that stand there.
-pub(crate) fn visit_part<R: Wait, A: Allocator, T: Turns<A>>(
-    rt: &R,
+pub(crate) fn visit_part<A: Allocator, T: Turns<A>>(
     turns: &mut T,
     query: &Query<A>,
     asking: Asking,
@@ -241,6 +228,6 @@ pub(crate) fn visit_part<R: Wait, A: Allocator, T: Turns<A>>(
     let options = turns.options();
     match query.keys_at(options.keypos, options.kind.is_ordered()) {
         Some(keys) => visit_keys(turns, query, asking, part, keys, gained),
-        None => visit_all(rt, turns, query, asking, part, gained),
+        None => visit_all(turns, query, asking, part, gained),
     }
 }

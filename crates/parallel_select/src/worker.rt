@@ -9,14 +9,12 @@ ghost use Rattle.parallel_select.specs.Parts.{part_walk, is_share, answers_of, P
 use crate::gained::{Asking, Gained};
 use crate::part::select_part;
 use std::alloc::{AllocError, Allocator};
-use std::sync::Wait;
 use tables::Turns;
 use term_core::{Refused, Term};
 use walks::Query;
 
 /// The answers of a part, none of one that is another worker's.
-fn answer_part<R: Wait, A: Allocator + Copy, T: Turns<A>>(
-    rt: &R,
+fn answer_part<A: Allocator + Copy, T: Turns<A>>(
     alloc: A,
     query: &Query<A>,
     workers: u8,
@@ -38,15 +36,14 @@ fn answer_part<R: Wait, A: Allocator + Copy, T: Turns<A>>(
         return Ok(Vec::new(alloc));
     }
     let mut gained = Gained::no_answers(alloc);
-    match select_part(rt, turns, query, Asking::Answers, part, &mut gained) {
+    match select_part(turns, query, Asking::Answers, part, &mut gained) {
         Ok(()) => Ok(gained.into_answers()),
         Err(_) => Err(AllocError),
     }
 }
 
 /// The answers of each part, none of those that are other workers'.
-pub(crate) fn answer_parts<R: Wait, A: Allocator + Copy, T: Turns<A>>(
-    rt: &R,
+pub(crate) fn answer_parts<A: Allocator + Copy, T: Turns<A>>(
     alloc: A,
     query: &Query<A>,
     workers: u8,
@@ -70,7 +67,7 @@ pub(crate) fn answer_parts<R: Wait, A: Allocator + Copy, T: Turns<A>>(
     };
     let mut lists = lists;
     for part in 0..parts {
-        match answer_part(rt, alloc, query, workers, number, part, turns) {
+        match answer_part(alloc, query, workers, number, part, turns) {
             Ok(answers) => lists.push_reserved(answers),
             Err(_) => return Err(AllocError),
         }
@@ -79,8 +76,7 @@ pub(crate) fn answer_parts<R: Wait, A: Allocator + Copy, T: Turns<A>>(
 }
 
 /// Counts or deletes in a part, if it is the worker's own.
-fn count_part<R: Wait, A: Allocator, T: Turns<A>>(
-    rt: &R,
+fn count_part<A: Allocator, T: Turns<A>>(
     query: &Query<A>,
     asking: Asking,
     workers: u8,
@@ -104,12 +100,11 @@ fn count_part<R: Wait, A: Allocator, T: Turns<A>>(
     if part % workers != number {
         return Ok(());
     }
-    select_part(rt, turns, query, asking, part, gained)
+    select_part(turns, query, asking, part, gained)
 }
 
 /// How many objects of the parts answer true that are the worker's own; a refusal has the number until then.
-pub(crate) fn count_parts_of<R: Wait, A: Allocator, T: Turns<A>>(
-    rt: &R,
+pub(crate) fn count_parts_of<A: Allocator, T: Turns<A>>(
     query: &Query<A>,
     asking: Asking,
     workers: u8,
@@ -128,7 +123,7 @@ pub(crate) fn count_parts_of<R: Wait, A: Allocator, T: Turns<A>>(
 {
     let mut gained: Gained<A> = Gained::nothing_counted();
     for part in 0..turns.options().parts {
-        match count_part(rt, query, asking, workers, number, part, turns, &mut gained) {
+        match count_part(query, asking, workers, number, part, turns, &mut gained) {
             Ok(()) => (),
             Err(_) => {
                 return Err(Refused {

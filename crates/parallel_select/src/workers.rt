@@ -12,7 +12,6 @@ use crate::gained::{Asking, capped_sum};
 use crate::worker::{answer_parts, count_parts_of};
 use std::alloc::{AllocError, Allocator};
 use std::mem;
-use std::sync::Wait;
 use std::thread::{Threads, join_mut};
 use tables::Turns;
 use term_core::{Refused, Term};
@@ -28,8 +27,7 @@ pub(crate) struct Tally {
 }
 
 /// Lets one worker count.
-fn count_own<R: Wait, A: Allocator, T: Turns<A>>(
-    rt: &R,
+fn count_own<A: Allocator, T: Turns<A>>(
     query: &Query<A>,
     asking: Asking,
     workers: u8,
@@ -44,7 +42,7 @@ fn count_own<R: Wait, A: Allocator, T: Turns<A>>(
     ensures done { Follows (T.sees turns.old) (T.sees turns.new)
         (Tallied (T.home turns.old) (part_walk (T.home turns.old) (purpose_of asking) query.now) (is_share workers number) result.refused result.count) }
 {
-    match count_parts_of(rt, query, asking, workers, number, turns) {
+    match count_parts_of(query, asking, workers, number, turns) {
         Ok(count) => Tally {
             count,
             refused: false,
@@ -69,7 +67,7 @@ fn together(one: Tally, others: Tally) -> Tally
 /// Lets one member count in a thread of its own, and the others each in another.
 // A function of its own, so that what the closures require is what it is given.
 #[cycle(tallies)]
-fn tally_both<R: Threads + Wait + Sync, A: Allocator + Copy + Send + Sync, T: Turns<A> + Send>(
+fn tally_both<R: Threads + Sync, A: Allocator + Copy + Send + Sync, T: Turns<A> + Send>(
     rt: &R,
     query: &Query<A>,
     asking: Asking,
@@ -87,9 +85,9 @@ fn tally_both<R: Threads + Wait + Sync, A: Allocator + Copy + Send + Sync, T: Tu
     let (one, others) = join_mut(
         rt,
         &mut || -> Tally
-            requires { IsSync R.row × T.is_ready first.now × (0 < workers) × (is_counting asking ≡ true) }
+            requires { T.is_ready first.now × (0 < workers) × (is_counting asking ≡ true) }
             ensures { Did T.is_ready T.home T.sees (λ h. Tallied h (part_walk h (purpose_of asking) query.entry.now) (is_share workers number) result.refused result.count) first.entry.now first.exit.now }
-        { count_own(rt, query, asking, workers, number, first) },
+        { count_own(query, asking, workers, number, first) },
         &mut || -> Tally
             requires { IsSync R.row × All T.is_ready rest.now × (number + 1 + length rest.now ≤ workers) × (is_counting asking ≡ true) }
             ensures { EachTallied T.is_ready T.home T.sees query.entry.now (purpose_of asking) workers result.refused result.count (number + 1) rest.entry.now rest.exit.now }
@@ -100,11 +98,14 @@ fn tally_both<R: Threads + Wait + Sync, A: Allocator + Copy + Send + Sync, T: Tu
 
 /// Lets each member count, each in a thread of its own, the first one as the worker of this number.
 #[cycle(tallies)]
-pub(crate) fn tally_each<
-    R: Threads + Wait + Sync,
-    A: Allocator + Copy + Send + Sync,
-    T: Turns<A> + Send,
->(rt: &R, query: &Query<A>, asking: Asking, workers: u8, number: u8, members: &mut [T]) -> Tally
+pub(crate) fn tally_each<R: Threads + Sync, A: Allocator + Copy + Send + Sync, T: Turns<A> + Send>(
+    rt: &R,
+    query: &Query<A>,
+    asking: Asking,
+    workers: u8,
+    number: u8,
+    members: &mut [T],
+) -> Tally
     requires ready { All T.is_ready members.old }
     requires workers { number + length members.old ≤ workers }
     requires counting { is_counting asking ≡ true }
@@ -231,8 +232,7 @@ pub(crate) struct Plan<'q, A: Allocator> {
 }
 
 /// Lets one member answer.
-fn answer_one<R: Wait, A: Allocator + Copy, T: Turns<A>>(
-    rt: &R,
+fn answer_one<A: Allocator + Copy, T: Turns<A>>(
     plan: &Plan<'_, A>,
     number: u8,
     one: &mut [T],
@@ -242,20 +242,13 @@ fn answer_one<R: Wait, A: Allocator + Copy, T: Turns<A>>(
     requires workers { 0 < plan.now.workers }
     ensures { Gathered T.is_ready T.home T.sees plan.now.query.now plan.now.workers number (λ lists. map vec_items lists.items) result one.old one.new }
 {
-    answer_parts(
-        rt,
-        plan.alloc,
-        plan.query,
-        plan.workers,
-        number,
-        &mut one[0],
-    )
+    answer_parts(plan.alloc, plan.query, plan.workers, number, &mut one[0])
 }
 
 /// Lets one member answer in a thread of its own, and the others each in another.
 // A function of its own, so that what the closures require is what it is given.
 #[cycle(answers)]
-fn answer_both<R: Threads + Wait + Sync, A: Allocator + Copy + Send + Sync, T: Turns<A> + Send>(
+fn answer_both<R: Threads + Sync, A: Allocator + Copy + Send + Sync, T: Turns<A> + Send>(
     rt: &R,
     plan: &Plan<'_, A>,
     number: u8,
@@ -275,9 +268,9 @@ fn answer_both<R: Threads + Wait + Sync, A: Allocator + Copy + Send + Sync, T: T
     let (own, others) = join_mut(
         rt,
         &mut || -> Result<Vec<Vec<Term<A>, A>, A>, AllocError>
-            requires { IsSync R.row × (length one.now ≡ 1) × All T.is_ready one.now × (0 < plan.now.workers) }
+            requires { (length one.now ≡ 1) × All T.is_ready one.now × (0 < plan.now.workers) }
             ensures { Gathered T.is_ready T.home T.sees plan.entry.now.query.now plan.entry.now.workers number (λ lists. map vec_items lists.items) result one.entry.now one.exit.now }
-        { answer_one(rt, plan, number, one) },
+        { answer_one(plan, number, one) },
         &mut || -> Result<Vec<Vec<Term<A>, A>, A>, AllocError>
             requires { IsSync R.row × All T.is_ready rest.now × All (λ turns. (T.home turns).options.parts ≡ plan.now.parts) rest.now × (number + 1 + length rest.now ≤ plan.now.workers) × (plan.now.workers < 256) }
             ensures { GatheredEach T.is_ready T.home T.sees plan.entry.now.query.now plan.entry.now.workers (number + 1) plan.entry.now.parts (λ lists. map vec_items lists.items) result rest.entry.now rest.exit.now }
@@ -288,11 +281,7 @@ fn answer_both<R: Threads + Wait + Sync, A: Allocator + Copy + Send + Sync, T: T
 
 /// Lets each member answer, each in a thread of its own, the first one as the worker of this number.
 #[cycle(answers)]
-pub(crate) fn answer_each<
-    R: Threads + Wait + Sync,
-    A: Allocator + Copy + Send + Sync,
-    T: Turns<A> + Send,
->(
+pub(crate) fn answer_each<R: Threads + Sync, A: Allocator + Copy + Send + Sync, T: Turns<A> + Send>(
     rt: &R,
     plan: &Plan<'_, A>,
     number: u8,

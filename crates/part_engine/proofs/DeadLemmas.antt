@@ -15,7 +15,7 @@ use Rattle.part_core.specs.Settings.{key_of}
 use Rattle.part_core.specs.Rows.{Row, has_row, is_empty, is_live, objects_at, rows_at_key, with_object}
 use Rattle.part_core.proofs.KeyLemmas.{by_test}
 use Rattle.part_engine.specs.Dead.{dead_rows, one_dead}
-use Rattle.part_engine.specs.Shown.{rows_exchanged}
+use Rattle.part_rows.specs.Shown.{rows_exchanged}
 use Rattle.part_engine.proofs.SetLemmas.{exchanged_out, exchanged_there, written}
 
 dead_cons : (r : Row) (rows : List Row) → dead_rows (r ∷ rows) ≡ one_dead r.1 + dead_rows rows

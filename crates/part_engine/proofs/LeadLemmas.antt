@@ -31,7 +31,7 @@ use Rattle.part_core.proofs.KeyLemmas.{by_test}
 use Rattle.part_core.proofs.KeyedLemmas.{object_key, written_of, rewritten}
 use Rattle.part_core.proofs.RowLemmas.{unwritten}
 use Rattle.part_core.proofs.StateLemmas.{after_replied, after_refused}
-use Rattle.part_engine.specs.Shown.{Shown, AreSound, shown_exchanged, shown_live, shown_with, state_of}
+use Rattle.part_rows.specs.Shown.{Shown, AreSound, shown_exchanged, shown_live, shown_with, state_of}
 use Rattle.part_engine.specs.Stored.{IsAfter, Leads}
 use Rattle.part_engine.specs.declared.stored.StoredPart.{StoredPart}
 use Rattle.part_engine.proofs.SweepLemmas.{exchanged}

@@ -5,3 +5,4 @@ pub mod VisitLemmas
 pub mod SetLemmas
 pub mod WalkLemmas
 pub mod DeadLemmas
+pub mod SendLemmas

@@ -14,7 +14,8 @@ use Rattle.part_core.specs.Acts.Scope.{Begin, After, Named}
 use Rattle.part_core.specs.Rows.{Row, PartState}
 use Rattle.part_core.specs.Visits.{most_rows, next_key, rows_up_to, rows_behind, visited_rows, next_of, answers_of}
 use Rattle.part_core.proofs.KeyLemmas.{by_test}
-use Rattle.part_engine.specs.Looks.{looked_at, next_after, rows_until, stops}
+use Rattle.part_rows.specs.Looks.{looked_at}
+use Rattle.part_engine.specs.Looks.{next_after, rows_until, stops}
 
 -- at a place a visit has seen the rows before, and goes on with those from there, so many answers being still wanted
 pub record Sees (stops : Bool) (answers : Row → ℕ) (wanted : ℕ) (rows : List Row) (place wanting : ℕ) : Type 0 where

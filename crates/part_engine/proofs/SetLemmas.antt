@@ -13,7 +13,7 @@ use Rattle.part_core.specs.Rows.{Row, is_empty, is_live, has_row, objects_at, ro
 use Rattle.part_core.proofs.KeyLemmas.{by_test, same_is}
 use Rattle.part_core.proofs.KeyedLemmas.{no_other, none_there}
 use Rattle.part_core.proofs.RowLemmas.{unwritten}
-use Rattle.part_engine.specs.Shown.{rows_exchanged}
+use Rattle.part_rows.specs.Shown.{rows_exchanged}
 use Rattle.part_engine.specs.Sets.{serves}
 
 pub set_served : (kind : TableKind) → IsTrue (serves kind) → kind ≡ Set

@@ -22,7 +22,7 @@ use Rattle.part_core.proofs.KeyLemmas.{by_test, same_keys, same_is, alike}
 use Rattle.part_core.proofs.RowLemmas.{rows_by, lookup_by, keys_by, among_passing, apart}
 use Rattle.part_core.proofs.StateLemmas.{same_keys_rows, filtered_rows}
 use Rattle.part_core.proofs.StepLemmas.{each_by, row_where, filtered_row}
-use Rattle.part_engine.specs.Shown.{Shown, AreSound, rows_exchanged, shown_exchanged}
+use Rattle.part_rows.specs.Shown.{Shown, AreSound, rows_exchanged, shown_exchanged}
 use Rattle.part_engine.specs.Deletions.{rows_left, rows_swept}
 
 -- ---- one key

@@ -28,8 +28,9 @@ use Rattle.part_core.specs.Visits.{answers_of, is_inside, is_true, next_of, visi
 use Rattle.part_core.proofs.AfterLemmas.{kept_after, read_after}
 use Rattle.part_core.proofs.StateLemmas.{after_replied, after_refused, visited_is_covered}
 use Rattle.part_engine.specs.Deletions.{deleted_from, rows_left, rows_swept, shown_swept, IsChosen}
-use Rattle.part_engine.specs.Looks.{looked_at, next_after, rows_until, stops}
-use Rattle.part_engine.specs.Shown.{Shown, state_of}
+use Rattle.part_rows.specs.Looks.{looked_at}
+use Rattle.part_engine.specs.Looks.{next_after, rows_until, stops}
+use Rattle.part_rows.specs.Shown.{Shown, state_of}
 use Rattle.part_engine.proofs.LeadLemmas.{Says}
 use Rattle.part_engine.proofs.SeenLemmas.{Sees, Saw, sees_more, sees_last, visited, goes_on}
 use Rattle.part_engine.proofs.SweepLemmas.{swept, left_each}

@@ -8,8 +8,9 @@ use Rattle.part_core.specs.Acts.Purpose.{Deletes}
 use Rattle.part_core.specs.Replies.{most_counted}
 use Rattle.part_core.specs.Rows.{Row}
 use Rattle.part_core.specs.Visits.{answers_of, is_true, yield_of_rows}
-use Rattle.part_engine.specs.Looks.{looked_at, next_after, rows_until, stops}
-use Rattle.part_engine.specs.Shown.{Shown, rows_exchanged}
+use Rattle.part_rows.specs.Looks.{looked_at}
+use Rattle.part_engine.specs.Looks.{next_after, rows_until, stops}
+use Rattle.part_rows.specs.Shown.{Shown, rows_exchanged}
 
 -- what is left of the rows of which objects answer true
 abbrev pub rows_left : Program → List Row → List Row

@@ -1,4 +1,3 @@
-pub mod Shown
 pub mod Looks
 pub mod Deletions
 pub mod Stored

@@ -1,27 +1,12 @@
--- What a visit may look at, and how far it goes.
-use Rattle.std.specs.Prelude.{ℕ, ◌-◌, ◌==◌, ◌&&◌, Bool, true, false, not, if◌then◌else◌, nat_lt, Option, None, filter, take, List, [], ◌∷◌}
-use Rattle.term_operand.specs.Order.{is_same}
+-- How far a visit goes, and where the walk goes on.
+use Rattle.std.specs.Prelude.{ℕ, ◌-◌, ◌==◌, ◌&&◌, Bool, false, if◌then◌else◌, Option, None, List, [], ◌∷◌}
 use Rattle.part_core.specs.declared.settings.Settings.{Settings}
 use Rattle.part_core.specs.Settings.{is_ordered}
 use Rattle.part_core.specs.Acts.{Cursor, Scope}
 use Rattle.part_core.specs.Acts.Cursor.{Class, Behind}
 use Rattle.part_core.specs.Acts.Scope.{Begin, After, Named}
 use Rattle.part_core.specs.Rows.{Row}
-use Rattle.part_core.specs.Visits.{in_class, most_rows, next_class, next_key, rows_behind}
-
--- a place where a visit of such a table can look: in a set a class that is below its base, in an ordered set any key
-abbrev pub is_placed : Settings → Scope → Bool
-is_placed o (After (Class base class)) = not (is_ordered o.kind) && nat_lt class base
-is_placed o (After (Behind k)) = is_ordered o.kind
-is_placed o scope = true
-
--- the rows that a visit may look at
-abbrev pub looked_at : Settings → ℕ → Scope → List Row → List Row
-looked_at o base (Named k) rows = filter (λ r. is_same k r.0) rows
-looked_at o base (After (Class other class)) rows = in_class o other class rows
-looked_at o base (After (Behind k)) rows = take most_rows (rows_behind k rows)
-looked_at o base Begin rows =
-    if is_ordered o.kind then take most_rows rows else in_class o base 0 rows
+use Rattle.part_core.specs.Visits.{next_class, next_key}
 
 -- a visit stops once it has the answers that are wanted: one of an ordered set, but for a named key
 abbrev pub stops : Settings → Scope → Bool

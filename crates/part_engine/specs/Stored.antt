@@ -6,7 +6,7 @@ use Rattle.part_core.specs.Replies.{reply_of}
 use Rattle.part_core.specs.After.{after}
 use Rattle.part_core.specs.States.{IsState}
 use Rattle.part_core.specs.Legal.{state_after, IsLegal}
-use Rattle.part_engine.specs.Shown.{Shown, state_of}
+use Rattle.part_rows.specs.Shown.{Shown, state_of}
 use Rattle.part_engine.specs.declared.stored.StoredPart.{StoredPart}
 
 -- a part is in a state after a history, which is legal

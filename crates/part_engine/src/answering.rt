@@ -9,11 +9,10 @@ ghost use Rattle.part_engine.specs.Looks.{rows_until};
 ghost use Rattle.part_engine.specs.Stored.{Leads};
 
 use crate::looking::{Reach, is_over};
-use crate::rows::Rows;
-use crate::seen::SeenRow;
 use crate::stored::StoredPart;
 use machine::Machine;
 use part_core::{Fault, Held, Look, Reply};
+use part_rows::{Rows, SeenRow};
 use std::alloc::{AllocError, Allocator};
 use term_core::Term;
 use verifier::Verified;

@@ -4,12 +4,12 @@ ghost use Rattle.part_core.specs.Acts.Act.{Fix, Unfix, Release};
 ghost use Rattle.part_core.specs.Acts.Answer.{Replied};
 ghost use Rattle.part_core.specs.Ops.{answer_in, said_of};
 ghost use Rattle.part_core.specs.Rows.{is_fixed};
-ghost use Rattle.part_engine.specs.Shown.{Shown, shown_live};
+ghost use Rattle.part_rows.specs.Shown.{Shown, shown_live};
 ghost use Rattle.part_engine.specs.Stored.{Leads};
 
-use crate::rows::Rows;
 use crate::stored::StoredPart;
-use part_core::{Fault, Reply, fixes_at, is_fixed};
+use part_core::{Fault, Reply, fixes_at};
+use part_rows::{Rows, settle};
 use std::alloc::Allocator;
 
 impl<R: Rows<A> + Drop, A: Allocator> StoredPart<R, A> {
@@ -22,11 +22,7 @@ impl<R: Rows<A> + Drop, A: Allocator> StoredPart<R, A> {
         ensures base { (w : Shown) → R.shows self.old.settings self.old.rows w
             → self.new.base ≡ (if is_fixed self.old.fixes.items then self.old.base else w.slots) }
     {
-        if is_fixed(self.fixes.as_slice()) {
-            return;
-        }
-        self.rows.keep_live();
-        self.base = self.rows.slots();
+        self.base = settle(&mut self.rows, self.fixes.as_slice(), self.base);
     }
 
     /// Fixes the part once more, at most 65,535 times for a session.

@@ -1,8 +1,8 @@
 //! A row of a set, which keeps the hash of its key.
 ghost use Rattle.std.specs.Prelude.{◌≡◌, ◌<◌, ◌/◌, ◌%◌};
 
-use crate::seen::SeenRow;
 use part_core::{Held, Settings};
+use part_rows::SeenRow;
 use std::alloc::Allocator;
 use std::marker::Model;
 use std::mem;

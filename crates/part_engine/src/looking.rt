@@ -4,13 +4,13 @@ ghost use Rattle.std.specs.Option.{option_map};
 ghost use Rattle.part_core.specs.Ops.{cursor_of, scope_of};
 ghost use Rattle.part_core.specs.Rows.{Row};
 ghost use Rattle.part_core.specs.Visits.{is_inside, most_rows, next_class, next_key};
-ghost use Rattle.part_engine.specs.Shown.{Shown, AreSound, state_of};
-ghost use Rattle.part_engine.specs.Looks.{is_placed, looked_at, next_after, stops};
+ghost use Rattle.part_rows.specs.Shown.{Shown, AreSound, state_of};
+ghost use Rattle.part_rows.specs.Looks.{is_placed, looked_at};
+ghost use Rattle.part_engine.specs.Looks.{next_after, stops};
 
-use crate::rows::Rows;
-use crate::seen::SeenRow;
 use crate::stored::StoredPart;
 use part_core::{Cursor, MOST_ROWS, Scope, is_base};
+use part_rows::{Rows, SeenRow};
 use std::alloc::{AllocError, Allocator};
 
 /// How far a visit came.

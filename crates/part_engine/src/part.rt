@@ -5,12 +5,12 @@ ghost use Rattle.part_core.specs.Ops.{act_of, answer_in, object_in, takes_no_mem
 ghost use Rattle.part_core.specs.Served.{IsServed};
 ghost use Rattle.part_engine.specs.Stored.{Leads};
 
-use crate::rows::Rows;
 use crate::stored::StoredPart;
 use part_core::{
     FIRST_SLOTS, Fault, OpenFault, Part, PartOp, Reply, Settings, TableKind, fixes_are_counted,
     fixes_at, legal_goes_on, no_fixes, states_are_kept,
 };
+use part_rows::Rows;
 use std::alloc::{AllocError, Allocator};
 use term_core::Term;
 

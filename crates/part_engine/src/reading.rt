@@ -4,12 +4,12 @@ ghost use Rattle.part_core.specs.Acts.Act.{Lookup, Member};
 ghost use Rattle.part_core.specs.Acts.Answer.{Replied};
 ghost use Rattle.part_core.specs.Ops.{answer_in, said_of};
 ghost use Rattle.part_core.specs.Rows.{is_live, objects_at};
-ghost use Rattle.part_engine.specs.Shown.{Shown, AreSound};
+ghost use Rattle.part_rows.specs.Shown.{Shown, AreSound};
 ghost use Rattle.part_engine.specs.Stored.{Leads};
 
-use crate::rows::Rows;
 use crate::stored::StoredPart;
 use part_core::{Fault, Reply};
+use part_rows::Rows;
 use std::alloc::{AllocError, Allocator};
 use term_core::Term;
 

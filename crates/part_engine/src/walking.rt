@@ -5,12 +5,12 @@ ghost use Rattle.part_core.specs.Acts.Act.{First, Next};
 ghost use Rattle.part_core.specs.Ops.{answer_in};
 ghost use Rattle.part_core.specs.Rows.{has_row};
 ghost use Rattle.part_core.specs.Settings.{is_ordered};
-ghost use Rattle.part_engine.specs.Shown.{Shown, AreSound};
+ghost use Rattle.part_rows.specs.Shown.{Shown, AreSound};
 ghost use Rattle.part_engine.specs.Stored.{Leads};
 
-use crate::rows::Rows;
 use crate::stored::StoredPart;
 use part_core::{Fault, Reply};
+use part_rows::Rows;
 use std::alloc::{AllocError, Allocator};
 use term_core::Term;
 

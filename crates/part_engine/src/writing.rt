@@ -6,12 +6,12 @@ ghost use Rattle.part_core.specs.Acts.Act.{Insert, InsertNew, Delete, DeleteObje
 ghost use Rattle.part_core.specs.Acts.Answer.{Replied};
 ghost use Rattle.part_core.specs.Ops.{answer_in, said_of};
 ghost use Rattle.part_core.specs.Rows.{is_fixed};
-ghost use Rattle.part_engine.specs.Shown.{Shown};
+ghost use Rattle.part_rows.specs.Shown.{Shown};
 ghost use Rattle.part_engine.specs.Stored.{Leads};
 
-use crate::rows::Rows;
 use crate::stored::StoredPart;
 use part_core::{Fault, Held, Reply, Settings, is_fixed, key_in};
+use part_rows::Rows;
 use std::alloc::Allocator;
 use term_core::Term;
 

@@ -5,7 +5,7 @@ use Rattle.term_core.specs.Datum.{Datum}
 use Rattle.term_operand.specs.Order.{is_same}
 use Rattle.part_core.specs.Rows.{Row, is_live, rows_at_key}
 use Rattle.part_core.proofs.KeyLemmas.{by_test}
-use Rattle.part_engine.specs.Shown.{rows_exchanged}
+use Rattle.part_rows.specs.Shown.{rows_exchanged}
 use Rattle.part_engine.proofs.SetLemmas.{stays}
 
 -- the row of the key stays if it is live

@@ -16,3 +16,4 @@ pub mod EmptyLemmas
 pub mod ShownLemmas
 pub mod HoleLemmas
 pub mod AloneLemmas
+pub mod SendLemmas

@@ -11,7 +11,7 @@ use Rattle.part_core.specs.Rows.{Row, with_object}
 use Rattle.part_core.specs.After.{slots_after}
 use Rattle.part_core.proofs.AfterLemmas.{slots_same}
 use Rattle.part_engine.specs.Dead.{dead_rows}
-use Rattle.part_engine.specs.Shown.{Shown, shown_with}
+use Rattle.part_rows.specs.Shown.{Shown, shown_with}
 use Rattle.part_engine.proofs.DeadLemmas.{dead_few}
 use Rattle.part_engine.proofs.SetLemmas.{set_served}
 use Rattle.part_hash.specs.declared.places.Place.{Place}

@@ -6,7 +6,7 @@ use Rattle.term_core.specs.Datum.{Datum}
 use Rattle.part_core.specs.declared.settings.Settings.{Settings}
 use Rattle.part_core.specs.Rows.{Row}
 use Rattle.part_engine.specs.Dead.{dead_rows}
-use Rattle.part_engine.specs.Shown.{Shown}
+use Rattle.part_rows.specs.Shown.{Shown}
 use Rattle.part_engine.specs.Sets.{serves}
 use Rattle.part_hash.specs.declared.places.Place.{Place}
 use Rattle.part_hash.specs.Places.{spread as spread_of}

@@ -1,6 +1,6 @@
 //! The rows of a set, found by their keys in the same time however many there are.
 //!
-//! The one contract: `HashRows` keeps the trait `Rows` of `part_engine`, for sets alone. Its rows lie in a slab; an
+//! The one contract: `HashRows` keeps the trait `Rows` of `part_rows`, for sets alone. Its rows lie in a slab; an
 //! index finds the key of the slab at a row's key, and each slot lists the places of its rows in the order in which
 //! they were made. `Stands` of `specs/Standing.antt` says what these have to do with the list of rows that is shown.
 //!
@@ -12,12 +12,14 @@
 //!   exchanged, and rows that go; `dead`: how many dead rows come and go with these.
 //! - `walking`: the next live row of a class, by any base, with no memory (`specs/Classes.antt`); `looking`,
 //!   `gathering`: the rows of a class, which by another base than the number of slots are sorted from several slots.
+//! - `laws`: parts may be sent to other threads (`proofs/SendLemmas.antt`).
 #![tactic(auto)]
 
 mod adding;
 mod dead;
 mod gathering;
 mod index;
+mod laws;
 mod looking;
 mod places;
 mod putting;
@@ -27,6 +29,7 @@ mod rows;
 mod store;
 mod walking;
 
+pub use laws::hash_parts_may_be_sent;
 use part_engine::StoredPart;
 pub use rows::HashRows;
 

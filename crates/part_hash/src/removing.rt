@@ -6,7 +6,7 @@ ghost use Rattle.term_core.specs.KeyHash.{key_hash};
 ghost use Rattle.term_operand.specs.Order.{is_same};
 ghost use Rattle.part_core.specs.declared.settings.Settings.{Settings as AnySettings};
 ghost use Rattle.part_core.specs.Rows.{Row as AnyRow, has_row, is_live, objects_at};
-ghost use Rattle.part_engine.specs.Shown.{rows_exchanged};
+ghost use Rattle.part_rows.specs.Shown.{rows_exchanged};
 ghost use Rattle.part_hash.specs.Holes.{IsAlone};
 ghost use Rattle.part_hash.specs.Places.{Standing, spread as spread_of};
 ghost use Rattle.part_hash.specs.Standing.{AreListed, Stands};

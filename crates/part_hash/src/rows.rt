@@ -10,7 +10,8 @@ use crate::removing::{exchange, keep_live};
 use crate::store::{Store, empty};
 use crate::walking::{first_live, live_past};
 use part_core::{Held, Scope, Settings, TableKind};
-use part_engine::{Rows, SeenRow, dead_coming, dead_in};
+use part_engine::{dead_coming, dead_in};
+use part_rows::{Rows, SeenRow};
 use std::alloc::{AllocError, Allocator, Global};
 use term_core::Term;
 
@@ -28,8 +29,8 @@ pub struct HashRows<A: Allocator = Global> {
 impl<A: Allocator + Copy> Rows<A> for HashRows<A> {
     ghost use Rattle.std.specs.Prelude.{◌≡◌, ◌<◌, ◌++◌, IsTrue, IfOk};
     ghost use Rattle.part_core.specs.Ops.{scope_of};
-    ghost use Rattle.part_engine.specs.Shown.{Shown, AreSound};
-    ghost use Rattle.part_engine.specs.Looks.{is_placed, looked_at};
+    ghost use Rattle.part_rows.specs.Shown.{Shown, AreSound};
+    ghost use Rattle.part_rows.specs.Looks.{is_placed, looked_at};
     ghost use Rattle.part_hash.specs.Served.{IsShown};
     ghost use Rattle.part_engine.specs.Sets.{serves};
 

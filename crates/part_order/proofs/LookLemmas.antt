@@ -17,7 +17,7 @@ use Rattle.part_core.specs.Settings.{is_ordered}
 use Rattle.part_core.specs.Acts.Scope.{Begin}
 use Rattle.part_core.specs.Rows.{Row}
 use Rattle.part_core.specs.Visits.{is_behind, most_rows, rows_behind}
-use Rattle.part_engine.specs.Looks.{looked_at}
+use Rattle.part_rows.specs.Looks.{looked_at}
 use Rattle.part_core.proofs.KeyLemmas.{by_test}
 use Rattle.part_core.proofs.VisitLemmas.{filter_all}
 use Rattle.part_core.proofs.KeyedLemmas.{no_other, none_there}

@@ -9,7 +9,7 @@ use Rattle.part_core.specs.declared.settings.Settings.{Settings}
 use Rattle.part_core.specs.Settings.{is_ordered}
 use Rattle.part_core.specs.Rows.{Row, is_live, has_row, objects_at}
 use Rattle.part_core.specs.Visits.{walk_order}
-use Rattle.part_engine.specs.Shown.{Shown, AreSound, rows_exchanged, shown_exchanged, shown_live}
+use Rattle.part_rows.specs.Shown.{Shown, AreSound, rows_exchanged, shown_exchanged, shown_live}
 use Rattle.part_order.specs.Served.{IsShown}
 
 -- no key has two rows

@@ -4,7 +4,7 @@ use Rattle.part_core.specs.declared.kind.TableKind.{TableKind}
 use Rattle.part_core.specs.declared.kind.TableKind.TheVariants.{OrderedSet}
 use Rattle.part_core.specs.declared.settings.Settings.{Settings}
 use Rattle.part_core.specs.Rows.{Row, first_slots}
-use Rattle.part_engine.specs.Shown.{Shown}
+use Rattle.part_rows.specs.Shown.{Shown}
 
 -- the kind that is served
 abbrev pub serves : TableKind → Bool

@@ -9,11 +9,11 @@ ghost use Rattle.part_core.specs.declared.settings.Settings.{Settings};
 ghost use Rattle.part_core.specs.Ops.{scope_of};
 ghost use Rattle.part_core.specs.Replies.{first_live};
 ghost use Rattle.part_core.specs.Visits.{most_rows, rows_behind};
-ghost use Rattle.part_engine.specs.Looks.{is_placed, looked_at};
+ghost use Rattle.part_rows.specs.Looks.{is_placed, looked_at};
 
 use crate::tree::Tree;
 use part_core::{Cursor, Held, Scope};
-use part_engine::SeenRow;
+use part_rows::SeenRow;
 use std::alloc::{AllocError, Allocator};
 use std::collections::btree_map::Range;
 use std::ops::Bound;

@@ -4,7 +4,8 @@ use crate::tree::{
     Tree, dead_gone, goes, is_put, keep_live, let_go, put_back, put_down, swap_held,
 };
 use part_core::{FIRST_SLOTS, Held, Scope, Settings, TableKind};
-use part_engine::{Rows, SeenRow, dead_in, key_of};
+use part_engine::{dead_in, key_of};
+use part_rows::{Rows, SeenRow};
 use std::alloc::{AllocError, Allocator, Global};
 use std::marker::Model;
 use term_core::Term;
@@ -133,8 +134,8 @@ impl<A: Allocator> OrderRows<A> {
 impl<A: Allocator + Copy> Rows<A> for OrderRows<A> {
     ghost use Rattle.std.specs.Prelude.{◌≡◌, ◌<◌, ◌++◌, IsTrue, IfOk};
     ghost use Rattle.part_core.specs.Ops.{scope_of};
-    ghost use Rattle.part_engine.specs.Shown.{Shown, AreSound};
-    ghost use Rattle.part_engine.specs.Looks.{is_placed, looked_at};
+    ghost use Rattle.part_rows.specs.Shown.{Shown, AreSound};
+    ghost use Rattle.part_rows.specs.Looks.{is_placed, looked_at};
     ghost use Rattle.part_order.specs.Served.{serves, IsShown};
 
     ghost serves = { serves };

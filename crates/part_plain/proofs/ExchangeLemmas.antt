@@ -7,7 +7,7 @@ use Rattle.std.proofs.lemmas.List.Elements.{filter-append}
 use Rattle.term_core.specs.Datum.{Datum}
 use Rattle.term_operand.specs.Order.{is_same}
 use Rattle.part_core.specs.Rows.{Row, is_live, has_row, rows_at_key}
-use Rattle.part_engine.specs.Shown.{rows_exchanged}
+use Rattle.part_rows.specs.Shown.{rows_exchanged}
 use Rattle.part_plain.specs.Places.{IsPlace}
 use Rattle.part_plain.proofs.PlaceLemmas.{none_behind, place_row, place_set, written_at}
 use Rattle.part_engine.proofs.SetLemmas.{stays, others_stay}

@@ -3,3 +3,4 @@ pub mod PlaceLemmas
 pub mod PutLemmas
 pub mod ExchangeLemmas
 pub mod GatherLemmas
+pub mod SendLemmas

@@ -12,7 +12,7 @@ use Rattle.part_core.specs.States.{IsBase}
 use Rattle.part_core.proofs.AfterLemmas.{slots_same}
 use Rattle.part_core.proofs.StepLemmas.{slots_grow, put_length}
 use Rattle.part_engine.specs.Dead.{dead_rows}
-use Rattle.part_engine.specs.Shown.{Shown, rows_exchanged, shown_exchanged, shown_with}
+use Rattle.part_rows.specs.Shown.{Shown, rows_exchanged, shown_exchanged, shown_with}
 use Rattle.part_plain.specs.Served.{IsShown}
 use Rattle.part_engine.proofs.DeadLemmas.{dead_few}
 use Rattle.part_engine.proofs.SetLemmas.{set_served}

@@ -3,7 +3,7 @@ use Rattle.std.specs.Prelude.{ℕ, ◌≡◌, IsTrue, List}
 use Rattle.part_core.specs.declared.settings.Settings.{Settings}
 use Rattle.part_core.specs.Rows.{Row}
 use Rattle.part_engine.specs.Dead.{dead_rows}
-use Rattle.part_engine.specs.Shown.{Shown}
+use Rattle.part_rows.specs.Shown.{Shown}
 use Rattle.part_engine.specs.Sets.{serves}
 
 -- these rows, in so many slots, are those of a table that is served, and so many of them are dead

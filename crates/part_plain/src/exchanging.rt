@@ -4,7 +4,7 @@ ghost use Rattle.std.specs.List.{IsDistinct};
 ghost use Rattle.std.specs.Map.{keys_of};
 ghost use Rattle.term_operand.specs.Order.{is_same};
 ghost use Rattle.part_core.specs.Rows.{Row as AnyRow, has_row, is_live, objects_at};
-ghost use Rattle.part_engine.specs.Shown.{rows_exchanged};
+ghost use Rattle.part_rows.specs.Shown.{rows_exchanged};
 
 use crate::places::place_of;
 use part_core::Held;

@@ -1,6 +1,6 @@
 //! The rows of a set in one list.
 //!
-//! The one contract: `PlainRows` keeps the trait `Rows` of `part_engine`, for sets alone. What the rows show is their
+//! The one contract: `PlainRows` keeps the trait `Rows` of `part_rows`, for sets alone. What the rows show is their
 //! list and the number that is kept as that of their slots, with a count of the dead among them (`IsShown` of
 //! `specs/Served.antt`). That no key has two rows isn't kept: it is a premise of `Rows`.
 //!
@@ -8,17 +8,20 @@
 //! - `places`: rows found by their keys (`specs/Places.antt`); `putting`, `exchanging`: what is written;
 //!   `dead`: how many dead rows a key has.
 //! - `walking`, `gathering`: the order of a walk, class by class; `looking`: what visits look at.
+//! - `laws`: parts may be sent to other threads (`proofs/SendLemmas.antt`).
 #![tactic(auto)]
 
 mod dead;
 mod exchanging;
 mod gathering;
+mod laws;
 mod looking;
 mod places;
 mod putting;
 mod rows;
 mod walking;
 
+pub use laws::plain_parts_may_be_sent;
 use part_engine::StoredPart;
 pub use rows::PlainRows;
 

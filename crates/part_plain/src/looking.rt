@@ -6,11 +6,12 @@ ghost use Rattle.term_operand.specs.Order.{is_same};
 ghost use Rattle.part_core.specs.declared.kind.TableKind.TheVariants.{Set};
 ghost use Rattle.part_core.specs.Ops.{scope_of};
 ghost use Rattle.part_core.specs.Visits.{in_class};
-ghost use Rattle.part_engine.specs.Looks.{is_placed, looked_at};
+ghost use Rattle.part_rows.specs.Looks.{is_placed, looked_at};
 
 use crate::places::place_of;
 use part_core::{Cursor, Scope, Settings};
-use part_engine::{HashedRow, SeenRow};
+use part_engine::HashedRow;
+use part_rows::SeenRow;
 use std::alloc::{AllocError, Allocator};
 use term_core::Term;
 

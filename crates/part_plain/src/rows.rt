@@ -12,7 +12,8 @@ use crate::places::held_of;
 use crate::putting::put;
 use crate::walking::{first_live, live_past};
 use part_core::{FIRST_SLOTS, Held, Scope, Settings, TableKind, slots_with_row};
-use part_engine::{HashedRow, Rows, SeenRow, dead_coming, dead_in};
+use part_engine::{HashedRow, dead_coming, dead_in};
+use part_rows::{Rows, SeenRow};
 use std::alloc::{AllocError, Allocator, Global};
 use term_core::Term;
 
@@ -43,8 +44,8 @@ fn slots_after<A: Allocator>(rows: &[HashedRow<A>], before: usize, slots: u32) -
 impl<A: Allocator + Copy> Rows<A> for PlainRows<A> {
     ghost use Rattle.std.specs.Prelude.{◌≡◌, ◌<◌, ◌++◌, IsTrue, IfOk};
     ghost use Rattle.part_core.specs.Ops.{scope_of};
-    ghost use Rattle.part_engine.specs.Shown.{Shown, AreSound};
-    ghost use Rattle.part_engine.specs.Looks.{is_placed, looked_at};
+    ghost use Rattle.part_rows.specs.Shown.{Shown, AreSound};
+    ghost use Rattle.part_rows.specs.Looks.{is_placed, looked_at};
     ghost use Rattle.part_plain.specs.Served.{IsShown};
     ghost use Rattle.part_engine.specs.Sets.{serves};
 

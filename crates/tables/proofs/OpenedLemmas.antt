@@ -5,7 +5,7 @@ use Rattle.std.proofs.lemmas.List.{get_or_append_left, length-append}
 use Rattle.std.proofs.Math.Seq.{get_or-append_seam}
 use Rattle.gate.specs.Views.{GateId}
 use Rattle.tables.specs.declared.options.Options.{Options}
-use Rattle.tables.specs.declared.session.Session.{Session}
+use Rattle.gate.specs.declared.session.Session.{Session}
 use Rattle.tables.specs.Opened.{AllOpened, AreOpened}
 use Rattle.tables.specs.Sessions.{IsOpened}
 

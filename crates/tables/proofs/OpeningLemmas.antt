@@ -10,7 +10,7 @@ use Rattle.gate.specs.Views.{GateId, Ticket, first_ticket}
 use Rattle.gate.proofs.HistoryLemmas.{numbered_more}
 use Rattle.gate.proofs.ClosedLemmas.{last_two}
 use Rattle.tables.specs.declared.options.Options.{Options}
-use Rattle.tables.specs.declared.session.Session.{Session}
+use Rattle.gate.specs.declared.session.Session.{Session}
 use Rattle.tables.specs.Options.{settings_of}
 use Rattle.tables.specs.Opened.{first_passes, AreDealt, AreOpened}
 use Rattle.tables.proofs.LocalLemmas.{got_set}

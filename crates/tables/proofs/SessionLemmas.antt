@@ -13,7 +13,8 @@ use Rattle.gate.specs.Views.{GateId, Ticket, ticket_with, GoesOn, own}
 use Rattle.tables.specs.declared.options.Options.{Options}
 use Rattle.tables.specs.Options.{settings_of}
 use Rattle.tables.specs.Turns.{Views, Turned, Follows}
-use Rattle.tables.specs.Sessions.{Sees, IsOpened, IsTurnAt, session_home}
+use Rattle.gate.specs.Sessions.{IsTurnAt}
+use Rattle.tables.specs.Sessions.{Sees, IsOpened, session_home}
 use Rattle.tables.proofs.LocalLemmas.{got_set, grown_at, grown_here, grown_there, set_after}
 
 module _ (o : Options) (gates : List GateId) (number : ℕ) (passes : List Ticket) (opened : IsOpened o gates number passes) where

@@ -5,7 +5,7 @@ use Rattle.part_core.specs.Settings.{is_ordered}
 use Rattle.part_core.specs.Served.{AreInRange}
 use Rattle.gate.specs.Views.{GateId, Ticket, first_ticket}
 use Rattle.tables.specs.declared.options.Options.{Options}
-use Rattle.tables.specs.declared.session.Session.{Session}
+use Rattle.gate.specs.declared.session.Session.{Session}
 use Rattle.tables.specs.Options.{settings_of}
 use Rattle.tables.specs.Sessions.{IsOpened, Sees}
 

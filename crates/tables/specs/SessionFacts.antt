@@ -6,16 +6,12 @@ use Rattle.std.proofs.lemmas.List.{length-map}
 use Rattle.part_core.specs.declared.settings.Settings.{Settings}
 use Rattle.part_core.specs.Acts.{History}
 use Rattle.part_core.specs.Legal.{IsLegal}
-use Rattle.part_core.specs.LegalFacts.{legal_prop}
 use Rattle.gate.specs.Views.{GateId, Ticket}
+use Rattle.gate.specs.Sessions.{AllLegal}
 use Rattle.tables.specs.declared.options.Options.{Options}
 use Rattle.tables.specs.Options.{settings_of}
 use Rattle.tables.specs.Turns.{Views}
-use Rattle.tables.specs.Sessions.{AllLegal, Sees, IsOpened}
-
--- that each history is legal is a fact
-pub all_legal_prop : (passes : List Ticket) → IsProp (AllLegal passes)
-all_legal_prop passes = hlevel legal_prop
+use Rattle.tables.specs.Sessions.{Sees, IsOpened}
 
 -- what the passes have seen
 log_of : Option Ticket → History

@@ -1,15 +1,9 @@
 -- A session of a table whose parts have gates: its passes, and what they have seen.
-use Rattle.std.specs.Prelude.{ℕ, ◌≡◌, ◌<◌, false, Option, Some, length, map, slice_get, slice_set, List}
-use Rattle.part_core.specs.Acts.{Act, Answer, History}
-use Rattle.part_core.specs.Legal.{IsLegal}
-use Rattle.gate.specs.Views.{GateId, Ticket, IsTurn, ticket_with}
+use Rattle.std.specs.Prelude.{ℕ, ◌≡◌, ◌<◌, false, Some, length, map, slice_get, List}
+use Rattle.gate.specs.Views.{GateId, Ticket}
 use Rattle.tables.specs.declared.options.Options.{Options}
 use Rattle.tables.specs.Options.{settings_of}
 use Rattle.tables.specs.Turns.{Home, Views}
-
--- what each pass has seen is a legal history of its part
-abbrev pub AllLegal : List Ticket → Type 0
-AllLegal passes = (k : ℕ) (pass : Ticket) → slice_get passes k ≡ Some pass → IsLegal pass.settings pass.log
 
 -- a session sees of each part what its pass there has seen
 abbrev pub Sees : List Ticket → Views → Type 0
@@ -28,11 +22,3 @@ pub record IsOpened (o : Options) (gates : List GateId) (number : ℕ) (passes :
 -- where such a session is
 abbrev pub session_home : Options → List GateId → ℕ → ℕ → Home
 session_home o gates number table = record { options = o; gates = gates; number = number; table = table; alone = false }
-
--- a turn with the pass of one part, the others staying as they are
-pub record IsTurnAt (old : List Ticket) (part : ℕ) (act : Act) (answer : Option Answer) (new : List Ticket) : Type 0 where
-  pub pass : Ticket
-  pub there : slice_get old part ≡ Some pass
-  pub log : History
-  pub turn : IsTurn pass.settings pass.number pass.log act answer log
-  pub now : new ≡ slice_set old part (ticket_with pass log)

@@ -7,9 +7,9 @@ ghost use Rattle.tables.specs.Sessions.{IsOpened, Sees, session_home};
 ghost use Rattle.tables.specs.Turns.{Views, Turned};
 
 use crate::options::Options;
-use crate::session::Session;
 use crate::table::Table;
 use crate::turns::Turns;
+use gate::Session;
 use part_core::{Fault, Part, PartOp, Reply};
 use std::alloc::Allocator;
 use std::sync::Wait;

@@ -7,8 +7,8 @@
 //! - `options`: what a table is opened with; `turns`: the trait `Turns`, a session at a table.
 //! - `local`: `LocalTable`, whose parts are used by one thread, and `LocalAt`, a session at it; `specs/OneThread.antt`
 //!   says what the calls make of the states of its parts.
-//! - `table`: `Table`, whose parts have gates, for sessions on threads of their own; `session`: `Session`, a session
-//!   with its passes (`specs/Sessions.antt`); `at`: `At`, a session at such a table. `opening`: how tables are opened
+//! - `table`: `Table`, whose parts have gates, for sessions on threads of their own; `gate::Session`: a session with its
+//!   passes (`specs/Sessions.antt`); `at`: `At`, a session at such a table. `opening`: how tables are opened
 //!   (`specs/Opened.antt`).
 //! - `calls`: insert, lookup and the others at the part of a key; `fixing`: those at each part.
 //! - `replies`: what a turn answered. `laws`: that a session finds what it has put in (`specs/Laws.antt`).
@@ -22,16 +22,15 @@ mod local;
 mod opening;
 mod options;
 mod replies;
-mod session;
 mod table;
 mod turns;
 
 pub use at::At;
 pub use calls::{delete, delete_object, insert, insert_new, lookup, member, part_of_key, take};
 pub use fixing::{fix, fix_at, release, unfix, unfix_at};
+pub use gate::Session;
 pub use laws::inserts_are_seen;
 pub use local::{LocalAt, LocalParts, LocalTable};
 pub use options::Options;
-pub use session::Session;
 pub use table::Table;
 pub use turns::{Turns, turn_at};

@@ -9,9 +9,8 @@ ghost use Rattle.tables.specs.Opened.{AreDealt, AreOpened};
 ghost use Rattle.tables.specs.Options.{settings_of};
 
 use crate::options::Options;
-use crate::session::Session;
 use crate::table::Table;
-use gate::{Gate, Pass};
+use gate::{Gate, Pass, Session};
 use part_core::{OpenFault, Part};
 use std::alloc::{AllocError, Allocator};
 

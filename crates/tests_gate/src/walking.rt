@@ -109,14 +109,14 @@ fn is_piece(piece: &[Term], place: u32) -> bool {
 }
 
 /// Puts all keys in, fixes the table, and gives out the first piece of a walk.
-fn begun<R: Wait, T: Turns<Global>>(rt: &R, alloc: Global, turns: &mut T) -> Option<Continuation>
+fn begun<T: Turns<Global>>(alloc: Global, turns: &mut T) -> Option<Continuation>
     requires { T.is_ready turns.old }
     ensures ready { T.is_ready turns.new }
     ensures same { T.home turns.new ≡ T.home turns.old }
 {
     put_all(alloc, turns)?;
     fix(turns).ok()?;
-    match select_limit(rt, alloc, turns, keys_query(alloc)?, 1).ok()? {
+    match select_limit(alloc, turns, keys_query(alloc)?, 1).ok()? {
         Step::Piece(piece, walk) => {
             if is_piece(piece.as_slice(), 0) {
                 Some(walk)
@@ -129,24 +129,19 @@ fn begun<R: Wait, T: Turns<Global>>(rt: &R, alloc: Global, turns: &mut T) -> Opt
 }
 
 /// How many further pieces are the keys that follow, one each, before the walk ends.
-fn gone_on<R: Wait, T: Turns<Global>>(
-    rt: &R,
-    alloc: Global,
-    turns: &mut T,
-    walk: Continuation,
-) -> Option<u32>
+fn gone_on<T: Turns<Global>>(alloc: Global, turns: &mut T, walk: Continuation) -> Option<u32>
     requires { T.is_ready turns.old }
     ensures ready { T.is_ready turns.new }
     ensures same { T.home turns.new ≡ T.home turns.old }
 {
-    let mut step = select_more(rt, alloc, turns, walk).ok()?;
+    let mut step = select_more(alloc, turns, walk).ok()?;
     for place in 1..KEYS + 1 {
         match step {
             Step::Piece(piece, walk) => {
                 if !is_piece(piece.as_slice(), place) {
                     return None;
                 }
-                step = select_more(rt, alloc, turns, walk).ok()?;
+                step = select_more(alloc, turns, walk).ok()?;
             }
             Step::End(_query) => return Some(place - 1),
         }
@@ -165,7 +160,7 @@ fn begun_at<R: Wait, P: Part<Global> + Drop>(
     ensures { IsOpened table.now.options table.now.gates.items session.new.number session.new.passes.items }
 {
     let mut at = table.at(rt, session);
-    begun(rt, alloc, &mut at)
+    begun(alloc, &mut at)
 }
 
 /// The other pieces, there.
@@ -180,7 +175,7 @@ fn gone_on_at<R: Wait, P: Part<Global> + Drop>(
     ensures { IsOpened table.now.options table.now.gates.items session.new.number session.new.passes.items }
 {
     let mut at = table.at(rt, session);
-    gone_on(rt, alloc, &mut at, walk)
+    gone_on(alloc, &mut at, walk)
 }
 
 /// How many pieces follow the first where another session deletes all keys meanwhile.

@@ -170,7 +170,7 @@ fn left<'h, R: Wait>(
 {
     let mut session = session;
     let mut at = table.at(rt, &mut session);
-    select_count(rt, &mut at, query).ok()
+    select_count(&mut at, query).ok()
 }
 
 /// What the set is opened with.

@@ -5,7 +5,6 @@ use kit_rows::{digits, listed, term_of, word};
 use mspec_reader::read_spec;
 use part_core::{Part, TableKind};
 use std::alloc::{Allocator, Global};
-use std::sync::Wait;
 use tables::{LocalTable, Options, Turns, insert};
 use term_core::Term;
 use term_text::read_terms;
@@ -75,8 +74,7 @@ fn query_of<A: Allocator + Copy>(heap: A, specification: &str) -> Option<Query<A
 }
 
 /// A walk in pieces is begun.
-fn begun<R: Wait, A: Allocator + Copy, T: Turns<A>>(
-    rt: &R,
+fn begun<A: Allocator + Copy, T: Turns<A>>(
     heap: A,
     session: &mut T,
     query: Query<A>,
@@ -86,15 +84,14 @@ fn begun<R: Wait, A: Allocator + Copy, T: Turns<A>>(
     ensures ready { T.is_ready session.new }
     ensures same { T.home session.new ≡ T.home session.old }
 {
-    match select_limit(rt, heap, session, query, limit) {
+    match select_limit(heap, session, query, limit) {
         Ok(step) => Some(step),
-        Err(refused) => select_limit(rt, heap, session, refused.value, limit).ok(),
+        Err(refused) => select_limit(heap, session, refused.value, limit).ok(),
     }
 }
 
 /// It is carried on.
-fn gone_on<R: Wait, A: Allocator + Copy, T: Turns<A>>(
-    rt: &R,
+fn gone_on<A: Allocator + Copy, T: Turns<A>>(
     heap: A,
     session: &mut T,
     walk: Continuation<A>,
@@ -103,9 +100,9 @@ fn gone_on<R: Wait, A: Allocator + Copy, T: Turns<A>>(
     ensures ready { T.is_ready session.new }
     ensures same { T.home session.new ≡ T.home session.old }
 {
-    match select_more(rt, heap, session, walk) {
+    match select_more(heap, session, walk) {
         Ok(step) => Some(step),
-        Err(refused) => select_more(rt, heap, session, refused.value).ok(),
+        Err(refused) => select_more(heap, session, refused.value).ok(),
     }
 }
 
@@ -118,8 +115,7 @@ fn put_piece<A: Allocator>(alloc: Global, piece: &[Term<A>], lines: &mut Vec<u8>
 }
 
 /// The pieces of a walk, each on a line.
-fn pieces<R: Wait, A: Allocator + Copy, T: Turns<A>>(
-    rt: &R,
+fn pieces<A: Allocator + Copy, T: Turns<A>>(
     alloc: Global,
     heap: A,
     session: &mut T,
@@ -131,12 +127,12 @@ fn pieces<R: Wait, A: Allocator + Copy, T: Turns<A>>(
     ensures same { T.home session.new ≡ T.home session.old }
 {
     let mut lines = Vec::new(alloc);
-    let mut step = begun(rt, heap, session, query, limit)?;
+    let mut step = begun(heap, session, query, limit)?;
     for _piece in 0..MOST_PIECES {
         match step {
             Step::Piece(piece, walk) => {
                 put_piece(alloc, piece.as_slice(), &mut lines)?;
-                step = gone_on(rt, heap, session, walk)?;
+                step = gone_on(heap, session, walk)?;
             }
             Step::End(_query) => return Some(lines),
         }
@@ -145,8 +141,7 @@ fn pieces<R: Wait, A: Allocator + Copy, T: Turns<A>>(
 }
 
 /// All answers of a query.
-fn all<R: Wait, A: Allocator + Copy, T: Turns<A>>(
-    rt: &R,
+fn all<A: Allocator + Copy, T: Turns<A>>(
     alloc: Global,
     heap: A,
     session: &mut T,
@@ -156,42 +151,34 @@ fn all<R: Wait, A: Allocator + Copy, T: Turns<A>>(
     ensures ready { T.is_ready session.new }
     ensures same { T.home session.new ≡ T.home session.old }
 {
-    match select(rt, heap, session, query) {
+    match select(heap, session, query) {
         Ok(answers) => listed(alloc, answers.as_slice()),
-        Err(_) => listed(alloc, select(rt, heap, session, query).ok()?.as_slice()),
+        Err(_) => listed(alloc, select(heap, session, query).ok()?.as_slice()),
     }
 }
 
 /// How many objects answer true.
-fn counted<R: Wait, A: Allocator, T: Turns<A>>(
-    rt: &R,
-    session: &mut T,
-    query: &Query<A>,
-) -> Option<u64>
+fn counted<A: Allocator, T: Turns<A>>(session: &mut T, query: &Query<A>) -> Option<u64>
     requires { T.is_ready session.old }
     ensures ready { T.is_ready session.new }
     ensures same { T.home session.new ≡ T.home session.old }
 {
-    match select_count(rt, session, query) {
+    match select_count(session, query) {
         Ok(count) => Some(count),
-        Err(_) => select_count(rt, session, query).ok(),
+        Err(_) => select_count(session, query).ok(),
     }
 }
 
 /// How many objects are deleted, those of a refused call among them.
-fn deleted<R: Wait, A: Allocator, T: Turns<A>>(
-    rt: &R,
-    session: &mut T,
-    query: &Query<A>,
-) -> Option<u64>
+fn deleted<A: Allocator, T: Turns<A>>(session: &mut T, query: &Query<A>) -> Option<u64>
     requires { T.is_ready session.old }
     ensures ready { T.is_ready session.new }
     ensures same { T.home session.new ≡ T.home session.old }
 {
-    match select_delete(rt, session, query) {
+    match select_delete(session, query) {
         Ok(count) => Some(count),
         Err(refused) => {
-            let rest = select_delete(rt, session, query).ok()?;
+            let rest = select_delete(session, query).ok()?;
             Some(rest.saturating_add(refused.value))
         }
     }
@@ -210,8 +197,7 @@ fn is_unfixed<A: Allocator, T: Turns<A>>(session: &T) -> bool
 }
 
 /// What comes of the call that is played.
-fn called<R: Wait, A: Allocator + Copy, T: Turns<A>>(
-    rt: &R,
+fn called<A: Allocator + Copy, T: Turns<A>>(
     alloc: Global,
     heap: A,
     session: &mut T,
@@ -223,16 +209,15 @@ fn called<R: Wait, A: Allocator + Copy, T: Turns<A>>(
 {
     let query = query_of(heap, play.specification)?;
     match play.call {
-        Call::Pieces(limit) => pieces(rt, alloc, heap, session, query, limit),
-        Call::Select => all(rt, alloc, heap, session, &query),
-        Call::Count => digits(alloc, counted(rt, session, &query)?),
-        Call::Delete => digits(alloc, deleted(rt, session, &query)?),
+        Call::Pieces(limit) => pieces(alloc, heap, session, query, limit),
+        Call::Select => all(alloc, heap, session, &query),
+        Call::Count => digits(alloc, counted(session, &query)?),
+        Call::Delete => digits(alloc, deleted(session, &query)?),
     }
 }
 
 /// The same, with the objects put in before, and a mark where a fix is left behind.
-fn played_in<R: Wait, A: Allocator + Copy, T: Turns<A>>(
-    rt: &R,
+fn played_in<A: Allocator + Copy, T: Turns<A>>(
     alloc: Global,
     heap: A,
     session: &mut T,
@@ -242,7 +227,7 @@ fn played_in<R: Wait, A: Allocator + Copy, T: Turns<A>>(
 {
     let objects = read_terms(heap, play.objects.as_bytes()).ok()?;
     put_all(session, objects.as_slice())?;
-    let came = called(rt, alloc, heap, session, play)?;
+    let came = called(alloc, heap, session, play)?;
     if is_unfixed(session) {
         Some(came)
     } else {
@@ -251,13 +236,12 @@ fn played_in<R: Wait, A: Allocator + Copy, T: Turns<A>>(
 }
 
 /// What comes of a call at a table with these objects, none where there is no memory for the table and the query.
-pub(crate) fn played<P: Part<A> + Drop, R: Wait, A: Allocator + Copy>(
-    rt: &R,
+pub(crate) fn played<P: Part<A> + Drop, A: Allocator + Copy>(
     alloc: Global,
     heap: A,
     play: Play<'_>,
 ) -> Option<Vec<u8>> {
     let mut table = opened::<P, A>(heap, play)?;
     let mut session = table.at(0);
-    played_in(rt, alloc, heap, &mut session, play)
+    played_in(alloc, heap, &mut session, play)
 }

@@ -6,7 +6,6 @@ use part_hash::HashPart;
 use part_order::OrderPart;
 use part_plain::PlainPart;
 use std::alloc::{Allocator, Global};
-use std::sync::Wait;
 
 /// The most requests of a play.
 const MOST_REQUESTS: u64 = 20_000;
@@ -125,46 +124,44 @@ const ORDERED_CASES: [Case<'static>; 4] = [
 ];
 
 /// Whether what comes of a case is right, none where there is no memory for the table and the query.
-fn is_right<P: Part<A> + Drop, R: Wait, A: Allocator + Copy>(
-    rt: &R,
+fn is_right<P: Part<A> + Drop, A: Allocator + Copy>(
     alloc: Global,
     heap: A,
     case: Case<'_>,
 ) -> Option<bool> {
-    let came = played::<P, R, A>(rt, alloc, heap, case.play)?;
+    let came = played::<P, A>(alloc, heap, case.play)?;
     Some(came.as_slice() == case.wanted.as_bytes())
 }
 
 /// Whether a case is right at sets of hashed and of plain parts, and at those of hashed parts with each request refused
 /// in turn.
-fn holds_at_sets<R: Wait>(rt: &R, alloc: Global, case: Case<'_>) -> bool {
+fn holds_at_sets(alloc: Global, case: Case<'_>) -> bool {
     let outcome = sweep(alloc, MOST_REQUESTS, |heap: &Failing<Global>| {
-        match is_right::<HashPart<&Failing<Global>>, _, &Failing<Global>>(rt, alloc, heap, case) {
+        match is_right::<HashPart<&Failing<Global>>, &Failing<Global>>(alloc, heap, case) {
             Some(is_right) => is_right,
             None => heap.was_refused(),
         }
     });
     outcome.is_complete()
-        && is_right::<HashPart<Global>, _, Global>(rt, alloc, alloc, case) == Some(true)
-        && is_right::<PlainPart<Global>, _, Global>(rt, alloc, alloc, case) == Some(true)
+        && is_right::<HashPart<Global>, Global>(alloc, alloc, case) == Some(true)
+        && is_right::<PlainPart<Global>, Global>(alloc, alloc, case) == Some(true)
 }
 
 /// Whether a case is right at an ordered set, also with each request refused in turn.
-fn holds_at_ordered_sets<R: Wait>(rt: &R, alloc: Global, case: Case<'_>) -> bool {
+fn holds_at_ordered_sets(alloc: Global, case: Case<'_>) -> bool {
     let outcome = sweep(alloc, MOST_REQUESTS, |heap: &Failing<Global>| {
-        match is_right::<OrderPart<&Failing<Global>>, _, &Failing<Global>>(rt, alloc, heap, case) {
+        match is_right::<OrderPart<&Failing<Global>>, &Failing<Global>>(alloc, heap, case) {
             Some(is_right) => is_right,
             None => heap.was_refused(),
         }
     });
-    outcome.is_complete()
-        && is_right::<OrderPart<Global>, _, Global>(rt, alloc, alloc, case) == Some(true)
+    outcome.is_complete() && is_right::<OrderPart<Global>, Global>(alloc, alloc, case) == Some(true)
 }
 
 /// The first of these cases that doesn't hold at sets.
-fn first_wrong<R: Wait>(rt: &R, alloc: Global, cases: &[Case<'_>]) -> Option<usize> {
+fn first_wrong(alloc: Global, cases: &[Case<'_>]) -> Option<usize> {
     for (place, case) in cases.iter().enumerate() {
-        if !holds_at_sets(rt, alloc, *case) {
+        if !holds_at_sets(alloc, *case) {
             return Some(place);
         }
     }
@@ -172,9 +169,9 @@ fn first_wrong<R: Wait>(rt: &R, alloc: Global, cases: &[Case<'_>]) -> Option<usi
 }
 
 /// The first of these cases that doesn't hold at ordered sets.
-fn first_wrong_ordered<R: Wait>(rt: &R, alloc: Global, cases: &[Case<'_>]) -> Option<usize> {
+fn first_wrong_ordered(alloc: Global, cases: &[Case<'_>]) -> Option<usize> {
     for (place, case) in cases.iter().enumerate() {
-        if !holds_at_ordered_sets(rt, alloc, *case) {
+        if !holds_at_ordered_sets(alloc, *case) {
             return Some(place);
         }
     }
@@ -183,12 +180,12 @@ fn first_wrong_ordered<R: Wait>(rt: &R, alloc: Global, cases: &[Case<'_>]) -> Op
 
 #[test]
 fn sets_asked_again_answer_as_undisturbed(rt: HostRuntime) {
-    let wrong = first_wrong(&rt, rt.alloc(), &SET_CASES);
+    let wrong = first_wrong(rt.alloc(), &SET_CASES);
     assert!(rt; wrong == None, "{wrong:?}");
 }
 
 #[test]
 fn ordered_sets_asked_again_answer_as_undisturbed(rt: HostRuntime) {
-    let wrong = first_wrong_ordered(&rt, rt.alloc(), &ORDERED_CASES);
+    let wrong = first_wrong_ordered(rt.alloc(), &ORDERED_CASES);
     assert!(rt; wrong == None, "{wrong:?}");
 }

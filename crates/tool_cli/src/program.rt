@@ -112,9 +112,7 @@ fn command_outcome<
         Request::Test => tool_test(alloc, reader, out),
         Request::Compile => tool_compile(alloc, reader, out),
         Request::Verify => tool_verify(alloc, reader, out),
-        Request::Script => run_script::<H, HashPart<A>, OrderPart<A>, A, R, O>(
-            rt, alloc, reader, out,
-        ),
+        Request::Script => run_script::<HashPart<A>, OrderPart<A>, A, R, O>(alloc, reader, out),
         Request::Scan(options) => { tool_scan::<H, P, A, R, O>(rt, alloc, options, reader, out) }
     }
 }

@@ -13,7 +13,7 @@ use Rattle.tables.specs.Sessions.{IsOpened, Sees, session_home}
 use Rattle.tables.specs.Turns.{Home, Views}
 use Rattle.tables.specs.declared.at.At.{At}
 use Rattle.tables.specs.declared.options.Options.{Options}
-use Rattle.tables.specs.declared.session.Session.{Session}
+use Rattle.gate.specs.declared.session.Session.{Session}
 use Rattle.tables.specs.declared.table.Table.{Table}
 use Rattle.parallel_select.specs.Workers.{AreOfOneTable, Did, Each}
 use Rattle.tool_scan.specs.Asking.{AreSeated, IsScanned}

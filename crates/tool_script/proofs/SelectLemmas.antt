@@ -23,7 +23,8 @@ use Rattle.walks.specs.declared.continuation.Continuation.{Continuation}
 use Rattle.walks.specs.declared.continuation.Step as step_type
 use Rattle.walks.specs.declared.continuation.Step.TheVariants as step
 use Rattle.walks.specs.Pieces.{IsWalkOf, Steps}
-use Rattle.walks.specs.Query.{IsThere, IsWithin, kept_of, plan_of, position_of, walk_of}
+use Rattle.walk_core.specs.Positions.{IsThere, position_of}
+use Rattle.walks.specs.Query.{IsWithin, kept_of, plan_of, walk_of}
 use Rattle.walks.specs.Sights.{Piece, first_position, piece_of, sights_from}
 use Rattle.walks.specs.Whole.{Finishes}
 use Rattle.tool_script.specs.Command.Selection.{Select, SelectMore, SelectCount, SelectDelete}

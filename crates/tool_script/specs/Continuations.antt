@@ -7,7 +7,8 @@ use Rattle.tables.specs.declared.options.Options.{Options}
 use Rattle.walks.specs.declared.continuation.Continuation.{Continuation}
 use Rattle.walks.specs.declared.continuation.Step.{Step}
 use Rattle.walks.specs.declared.continuation.Step.TheVariants as step
-use Rattle.walks.specs.Query.{IsWithin, kept_of, plan_of, position_of}
+use Rattle.walk_core.specs.Positions.{position_of}
+use Rattle.walks.specs.Query.{IsWithin, kept_of, plan_of}
 use Rattle.tool_script.specs.Held.{Held}
 use Rattle.tool_script.specs.Script.{key_or_end}
 use Rattle.tool_script.specs.Walks.{piece_term}

@@ -10,7 +10,6 @@ use crate::table::{attend, attend_walk, open_at};
 use crate::walk::Walks;
 use part_core::{MAX_KEYPOS, MAX_PARTS, MAX_SESSIONS, Part, TableKind};
 use std::alloc::{AllocError, Allocator, Global};
-use std::sync::Wait;
 use tables::{LocalTable, Options};
 use term_core::Term;
 
@@ -139,9 +138,8 @@ impl<P: Part<A> + Drop, A: Allocator + Copy> OpenTable<P, A> {
     }
 
     /// Admits a session by its number, where it is there and hasn't left, and notes whether it leaves.
-    pub(crate) fn admit<H: Wait>(
+    pub(crate) fn admit(
         &mut self,
-        rt: &H,
         number: i64,
         ask: Ask<'_, A>,
     ) -> Result<CommandReply<A>, AllocError>
@@ -153,15 +151,14 @@ impl<P: Part<A> + Drop, A: Allocator + Copy> OpenTable<P, A> {
             return Ok(CommandReply::Error(STRANGER_SESSION));
         };
         let leaves = is_leaving(&ask);
-        let reply = attend(rt, &mut self.table, number, ask)?;
+        let reply = attend(&mut self.table, number, ask)?;
         note_leaving(&mut self.left, number, leaves);
         Ok(reply)
     }
 
     /// Admits a session by its number to walk the table, where it is there and hasn't left.
-    pub(crate) fn admit_walk<H: Wait>(
+    pub(crate) fn admit_walk(
         &mut self,
-        rt: &H,
         alloc: A,
         walks: &mut Walks<A>,
         number: i64,
@@ -174,7 +171,7 @@ impl<P: Part<A> + Drop, A: Allocator + Copy> OpenTable<P, A> {
         let Some(number) = self.session(number) else {
             return Ok(CommandReply::Error(STRANGER_SESSION));
         };
-        attend_walk(rt, alloc, &mut self.table, number, walks, selection)
+        attend_walk(alloc, &mut self.table, number, walks, selection)
     }
 
     /// The objects, in the order of a walk; the table is given up.

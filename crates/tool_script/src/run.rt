@@ -11,13 +11,11 @@ use crate::script::Script;
 use part_core::Part;
 use std::alloc::{AllocError, Allocator};
 use std::io::{Read, Write};
-use std::sync::Wait;
 use term_core::Term;
 use tool_io::{ToolFault, out_of_memory, read_script, write_if_many, write_lines};
 
 /// Puts the line of the reply to a term at the end.
-fn put_next<H: Wait, S: Part<A> + Drop, O: Part<A> + Drop, A: Allocator + Copy>(
-    rt: &H,
+fn put_next<S: Part<A> + Drop, O: Part<A> + Drop, A: Allocator + Copy>(
     script: &mut Script<S, O, A>,
     term: &Term<A>,
     lines: &mut Vec<u8, A>,
@@ -30,19 +28,12 @@ fn put_next<H: Wait, S: Part<A> + Drop, O: Part<A> + Drop, A: Allocator + Copy>(
         (IsPut script.old script.new term.now lines.old.items lines.new.items) }
     ensures err { OnErr result (lines.new.items ≡ lines.old.items) }
 {
-    let reply = script.interpret(rt, term)?;
+    let reply = script.interpret(term)?;
     put_reply(&reply, lines)
 }
 
 /// Writes the replies to these terms.
-pub(crate) fn run_terms<
-    H: Wait,
-    S: Part<A> + Drop,
-    O: Part<A> + Drop,
-    A: Allocator + Copy,
-    W: Write,
->(
-    rt: &H,
+pub(crate) fn run_terms<S: Part<A> + Drop, O: Part<A> + Drop, A: Allocator + Copy, W: Write>(
     alloc: A,
     script: &mut Script<S, O, A>,
     terms: &[Term<A>],
@@ -59,7 +50,7 @@ pub(crate) fn run_terms<
 {
     let mut lines = Vec::new(alloc);
     for term in terms {
-        match put_next(rt, script, term, &mut lines) {
+        match put_next(script, term, &mut lines) {
             Ok(()) => write_if_many(writer, &mut lines)?,
             Err(AllocError) => return Err(out_of_memory(writer, &mut lines)),
         }
@@ -69,19 +60,12 @@ pub(crate) fn run_terms<
 
 /// Reads a script, to the reader's end, and writes the replies to its terms.
 pub(crate) fn run_with<
-    H: Wait,
     S: Part<A> + Drop,
     O: Part<A> + Drop,
     A: Allocator + Copy,
     R: Read,
     W: Write,
->(
-    rt: &H,
-    alloc: A,
-    script: &mut Script<S, O, A>,
-    reader: &mut R,
-    writer: &mut W,
-) -> Result<(), ToolFault>
+>(alloc: A, script: &mut Script<S, O, A>, reader: &mut R, writer: &mut W) -> Result<(), ToolFault>
     requires set { IsTrue (S.serves Set) }
     requires ordered { IsTrue (O.serves OrderedSet) }
     requires beginning { HasState script.old beginning }
@@ -92,20 +76,17 @@ pub(crate) fn run_with<
         (W.contents writer.old) (W.contents writer.new) fault) }
 {
     let terms = read_script(alloc, reader)?;
-    run_terms(rt, alloc, script, terms.as_slice(), writer)
+    run_terms(alloc, script, terms.as_slice(), writer)
 }
 
 /// Reads a script, to the reader's end, and writes the line of the reply to each of its terms: tables of kind `set` are
 /// made of parts `S`, ordered sets of parts `O`. A text that is refused writes nothing; where memory runs out, the
 /// lines of the replies to a beginning of the terms are written.
-pub fn run_script<
-    H: Wait,
-    S: Part<A> + Drop,
-    O: Part<A> + Drop,
-    A: Allocator + Copy,
-    R: Read,
-    W: Write,
->(rt: &H, alloc: A, reader: &mut R, writer: &mut W) -> Result<(), ToolFault>
+pub fn run_script<S: Part<A> + Drop, O: Part<A> + Drop, A: Allocator + Copy, R: Read, W: Write>(
+    alloc: A,
+    reader: &mut R,
+    writer: &mut W,
+) -> Result<(), ToolFault>
     requires set { IsTrue (S.serves Set) }
     requires ordered { IsTrue (O.serves OrderedSet) }
     ensures ok { OnOk result (OfScript (R.remaining reader.old) (λ terms.
@@ -114,5 +95,5 @@ pub fn run_script<
         (W.contents writer.old) (W.contents writer.new) fault) }
 {
     let mut script: Script<S, O, A> = Script::new(alloc);
-    run_with(rt, alloc, &mut script, reader, writer)
+    run_with(alloc, &mut script, reader, writer)
 }

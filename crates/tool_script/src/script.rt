@@ -6,7 +6,6 @@ use crate::walk::Walks;
 use part_core::{Part, TableKind};
 use std::alloc::{AllocError, Allocator, Global};
 use std::mem;
-use std::sync::Wait;
 use tables::Options;
 use term_core::Term;
 
@@ -132,27 +131,21 @@ impl<S: Part<A> + Drop, O: Part<A> + Drop, A: Allocator + Copy> Script<S, O, A> 
     }
 
     /// Hands what a session asks to the table.
-    fn forward<H: Wait>(
-        &mut self,
-        rt: &H,
-        number: i64,
-        ask: Ask<'_, A>,
-    ) -> Result<CommandReply<A>, AllocError>
+    fn forward(&mut self, number: i64, ask: Ask<'_, A>) -> Result<CommandReply<A>, AllocError>
         ensures count { self.new.count ≡ self.old.count }
         ensures answered { IfOk result (λ reply.
             IsStep self.old self.new (Session number (ask_of ask.entry)) (reply_term reply)) }
     {
         match &mut self.current {
-            Current::Set(table) => table.admit(rt, number, ask),
-            Current::Ordered(table) => table.admit(rt, number, ask),
+            Current::Set(table) => table.admit(number, ask),
+            Current::Ordered(table) => table.admit(number, ask),
             Current::NoTable => Ok(CommandReply::Error(BAD_INPUT)),
         }
     }
 
     /// Has a session walk the table.
-    fn walk<H: Wait>(
+    fn walk(
         &mut self,
-        rt: &H,
         number: i64,
         selection: Selection<'_, A>,
     ) -> Result<CommandReply<A>, AllocError>
@@ -163,18 +156,14 @@ impl<S: Part<A> + Drop, O: Part<A> + Drop, A: Allocator + Copy> Script<S, O, A> 
         let alloc = self.alloc;
         let walks = &mut self.walks;
         match &mut self.current {
-            Current::Set(table) => table.admit_walk(rt, alloc, walks, number, selection),
-            Current::Ordered(table) => table.admit_walk(rt, alloc, walks, number, selection),
+            Current::Set(table) => table.admit_walk(alloc, walks, number, selection),
+            Current::Ordered(table) => table.admit_walk(alloc, walks, number, selection),
             Current::NoTable => Ok(CommandReply::Error(BAD_INPUT)),
         }
     }
 
     /// Does what a command says.
-    fn obey<H: Wait>(
-        &mut self,
-        rt: &H,
-        command: Command<'_, A>,
-    ) -> Result<CommandReply<A>, AllocError>
+    fn obey(&mut self, command: Command<'_, A>) -> Result<CommandReply<A>, AllocError>
         requires set { IsTrue (S.serves Set) }
         requires ordered { IsTrue (O.serves OrderedSet) }
         requires count { self.old.count < 18446744073709551615 }
@@ -186,18 +175,14 @@ impl<S: Part<A> + Drop, O: Part<A> + Drop, A: Allocator + Copy> Script<S, O, A> 
             Command::Open(kind, keypos, parts, sessions) => {
                 self.open(kind, keypos, parts, sessions)
             }
-            Command::Session(number, ask) => self.forward(rt, number, ask),
-            Command::Walk(number, selection) => self.walk(rt, number, selection),
+            Command::Session(number, ask) => self.forward(number, ask),
+            Command::Walk(number, selection) => self.walk(number, selection),
             Command::Close => self.close(),
         }
     }
 
     /// Obeys the command that a term says, and refuses a term that says none.
-    pub(crate) fn interpret<H: Wait>(
-        &mut self,
-        rt: &H,
-        term: &Term<A>,
-    ) -> Result<CommandReply<A>, AllocError>
+    pub(crate) fn interpret(&mut self, term: &Term<A>) -> Result<CommandReply<A>, AllocError>
         requires set { IsTrue (S.serves Set) }
         requires ordered { IsTrue (O.serves OrderedSet) }
         requires count { self.old.count < 18446744073709551615 }
@@ -206,7 +191,7 @@ impl<S: Part<A> + Drop, O: Part<A> + Drop, A: Allocator + Copy> Script<S, O, A> 
             IsTermStep self.old self.new term.now (reply_term reply)) }
     {
         match read_command(term) {
-            Some(command) => self.obey(rt, command),
+            Some(command) => self.obey(command),
             None => Ok(CommandReply::Error(BAD_INPUT)),
         }
     }

@@ -8,7 +8,6 @@ use crate::command::Ask;
 use crate::reply::CommandReply;
 use part_core::Fault;
 use std::alloc::{AllocError, Allocator};
-use std::sync::Wait;
 use tables::{
     Turns, delete, delete_object, fix, insert, insert_new, lookup, member, release, take, unfix,
 };
@@ -34,8 +33,7 @@ fn reply_to<A: Allocator>(outcome: Result<(), Fault>) -> Result<CommandReply<A>,
 }
 
 /// Makes the call that a session asks for, and says what it is replied.
-pub(crate) fn perform<H: Wait, A: Allocator + Copy, T: Turns<A>>(
-    _rt: &H,
+pub(crate) fn perform<A: Allocator + Copy, T: Turns<A>>(
     turns: &mut T,
     ask: Ask<'_, A>,
 ) -> Result<CommandReply<A>, AllocError>

@@ -13,12 +13,10 @@ use crate::session::perform;
 use crate::walk::{Walks, walk};
 use part_core::Part;
 use std::alloc::{AllocError, Allocator};
-use std::sync::Wait;
 use tables::{LocalTable, Options};
 
 /// Has a session of a table perform what it asks, by its number.
-pub(crate) fn attend<H: Wait, A: Allocator + Copy, P: Part<A> + Drop>(
-    rt: &H,
+pub(crate) fn attend<A: Allocator + Copy, P: Part<A> + Drop>(
     table: &mut LocalTable<P, A>,
     number: u8,
     ask: Ask<'_, A>,
@@ -30,12 +28,11 @@ pub(crate) fn attend<H: Wait, A: Allocator + Copy, P: Part<A> + Drop>(
         (ask_of ask.entry) (reply_term reply)) }
 {
     let mut session = table.at(number);
-    perform(rt, &mut session, ask)
+    perform(&mut session, ask)
 }
 
 /// Has a session of a table walk it as it asks, by its number.
-pub(crate) fn attend_walk<H: Wait, A: Allocator + Copy, P: Part<A> + Drop>(
-    rt: &H,
+pub(crate) fn attend_walk<A: Allocator + Copy, P: Part<A> + Drop>(
     alloc: A,
     table: &mut LocalTable<P, A>,
     number: u8,
@@ -49,7 +46,7 @@ pub(crate) fn attend_walk<H: Wait, A: Allocator + Copy, P: Part<A> + Drop>(
         walks.old.items walks.new.items (selection_of selection.entry) (reply_term reply)) }
 {
     let mut session = table.at(number);
-    walk(rt, alloc, &mut session, walks, selection)
+    walk(alloc, &mut session, walks, selection)
 }
 
 /// A table that is opened, with options that its parts serve.

@@ -18,7 +18,6 @@ use mspec_reader::read_spec;
 use mspec_syntax::SpecFault;
 use std::alloc::{AllocError, Allocator};
 use std::mem;
-use std::sync::Wait;
 use tables::Turns;
 use term_core::Term;
 use walks::{
@@ -60,8 +59,7 @@ fn refusal<A: Allocator>(fault: SpecFault) -> Result<CommandReply<A>, AllocError
 }
 
 /// All answers.
-fn select_all<H: Wait, A: Allocator + Copy, T: Turns<A>>(
-    rt: &H,
+fn select_all<A: Allocator + Copy, T: Turns<A>>(
     alloc: A,
     turns: &mut T,
     term: &Term<A>,
@@ -75,14 +73,13 @@ fn select_all<H: Wait, A: Allocator + Copy, T: Turns<A>>(
 {
     whole_walks_select::<A>();
     match query_of(alloc, term, turns.options().keypos) {
-        Ok(query) => Ok(CommandReply::Objects(select(rt, alloc, turns, &query)?)),
+        Ok(query) => Ok(CommandReply::Objects(select(alloc, turns, &query)?)),
         Err(fault) => refusal(fault),
     }
 }
 
 /// How many objects are answered `true`.
-fn count_all<H: Wait, A: Allocator + Copy, T: Turns<A>>(
-    rt: &H,
+fn count_all<A: Allocator + Copy, T: Turns<A>>(
     alloc: A,
     turns: &mut T,
     term: &Term<A>,
@@ -96,14 +93,13 @@ fn count_all<H: Wait, A: Allocator + Copy, T: Turns<A>>(
 {
     whole_walks_count::<A>();
     match query_of(alloc, term, turns.options().keypos) {
-        Ok(query) => Ok(CommandReply::Count(select_count(rt, turns, &query)?)),
+        Ok(query) => Ok(CommandReply::Count(select_count(turns, &query)?)),
         Err(fault) => refusal(fault),
     }
 }
 
 /// How many there were, and they are gone.
-fn delete_all<H: Wait, A: Allocator + Copy, T: Turns<A>>(
-    rt: &H,
+fn delete_all<A: Allocator + Copy, T: Turns<A>>(
     alloc: A,
     turns: &mut T,
     term: &Term<A>,
@@ -120,7 +116,7 @@ fn delete_all<H: Wait, A: Allocator + Copy, T: Turns<A>>(
         Ok(query) => query,
         Err(fault) => return refusal(fault),
     };
-    match select_delete(rt, turns, &query) {
+    match select_delete(turns, &query) {
         Ok(count) => Ok(CommandReply::Count(count)),
         Err(_) => Err(AllocError),
     }
@@ -147,8 +143,7 @@ fn keep<A: Allocator + Copy>(
 }
 
 /// Begins a walk in pieces.
-fn begin<H: Wait, A: Allocator + Copy, T: Turns<A>>(
-    rt: &H,
+fn begin<A: Allocator + Copy, T: Turns<A>>(
     alloc: A,
     turns: &mut T,
     walks: &mut Walks<A>,
@@ -164,7 +159,7 @@ fn begin<H: Wait, A: Allocator + Copy, T: Turns<A>>(
         (answer_of query.code) (plan_of query (T.home turns.old).options))) (reply_term reply)) }
 {
     steps_are_pieces::<A>();
-    match select_limit(rt, alloc, turns, query, limit) {
+    match select_limit(alloc, turns, query, limit) {
         Ok(step) => keep(walks, step),
         Err(_) => Err(AllocError),
     }
@@ -181,8 +176,7 @@ fn limit_in(limit: i64) -> Option<u64>
 }
 
 /// At most so many answers, and how the walk goes on. The limit is looked at before the specification is.
-fn select_some<H: Wait, A: Allocator + Copy, T: Turns<A>>(
-    rt: &H,
+fn select_some<A: Allocator + Copy, T: Turns<A>>(
     alloc: A,
     turns: &mut T,
     walks: &mut Walks<A>,
@@ -200,7 +194,7 @@ fn select_some<H: Wait, A: Allocator + Copy, T: Turns<A>>(
         return Ok(CommandReply::Error(BAD_LIMIT));
     };
     match query_of(alloc, term, turns.options().keypos) {
-        Ok(query) => begin(rt, alloc, turns, walks, query, limit),
+        Ok(query) => begin(alloc, turns, walks, query, limit),
         Err(fault) => refusal(fault),
     }
 }
@@ -264,8 +258,7 @@ fn take_walk<A: Allocator>(
 }
 
 /// Goes on with the walk of a continuation, which is spent by that.
-fn go_on<H: Wait, A: Allocator + Copy, T: Turns<A>>(
-    rt: &H,
+fn go_on<A: Allocator + Copy, T: Turns<A>>(
     alloc: A,
     turns: &mut T,
     walks: &mut Walks<A>,
@@ -282,15 +275,14 @@ fn go_on<H: Wait, A: Allocator + Copy, T: Turns<A>>(
     let Some(walk) = take_walk(walks, number, turns.options().name, turns.number()) else {
         return Ok(CommandReply::Error(STRANGER_CONTINUATION));
     };
-    match select_more(rt, alloc, turns, walk) {
+    match select_more(alloc, turns, walk) {
         Ok(step) => keep(walks, step),
         Err(_) => Err(AllocError),
     }
 }
 
 /// Walks the table as a session asks, and says what it is replied.
-pub(crate) fn walk<H: Wait, A: Allocator + Copy, T: Turns<A>>(
-    rt: &H,
+pub(crate) fn walk<A: Allocator + Copy, T: Turns<A>>(
     alloc: A,
     turns: &mut T,
     walks: &mut Walks<A>,
@@ -304,10 +296,10 @@ pub(crate) fn walk<H: Wait, A: Allocator + Copy, T: Turns<A>>(
         walks.old.items walks.new.items (selection_of selection.entry) (reply_term reply)) }
 {
     match selection {
-        Selection::Select(term) => select_all(rt, alloc, turns, term),
-        Selection::SelectLimit(term, limit) => select_some(rt, alloc, turns, walks, term, limit),
-        Selection::SelectMore(number) => go_on(rt, alloc, turns, walks, number),
-        Selection::SelectCount(term) => count_all(rt, alloc, turns, term),
-        Selection::SelectDelete(term) => delete_all(rt, alloc, turns, term),
+        Selection::Select(term) => select_all(alloc, turns, term),
+        Selection::SelectLimit(term, limit) => select_some(alloc, turns, walks, term, limit),
+        Selection::SelectMore(number) => go_on(alloc, turns, walks, number),
+        Selection::SelectCount(term) => count_all(alloc, turns, term),
+        Selection::SelectDelete(term) => delete_all(alloc, turns, term),
     }
 }

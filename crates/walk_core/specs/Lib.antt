@@ -4,3 +4,5 @@ pub mod Moments
 pub mod Laws
 pub mod Once
 pub mod Stayed
+pub mod Positions
+pub mod Counting

@@ -5,11 +5,15 @@
 //!
 //! - `specs/Walk.antt`: a walk, how far it has come, and the keys that it has done; `specs/Goes.antt`: visit after
 //!   visit.
+//! - `position`: how far a walk has come, as code has it, and where it is behind a visit; `counting`: visits that count.
 //! - `laws`: that a walk begins, goes on, outlasts what others do, and ends so.
 #![tactic(auto)]
 
+mod counting;
 mod laws;
+mod position;
 
+pub use counting::{Counting, count_op};
 pub use laws::{
     contents_have_their_key, deleting_walks_take_the_marks, deletions_are_the_marks,
     moments_are_the_marks, nothing_is_invented, once_outlasts_others, one_answer_a_key,
@@ -17,3 +21,4 @@ pub use laws::{
     walks_begin, walks_begin_once, walks_cover_once, walks_end, walks_go_on, walks_outlast_others,
     walks_stop, who_stayed_is_answered, wider_calls_cover_once,
 };
+pub use position::{Position, at_key, at_part, behind, behind_key, scope_from};

@@ -6,3 +6,4 @@ pub mod TurnLemmas
 pub mod FindLemmas
 pub mod TourLemmas
 pub mod KeyLemmas
+mod AnsweredLemmas

@@ -1,2 +1,3 @@
 pub mod Tours
 pub mod Laws
+pub mod Answered

@@ -1,5 +1,4 @@
 pub mod NamedLemmas
-pub mod SpelledLemmas
 pub mod KeyLemmas
 pub mod WorkedKeys
 pub mod OrderLemmas

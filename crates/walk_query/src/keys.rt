@@ -6,7 +6,7 @@ ghost use Rattle.mspec_syntax.specs.Sound.{IsSoundClause, IsSoundPattern, AreSou
 ghost use Rattle.term_operand.specs.Order.{is_same};
 ghost use Rattle.walk_query.specs.Named.{key_among, key_named, with_key, named_from, named_by};
 
-use crate::spelled::spelled;
+use compiler_patterns::spelled;
 use mspec_syntax::{Clause, Pattern, PatternKind, Spec};
 use std::alloc::{AllocError, Allocator};
 use term_core::Term;

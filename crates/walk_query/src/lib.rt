@@ -4,7 +4,6 @@
 //! and on an object with another key the specification means nothing (`specs/Laws.antt`). So the code that
 //! `compile_named` gives answers nothing there (`specs/Plan.antt`).
 //!
-//! - The term that a pattern spells, where it spells one: `spelled.rt`.
 //! - The key of each head, and the keys of all: `keys.rt`. The laws: `laws.rt`.
 //! - The keys in both orders in which walks visit them, and the code beside them: `plan.rt`; both in a query:
 //!   `query.rt`.
@@ -14,7 +13,6 @@ mod keys;
 mod laws;
 mod plan;
 mod query;
-mod spelled;
 
 pub use keys::named_keys;
 pub use laws::{named_keys_differ, plans_are_one, unnamed_keys_mean_nothing};

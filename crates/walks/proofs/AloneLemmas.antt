@@ -18,8 +18,9 @@ use Rattle.walk_query.specs.declared.query.Query.{Query}
 use Rattle.walks.specs.declared.continuation.Step.{Step}
 use Rattle.walks.specs.declared.continuation.Step.TheVariants as step
 use Rattle.walks.specs.Pieces.{IsPiece, Steps}
-use Rattle.walks.specs.declared.position.Position as walk_position
-use Rattle.walks.specs.Query.{IsWithin, kept_of, plan_of, position_of, walk_of}
+use Rattle.walk_core.specs.declared.position.Position as walk_position
+use Rattle.walk_core.specs.Positions.{position_of}
+use Rattle.walks.specs.Query.{IsWithin, kept_of, plan_of, walk_of}
 use Rattle.walks.specs.Sights.{Piece, Sight, answers_in, made, piece_of, sights_from, first_position, whole}
 use Rattle.walks.specs.Alone.{IsAlong, IsPieceOf, IsSeen}
 use Rattle.walks.proofs.GoneLemmas.{Gone, goes_gone}

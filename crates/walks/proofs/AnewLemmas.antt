@@ -21,7 +21,7 @@ use Rattle.tables.specs.Turns.{Home}
 use Rattle.walk_core.specs.Walk.{IsPlan, Position, at_key, at_part, is_passed, named_count, next_position, part_at, scope_at, scope_from}
 use Rattle.walk_core.specs.Walk.Position.{InPart, AtNamed, Over}
 use Rattle.part_core.proofs.KeyLemmas.{by_test}
-use Rattle.walks.specs.Query.{IsThere}
+use Rattle.walk_core.specs.Positions.{IsThere}
 use Rattle.walks.specs.Sights.{first_position}
 use Rattle.walks.proofs.CutLemmas.{cut_state}
 use Rattle.walks.proofs.DoneLemmas.{SameVisit, done_at, done_elsewhere, done_in, done_more, left_more, same_named, same_visit}

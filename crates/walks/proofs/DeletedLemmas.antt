@@ -38,7 +38,8 @@ use Rattle.walk_query.specs.declared.query.Query.{Query}
 use Rattle.walk_query.specs.Plan.{AreVisited}
 use Rattle.walks.specs.Counting.{FinishesCount}
 use Rattle.walks.specs.Own.{ChangedWhere, is_fixed_first}
-use Rattle.walks.specs.Query.{IsThere, plan_of, walk_of}
+use Rattle.walk_core.specs.Positions.{IsThere}
+use Rattle.walks.specs.Query.{plan_of, walk_of}
 use Rattle.walks.specs.Sights.{after_removal, answers_in, first_position, is_met, number_true, rows_seen, whole}
 use Rattle.walks.specs.Whole.{Wholly}
 use Rattle.walks.proofs.OneThreadLemmas.{AreStates}

@@ -29,7 +29,7 @@ use Rattle.walk_core.specs.Goes.{Way, way, Visits, Goes}
 use Rattle.walk_core.specs.Goes.Goes.{stays, goes}
 use Rattle.walk_core.specs.Walk.{Walk, Position, named_count, next_position, part_at, scope_at}
 use Rattle.walk_core.specs.Walk.Position.{Over}
-use Rattle.walks.specs.Query.{IsThere}
+use Rattle.walk_core.specs.Positions.{IsThere}
 use Rattle.walks.specs.Sights.{Sight, answers_in, first_position, made, rows_seen, sights_from, whole}
 use Rattle.walks.proofs.OneThreadLemmas.{AreStates}
 use Rattle.walks.proofs.LookLemmas.{Looks}

@@ -14,14 +14,15 @@ use Rattle.walk_core.specs.Walk.Position.{Over}
 use Rattle.walks.specs.declared.continuation.Continuation.{Continuation}
 use Rattle.walks.specs.declared.continuation.Step.{Step}
 use Rattle.walks.specs.declared.continuation.Step.TheVariants as step
-use Rattle.walks.specs.declared.position.Position as walk_position
-use Rattle.walks.specs.declared.position.Position.TheVariants as position
+use Rattle.walk_core.specs.declared.position.Position as walk_position
+use Rattle.walk_core.specs.declared.position.Position.TheVariants as position
 use Rattle.walk_query.specs.declared.query.Query.{Query}
 use Rattle.walk_core.proofs.GoesLemmas.{goes_so_far, begins_so_far, ends_answer, stops_so_far}
 use Rattle.walks.specs.declared.fault.WalkFault.{WalkFault}
 use Rattle.walks.specs.declared.fault.WalkFault.TheVariants as fault
 use Rattle.walks.specs.Pieces.{IsPiece, IsStepOf, IsWalkOf, Steps, IsCarriedOn, Begins, Continues, Keeps}
-use Rattle.walks.specs.Query.{IsWithin, kept_of, position_of, walk_of}
+use Rattle.walk_core.specs.Positions.{position_of}
+use Rattle.walks.specs.Query.{IsWithin, kept_of, walk_of}
 use Rattle.walks.proofs.GoingLemmas.{GoesBy, is_walk}
 
 -- what was found is what is given out and then what is kept

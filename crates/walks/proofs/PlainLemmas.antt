@@ -18,7 +18,7 @@ use Rattle.tables.specs.OneThread.{TableState}
 use Rattle.tables.specs.Turns.{Home}
 use Rattle.walk_core.specs.Walk.{Walk, Position, at_key, at_part, named_at, named_count, next_position, part_at, position_in, scope_at, scope_from, start_of}
 use Rattle.walk_core.specs.Walk.Position.{InPart, AtNamed, Over}
-use Rattle.walks.specs.Query.{IsThere}
+use Rattle.walk_core.specs.Positions.{IsThere}
 use Rattle.walks.specs.Sights.{first_position, goes_on}
 use Rattle.walks.proofs.LookLemmas.{Looks}
 use Rattle.walks.proofs.NamedLemmas.{key_looks}

@@ -22,10 +22,11 @@ use Rattle.walk_core.specs.Walk.{Walk, Position, next_position, part_at, scope_a
 use Rattle.walk_core.proofs.TurnLemmas.{turn_visits}
 use Rattle.walk_query.specs.declared.query.Query.{Query}
 use Rattle.walks.specs.Query.{walk_of}
-use Rattle.walks.specs.Counting.{purpose_of, IsCount, CountsMore}
+use Rattle.walk_core.specs.Counting.{purpose_of}
+use Rattle.walks.specs.Counting.{IsCount, CountsMore}
 use Rattle.walks.specs.Visits.{is_found, is_counted}
-use Rattle.walks.specs.declared.counting.Counting.{Counting}
-use Rattle.walks.specs.declared.counting.Counting.TheVariants as counting
+use Rattle.walk_core.specs.declared.counting.Counting.{Counting}
+use Rattle.walk_core.specs.declared.counting.Counting.TheVariants as counting
 
 or_none : (b : Bool) → (b || false) ≡ true → b ≡ true
 or_none true h = refl

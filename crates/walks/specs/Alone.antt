@@ -14,7 +14,8 @@ use Rattle.walks.specs.declared.continuation.Step.{Step}
 use Rattle.walks.specs.declared.continuation.Step.TheVariants as step
 use Rattle.walks.specs.Counting.{FinishesCount}
 use Rattle.walks.specs.Pieces.{Steps}
-use Rattle.walks.specs.Query.{IsThere, kept_of, plan_of, position_of, walk_of}
+use Rattle.walk_core.specs.Positions.{IsThere, position_of}
+use Rattle.walks.specs.Query.{kept_of, plan_of, walk_of}
 use Rattle.walks.specs.Sights.{Piece, after_removal, number_true, piece_of, selected, sights_from}
 use Rattle.walks.specs.Whole.{Finishes}
 

@@ -1,8 +1,6 @@
 -- What walks that count make of what a session sees.
 use Rattle.std.specs.Prelude.{ℕ, ◌≡◌, ◌++◌, List, [], ◌∷◌, length, min}
 use Rattle.term_core.specs.Datum.{Datum}
-use Rattle.part_core.specs.Acts.{Purpose}
-use Rattle.part_core.specs.Acts.Purpose.{Counts, Deletes}
 use Rattle.part_core.specs.Replies.{most_counted}
 use Rattle.tables.specs.Turns.{Home, Views}
 use Rattle.walk_core.specs.Goes.{way, whole, Visits, Goes, Stops}
@@ -10,13 +8,6 @@ use Rattle.walk_core.specs.Moments.{span, Gathers, ArePlaced}
 use Rattle.walk_core.specs.Once.{IsOnce}
 use Rattle.walk_core.specs.Walk.{Walk, Position, is_done}
 use Rattle.walks.specs.Whole.{Wholly, Finishes}
-use Rattle.walks.specs.declared.counting.Counting.{Counting}
-use Rattle.walks.specs.declared.counting.Counting.TheVariants as counting
-
--- what a visit is for
-abbrev pub purpose_of : Counting → Purpose
-purpose_of counting.Count = Counts
-purpose_of counting.Delete = Deletes
 
 -- a number counts these objects, up to the most that is counted
 abbrev pub IsCount : ℕ → List Datum → Type 0

@@ -11,7 +11,8 @@ use Rattle.walk_query.specs.declared.query.Query.{Query}
 use Rattle.walks.specs.declared.continuation.Continuation.{Continuation}
 use Rattle.walks.specs.declared.continuation.Step.{Step}
 use Rattle.walks.specs.declared.continuation.Step.TheVariants as step
-use Rattle.walks.specs.Query.{kept_of, position_of, walk_of}
+use Rattle.walk_core.specs.Positions.{position_of}
+use Rattle.walks.specs.Query.{kept_of, walk_of}
 
 -- a walk that was begun by this session at this table
 abbrev pub IsOwn : {A : Type 0} → Home → Continuation A → Type 0

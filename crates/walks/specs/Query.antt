@@ -1,26 +1,19 @@
--- Queries, and the walks that they make; how far a walk has come, and what it keeps.
-use Rattle.std.specs.Prelude.{ℕ, Option, option_map, ◌++◌, ◌<◌, List}
+-- Queries, and the walks that they make; what a walk keeps.
+use Rattle.std.specs.Prelude.{ℕ, Option, ◌++◌, List}
 use Rattle.term_core.specs.Datum.{Datum}
 use Rattle.part_core.specs.Acts.{Purpose}
-use Rattle.part_core.specs.Ops.{cursor_of}
 use Rattle.part_core.specs.Settings.{is_ordered}
 use Rattle.tables.specs.declared.options.Options.{Options}
 use Rattle.tables.specs.Turns.{Home}
+use Rattle.walk_core.specs.Positions.{IsThere, position_of}
 use Rattle.walk_core.specs.Walk.{Walk}
 use Rattle.walk_core.specs.Walk as walk
 use Rattle.walk_query.specs.declared.query.Query.{Query}
 use Rattle.walk_query.specs.Plan.{plan_at}
+use Rattle.walk_core.specs.declared.position.Position.{Position}
 use Rattle.walks.specs.declared.kept.Kept.{Kept}
-use Rattle.walks.specs.declared.position.Position.{Position}
-use Rattle.walks.specs.declared.position.Position.TheVariants as position
 use Rattle.walks.specs.declared.fault.WalkFault.{WalkFault}
 use Rattle.walks.specs.declared.fault.WalkFault.TheVariants as fault
-
--- how far a walk has come
-abbrev pub position_of : {A : Type 0} → Position A → walk.Position
-position_of (position.InPart part cursor) = walk.Position.InPart part (option_map cursor_of cursor)
-position_of (position.AtNamed n) = walk.Position.AtNamed n
-position_of position.Over = walk.Position.Over
 
 -- the answers that are kept
 abbrev pub kept_of : {A : Type 0} → Kept A → List Datum
@@ -41,12 +34,6 @@ walk_of h purpose query = record {
   from = 0;
   to = h.options.parts;
 }
-
--- a walk can be there: in one of so many parts, at one of so many named keys, or at its end
-abbrev pub IsThere : ℕ → ℕ → walk.Position → Type 0
-IsThere parts count (walk.Position.InPart part cursor) = part < parts
-IsThere parts count (walk.Position.AtNamed n) = n < count
-IsThere parts count walk.Position.Over = Unit {0}
 
 -- so a walk by a query can be, of a table with these options
 abbrev pub IsWithin : {A B : Type 0} → Options → Query A → Position B → Type 0

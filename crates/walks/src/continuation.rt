@@ -2,9 +2,9 @@
 ghost use Rattle.std.specs.Prelude.{◌<◌};
 
 use crate::kept::Kept;
-use crate::position::Position;
 use std::alloc::{Allocator, Global};
 use term_core::Term;
+use walk_core::Position;
 use walk_query::Query;
 
 /// A walk in pieces under way.

@@ -4,51 +4,25 @@ ghost use Rattle.term_core.specs.Datum.{Datum};
 ghost use Rattle.part_core.specs.Acts.Act.{Visit};
 ghost use Rattle.part_core.specs.Acts.Answer.{Replied, Refused};
 ghost use Rattle.part_core.specs.Acts.Said.{Counted};
-ghost use Rattle.part_core.specs.Ops.{act_of, cursor_of, refusal_of, said_of, scope_of};
+ghost use Rattle.part_core.specs.Ops.{cursor_of, refusal_of, said_of, scope_of};
 ghost use Rattle.part_core.specs.Replies.{most_counted};
 ghost use Rattle.tables.specs.Turns.{Turned, Views, Follows};
 ghost use Rattle.walk_core.specs.Goes.{way, whole, Visits};
 ghost use Rattle.walk_core.specs.Walk.{IsPosition, part_at, scope_at};
 ghost use Rattle.walk_core.specs.Walk.Position.{Over};
-ghost use Rattle.walks.specs.Counting.{purpose_of, CountsTo, StopsAtCount, CountsMore};
-ghost use Rattle.walks.specs.Query.{IsWithin, position_of, walk_of};
+ghost use Rattle.walk_core.specs.Counting.{purpose_of};
+ghost use Rattle.walks.specs.Counting.{CountsTo, StopsAtCount, CountsMore};
+ghost use Rattle.walk_core.specs.Positions.{position_of};
+ghost use Rattle.walks.specs.Query.{IsWithin, walk_of};
 ghost use Rattle.walks.specs.Visits.{is_counted};
 
-use crate::position::{Position, move_on, next_visit};
-use part_core::{Cursor, Fault, Look, PartOp, Reply, Scope};
+use crate::position::{move_on, next_visit};
+use part_core::{Cursor, Fault, Reply, Scope};
 use std::alloc::Allocator;
-use std::sync::Wait;
 use tables::{Turns, turn_at};
 use verifier::Verified;
+use walk_core::{Counting, Position, count_op};
 use walk_query::Query;
-
-/// What becomes of the objects that answer true.
-#[derive(Clone, Copy)]
-pub(crate) enum Counting {
-    /// They are counted.
-    Count,
-    /// They are deleted and counted.
-    Delete,
-}
-
-/// A visit that counts as an operation at a part.
-fn count_op<'q, A: Allocator>(
-    counting: Counting,
-    code: &'q Verified<A>,
-    scope: Scope<'q, A>,
-) -> PartOp<'q, A>
-    ensures { act_of result ≡ Visit (purpose_of counting) code.now (scope_of scope.entry) most_counted }
-{
-    let look = Look {
-        code,
-        scope,
-        wanted: u64::MAX,
-    };
-    match counting {
-        Counting::Count => PartOp::VisitCount(look),
-        Counting::Delete => PartOp::VisitDelete(look),
-    }
-}
 
 /// How many a visit counted, and where the walk goes on.
 fn counted<A: Allocator>(reply: Reply<A>) -> (u64, Option<Cursor<A>>)
@@ -124,8 +98,7 @@ fn capped_sum(total: u64, count: u64) -> u64
 }
 
 /// Makes visits from where a walk is to its end, and adds up what they count.
-pub(crate) fn count_on<R: Wait, A: Allocator, T: Turns<A>>(
-    rt: &R,
+pub(crate) fn count_on<A: Allocator, T: Turns<A>>(
     turns: &mut T,
     query: &Query<A>,
     counting: Counting,
@@ -146,12 +119,12 @@ pub(crate) fn count_on<R: Wait, A: Allocator, T: Turns<A>>(
     ensures foreign { IfErr result (λ fault. fault ≢ Fault.Memory → (v : Views) → T.sees turns.old v
         → IsPosition (walk_of (T.home turns.old) (purpose_of counting) query.now) v (position_of at.old) → ⊥) }
 {
-    for _visit in rt.forever() {
+    for _visit in 0..u64::MAX {
         if at.is_over() {
             return Ok(());
         }
         let count = count_next(turns, query, counting, at)?;
         *total = capped_sum(*total, count);
     }
-    unreachable!()
+    Err(Fault::Memory)
 }

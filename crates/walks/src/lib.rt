@@ -3,10 +3,11 @@
 //! The one contract: a call makes visits, one behind the other, and over every interleaving its answers are those of
 //! `walk_core`: for each key once, what the query answers on the key's objects at one moment of the walk
 //! (`specs/Pieces.antt`, `specs/Whole.antt`). `first` and `next` make turns at the parts in their order until one has a
-//! key (`specs/Keys.antt`). Calls that visit take `rt`, since others may feed a walk through an ordered set for ever.
+//! key (`specs/Keys.antt`). A walk makes at most 2^64 - 1 visits, since others may feed one through an ordered set as it
+//! goes, and is refused behind them as for want of memory: no run comes to that.
 //!
-//! - `walk_query::Query`: what is asked, and of which keys alone; `position`, `kept`, `continuation`: how far a walk has
-//!   come, and what it keeps.
+//! - `walk_query::Query`: what is asked, and of which keys alone; `walk_core::Position`, `position`: how far a walk has
+//!   come, and where it goes on; `kept`, `continuation`: what it keeps.
 //! - `visit`: visits up to a limit; `counting`: visits that count or delete.
 //! - `pieces`: `select_limit` and `select_more`; `whole`: `select`, `select_count` and `select_delete`; `own`: the
 //!   fixes that these make.
@@ -36,6 +37,6 @@ pub use laws::{
     whole_walks_select,
 };
 pub use pieces::{select_limit, select_more};
-pub use position::Position;
+pub use walk_core::Position;
 pub use walk_query::Query;
 pub use whole::{select, select_count, select_delete};

@@ -4,20 +4,21 @@ ghost use Rattle.part_core.specs.Acts.Purpose.{Answers};
 ghost use Rattle.tables.specs.Turns.{Views, Follows};
 ghost use Rattle.walk_core.specs.Goes.{way, up_to, Goes, Stops};
 ghost use Rattle.walk_core.specs.Walk.{IsPosition};
-ghost use Rattle.walks.specs.Query.{IsWithin, kept_of, position_of, walk_of};
+ghost use Rattle.walk_core.specs.Positions.{position_of};
+ghost use Rattle.walks.specs.Query.{IsWithin, kept_of, walk_of};
 ghost use Rattle.walks.specs.Pieces.{IsOwn, IsPiece, IsWalkOf, IsStepOf, Steps, Begins, Continues, Keeps};
 ghost use Rattle.walks.specs.Visits.{StopsAnywhere};
 
 use crate::continuation::{Continuation, Step};
 use crate::fault::WalkFault;
 use crate::kept::Kept;
-use crate::position::{Position, named_count, start};
+use crate::position::{named_count, start};
 use crate::visit::visit_up_to;
 use part_core::Fault;
 use std::alloc::Allocator;
-use std::sync::Wait;
 use tables::Turns;
 use term_core::{Refused, Term};
+use walk_core::Position;
 use walk_query::Query;
 
 /// What a refused visit comes to: a walk that can't go on where it is was begun at another table.
@@ -47,8 +48,7 @@ fn step_of<A: Allocator>(walk: Continuation<A>, piece: Vec<Term<A>, A>) -> Step<
 }
 
 /// Makes visits until there are as many answers as the limit, or the walk is at its end, and gives out so many.
-pub(crate) fn next_piece<R: Wait, A: Allocator + Copy, T: Turns<A>>(
-    rt: &R,
+pub(crate) fn next_piece<A: Allocator + Copy, T: Turns<A>>(
     alloc: A,
     turns: &mut T,
     query: &Query<A>,
@@ -71,7 +71,7 @@ pub(crate) fn next_piece<R: Wait, A: Allocator + Copy, T: Turns<A>>(
         × ((v : Views) → T.sees turns.old v
         → IsPosition (walk_of (T.home turns.old) Answers query.now) v (position_of at.old) → ⊥)) }
 {
-    if let Err(fault) = visit_up_to(rt, turns, query, limit, at, kept) {
+    if let Err(fault) = visit_up_to(turns, query, limit, at, kept) {
         return Err(fault_of(fault));
     }
     match kept.piece(alloc, limit) {
@@ -81,8 +81,7 @@ pub(crate) fn next_piece<R: Wait, A: Allocator + Copy, T: Turns<A>>(
 }
 
 /// Makes visits until a piece can be given out, or the walk is at its end.
-fn go_on<R: Wait, A: Allocator + Copy, T: Turns<A>>(
-    rt: &R,
+fn go_on<A: Allocator + Copy, T: Turns<A>>(
     alloc: A,
     turns: &mut T,
     walk: Continuation<A>,
@@ -110,7 +109,7 @@ fn go_on<R: Wait, A: Allocator + Copy, T: Turns<A>>(
         mut at,
         mut kept,
     } = walk;
-    let piece = next_piece(rt, alloc, turns, &query, limit, &mut at, &mut kept);
+    let piece = next_piece(alloc, turns, &query, limit, &mut at, &mut kept);
     let walk = Continuation {
         query,
         table,
@@ -148,8 +147,7 @@ fn is_own<A: Allocator>(walk: &Continuation<A>, table: u64, session: u8) -> bool
 
 /// Begins a walk in pieces of at most so many answers each (ets:select/3). A limit of 0 is refused before any turn;
 /// what is refused is handed back.
-pub fn select_limit<R: Wait, A: Allocator + Copy, T: Turns<A>>(
-    rt: &R,
+pub fn select_limit<A: Allocator + Copy, T: Turns<A>>(
     alloc: A,
     turns: &mut T,
     query: Query<A>,
@@ -181,7 +179,7 @@ pub fn select_limit<R: Wait, A: Allocator + Copy, T: Turns<A>>(
         at,
         kept: Kept::new(alloc),
     };
-    match go_on(rt, alloc, turns, walk) {
+    match go_on(alloc, turns, walk) {
         Ok(step) => Ok(step),
         Err(refused) => Err(query_refused(refused)),
     }
@@ -189,8 +187,7 @@ pub fn select_limit<R: Wait, A: Allocator + Copy, T: Turns<A>>(
 
 /// Carries a walk in pieces on (ets:select/1). A walk of another table or session is refused before any turn. What is
 /// refused is handed back, with the visits that were made and what they found.
-pub fn select_more<R: Wait, A: Allocator + Copy, T: Turns<A>>(
-    rt: &R,
+pub fn select_more<A: Allocator + Copy, T: Turns<A>>(
     alloc: A,
     turns: &mut T,
     walk: Continuation<A>,
@@ -224,5 +221,5 @@ pub fn select_more<R: Wait, A: Allocator + Copy, T: Turns<A>>(
             fault: WalkFault::StrangerContinuation,
         });
     }
-    go_on(rt, alloc, turns, walk)
+    go_on(alloc, turns, walk)
 }

@@ -9,17 +9,18 @@ ghost use Rattle.tables.specs.Turns.{Turned, Views, Follows};
 ghost use Rattle.walk_core.specs.Goes.{way, up_to, Visits, Goes, Stops};
 ghost use Rattle.walk_core.specs.Walk.{IsPosition, part_at, scope_at};
 ghost use Rattle.walk_core.specs.Walk.Position.{Over};
-ghost use Rattle.walks.specs.Query.{IsWithin, kept_of, position_of, walk_of};
+ghost use Rattle.walk_core.specs.Positions.{position_of};
+ghost use Rattle.walks.specs.Query.{IsWithin, kept_of, walk_of};
 ghost use Rattle.walks.specs.Visits.{is_found};
 
 use crate::kept::Kept;
-use crate::position::{Position, move_on, next_visit};
+use crate::position::{move_on, next_visit};
 use part_core::{Cursor, Fault, Look, PartOp, Reply, Scope};
 use std::alloc::Allocator;
-use std::sync::Wait;
 use tables::{Turns, turn_at};
 use term_core::Term;
 use verifier::Verified;
+use walk_core::Position;
 use walk_query::Query;
 
 /// What a visit found, and where the walk goes on.
@@ -97,8 +98,7 @@ pub(crate) fn visit_next<A: Allocator, T: Turns<A>>(
 }
 
 /// Makes visits until there are as many answers as the limit, or the walk is at its end.
-pub(crate) fn visit_up_to<R: Wait, A: Allocator, T: Turns<A>>(
-    rt: &R,
+pub(crate) fn visit_up_to<A: Allocator, T: Turns<A>>(
     turns: &mut T,
     query: &Query<A>,
     limit: u64,
@@ -120,7 +120,7 @@ pub(crate) fn visit_up_to<R: Wait, A: Allocator, T: Turns<A>>(
     ensures foreign { IfErr result (λ fault. fault ≢ Fault.Memory → (v : Views) → T.sees turns.old v
         → IsPosition (walk_of (T.home turns.old) Answers query.now) v (position_of at.old) → ⊥) }
 {
-    for _visit in rt.forever() {
+    for _visit in 0..u64::MAX {
         kept.settle()?;
         let found = kept.len();
         if limit <= found {
@@ -131,5 +131,5 @@ pub(crate) fn visit_up_to<R: Wait, A: Allocator, T: Turns<A>>(
         }
         visit_next(turns, query, limit - found, at, kept)?;
     }
-    unreachable!()
+    Err(Fault::Memory)
 }

@@ -6,26 +6,26 @@ ghost use Rattle.tables.specs.Turns.{Follows};
 ghost use Rattle.walk_core.specs.Goes.{way, up_to, whole, Stops};
 ghost use Rattle.walk_core.specs.Walk.{Position, start_of};
 ghost use Rattle.walk_core.specs.Walk.Position.{Over};
-ghost use Rattle.walks.specs.Counting.{purpose_of, StopsAtCount, FinishesCount, GivesUpCount};
+ghost use Rattle.walk_core.specs.Counting.{purpose_of};
+ghost use Rattle.walks.specs.Counting.{StopsAtCount, FinishesCount, GivesUpCount};
 ghost use Rattle.walks.specs.Query.{walk_of};
 ghost use Rattle.walks.specs.Visits.{StopsAnywhere};
 ghost use Rattle.walks.specs.Whole.{Finishes, GivesUp};
 
-use crate::counting::{Counting, count_on};
+use crate::counting::count_on;
 use crate::fault::WalkFault;
 use crate::kept::Kept;
 use crate::own::{fix_own, release_own};
 use crate::pieces::next_piece;
 use crate::position::start;
 use std::alloc::{AllocError, Allocator};
-use std::sync::Wait;
 use tables::Turns;
 use term_core::{Refused, Term};
+use walk_core::Counting;
 use walk_query::Query;
 
 /// All answers of a walk.
-fn gather<R: Wait, A: Allocator + Copy, T: Turns<A>>(
-    rt: &R,
+fn gather<A: Allocator + Copy, T: Turns<A>>(
     alloc: A,
     turns: &mut T,
     query: &Query<A>,
@@ -41,13 +41,12 @@ fn gather<R: Wait, A: Allocator + Copy, T: Turns<A>>(
 {
     let mut at = start(turns, query);
     let mut kept = Kept::new(alloc);
-    next_piece(rt, alloc, turns, query, u64::MAX, &mut at, &mut kept)
+    next_piece(alloc, turns, query, u64::MAX, &mut at, &mut kept)
 }
 
 /// The answers of a query on the objects of a table (ets:select/2). The parts of a set that the session doesn't fix are
 /// fixed first and released at the end, also where the call is refused.
-pub fn select<R: Wait, A: Allocator + Copy, T: Turns<A>>(
-    rt: &R,
+pub fn select<A: Allocator + Copy, T: Turns<A>>(
     alloc: A,
     turns: &mut T,
     query: &Query<A>,
@@ -61,7 +60,7 @@ pub fn select<R: Wait, A: Allocator + Copy, T: Turns<A>>(
         (GivesUp (T.home turns.old) (walk_of (T.home turns.old) Answers query.now) (up_to most_counted))) }
 {
     let own = fix_own(turns);
-    let answers = gather(rt, alloc, turns, query);
+    let answers = gather(alloc, turns, query);
     release_own(turns, &own);
     match answers {
         Ok(answers) => Ok(answers),
@@ -70,8 +69,7 @@ pub fn select<R: Wait, A: Allocator + Copy, T: Turns<A>>(
 }
 
 /// How many objects answer true; a refusal has the number until then.
-fn tally<R: Wait, A: Allocator, T: Turns<A>>(
-    rt: &R,
+fn tally<A: Allocator, T: Turns<A>>(
     turns: &mut T,
     query: &Query<A>,
     counting: Counting,
@@ -88,7 +86,7 @@ fn tally<R: Wait, A: Allocator, T: Turns<A>>(
 {
     let mut at = start(turns, query);
     let mut total = 0;
-    match count_on(rt, turns, query, counting, &mut at, &mut total) {
+    match count_on(turns, query, counting, &mut at, &mut total) {
         Ok(()) => Ok(total),
         Err(_) => Err(Refused {
             value: total,
@@ -98,8 +96,7 @@ fn tally<R: Wait, A: Allocator, T: Turns<A>>(
 }
 
 /// Counts, with the fixes of its own.
-fn count_table<R: Wait, A: Allocator, T: Turns<A>>(
-    rt: &R,
+fn count_table<A: Allocator, T: Turns<A>>(
     turns: &mut T,
     query: &Query<A>,
     counting: Counting,
@@ -113,15 +110,14 @@ fn count_table<R: Wait, A: Allocator, T: Turns<A>>(
         (GivesUpCount (T.home turns.old) (walk_of (T.home turns.old) (purpose_of counting) query.now) refused.value)) }
 {
     let own = fix_own(turns);
-    let counted = tally(rt, turns, query, counting);
+    let counted = tally(turns, query, counting);
     release_own(turns, &own);
     counted
 }
 
 /// How many objects of a table answer `true` to a query, at most 2^64 - 1 (ets:select_count/2). The parts of a set that
 /// the session doesn't fix are fixed first and released at the end, also where the call is refused.
-pub fn select_count<R: Wait, A: Allocator, T: Turns<A>>(
-    rt: &R,
+pub fn select_count<A: Allocator, T: Turns<A>>(
     turns: &mut T,
     query: &Query<A>,
 ) -> Result<u64, AllocError>
@@ -133,7 +129,7 @@ pub fn select_count<R: Wait, A: Allocator, T: Turns<A>>(
     ensures refused { IfErr result (λ _. Follows (T.sees turns.old) (T.sees turns.new)
         (GivesUp (T.home turns.old) (walk_of (T.home turns.old) Counts query.now) whole)) }
 {
-    match count_table(rt, turns, query, Counting::Count) {
+    match count_table(turns, query, Counting::Count) {
         Ok(count) => Ok(count),
         Err(_) => Err(AllocError),
     }
@@ -142,8 +138,7 @@ pub fn select_count<R: Wait, A: Allocator, T: Turns<A>>(
 /// Deletes the objects of a table that answer `true` to a query, each in the turn in which it was asked, and answers
 /// how many, at most 2^64 - 1 (ets:select_delete/2); a refusal has the number until then. The parts of a set that the
 /// session doesn't fix are fixed first and released at the end, also where the call is refused.
-pub fn select_delete<R: Wait, A: Allocator, T: Turns<A>>(
-    rt: &R,
+pub fn select_delete<A: Allocator, T: Turns<A>>(
     turns: &mut T,
     query: &Query<A>,
 ) -> Result<u64, Refused<u64, AllocError>>
@@ -155,5 +150,5 @@ pub fn select_delete<R: Wait, A: Allocator, T: Turns<A>>(
     ensures refused { IfErr result (λ refused. Follows (T.sees turns.old) (T.sees turns.new)
         (GivesUpCount (T.home turns.old) (walk_of (T.home turns.old) Deletes query.now) refused.value)) }
 {
-    count_table(rt, turns, query, Counting::Delete)
+    count_table(turns, query, Counting::Delete)
 }

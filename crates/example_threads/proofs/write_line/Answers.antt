@@ -1,5 +1,5 @@
 use denote.Param.Send.{sendable}
-use Rattle.part_send.proofs.SendLemmas.{hash_part_send}
+use Rattle.part_hash.proofs.SendLemmas.{hash_part_send}
 use Rattle.example_threads.proofs.write_line.Goals as goal
 
 pub objects_left-requires-send-P : goal.objects_left-requires-send-P

@@ -1,5 +1,6 @@
 use denote.Param.Send.{sendable}
-use Rattle.part_send.proofs.SendLemmas.{hash_part_send, order_part_send}
+use Rattle.part_hash.proofs.SendLemmas.{hash_part_send}
+use Rattle.part_order.proofs.SendLemmas.{order_part_send}
 use Rattle.judge_sessions.proofs.write_run.Goals as goal
 
 pub judged-judged-requires-send-P : goal.judged-judged-requires-send-P

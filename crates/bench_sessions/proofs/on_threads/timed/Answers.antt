@@ -1,5 +1,5 @@
 use denote.Param.Send.{sendable}
-use Rattle.part_send.proofs.SendLemmas.{hash_part_send}
+use Rattle.part_hash.proofs.SendLemmas.{hash_part_send}
 use Rattle.bench_sessions.proofs.on_threads.timed.Goals as goal
 
 pub round-requires-send-P : goal.round-requires-send-P

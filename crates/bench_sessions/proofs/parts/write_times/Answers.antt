@@ -1,5 +1,5 @@
 use denote.Param.Send.{sendable}
-use Rattle.part_send.proofs.SendLemmas.{hash_part_send}
+use Rattle.part_hash.proofs.SendLemmas.{hash_part_send}
 use Rattle.bench_sessions.proofs.parts.write_times.Goals as goal
 
 pub both-requires-send-P : goal.both-requires-send-P

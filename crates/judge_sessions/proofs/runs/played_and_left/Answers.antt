@@ -1,5 +1,5 @@
 use denote.Param.Send.{sendable}
-use Rattle.part_send.proofs.SendLemmas.{hash_part_send}
+use Rattle.part_hash.proofs.SendLemmas.{hash_part_send}
 use Rattle.judge_sessions.proofs.runs.played_and_left.Goals as goal
 
 pub played_alone-worker-requires-send-Q : goal.played_alone-worker-requires-send-Q

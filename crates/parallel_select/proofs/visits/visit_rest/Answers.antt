@@ -7,7 +7,7 @@ use Rattle.walk_core.specs.Walk.Position.{InPart}
 use Rattle.walks.specs.Query.{plan_of}
 use Rattle.parallel_select.specs.Gained.{purpose_of}
 use Rattle.parallel_select.specs.Parts.{part_walk, Visited, Missed}
-use Rattle.parallel_select.proofs.GainLemmas.{gains_nothing, gains_once, gains_until}
+use Rattle.parallel_select.proofs.GainLemmas.{gains_nothing, gains_once, gains_so_far, gains_until}
 use Rattle.parallel_select.proofs.WalkLemmas.{part_is_walk, starts_there, unnamed_plan, ends_there, goes_on_there, not_over, none_left, some_left}
 use Rattle.parallel_select.proofs.visits.visit_rest.Goals as goal
 
@@ -64,3 +64,12 @@ returns-in-Err-clause-refused g c =
     let legal_later = subst (λ (home : Home). (v : Views) → later v → AreLegal home.options v) same (λ v b part inside. g.met.T.Turns.legal c.visit_from.new.turns v part c.visit_from.ensures.ready b inside) in
     let visit = subst (λ (home : Home). Follows now later (Missed home c.args.part purpose c.args.query.now.code (scope_from at) c.in-Err.field-0 c.loop-visit.gained c.visit_from.new.gained)) c.loop-visit.invariant.1 c.in-Err.ensures.refused in
     gains_until h w (InPart c.args.part at) c.args.gained.now c.loop-visit.gained c.visit_from.new.gained c.in-Err.field-0 before now later (record { options = refl; number = refl }) (part_is_walk h purpose c.args.query.now c.args.part (g.met.T.Turns.fits c.args.turns.now c.requires.ready) c.requires.part) (not_over c.args.part at) legal legal_later c.loop-visit.invariant.3 visit
+
+pub returns-clause-refused : goal.returns-clause-refused
+returns-clause-refused g c =
+    let h = g.T.Turns.home c.args.turns.now in
+    let w = part_walk h (purpose_of c.args.asking) c.args.query.now c.args.part in
+    let before = g.T.Turns.sees c.args.turns.now in
+    let now = g.T.Turns.sees c.loop-visit.turns in
+    let legal = subst (λ (home : Home). (v : Views) → now v → AreLegal home.options v) c.loop-visit.invariant.1 (λ v b part inside. g.met.T.Turns.legal c.loop-visit.turns v part c.loop-visit.invariant.0 b inside) in
+    gains_so_far h w (start_of w) (InPart c.args.part (option_map cursor_of c.loop-visit.cursor)) c.args.gained.now c.loop-visit.gained before now legal c.loop-visit.invariant.3

@@ -2,7 +2,7 @@ use Rattle.std.proofs.Common.{◌++◌, ap, sym, ◌∙◌}
 use Rattle.std.proofs.lemmas.Result.{IfOk-weaker}
 use Rattle.part_core.specs.Acts.{Scope}
 use Rattle.part_core.specs.Ops.{scope_of}
-use Rattle.part_engine.specs.Looks.{looked_at}
+use Rattle.part_rows.specs.Looks.{looked_at}
 use Rattle.part_hash.proofs.looking.look.Goals as goal
 
 pub returns-in-Named : goal.returns-in-Named

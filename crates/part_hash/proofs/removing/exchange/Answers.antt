@@ -1,7 +1,7 @@
 use Rattle.std.proofs.Common.{List, refl, ap, sym, subst, ◌∙◌}
 use Rattle.std.specs.Prelude.{Bool}
 use Rattle.part_core.specs.Rows.{Row, objects_at, rows_at_key}
-use Rattle.part_engine.specs.Shown.{rows_exchanged}
+use Rattle.part_rows.specs.Shown.{rows_exchanged}
 use Rattle.part_hash.specs.Standing.{Stands}
 use Rattle.part_hash.proofs.WriteLemmas.{stands_written}
 use Rattle.part_hash.proofs.ExchangeLemmas.{exchanged_left}

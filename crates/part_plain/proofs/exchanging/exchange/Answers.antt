@@ -1,7 +1,7 @@
 use Rattle.std.proofs.Common.{List, ap, sym, subst, ◌∙◌}
 use Rattle.std.specs.Prelude.{Bool}
 use Rattle.part_core.specs.Rows.{Row, has_row}
-use Rattle.part_engine.specs.Shown.{rows_exchanged}
+use Rattle.part_rows.specs.Shown.{rows_exchanged}
 use Rattle.part_plain.specs.Places.{IsPlace}
 use Rattle.part_plain.proofs.PlaceLemmas.{place_there, place_objects, place_set}
 use Rattle.part_plain.proofs.ExchangeLemmas.{exchanged_kept, exchanged_left}

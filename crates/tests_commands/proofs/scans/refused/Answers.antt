@@ -1,5 +1,5 @@
 use denote.Param.Send.{sendable}
-use Rattle.part_send.proofs.SendLemmas.{plain_part_send}
+use Rattle.part_plain.proofs.SendLemmas.{plain_part_send}
 use Rattle.tests_commands.proofs.scans.refused.Goals as goal
 
 pub tool_scan-ended-requires-send-P : goal.tool_scan-ended-requires-send-P

@@ -1,5 +1,5 @@
 use denote.Param.Send.{sendable}
-use Rattle.part_send.proofs.SendLemmas.{hash_part_send}
+use Rattle.part_hash.proofs.SendLemmas.{hash_part_send}
 use Rattle.tests_commands.proofs.writers.passed_on_of_a_refusal.Goals as goal
 
 pub run_request-status-requires-send-P : goal.run_request-status-requires-send-P

@@ -1,5 +1,6 @@
 use denote.Param.Send.{sendable}
-use Rattle.part_send.proofs.SendLemmas.{hash_part_send, plain_part_send}
+use Rattle.part_plain.proofs.SendLemmas.{plain_part_send}
+use Rattle.part_hash.proofs.SendLemmas.{hash_part_send}
 use Rattle.tests_parallel.proofs.selections.members_answer_in_the_order_of_the_parts.Goals as goal
 
 pub all_come_to-requires-send-P : goal.all_come_to-requires-send-P

@@ -1,5 +1,5 @@
 use denote.Param.Send.{sendable}
-use Rattle.part_send.proofs.SendLemmas.{hash_part_send}
+use Rattle.part_hash.proofs.SendLemmas.{hash_part_send}
 use Rattle.tests_parallel.proofs.selections.members_delete_all_objects.Goals as goal
 
 pub are_deleted-requires-send-P : goal.are_deleted-requires-send-P

@@ -1,5 +1,5 @@
 use denote.Param.Send.{sendable}
-use Rattle.part_send.proofs.SendLemmas.{plain_part_send}
+use Rattle.part_plain.proofs.SendLemmas.{plain_part_send}
 use Rattle.tests_parallel.proofs.selections.members_work_side_by_side.Goals as goal
 
 pub comes_to-first-requires-send-P : goal.comes_to-first-requires-send-P

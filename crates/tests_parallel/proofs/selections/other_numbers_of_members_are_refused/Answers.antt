@@ -1,5 +1,5 @@
 use denote.Param.Send.{sendable}
-use Rattle.part_send.proofs.SendLemmas.{plain_part_send}
+use Rattle.part_plain.proofs.SendLemmas.{plain_part_send}
 use Rattle.tests_parallel.proofs.selections.other_numbers_of_members_are_refused.Goals as goal
 
 pub are_refused-requires-send-P : goal.are_refused-requires-send-P

@@ -1,6 +1,6 @@
 use denote.Param.Send.{sendable}
 use Rattle.std.proofs.Common.{map}
-use Rattle.part_send.proofs.SendLemmas.{hash_part_send}
+use Rattle.part_hash.proofs.SendLemmas.{hash_part_send}
 use Rattle.tool_cli.specs.Words.{asked}
 use Rattle.tool_cli.proofs.EndLemmas.{ends_asked, ends_command}
 use Rattle.tool_cli.proofs.program.run_words.Goals as goal

@@ -5,8 +5,9 @@ use Rattle.part_core.specs.Replies.{most_counted}
 use Rattle.part_core.specs.Ops.{cursor_of, refusal_of, scope_of}
 use Rattle.tables.specs.Turns.{Home}
 use Rattle.walk_core.specs.Walk.{next_position}
-use Rattle.walks.specs.Counting.{purpose_of}
-use Rattle.walks.specs.Query.{position_of, walk_of}
+use Rattle.walk_core.specs.Counting.{purpose_of}
+use Rattle.walk_core.specs.Positions.{position_of}
+use Rattle.walks.specs.Query.{walk_of}
 use Rattle.walks.proofs.VisitLemmas.{turned_there, visit_more}
 use Rattle.walks.proofs.counting.count_next.Goals as goal
 

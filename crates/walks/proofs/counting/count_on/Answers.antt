@@ -10,8 +10,10 @@ use Rattle.part_core.specs.Replies.{most_counted}
 use Rattle.tables.specs.Turns.{Home, Views, Turned, Follows}
 use Rattle.walk_core.specs.Moments.{AreLegal}
 use Rattle.walk_core.specs.Walk.{part_at, scope_at}
-use Rattle.walks.specs.Counting.{purpose_of, CountsMore}
-use Rattle.walks.specs.Query.{IsWithin, position_of, walk_of}
+use Rattle.walk_core.specs.Counting.{purpose_of}
+use Rattle.walks.specs.Counting.{CountsMore}
+use Rattle.walk_core.specs.Positions.{position_of}
+use Rattle.walks.specs.Query.{IsWithin, walk_of}
 use Rattle.walks.proofs.CountingLemmas.{counts_nothing, counts_once, count_stops, count_foreign}
 use Rattle.walks.proofs.GoingLemmas.{is_walk}
 use Rattle.walks.proofs.counting.count_on.Goals as goal

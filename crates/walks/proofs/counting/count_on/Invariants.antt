@@ -1,7 +1,9 @@
 use Rattle.std.proofs.Common.{◌≡◌}
 use Rattle.tables.specs.Turns.{Follows}
-use Rattle.walks.specs.Counting.{purpose_of, CountsTo}
-use Rattle.walks.specs.Query.{IsWithin, position_of, walk_of}
+use Rattle.walk_core.specs.Counting.{purpose_of}
+use Rattle.walks.specs.Counting.{CountsTo}
+use Rattle.walk_core.specs.Positions.{position_of}
+use Rattle.walks.specs.Query.{IsWithin, walk_of}
 use Rattle.walks.proofs.counting.count_on.Given as goal
 
 abbrev pub invariant-loop-visit : goal.invariant-loop-visit

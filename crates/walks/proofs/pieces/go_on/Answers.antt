@@ -1,6 +1,7 @@
 use Rattle.std.proofs.Common.{refl}
 use Rattle.walks.specs.declared.continuation.Continuation.{Continuation}
-use Rattle.walks.specs.Query.{kept_of, position_of}
+use Rattle.walk_core.specs.Positions.{position_of}
+use Rattle.walks.specs.Query.{kept_of}
 use Rattle.walks.proofs.PieceLemmas.{steps_of}
 use Rattle.walks.proofs.pieces.go_on.Goals as goal
 

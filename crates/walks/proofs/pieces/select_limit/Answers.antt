@@ -6,7 +6,8 @@ use Rattle.walk_core.specs.Goes.{way, up_to, Stops}
 use Rattle.walk_core.specs.Walk.{Position, IsPosition, start_by}
 use Rattle.walks.specs.declared.fault.WalkFault.TheVariants.{Memory, StrangerContinuation}
 use Rattle.walks.specs.Pieces.{Steps}
-use Rattle.walks.specs.Query.{kept_of, plan_of, position_of, walk_of}
+use Rattle.walk_core.specs.Positions.{position_of}
+use Rattle.walks.specs.Query.{kept_of, plan_of, walk_of}
 use Rattle.walks.proofs.PieceLemmas.{begins_by, only_scarce, starts_well}
 use Rattle.walks.proofs.pieces.select_limit.Goals as goal
 

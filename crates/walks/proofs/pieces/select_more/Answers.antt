@@ -7,7 +7,8 @@ use Rattle.walk_core.specs.Goes.{way, up_to, Stops}
 use Rattle.walk_core.specs.Walk.{IsPosition, named_count}
 use Rattle.walks.specs.declared.fault.WalkFault.TheVariants.{Memory, StrangerContinuation}
 use Rattle.walks.specs.Pieces.{Steps, Continues, Keeps, IsOwn, IsWalkOf}
-use Rattle.walks.specs.Query.{IsThere, kept_of, plan_of, position_of, walk_of}
+use Rattle.walk_core.specs.Positions.{IsThere, position_of}
+use Rattle.walks.specs.Query.{kept_of, plan_of, walk_of}
 use Rattle.walks.proofs.PieceLemmas.{continues_by, keeps_by, within_by, err_both}
 use Rattle.walks.proofs.pieces.select_more.Goals as goal
 

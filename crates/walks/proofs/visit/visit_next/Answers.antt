@@ -5,7 +5,8 @@ use Rattle.part_core.specs.Acts.Purpose.{Answers}
 use Rattle.part_core.specs.Ops.{cursor_of, refusal_of, scope_of}
 use Rattle.tables.specs.Turns.{Home}
 use Rattle.walk_core.specs.Walk.{next_position}
-use Rattle.walks.specs.Query.{kept_of, position_of, walk_of}
+use Rattle.walk_core.specs.Positions.{position_of}
+use Rattle.walks.specs.Query.{kept_of, walk_of}
 use Rattle.walks.proofs.VisitLemmas.{turned_there, visit_kept}
 use Rattle.walks.proofs.visit.visit_next.Goals as goal
 

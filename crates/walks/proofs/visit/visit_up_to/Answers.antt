@@ -12,7 +12,8 @@ use Rattle.tables.specs.Turns.{Home, Views, Turned, Follows}
 use Rattle.walk_core.specs.Goes.{way, up_to, Visits}
 use Rattle.walk_core.specs.Moments.{AreLegal}
 use Rattle.walk_core.specs.Walk.{part_at, scope_at}
-use Rattle.walks.specs.Query.{IsWithin, kept_of, position_of, walk_of}
+use Rattle.walk_core.specs.Positions.{position_of}
+use Rattle.walks.specs.Query.{IsWithin, kept_of, walk_of}
 use Rattle.walks.proofs.VisitLemmas.{rest_wanted}
 use Rattle.walks.proofs.GoingLemmas.{GoesBy, goes_nowhere, goes_once, stops_refused, no_stranger, is_walk}
 use Rattle.walks.proofs.visit.visit_up_to.Goals as goal

@@ -2,7 +2,8 @@ use Rattle.std.proofs.Common.{◌≡◌}
 use Rattle.part_core.specs.Acts.Purpose.{Answers}
 use Rattle.tables.specs.Turns.{Follows}
 use Rattle.walk_core.specs.Goes.{up_to}
-use Rattle.walks.specs.Query.{IsWithin, kept_of, position_of, walk_of}
+use Rattle.walk_core.specs.Positions.{position_of}
+use Rattle.walks.specs.Query.{IsWithin, kept_of, walk_of}
 use Rattle.walks.proofs.GoingLemmas.{GoesBy}
 use Rattle.walks.proofs.visit.visit_up_to.Given as goal
 

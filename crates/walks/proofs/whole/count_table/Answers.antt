@@ -4,7 +4,8 @@ use Rattle.tables.specs.Turns.{Home, Views, Follows}
 use Rattle.walk_core.specs.Goes.{whole}
 use Rattle.walk_core.specs.Walk.{Position, start_of}
 use Rattle.walk_core.specs.Walk.Position.{Over}
-use Rattle.walks.specs.Counting.{purpose_of, StopsAtCount, FinishesCount, GivesUpCount}
+use Rattle.walk_core.specs.Counting.{purpose_of}
+use Rattle.walks.specs.Counting.{StopsAtCount, FinishesCount, GivesUpCount}
 use Rattle.walks.specs.Own.{Releases, AreHeld}
 use Rattle.walks.specs.Query.{walk_of}
 use Rattle.walks.specs.Visits.{StopsAnywhere}

@@ -9,7 +9,8 @@ use Rattle.walk_core.specs.Walk.Position.{Over}
 use Rattle.walks.specs.declared.fault.WalkFault.TheVariants.{Memory, StrangerContinuation}
 use Rattle.walks.specs.Pieces.{IsPiece}
 use Rattle.walks.specs.Visits.{StopsAnywhere}
-use Rattle.walks.specs.Query.{kept_of, plan_of, position_of, walk_of}
+use Rattle.walk_core.specs.Positions.{position_of}
+use Rattle.walks.specs.Query.{kept_of, plan_of, walk_of}
 use Rattle.walks.proofs.GoingLemmas.{GoesBy, is_walk}
 use Rattle.walks.proofs.PieceLemmas.{err_both, few_in_memory, gathered_by, ok_both, only_scarce, starts_well}
 use Rattle.walks.proofs.WholeLemmas.{ends_there}

@@ -3,8 +3,10 @@ use Rattle.std.specs.Prelude.{Err}
 use Rattle.part_core.specs.declared.fault.Fault.TheVariants.{Memory}
 use Rattle.tables.specs.Turns.{Views, Follows}
 use Rattle.walk_core.specs.Walk.{Position, IsPosition, start_by}
-use Rattle.walks.specs.Counting.{purpose_of, StopsAtCount}
-use Rattle.walks.specs.Query.{plan_of, position_of, walk_of}
+use Rattle.walk_core.specs.Counting.{purpose_of}
+use Rattle.walks.specs.Counting.{StopsAtCount}
+use Rattle.walk_core.specs.Positions.{position_of}
+use Rattle.walks.specs.Query.{plan_of, walk_of}
 use Rattle.walks.proofs.CountingLemmas.{scarce_alone, starts_there}
 use Rattle.walks.proofs.whole.tally.Goals as goal
 

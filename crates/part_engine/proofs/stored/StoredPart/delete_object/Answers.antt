@@ -1,10 +1,10 @@
 use Rattle.std.proofs.Common.{[], ap, sym, ◌∙◌, true}
 use Rattle.part_core.specs.Rows.{is_fixed, objects_at, objects_without}
 use Rattle.part_core.proofs.StepLemmas.{empty_row}
-use Rattle.part_engine.specs.Shown.{shown_exchanged}
+use Rattle.part_rows.specs.Shown.{shown_exchanged}
 use Rattle.part_engine.proofs.LeadLemmas.{delete_object_says, no_object_says, no_row_says, sound}
 use Rattle.part_engine.proofs.SweepLemmas.{exchanged_sound}
-use Rattle.part_engine.specs.Shown.{state_of}
+use Rattle.part_rows.specs.Shown.{state_of}
 use Rattle.part_engine.proofs.stored.StoredPart.delete_object.Goals as goal
 
 pub returns-in_default-clause-leads : goal.returns-in_default-clause-leads

@@ -1,7 +1,7 @@
 use Rattle.std.proofs.Common.{ap, sym, ◌∙◌}
 use Rattle.std.specs.Prelude.{if◌then◌else◌, unwrap_or}
 use Rattle.term_core.specs.Datum.Datum.{nil}
-use Rattle.part_engine.specs.Shown.{Shown, shown_with, state_of}
+use Rattle.part_rows.specs.Shown.{Shown, shown_with, state_of}
 use Rattle.part_engine.proofs.LeadLemmas.{insert_new_says, insert_new_refused, sound}
 use Rattle.part_engine.proofs.stored.StoredPart.insert_new.Goals as goal
 

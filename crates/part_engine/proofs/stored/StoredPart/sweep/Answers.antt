@@ -6,7 +6,7 @@ use Rattle.part_core.specs.declared.settings.Settings.{Settings}
 use Rattle.part_core.specs.Rows.{Row, is_fixed}
 use Rattle.part_core.specs.States.{IsRow}
 use Rattle.part_engine.specs.Deletions.{shown_swept}
-use Rattle.part_engine.specs.Shown.{shown_exchanged}
+use Rattle.part_rows.specs.Shown.{shown_exchanged}
 use Rattle.part_engine.proofs.SweepLemmas.{exchanged_sound}
 use Rattle.part_engine.proofs.stored.StoredPart.sweep.Goals as goal
 

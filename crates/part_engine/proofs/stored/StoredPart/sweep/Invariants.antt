@@ -1,7 +1,7 @@
 use Rattle.std.proofs.Common.{◌≡◌}
 use Rattle.std.specs.Prelude.{All}
 use Rattle.part_core.specs.States.{IsRow}
-use Rattle.part_engine.specs.Shown.{Shown, AreSound}
+use Rattle.part_rows.specs.Shown.{Shown, AreSound}
 use Rattle.part_engine.specs.Deletions.{shown_swept}
 use Rattle.part_engine.proofs.stored.StoredPart.sweep.Given as goal
 

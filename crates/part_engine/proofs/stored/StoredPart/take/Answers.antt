@@ -1,6 +1,6 @@
 use Rattle.std.proofs.Common.{[], ap, ◌∙◌}
 use Rattle.part_core.specs.Rows.{is_fixed}
-use Rattle.part_engine.specs.Shown.{shown_exchanged}
+use Rattle.part_rows.specs.Shown.{shown_exchanged}
 use Rattle.part_engine.proofs.LeadLemmas.{take_says, sound}
 use Rattle.part_engine.proofs.stored.StoredPart.take.Goals as goal
 

@@ -1,7 +1,7 @@
 use Rattle.std.proofs.Common.{◌≡◌, ℕ, List, ap, ◌∙◌, ◌-◌, get_or, set}
 use Rattle.std.specs.Prelude.{if◌then◌else◌}
 use Rattle.part_core.specs.Rows.{is_fixed}
-use Rattle.part_engine.specs.Shown.{Shown, shown_live, state_of}
+use Rattle.part_rows.specs.Shown.{Shown, shown_live, state_of}
 use Rattle.part_engine.proofs.LeadLemmas.{unfix_says, unfix_refused, settled_state}
 use Rattle.part_engine.proofs.stored.StoredPart.unfix.Goals as goal
 

@@ -3,7 +3,7 @@ use Rattle.part_core.specs.Acts.Purpose.{Counts}
 use Rattle.part_core.specs.Ops.{cursor_of, scope_of}
 use Rattle.part_core.specs.Visits.{answers_of}
 use Rattle.std.specs.Option.{option_map}
-use Rattle.part_engine.specs.Shown.{state_of}
+use Rattle.part_rows.specs.Shown.{state_of}
 use Rattle.part_engine.proofs.LeadLemmas.{sound}
 use Rattle.part_engine.proofs.VisitLemmas.{visit_refused, count_says}
 use Rattle.part_engine.proofs.stored.StoredPart.visit_count.Goals as goal

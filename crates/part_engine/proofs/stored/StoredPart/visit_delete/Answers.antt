@@ -3,7 +3,7 @@ use Rattle.part_core.specs.Acts.Purpose.{Deletes}
 use Rattle.part_core.specs.Ops.{cursor_of, scope_of}
 use Rattle.part_core.specs.Rows.{is_fixed}
 use Rattle.std.specs.Option.{option_map}
-use Rattle.part_engine.specs.Shown.{Shown, state_of}
+use Rattle.part_rows.specs.Shown.{Shown, state_of}
 use Rattle.part_engine.specs.Deletions.{shown_swept}
 use Rattle.part_engine.proofs.LeadLemmas.{sound}
 use Rattle.part_engine.proofs.VisitLemmas.{visit_refused, delete_visit_says, chosen_each}

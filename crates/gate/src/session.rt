@@ -1,0 +1,73 @@
+//! A session: its passes through the gates of a table.
+ghost use Rattle.std.specs.Prelude.{ℕ, ◌≡◌, ◌≢◌, ◌<◌, ◌⊎◌, ◌++◌, None, Some, IsTrue, IfErr, IfOk, OnOk, [], ◌∷◌, slice_get};
+ghost use Rattle.part_core.specs.Acts.{IsAsked};
+ghost use Rattle.part_core.specs.Legal.{fix_count};
+ghost use Rattle.part_core.specs.Ops.{act_of, answer_in, object_in, takes_no_memory};
+ghost use Rattle.gate.specs.Views.{Ticket, GoesOn};
+ghost use Rattle.gate.specs.SessionFacts.{all_legal_prop};
+ghost use Rattle.gate.specs.Sessions.{AllLegal, IsTurnAt};
+
+use crate::gate::Gate;
+use crate::pass::Pass;
+use part_core::{Fault, Part, PartOp, Reply};
+use std::alloc::{AllocError, Allocator, Global};
+use std::sync::Wait;
+
+/// A session of a table, for one thread.
+#[derive(Drop)]
+pub struct Session<P, A: Allocator = Global> {
+    /// Its number.
+    pub number: u8,
+    /// Its passes, by the numbers of the parts.
+    pub passes: Vec<Pass<P>, A>,
+    ghost legal: { AllLegal passes.items } by { Prim.hlevel all_legal_prop },
+}
+
+impl<P: Part<A> + Drop, A: Allocator> Session<P, A> {
+    /// Does an operation at a part.
+    pub fn turn<'a, R: Wait>(
+        &mut self,
+        rt: &R,
+        gate: &Gate<P, A>,
+        part: u8,
+        op: &mut PartOp<'a, A>,
+    ) -> Result<Reply<A>, Fault>
+        requires made { (pass : Ticket) × (slice_get self.old.passes.items part ≡ Some pass) × (pass.gate ≡ gate.now) }
+        requires asked { IsAsked (act_of op.old) }
+        ensures number { self.new.number ≡ self.old.number }
+        ensures entry { IsTurnAt self.old.passes.items part (act_of op.old) (answer_in result) self.new.passes.items }
+        ensures back { IfErr result (λ fault. op.new ≡ op.old) }
+        ensures spent { OnOk result (object_in op.new ≡ None) }
+        ensures sure { IsTrue (takes_no_memory (act_of op.old))
+            → IfErr result (λ fault. fault ≢ Fault.Memory) }
+    {
+        gate.turn(rt, &mut self.passes[usize::from(part)], op)
+    }
+
+    /// Compares with another session what they have seen of a part.
+    pub fn meet_at(&mut self, other: &mut Session<P, A>, gate: &Gate<P, A>, part: u8)
+        requires made { (pass : Ticket) × (slice_get self.old.passes.items part ≡ Some pass) × (pass.gate ≡ gate.now) }
+        requires other_made { (pass : Ticket) × (slice_get other.old.passes.items part ≡ Some pass) × (pass.gate ≡ gate.now) }
+        ensures same { (self.new.number ≡ self.old.number) × (self.new.passes.items ≡ self.old.passes.items) }
+        ensures other_same { (other.new.number ≡ other.old.number) × (other.new.passes.items ≡ other.old.passes.items) }
+        ensures met { (one two : Ticket) → slice_get self.old.passes.items part ≡ Some one
+            → slice_get other.old.passes.items part ≡ Some two → GoesOn one.log two.log ⊎ GoesOn two.log one.log }
+    {
+        gate.meet(
+            &mut self.passes[usize::from(part)],
+            &mut other.passes[usize::from(part)],
+        );
+    }
+
+    /// Gives the session its pass at the next part, which has seen nothing.
+    pub fn give(&mut self, pass: Pass<P>) -> Result<(), AllocError>
+        requires { pass.log ≡ [] }
+        ensures number { self.new.number ≡ self.old.number }
+        ensures given { IfOk result (λ _. self.new.passes.items ≡ self.old.passes.items ++ pass ∷ []) }
+    {
+        match self.passes.push(pass) {
+            Ok(()) => Ok(()),
+            Err(_) => Err(AllocError),
+        }
+    }
+}
