@@ -21,6 +21,7 @@ use std::process::ExitCode;
 use term_core::Term;
 
 /// The kinds of rows of parts and of scripts.
+#[derive(Drop)]
 struct TableKinds;
 
 impl Kinds for TableKinds {

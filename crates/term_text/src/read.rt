@@ -26,7 +26,7 @@ use std::alloc::{AllocError, Allocator};
 use std::collections::BTreeMap;
 use term_build::map_of_pairs;
 use term_core::{
-    Fault, MAX_BINARY, MAX_CHARACTERS, MAX_DEPTH, MAX_LIST, MAX_MAP, MAX_TUPLE, ShortRow, Term,
+    MAX_BINARY, MAX_CHARACTERS, MAX_DEPTH, MAX_LIST, MAX_MAP, MAX_TUPLE, ShortRow, Term,
 };
 
 /// The most elements that stand in a `ShortRow`.
@@ -89,7 +89,10 @@ fn atom_of<A: Allocator>(alloc: A, characters: Vec<char, A>) -> Result<Term<A>, 
     requires { IsWithin (atom characters.items) }
     ensures { Gives (λ t. t) result (Ok (atom characters.items)) }
 {
-    Ok(Term::from_characters(alloc, characters).map_err(|refused| refused.fault.alloc_error())?)
+    match Term::from_characters(alloc, characters) {
+        Ok(atom) => Ok(atom),
+        Err(refused) => Err(Stop::from(refused.fault.alloc_error())),
+    }
 }
 
 /// A bare word of one to three letters, where one stands there: an atom that takes no memory.
@@ -157,7 +160,10 @@ fn list_of<A: Allocator>(
     requires { IsWithin (cells elements.items (tail_of tail)) }
     ensures { Gives (λ t. t) result (Ok (cells elements.items (tail_of tail))) }
 {
-    Ok(Term::list(alloc, elements, tail).map_err(|refused| refused.fault.alloc_error())?)
+    match Term::list(alloc, elements, tail) {
+        Ok(list) => Ok(list),
+        Err(refused) => Err(Stop::from(refused.fault.alloc_error())),
+    }
 }
 
 /// A list that begins with these elements and goes on with a string, behind its opening mark. Its characters have so
@@ -304,7 +310,10 @@ fn binary_of<A: Allocator>(alloc: A, bytes: Vec<u8, A>) -> Result<Term<A>, Stop>
     requires { IsWithin (binary bytes.items) }
     ensures { Gives (λ t. t) result (Ok (binary bytes.items)) }
 {
-    Ok(Term::binary(alloc, bytes).map_err(|refused| refused.fault.alloc_error())?)
+    match Term::binary(alloc, bytes) {
+        Ok(binary) => Ok(binary),
+        Err(refused) => Err(Stop::from(refused.fault.alloc_error())),
+    }
 }
 
 /// A binary, behind its opening.
@@ -342,7 +351,10 @@ fn map_of<A: Allocator + Copy>(alloc: A, pairs: Pairs<A>) -> Result<Term<A>, Sto
     ensures { Gives (λ t. t) result (Ok (map (entries_of pairs.entries))) }
 {
     let pairs = in_order(alloc, pairs)?;
-    Ok(map_of_pairs(alloc, pairs).map_err(|refused| refused.fault.alloc_error())?)
+    match map_of_pairs(alloc, pairs) {
+        Ok(map) => Ok(map),
+        Err(refused) => Err(Stop::from(refused.fault.alloc_error())),
+    }
 }
 
 /// The tuple of one to four elements.
@@ -351,11 +363,10 @@ fn short_tuple_of<A: Allocator>(alloc: A, elements: ShortRow<A>) -> Result<Term<
     requires { IsWithin (tuple (items_of (row_items elements))) }
     ensures { Gives (λ t. t) result (Ok (tuple (items_of (row_items elements)))) }
 {
-    Ok(Term::short_tuple(alloc, elements).map_err(
-        |refused| -> AllocError
-            requires { refused.fault ≡ Fault.Memory }
-        { refused.fault.alloc_error() },
-    )?)
+    match Term::short_tuple(alloc, elements) {
+        Ok(tuple) => Ok(tuple),
+        Err(refused) => Err(Stop::from(refused.fault.alloc_error())),
+    }
 }
 
 /// The list of one to four elements.
@@ -364,11 +375,10 @@ fn short_list_of<A: Allocator>(alloc: A, elements: ShortRow<A>) -> Result<Term<A
     requires { IsWithin (cells (row_items elements) nil) }
     ensures { Gives (λ t. t) result (Ok (cells (row_items elements) nil)) }
 {
-    Ok(Term::short_list(alloc, elements).map_err(
-        |refused| -> AllocError
-            requires { refused.fault ≡ Fault.Memory }
-        { refused.fault.alloc_error() },
-    )?)
+    match Term::short_list(alloc, elements) {
+        Ok(list) => Ok(list),
+        Err(refused) => Err(Stop::from(refused.fault.alloc_error())),
+    }
 }
 
 /// The elements of a row in a vector, where more follow.
@@ -389,7 +399,10 @@ fn tuple_of<A: Allocator>(alloc: A, elements: Vec<Term<A>, A>) -> Result<Term<A>
     requires { IsWithin (tuple (items_of elements.items)) }
     ensures { Gives (λ t. t) result (Ok (tuple (items_of elements.items))) }
 {
-    Ok(Term::tuple(alloc, elements).map_err(|refused| refused.fault.alloc_error())?)
+    match Term::tuple(alloc, elements) {
+        Ok(tuple) => Ok(tuple),
+        Err(refused) => Err(Stop::from(refused.fault.alloc_error())),
+    }
 }
 
 /// A term that begins with this opening, the text behind it, where its parts have so many levels left.
