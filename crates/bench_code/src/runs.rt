@@ -41,11 +41,18 @@ struct Query<'a> {
     objects: &'a [Term],
 }
 
+/// Puts an answer behind others, where there is one; false for want of memory.
+fn put_answer(answers: &mut Vec<Term>, answer: Option<Term>) -> bool {
+    match answer {
+        Some(answer) => put(answers, answer),
+        None => true,
+    }
+}
+
 /// Puts the answer of code on an object behind others, where there is one; false for want of memory.
 fn put_run<'a>(machine: &mut Machine<'a, '_>, object: &'a Term, answers: &mut Vec<Term>) -> bool {
     match machine.run(object) {
-        Ok((Some(answer), _executed)) => put(answers, answer),
-        Ok((None, _executed)) => true,
+        Ok((answer, _executed)) => put_answer(answers, answer),
         Err(_) => false,
     }
 }
@@ -110,8 +117,7 @@ fn put_evaluated(
     answers: &mut Vec<Term>,
 ) -> bool {
     match evaluate(alloc, specification, object) {
-        Ok(Some(answer)) => put(answers, answer),
-        Ok(None) => true,
+        Ok(answer) => put_answer(answers, answer),
         Err(_) => false,
     }
 }

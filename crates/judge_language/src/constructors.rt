@@ -23,10 +23,13 @@ fn put_next<A: Allocator>(
     key: Option<Term<A>>,
     value: Option<Term<A>>,
 ) -> bool {
-    match (key, value) {
-        (Some(key), Some(value)) => put_pair(pairs, key, value),
-        _ => false,
-    }
+    let Some(key) = key else {
+        return false;
+    };
+    let Some(value) = value else {
+        return false;
+    };
+    put_pair(pairs, key, value)
 }
 
 /// These terms by twos, `None` for want of memory.
