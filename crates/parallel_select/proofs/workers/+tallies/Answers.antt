@@ -8,7 +8,7 @@ use Rattle.parallel_select.proofs.WorkersLemmas.{first_tallied}
 use Rattle.parallel_select.proofs.workers.+tallies.Goals as goal
 
 pub tally_both-join_mut-requires-send-F : goal.tally_both-join_mut-requires-send-F
-tally_both-join_mut-requires-send-F g t c κs within = search (sendable, crosses, query_sync, asking.the_sync) depth 40
+tally_both-join_mut-requires-send-F g t c κs within = search (sendable, crosses, query_sync, asking.the_sync, c.type_bounds.send-A) depth 40
 
 pub tally_both-returns : goal.tally_both-returns
 tally_both-returns g t c =
