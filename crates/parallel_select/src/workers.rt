@@ -27,7 +27,9 @@ pub(crate) struct Tally {
 }
 
 /// Lets one worker count.
-fn count_own<A: Allocator, T: Turns<A>>(
+// The handle isn't used: what a closure captures is found to be sendable where its type parameters are among that.
+fn count_own<R, A: Allocator, T: Turns<A>>(
+    _rt: &R,
     query: &Query<A>,
     asking: Asking,
     workers: u8,
@@ -85,9 +87,9 @@ fn tally_both<R: Threads + Sync, A: Allocator + Copy + Send + Sync, T: Turns<A> 
     let (one, others) = join_mut(
         rt,
         &mut || -> Tally
-            requires { T.is_ready first.now × (0 < workers) × (is_counting asking ≡ true) }
+            requires { IsSync R.row × T.is_ready first.now × (0 < workers) × (is_counting asking ≡ true) }
             ensures { Did T.is_ready T.home T.sees (λ h. Tallied h (part_walk h (purpose_of asking) query.entry.now) (is_share workers number) result.refused result.count) first.entry.now first.exit.now }
-        { count_own(query, asking, workers, number, first) },
+        { count_own(rt, query, asking, workers, number, first) },
         &mut || -> Tally
             requires { IsSync R.row × All T.is_ready rest.now × (number + 1 + length rest.now ≤ workers) × (is_counting asking ≡ true) }
             ensures { EachTallied T.is_ready T.home T.sees query.entry.now (purpose_of asking) workers result.refused result.count (number + 1) rest.entry.now rest.exit.now }
