@@ -137,7 +137,10 @@ fn refusals<R: Threads + Sync>(rt: &R, alloc: Global, count: usize) -> Option<u6
 #[test]
 fn answers_each_object_at_its_place(rt: HostRuntime) {
     for count in [0, 1, 3, 1_000, 2_047, 2_048, 2_049, 5_000] {
-        assert!(rt; answered(&rt, rt.alloc(), count) == Some((count, true, true)), "{count}");
+        assert!(rt;
+            answered(&rt, rt.alloc(), count) == Some((count, true, true)),
+            "{count}"
+        );
     }
 }
 
