@@ -33,7 +33,7 @@ pub writable-right : (a b : List SourceLine) → AreWritable (a ++ b) → AreWri
 writable-right [] b h = h
 writable-right (l ∷ a) b h = writable-right a b h.1
 
-pub not-empty : (ns : List ℕ) (b : Bool) → b ≡ (length ns == 0) → b ≡ false → 0 < length ns
+not-empty : (ns : List ℕ) (b : Bool) → b ≡ (length ns == 0) → b ≡ false → 0 < length ns
 not-empty [] b e h = absurd (let q : true ≡ false = sym e ∙ h in cc)
 not-empty (n ∷ ns) b e h = omega arith
 
@@ -81,11 +81,15 @@ module _ (site : Site) (ints : List (ℕ × Kind)) where
   bindings-some d [] h = absurd (omega arith)
   bindings-some d (n ∷ ns) h = refl
 
-  pub bindings-parts : (d : ℕ) (ns : List ℕ) → 0 < length ns → AreWritable (bindings_lines site d ints ns) → AreWritable (map (get_line site.slots) ns) × AreWritable (cell_lines site.mode (length ns))
+  bindings-parts : (d : ℕ) (ns : List ℕ) → 0 < length ns → AreWritable (bindings_lines site d ints ns) → AreWritable (map (get_line site.slots) ns) × AreWritable (cell_lines site.mode (length ns))
   bindings-parts d ns some w =
       let parts = subst AreWritable (bindings-some d ns some) w in
       let behind = writable-right (map (get_line site.slots) ns) (plain (op.Const nil) ∷ (cell_lines site.mode (length ns) ++ exit_lines site.mode d ints)) parts in
       (writable-left (map (get_line site.slots) ns) _ parts, writable-left (cell_lines site.mode (length ns)) (exit_lines site.mode d ints) behind.1)
+
+  pub bound-parts : (d : ℕ) {ns : List ℕ} {b : Bool} → ns ≡ site.bound → b ≡ (length ns == 0) → b ≡ false → AreWritable (bindings_lines site d ints site.bound) → AreWritable (map (get_line site.slots) ns) × AreWritable (cell_lines site.mode (length ns))
+  bound-parts d {ns} {b} is e some w =
+      bindings-parts d ns (not-empty ns b e some) (subst (λ l. AreWritable (bindings_lines site d ints l)) (sym is) w)
 
   arguments-get : (es : List Expression) (d i : ℕ) (x : Expression) → i < length es → AreWritable (argument_lines site d ints (expressions_of es)) → AreWritable (lines_at site (d + i) ints (get_or es i x) by_itself)
   arguments-get [] d i x h w = absurd (omega arith)
@@ -102,17 +106,17 @@ module _ (site : Site) (ints : List (ℕ × Kind)) where
       subst (λ y. AreWritable (lines_at site (d + i) ints y by_itself)) (sym is) (arguments-get es d i e h w)
 
   -- one argument more, of which the others are behind it
-  pub arguments-step : (es : List Expression) (d i : ℕ) (e : Expression) (ls old : List SourceLine) → i < length es → e ≡ get_or es i e → ls ≡ argument_lines site (d + (i + 1)) ints (expressions_of (drop (i + 1) es)) ++ old
-      → lines_at site (d + i) ints e by_itself ++ ls ≡ argument_lines site (d + i) ints (expressions_of (drop i es)) ++ old
-  arguments-step es d i e ls old h is so =
+  pub arguments-step : (es : List Expression) (d i j : ℕ) {e : Expression} {ls new : List SourceLine} (old : List SourceLine) → e ≡ get_or es i e → j ≡ i + 1 → i < length es → ls ≡ argument_lines site (d + j) ints (expressions_of (drop j es)) ++ old
+      → new ≡ lines_at site (d + i) ints e by_itself ++ ls → new ≡ argument_lines site (d + i) ints (expressions_of (drop i es)) ++ old
+  arguments-step es d i j {e} old is next h so n =
       let q : d + (i + 1) ≡ suc (d + i) = omega arith in
       let own = lines_at site (d + i) ints e by_itself in
-      ap (λ l. own ++ l) (so ∙ ap (λ k. argument_lines site k ints (expressions_of (drop (i + 1) es)) ++ old) q)
+      n ∙ ap (λ l. own ++ l) (so ∙ ap (λ k. argument_lines site (d + k) ints (expressions_of (drop k es)) ++ old) next ∙ ap (λ k. argument_lines site k ints (expressions_of (drop (i + 1) es)) ++ old) q)
       ∙ sym (append_assoc own _ old)
       ∙ ap (λ l. argument_lines site (d + i) ints (expressions_of l) ++ old) (sym (split_at es i e h is))
 
-  pub arguments-none : (es : List Expression) (d i : ℕ) (old : List SourceLine) → length es ≤ i → old ≡ argument_lines site d ints (expressions_of (drop i es)) ++ old
-  arguments-none es d i old h = ap (λ l. argument_lines site d ints (expressions_of l) ++ old) (sym (drop_all i es h))
+  pub arguments-none : (es : List Expression) (d : ℕ) (old : List SourceLine) → old ≡ argument_lines site d ints (expressions_of (drop (length es) es)) ++ old
+  arguments-none es d old = ap (λ l. argument_lines site d ints (expressions_of l) ++ old) (sym (drop_all (length es) es (omega arith)))
 
   pub arguments-all : (es : List Expression) (d i : ℕ) (ls old : List SourceLine) → i ≡ 0 → ls ≡ argument_lines site (d + i) ints (expressions_of (drop i es)) ++ old → ls ≡ argument_lines site d ints (expressions_of es) ++ old
   arguments-all es d i ls old z h =
@@ -133,17 +137,17 @@ module _ (site : Site) (ints : List (ℕ × Kind)) where
   values-at ms d i m h is w =
       subst (λ y. AreWritable (lines_at site (d + i) ints y.1 by_itself)) (sym is) (values-get ms d i m h w)
 
-  pub values-step : (ms : List (Datum × Expression)) (d i : ℕ) (m : Datum × Expression) (ls old : List SourceLine) → i < length ms → m ≡ get_or ms i m → ls ≡ value_lines site (d + (i + 1)) ints (assignments_of (drop (i + 1) ms)) ++ old
-      → lines_at site (d + i) ints m.1 by_itself ++ ls ≡ value_lines site (d + i) ints (assignments_of (drop i ms)) ++ old
-  values-step ms d i m ls old h is so =
+  pub values-step : (ms : List (Datum × Expression)) (d i j : ℕ) {m : Datum × Expression} {ls new : List SourceLine} (old : List SourceLine) → m ≡ get_or ms i m → j ≡ i + 1 → i < length ms → ls ≡ value_lines site (d + j) ints (assignments_of (drop j ms)) ++ old
+      → new ≡ lines_at site (d + i) ints m.1 by_itself ++ ls → new ≡ value_lines site (d + i) ints (assignments_of (drop i ms)) ++ old
+  values-step ms d i j {m} old is next h so n =
       let q : d + (i + 1) ≡ suc (d + i) = omega arith in
       let own = lines_at site (d + i) ints m.1 by_itself in
-      ap (λ l. own ++ l) (so ∙ ap (λ k. value_lines site k ints (assignments_of (drop (i + 1) ms)) ++ old) q)
+      n ∙ ap (λ l. own ++ l) (so ∙ ap (λ k. value_lines site (d + k) ints (assignments_of (drop k ms)) ++ old) next ∙ ap (λ k. value_lines site k ints (assignments_of (drop (i + 1) ms)) ++ old) q)
       ∙ sym (append_assoc own _ old)
       ∙ ap (λ l. value_lines site (d + i) ints (assignments_of l) ++ old) (sym (split_at ms i m h is))
 
-  pub values-none : (ms : List (Datum × Expression)) (d i : ℕ) (old : List SourceLine) → length ms ≤ i → old ≡ value_lines site d ints (assignments_of (drop i ms)) ++ old
-  values-none ms d i old h = ap (λ l. value_lines site d ints (assignments_of l) ++ old) (sym (drop_all i ms h))
+  pub values-none : (ms : List (Datum × Expression)) (d : ℕ) (old : List SourceLine) → old ≡ value_lines site d ints (assignments_of (drop (length ms) ms)) ++ old
+  values-none ms d old = ap (λ l. value_lines site d ints (assignments_of l) ++ old) (sym (drop_all (length ms) ms (omega arith)))
 
   pub values-all : (ms : List (Datum × Expression)) (d i : ℕ) (ls old : List SourceLine) → i ≡ 0 → ls ≡ value_lines site (d + i) ints (assignments_of (drop i ms)) ++ old → ls ≡ value_lines site d ints (assignments_of ms) ++ old
   values-all ms d i ls old z h =
@@ -174,8 +178,8 @@ module _ (site : Site) (ints : List (ℕ × Kind)) where
       → and_lines site.mode (lines_at site d ints e by_itself) (test_lines site d ints (expressions_of (drop (i + 1) es))) ++ old ≡ test_lines site d ints (expressions_of (drop i es)) ++ old
   tests-step es d i e old h is = ap (λ l. test_lines site d ints (expressions_of l) ++ old) (sym (split_at es i e h is))
 
-  pub tests-none : (es : List Expression) (d i : ℕ) (old : List SourceLine) → length es ≤ i → old ≡ test_lines site d ints (expressions_of (drop i es)) ++ old
-  tests-none es d i old h = ap (λ l. test_lines site d ints (expressions_of l) ++ old) (sym (drop_all i es h))
+  pub tests-none : (es : List Expression) (d : ℕ) (old : List SourceLine) → old ≡ test_lines site d ints (expressions_of (drop (length es) es)) ++ old
+  tests-none es d old = ap (λ l. test_lines site d ints (expressions_of l) ++ old) (sym (drop_all (length es) es (omega arith)))
 
   -- what an argument of orelse needs, before all other lines
   pub record CanChoose (d : ℕ) (e : Expression) (rest : List SourceLine) : Type 0 where
@@ -201,8 +205,8 @@ module _ (site : Site) (ints : List (ℕ × Kind)) where
       → or_lines site.mode d ints (lines_at site d ints e by_itself) (choice_lines site d ints (expressions_of (drop (i + 1) es))) ++ old ≡ choice_lines site d ints (expressions_of (drop i es)) ++ old
   choices-step es d i e old h is = ap (λ l. choice_lines site d ints (expressions_of l) ++ old) (sym (split_at es i e h is))
 
-  pub choices-none : (es : List Expression) (d i : ℕ) (old : List SourceLine) → length es ≤ i → none_true_lines site.mode d ints ++ old ≡ choice_lines site d ints (expressions_of (drop i es)) ++ old
-  choices-none es d i old h = ap (λ l. choice_lines site d ints (expressions_of l) ++ old) (sym (drop_all i es h))
+  pub choices-none : (es : List Expression) (d : ℕ) (old : List SourceLine) → none_true_lines site.mode d ints ++ old ≡ choice_lines site d ints (expressions_of (drop (length es) es)) ++ old
+  choices-none es d old = ap (λ l. choice_lines site d ints (expressions_of l) ++ old) (sym (drop_all (length es) es (omega arith)))
 
   tail-same : (t : Expression) → IsNoListExpression t → (d : ℕ) → lines_at site d ints t as_tail ≡ lines_at site d ints t by_itself
   tail-same (bound n) h d = refl
