@@ -64,25 +64,6 @@ fn pieces<T: Turns<Global>>(alloc: Global, turns: &mut T, worker: &mut Worker) -
     None
 }
 
-/// All objects at once.
-fn whole<R: Threads + Wait + Sync, T: Turns<Global>, M: Turns<Global> + Send>(
-    rt: &R,
-    alloc: Global,
-    turns: &mut T,
-    members: &mut [M],
-    worker: &mut Worker,
-) -> Option<()>
-    requires ready { T.is_ready turns.old }
-    requires members { AreMembers M.is_ready M.home members.old }
-    ensures ready { T.is_ready turns.new }
-    ensures same { T.home turns.new ≡ T.home turns.old }
-    ensures members { AreMembers M.is_ready M.home members.new }
-{
-    let all = query(alloc, "[{'$1',[],['$1']}].")?;
-    let answers = selected(rt, alloc, turns, members, &all)?;
-    record_all(worker, answers.as_slice())
-}
-
 /// The number that a key is, if there is a key.
 fn number_of(key: Option<Term>) -> Option<Option<u32>> {
     match key {
@@ -143,109 +124,99 @@ fn own_query(alloc: Global, number: u8, parity: Option<u32>) -> Option<Query> {
     query(alloc, text.as_str())
 }
 
-/// How many objects the session has at its own keys.
-fn count<R: Threads + Wait + Sync, T: Turns<Global>, M: Turns<Global> + Send>(
-    rt: &R,
-    alloc: Global,
-    turns: &mut T,
-    members: &mut [M],
-    worker: &mut Worker,
-) -> Option<()>
-    requires ready { T.is_ready turns.old }
-    requires members { AreMembers M.is_ready M.home members.old }
-    ensures ready { T.is_ready turns.new }
-    ensures same { T.home turns.new ≡ T.home turns.old }
-    ensures members { AreMembers M.is_ready M.home members.new }
-{
-    let own = own_query(alloc, worker.number, None)?;
-    let count = counted(rt, turns, members, &own)?;
-    worker.record(Event::Counted(count))
+/// A query over the whole table.
+#[derive(Clone, Copy)]
+enum Asking {
+    /// All objects at once.
+    Whole,
+    /// How many objects the session has at its own keys.
+    Count,
+    /// Deletes the session's objects of even or of odd sequence numbers at its own keys.
+    Remove(u32),
+    /// The object at one of the session's keys, by a specification that names it.
+    Named(u32),
+    /// How many objects the table has.
+    CountAll,
+    /// Deletes the objects at the keys whose objects are counted.
+    Clear,
 }
 
-/// Deletes the session's objects of even or of odd sequence numbers at its own keys.
-fn remove<R: Threads + Wait + Sync, T: Turns<Global>, M: Turns<Global> + Send>(
-    rt: &R,
-    alloc: Global,
-    turns: &mut T,
-    members: &mut [M],
-    worker: &mut Worker,
-) -> Option<()>
-    requires ready { T.is_ready turns.old }
-    requires members { AreMembers M.is_ready M.home members.old }
-    ensures ready { T.is_ready turns.new }
-    ensures same { T.home turns.new ≡ T.home turns.old }
-    ensures members { AreMembers M.is_ready M.home members.new }
-{
-    let parity = worker.below(2);
-    let own = own_query(alloc, worker.number, Some(parity))?;
-    let removed = deleted(rt, turns, members, &own)?;
-    worker.record(Event::Removed(parity, removed))
+impl Asking {
+    /// The query of a session.
+    fn query(self, alloc: Global, number: u8) -> Option<Query> {
+        match self {
+            Asking::Whole => query(alloc, "[{'$1',[],['$1']}]."),
+            Asking::Count => own_query(alloc, number, None),
+            Asking::Remove(parity) => own_query(alloc, number, Some(parity)),
+            Asking::Named(key) => named_query(alloc, key),
+            Asking::CountAll => query(alloc, "[{'_',[],[true]}]."),
+            Asking::Clear => counted_query(alloc),
+        }
+    }
 }
 
-/// The object at one of the session's keys, by a specification that names it.
-fn named<R: Threads + Wait + Sync, T: Turns<Global>, M: Turns<Global> + Send>(
-    rt: &R,
-    alloc: Global,
-    turns: &mut T,
-    members: &mut [M],
-    worker: &mut Worker,
-) -> Option<()>
-    requires ready { T.is_ready turns.old }
-    requires members { AreMembers M.is_ready M.home members.old }
-    ensures ready { T.is_ready turns.new }
-    ensures same { T.home turns.new ≡ T.home turns.old }
-    ensures members { AreMembers M.is_ready M.home members.new }
-{
+/// The query of the object at a key.
+fn named_query(alloc: Global, key: u32) -> Option<Query> {
     let mut text = String::new(alloc);
-    let key = worker.own_key();
     write!(text, "[{{{{{key},'_','_'}},[],['$_']}}].").ok()?;
-    let one = query(alloc, text.as_str())?;
-    let found = selected(rt, alloc, turns, members, &one)?;
-    worker.record(Event::Found(key, object_of(found.as_slice())?))
+    query(alloc, text.as_str())
 }
 
-/// How many objects the table has.
-fn count_all<R: Threads + Wait + Sync, T: Turns<Global>, M: Turns<Global> + Send>(
-    rt: &R,
-    alloc: Global,
-    turns: &mut T,
-    members: &mut [M],
-    worker: &mut Worker,
-) -> Option<()>
-    requires ready { T.is_ready turns.old }
-    requires members { AreMembers M.is_ready M.home members.old }
-    ensures ready { T.is_ready turns.new }
-    ensures same { T.home turns.new ≡ T.home turns.old }
-    ensures members { AreMembers M.is_ready M.home members.new }
-{
-    let all = query(alloc, "[{'_',[],[true]}].")?;
-    let count = counted(rt, turns, members, &all)?;
-    worker.record(Event::CountedAll(count))
-}
-
-/// Deletes the objects at the keys whose objects are counted.
-fn clear<R: Threads + Wait + Sync, T: Turns<Global>, M: Turns<Global> + Send>(
-    rt: &R,
-    alloc: Global,
-    turns: &mut T,
-    members: &mut [M],
-    worker: &mut Worker,
-) -> Option<()>
-    requires ready { T.is_ready turns.old }
-    requires members { AreMembers M.is_ready M.home members.old }
-    ensures ready { T.is_ready turns.new }
-    ensures same { T.home turns.new ≡ T.home turns.old }
-    ensures members { AreMembers M.is_ready M.home members.new }
-{
+/// The query of the objects at the keys whose objects are counted.
+fn counted_query(alloc: Global) -> Option<Query> {
     let mut text = String::new(alloc);
     write!(
         text,
         "[{{{{'$1','_','_'}},[{{'>=','$1',{COUNTED}}}],[true]}}]."
     )
     .ok()?;
-    let there = query(alloc, text.as_str())?;
-    let count = deleted(rt, turns, members, &there)?;
-    worker.record(Event::Cleared(count))
+    query(alloc, text.as_str())
+}
+
+/// Makes a query, by members where there are any, and records what it answers.
+fn ask<R: Threads + Wait + Sync, T: Turns<Global>, M: Turns<Global> + Send>(
+    rt: &R,
+    alloc: Global,
+    turns: &mut T,
+    members: &mut [M],
+    worker: &mut Worker,
+    asking: Asking,
+) -> Option<()>
+    requires ready { T.is_ready turns.old }
+    requires members { AreMembers M.is_ready M.home members.old }
+    ensures ready { T.is_ready turns.new }
+    ensures same { T.home turns.new ≡ T.home turns.old }
+    ensures members { AreMembers M.is_ready M.home members.new }
+{
+    let query = asking.query(alloc, worker.number)?;
+    match asking {
+        Asking::Whole => {
+            worker.record(Event::Begun)?;
+            let answers = selected(rt, alloc, turns, members, &query)?;
+            record_all(worker, answers.as_slice())?;
+            worker.record(Event::Ended)
+        }
+        Asking::Count => {
+            let count = counted(rt, turns, members, &query)?;
+            worker.record(Event::Counted(count))
+        }
+        Asking::Remove(parity) => {
+            let removed = deleted(rt, turns, members, &query)?;
+            worker.record(Event::Removed(parity, removed))
+        }
+        Asking::Named(key) => {
+            let found = selected(rt, alloc, turns, members, &query)?;
+            worker.record(Event::Found(key, object_of(found.as_slice())?))
+        }
+        Asking::CountAll => {
+            let count = counted(rt, turns, members, &query)?;
+            worker.record(Event::CountedAll(count))
+        }
+        Asking::Clear => {
+            let count = deleted(rt, turns, members, &query)?;
+            worker.record(Event::Cleared(count))
+        }
+    }
 }
 
 /// A walk, or a change of the session's fixes.
@@ -263,34 +234,31 @@ pub(crate) fn walk<R: Threads + Wait + Sync, T: Turns<Global>, M: Turns<Global> 
     ensures members { AreMembers M.is_ready M.home members.new }
 {
     let walks = if members.is_empty() { 9 } else { 10 };
-    match worker.below(walks) {
+    let asking = match worker.below(walks) {
         0 => {
             fix(turns).ok()?;
-            worker.record(Event::Fixed)
+            return worker.record(Event::Fixed);
         }
         1 => {
             let done = unfix(turns).is_ok();
-            worker.record(Event::Unfixed(done))
+            return worker.record(Event::Unfixed(done));
         }
-        2 => count(rt, alloc, turns, members, worker),
-        3 => remove(rt, alloc, turns, members, worker),
-        4 => named(rt, alloc, turns, members, worker),
-        5 => {
-            worker.record(Event::Begun)?;
-            whole(rt, alloc, turns, members, worker)?;
-            worker.record(Event::Ended)
-        }
+        2 => Asking::Count,
+        3 => Asking::Remove(worker.below(2)),
+        4 => Asking::Named(worker.own_key()),
+        5 => Asking::Whole,
         6 => {
             worker.record(Event::Begun)?;
             pieces(alloc, turns, worker)?;
-            worker.record(Event::Ended)
+            return worker.record(Event::Ended);
         }
         7 => {
             worker.record(Event::Begun)?;
             fixed_tour(turns, worker)?;
-            worker.record(Event::Ended)
+            return worker.record(Event::Ended);
         }
-        8 => count_all(rt, alloc, turns, members, worker),
-        _ => clear(rt, alloc, turns, members, worker),
-    }
+        8 => Asking::CountAll,
+        _ => Asking::Clear,
+    };
+    ask(rt, alloc, turns, members, worker, asking)
 }
