@@ -1,4 +1,3 @@
-pub mod TupleLemmas
 pub mod ConstantLemmas
 pub mod MapLemmas
 pub mod StackLemmas

@@ -22,8 +22,8 @@ fn element<'a, A: Allocator>(tuple: Operand<'a, A>, index: u16) -> &'a Term<A>
     requires { IsSome (field_of index (operand_datum tuple)) }
     ensures { field_of index (operand_datum tuple.entry) ≡ Some result.now }
 {
-    match tuple.elements() {
-        Some(elements) => &elements[usize::from(index) - 1],
+    match tuple.element_at(index) {
+        Some(element) => element,
         None => unreachable!(),
     }
 }

@@ -1,1 +1,2 @@
 pub mod RiseLemmas
+pub mod KindLemmas

@@ -1,17 +1,12 @@
 -- Functions of tuples (Erlang Reference Manual, module erlang: element, is_record).
-use Rattle.std.specs.Prelude.{ℕ, zero, suc, ℤ, pos, List, Bool, false, ◌&&◌, Option, Some, None, nat_eq}
+use Rattle.std.specs.Prelude.{ℕ, suc, ℤ, pos, List, Bool, false, ◌&&◌, Option, Some, None, nat_eq}
 use Rattle.std.specs.Option.{option_and_then}
 use Rattle.std.specs.Ordering.{int_eq}
 use Rattle.std.specs.Cmp.Lexicographic.{pointwise}
 use Rattle.term_core.specs.Datum.{Datum, Items, item_count}
 use Rattle.term_core.specs.Datum.Datum.{integer, atom, tuple}
-use Rattle.term_core.specs.Datum.Items.{no_items, item}
-
--- the element with so many before it
-abbrev pub item_at : Items → ℕ → Option Datum
-item_at no_items n = None
-item_at (item d ds) zero = Some d
-item_at (item d ds) (suc n) = item_at ds n
+use Rattle.term_core.specs.Datum.Items.{item}
+pub use Rattle.term_core.specs.Parts.{item_at}
 
 -- how many elements stand before a place that is counted from 1
 abbrev pub index_of : ℤ → Option ℕ

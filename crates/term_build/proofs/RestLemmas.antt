@@ -1,80 +1,23 @@
--- What is left of a list is a term, and its elements and tail.
-use Rattle.std.proofs.Common.{◌≡◌, ℕ, zero, suc, ◌+◌, ◌<◌, ◌≤◌, add-one, Option, Some, None, List, [], ◌∷◌, ◌-◌, length, take, drop, length-drop, refl, sym, ◌∙◌, ap, subst, arith}
+-- What is left of a list: its elements and tail.
+use Rattle.std.proofs.Common.{◌≡◌, ℕ, zero, suc, ◌+◌, ◌<◌, ◌≤◌, add-one, Option, List, ◌-◌, length, length-drop, take, drop, refl, sym, ◌∙◌, ap, subst, arith}
 use Rattle.std.proofs.lemmas.List.{drop_all}
 use Rattle.term_core.specs.Datum.{Datum, cells, cell_count}
 use Rattle.term_core.specs.Datum.Datum.{integer, atom, tuple, map, nil, cons, binary}
-use Rattle.term_core.specs.Limits.{depth, IsTerm}
 use Rattle.term_build.specs.Rest.{rest_of}
+use Rattle.term_core.specs.Limits.{depth}
+use Rattle.term_core.specs.TermFalls.{depth-cells}
+use Rattle.term_core.proofs.SharedLemmas.{left-slice, dropped-depth, list_deep}
+pub use Rattle.term_core.proofs.SharedLemmas.{IsEnd, rest_of-end, rest_of-cells, rest_of-IsTerm}
 use Rattle.term_core.specs.Term.{tail_of, IsTail}
 use Rattle.std.specs.Borrow.{Bor}
 use Rattle.term_core.specs.View.{shown}
 use Rattle.term_core.specs.declared.view.View.{View}
 use Rattle.term_core.specs.declared.view.View.TheVariants as view
 
-depth-tail : (head tail : Datum) → depth tail ≤ depth (cons head tail)
-depth-tail head (integer z) = omega arith
-depth-tail head (atom cs) = omega arith
-depth-tail head (tuple ds) = omega arith
-depth-tail head (map es) = omega arith
-depth-tail head nil = omega arith
-depth-tail head (cons next tail) = omega arith
-depth-tail head (binary bs) = omega arith
-
-tail-IsTerm : (head tail : Datum) → IsTerm (cons head tail) → IsTerm tail
-tail-IsTerm head tail t = record { sound = t.sound.2; shallow = let deep = depth-tail head tail in let most = t.shallow in omega arith }
-
-pub rest_of-IsTerm : (n : ℕ) (d : Datum) → IsTerm d → IsTerm (rest_of n d)
-rest_of-IsTerm zero d t = t
-rest_of-IsTerm (suc n) (integer z) t = t
-rest_of-IsTerm (suc n) (atom cs) t = t
-rest_of-IsTerm (suc n) (tuple ds) t = t
-rest_of-IsTerm (suc n) (map es) t = t
-rest_of-IsTerm (suc n) nil t = t
-rest_of-IsTerm (suc n) (cons head tail) t = rest_of-IsTerm n tail (tail-IsTerm head tail t)
-rest_of-IsTerm (suc n) (binary bs) t = t
-
--- no cell
-abbrev pub IsEnd : Datum → Type 0
-IsEnd (cons head tail) = ⊥
-IsEnd d = Unit {0}
-
--- where there is no element, all is left
-pub rest_of-end : (n : ℕ) (d : Datum) → IsEnd d → rest_of n d ≡ d
-rest_of-end zero d h = refl
-rest_of-end (suc n) (integer z) h = refl
-rest_of-end (suc n) (atom cs) h = refl
-rest_of-end (suc n) (tuple ds) h = refl
-rest_of-end (suc n) (map es) h = refl
-rest_of-end (suc n) nil h = refl
-rest_of-end (suc n) (cons head tail) h = absurd h
-rest_of-end (suc n) (binary bs) h = refl
-
-IsTail-end : (t : Option Datum) → IsTail t → IsEnd (tail_of t)
-IsTail-end None h = tt
-IsTail-end (Some (integer z)) h = tt
-IsTail-end (Some (atom cs)) h = tt
-IsTail-end (Some (tuple ds)) h = tt
-IsTail-end (Some (map es)) h = tt
-IsTail-end (Some nil) h = tt
-IsTail-end (Some (cons head tail)) h = absurd h
-IsTail-end (Some (binary bs)) h = tt
-
--- of elements and a tail that is no list
-pub rest_of-cells : (n : ℕ) (ds : List Datum) (t : Option Datum) → IsTail t → rest_of n (cells ds (tail_of t)) ≡ cells (drop n ds) (tail_of t)
-rest_of-cells n [] t h = rest_of-end n (tail_of t) (IsTail-end t h) ∙ ap (λ l. cells l (tail_of t)) (sym (drop_all n [] (omega arith)))
-rest_of-cells zero (d ∷ ds) t h = refl
-rest_of-cells (suc n) (d ∷ ds) t h = rest_of-cells n ds t h
-
-take-all : (xs : List Datum) (n : ℕ) → n ≡ length xs → take n xs ≡ xs
-take-all [] zero e = refl
-take-all [] (suc n) e = refl
-take-all (x ∷ xs) zero e = absurd (omega arith)
-take-all (x ∷ xs) (suc n) e = ap (λ l. x ∷ l) (take-all xs n (omega arith))
-
 -- the elements that are left, as a slice has them
 pub rest_of-slice : (n : ℕ) (ds : List Datum) (t : Option Datum) (d : Datum) → IsTail t → cells ds (tail_of t) ≡ d → cells (take (length ds - n) (drop n ds)) (tail_of t) ≡ rest_of n d
 rest_of-slice n ds t d h is =
-    ap (λ l. cells l (tail_of t)) (take-all (drop n ds) (length ds - n) (omega (arith, length-drop n ds)))
+    ap (λ l. cells l (tail_of t)) (left-slice n ds)
     ∙ sym (rest_of-cells n ds t h) ∙ ap (rest_of n) is
 
 -- behind all elements the tail is left
@@ -84,6 +27,14 @@ rest_of-past n ds t d past h is =
 
 pub rest_of-within : (n : ℕ) (ds : List Datum) (t : Option Datum) (d : Datum) → IsTail t → cells ds (tail_of t) ≡ d → cells (drop n ds) (tail_of t) ≡ rest_of n d
 rest_of-within n ds t d h is = sym (rest_of-cells n ds t h) ∙ ap (rest_of n) is
+
+-- of elements that hold nothing
+pub flat_left : (n : ℕ) (ds : List Datum) (t : Option Datum) (d : Datum) → n < length ds → IsTail t → cells ds (tail_of t) ≡ d → depth d ≡ 2 → 2 ≡ depth (rest_of n d)
+flat_left n ds t d inside h is two =
+    let left = rest_of-within n ds t d h is in
+    let some : 0 < length ds = omega (arith, inside) in
+    let more : 0 < length (drop n ds) = omega (arith, inside, length-drop n ds) in
+    omega (arith, two, ap depth is, ap depth left, list_deep (drop n ds) (tail_of t) more, depth-cells ds (tail_of t) some, depth-cells (drop n ds) (tail_of t) more, dropped-depth n ds)
 
 -- what is no list is left as it is
 pub rest_of-shown : (n : ℕ) (d e : Datum) → IsEnd d → d ≡ e → d ≡ rest_of n e

@@ -1,26 +1,9 @@
 //! Whether terms differ.
-ghost use Rattle.std.specs.Prelude.{◌≡◌, ◌↔◌, map as map_list, IsTrue, IsSorted, IfOk};
-ghost use Rattle.std.specs.List.{IsDistinct};
-ghost use Rattle.std.specs.Ordering.{eq_by_cmp};
-ghost use Rattle.term_core.specs.Order.{datum_cmp};
+ghost use Rattle.std.specs.Prelude.{◌≡◌, map as map_list, IfOk};
 ghost use Rattle.term_core.specs.MapPairs.{are_apart as all_differ};
 
 use std::alloc::{AllocError, Allocator};
-use term_core::Term;
-
-/// Whether all of these terms, which do not fall, differ.
-pub(crate) fn neighbours_differ<A: Allocator>(terms: &[&Term<A>]) -> bool
-    requires { IsSorted (λ a b. datum_cmp a.now b.now) terms.now }
-    ensures { IsTrue result ↔ IsDistinct (eq_by_cmp datum_cmp)
-        (map_list (λ term. term.now) terms.now) }
-{
-    for later in 1..terms.len() {
-        if terms[later - 1] == terms[later] {
-            return false;
-        }
-    }
-    true
-}
+use term_core::{Term, neighbours_differ};
 
 /// References to these terms.
 fn references<'a, A: Allocator>(

@@ -16,20 +16,6 @@ pub fn copy_all<A: Allocator>(alloc: A, terms: &[Term<A>]) -> Result<Vec<Term<A>
     Ok(copies)
 }
 
-/// Copies of these pairs.
-pub(crate) fn copy_pairs<A: Allocator>(
-    alloc: A,
-    pairs: &[(Term<A>, Term<A>)],
-) -> Result<Vec<(Term<A>, Term<A>), A>, AllocError>
-    ensures { IfOk result (λ v. v.items ≡ pairs.now) }
-{
-    let mut copies = Vec::with_capacity(alloc, pairs.len())?;
-    for (key, value) in pairs {
-        copies.push((key.copy()?, value.copy()?))?;
-    }
-    Ok(copies)
-}
-
 /// A copy of a list's tail, where there is one.
 pub fn copy_tail<A: Allocator>(tail: Option<&Term<A>>) -> Result<Option<Term<A>>, AllocError>
     ensures { IfOk result (λ t. t ≡ option_copied tail.entry) }

@@ -4,7 +4,7 @@
 //! (`within_limits`, `term_core/specs/Limits.antt`), want of memory aside, and nowhere else; a copy is equal to what it
 //! was made of.
 //!
-//! - `atom`: atoms of text; `map`: maps of pairs in any order.
+//! - `named`: atoms of text, and maps of pairs in any order.
 //! - `made`: a tuple, a list or a map of other terms, which is none where it would pass a limit.
 //! - `copies`: copies of rows of terms; `apart`: whether terms differ.
 //! - `rest`: what is left of a list behind some of its elements (`rest_of`, `specs/Rest.antt`), looked at where it
@@ -12,15 +12,13 @@
 #![tactic(auto)]
 
 mod apart;
-mod atom;
 mod copies;
 mod made;
-mod map;
+mod named;
 mod rest;
 
 pub use apart::are_apart;
-pub use atom::atom_of_text;
 pub use copies::{copy_all, copy_tail};
 pub use made::{make_list, make_map, make_tuple};
-pub use map::map_of_pairs;
+pub use named::{atom_of_text, map_of_pairs};
 pub use rest::{copy_behind, depth_behind, view_behind};

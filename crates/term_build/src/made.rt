@@ -5,7 +5,7 @@ ghost use Rattle.term_core.specs.Datum.Datum.{map, tuple};
 ghost use Rattle.term_core.specs.Limits.{within_limits};
 ghost use Rattle.term_core.specs.MapPairs.{HasTwice, by_key};
 
-use crate::map::map_of_pairs;
+use crate::named::map_of_pairs;
 use std::alloc::{AllocError, Allocator};
 use term_core::{Fault, Term};
 

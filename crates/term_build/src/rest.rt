@@ -11,6 +11,9 @@ use crate::copies::{copy_all, copy_tail};
 use std::alloc::{AllocError, Allocator};
 use term_core::{Term, View, deepest};
 
+/// How deep a list is whose elements hold nothing.
+const FLAT: u8 = 2;
+
 /// A list of copies of these elements and this tail.
 fn copy_list<A: Allocator + Copy>(
     alloc: A,
@@ -73,7 +76,7 @@ pub fn view_behind<A: Allocator>(term: &Term<A>, count: usize) -> View<'_, A>
 }
 
 /// How deep what is left of a list behind so many of its elements is, from 1 to 255; of another term, how deep it is.
-/// It looks at each of these elements.
+/// It looks at each of these elements where one of them, or of those in front, holds something.
 pub fn depth_behind<A: Allocator>(term: &Term<A>, count: usize) -> u8
     ensures { result ≡ depth (rest_of count term.now) }
 {
@@ -81,13 +84,16 @@ pub fn depth_behind<A: Allocator>(term: &Term<A>, count: usize) -> u8
         return term.depth();
     };
     if count < elements.len() {
+        if term.depth() == FLAT {
+            return FLAT;
+        }
         return depth_of_list(&elements[count..], tail);
     }
     depth_of_tail(tail)
 }
 
-/// What is left of a list behind so many of its elements, as a list of its own, whose elements are copies. Another term
-/// is copied as it is.
+/// What is left of a list behind so many of its elements, as a list of its own. It shares them with the list where it has
+/// more than a few and is as deep as the list, else they are copies. Another term is copied as it is.
 pub fn copy_behind<A: Allocator + Copy>(
     alloc: A,
     term: &Term<A>,
@@ -99,7 +105,10 @@ pub fn copy_behind<A: Allocator + Copy>(
         return term.copy();
     };
     if count < elements.len() {
-        return copy_list(alloc, &elements[count..], tail);
+        return match term.shared_rest(count)? {
+            Some(rest) => Ok(rest),
+            None => copy_list(alloc, &elements[count..], tail),
+        };
     }
     match tail {
         Some(tail) => tail.copy(),

@@ -5,3 +5,7 @@ pub mod ViewLemmas
 pub mod MapLemmas
 pub mod DepthLemmas
 pub mod ProperLemmas
+pub mod SameLemmas
+pub mod PartLemmas
+pub mod FedLemmas
+pub mod SharedLemmas

@@ -114,3 +114,11 @@ term-refused Memory d t h = refl
 term-refused TooDeep d t h = let most = t.shallow in absurd (omega arith)
 term-refused TooLong d t h = absurd (not_too_long d t h.1)
 term-refused DuplicateKey d t h = absurd h
+
+-- what is not at most three is more
+pub longer : (cs : List ℕ) → (length cs ≤ 3 → ⊥) → 3 < length cs
+longer [] h = absurd (h (omega arith))
+longer (a ∷ []) h = absurd (h (omega arith))
+longer (a ∷ b ∷ []) h = absurd (h (omega arith))
+longer (a ∷ b ∷ c ∷ []) h = absurd (h (omega arith))
+longer (a ∷ b ∷ c ∷ d ∷ cs) h = omega arith

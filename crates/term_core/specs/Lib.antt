@@ -4,6 +4,7 @@ pub mod DatumCode
 pub mod Order
 pub mod OrderLaws
 pub mod KeyHash
+pub mod Fed
 pub mod Sizes
 pub mod Limits
 pub mod Term
@@ -13,3 +14,4 @@ pub mod View
 pub mod Fault
 pub mod MapPairs
 pub mod ShortRow
+pub mod Parts

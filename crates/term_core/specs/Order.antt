@@ -1,9 +1,9 @@
 -- The order of terms (Erlang Reference Manual, "Term Comparisons", without floats):
 -- number < atom < tuple < map < [] < non-empty list < binary.
-use Rattle.std.specs.Prelude.{ℕ, ◌≡◌, ◌<◌, ◌⊎◌, ◌<ℤ◌, List, [], ◌∷◌}
+use Rattle.std.specs.Prelude.{ℕ, ◌≡◌, ◌<◌, ◌⊎◌, ◌<ℤ◌, Bool, List, [], ◌∷◌}
 use Rattle.std.specs.declared.cmp.Ordering.{Ordering}
 use Rattle.std.specs.declared.cmp.Ordering.TheVariants.{Equal}
-use Rattle.std.specs.Ordering.{nat_cmp, int_cmp, ordering_then}
+use Rattle.std.specs.Ordering.{nat_cmp, int_cmp, ordering_then, is_eq}
 use Rattle.std.specs.Cmp.Lexicographic.{slice_cmp}
 use Rattle.term_core.specs.Datum.{Datum, Items, Entries, item_count, entry_count, entry_keys}
 use Rattle.term_core.specs.Datum.Datum.{integer, atom, tuple, map, nil, cons, binary}
@@ -85,3 +85,7 @@ unfoldable mutual
   pub values_cmp : Entries → Entries → Ordering
   values_cmp (entry k a ds) (entry l b es) = ordering_then (datum_cmp a b) (values_cmp ds es)
   values_cmp ds es = Equal
+
+-- the same term
+abbrev pub is_same : Datum → Datum → Bool
+is_same d e = is_eq (datum_cmp d e)

@@ -1,5 +1,5 @@
 -- Each part of a term is less deep than the term.
-use Rattle.std.specs.Prelude.{ℕ, ◌≡◌, ◌+◌, ◌<◌, ◌≤◌, suc, max, List, [], ◌∷◌, length, Option, Some, None, refl}
+use Rattle.std.specs.Prelude.{ℕ, zero, ◌≡◌, ◌+◌, ◌<◌, ◌≤◌, suc, max, List, [], ◌∷◌, length, drop, Option, Some, None, refl}
 use Rattle.std.proofs.Common.{arith, Vec}
 use Rattle.std.specs.declared.alloc.Allocator as allocator
 use denote.Param.Weighed.{most}
@@ -12,7 +12,7 @@ use Rattle.term_core.specs.declared.term.Term.TheDeep.{deep-Shape, deep-Cells, d
 use Rattle.term_core.specs.Datum.{Datum, items_of, entries_of, cells, IsNoList}
 use Rattle.term_core.specs.Datum.Datum.{integer, atom, tuple, map, nil, cons, binary}
 use Rattle.term_core.specs.Limits.{depth, tail_depth, items_depth, entries_depth}
-use Rattle.term_core.specs.Term.{datum_of, IsKept, IsTail, tail_of}
+use Rattle.term_core.specs.Term.{datum_of, IsKept, IsRest, IsTail, tail_of}
 
 -- the depth at the end of elements
 pub tail_depth-cells : (ds : List Datum) (tail : Datum) → tail_depth (cells ds tail) ≡ max (items_depth (items_of ds)) (tail_depth tail)
@@ -57,6 +57,18 @@ cells_fall : {A : Type 0} (G : allocator.Ghosts A) (elements : Vec Datum A) (t :
 cells_fall G elements None some tail = let e = list_falls elements.items None some tail in omega arith
 cells_fall G elements (Some d) some tail = let e = list_falls elements.items (Some d) some tail in omega arith
 
+-- where something is left there was something
+pub some_dropped : (n : ℕ) (ds : List Datum) → 0 < length (drop n ds) → 0 < length ds
+some_dropped zero ds some = some
+some_dropped (suc n) [] some = some
+some_dropped (suc n) (d ∷ ds) some = omega arith
+
+-- a rest keeps the elements in front of it, so it has to be as deep as the list
+rest_falls : {A : Type 0} (G : allocator.Ghosts A) (n kept : ℕ) (elements : Vec Datum A) (t : Option Datum) → IsRest kept n elements.items t → deep-Cells A G (record { elements = elements; tail = t }) ≤ depth (cells (drop n elements.items) (tail_of t))
+rest_falls G n kept elements t rest =
+    let e = cells_fall G elements t (some_dropped n elements.items rest.0.1) rest.0.2 in
+    omega (arith, rest.0.0, rest.1)
+
 row_falls : {A : Type 0} (G : allocator.Ghosts A) (r : ShortRow A) → deep-ShortRow A G r ≤ suc (items_depth (items_of (row_items r)))
 row_falls G (row.One ds) = let e = items_fall ds in omega arith
 row_falls G (row.Two ds) = let e = items_fall ds in omega arith
@@ -78,6 +90,7 @@ parts_fall G (shape.Tuple d b) h = let e = items_fall b.value.items in omega ari
 parts_fall G (shape.ShortList d b) h =
     let e = row_falls G b.value in omega (arith, depth-cells (row_items b.value) nil h.1)
 parts_fall G (shape.List d b) h = let e = cells_fall G b.value.elements b.value.tail h.1 h.2 in omega arith
+parts_fall G (shape.Rest d n b) h = let e = rest_falls G n d b.value.elements b.value.tail h in omega arith
 parts_fall G (shape.MapOfOne d b) h = omega arith
 parts_fall G (shape.Map d b) h = let e = entries_fall b.value.items in omega arith
 parts_fall G (shape.Binary b) h = omega arith

@@ -1,4 +1,4 @@
-//! The hash of a key, and hashing by it.
+//! The hash of a key.
 ghost use Rattle.std.specs.Prelude.{◌≡◌, ◌<◌, length};
 ghost use Rattle.std.specs.Int.{w64, cast_unsigned};
 ghost use Rattle.std.specs.Option.{option_copied};
@@ -9,7 +9,6 @@ ghost use Rattle.term_core.specs.Term.{tail_of, IsTail};
 use crate::term::Term;
 use crate::view::View;
 use std::alloc::Allocator;
-use std::hash::{Hash, Hasher};
 
 /// What a hash is multiplied by before a part is mixed in.
 const FACTOR: u64 = 1_099_511_628_211;
@@ -120,20 +119,5 @@ impl<A: Allocator> Term<A> {
         ensures { result ≡ key_hash self.now }
     {
         hash_of(self)
-    }
-}
-
-impl<A: Allocator> Hash for Term<A> {
-    ghost use Rattle.std.specs.Hash as fed;
-    ghost use Rattle.term_core.specs.KeyHash.{key_hash};
-    ghost use Rattle.term_core.specs.OrderLaws.{datum_eq-same};
-    ghost use Rattle.std.proofs.Common.{ap};
-
-    ghost hash_input = { λ d. fed.u64 (key_hash d) };
-
-    ghost respects_eq = { λ a b same. ap (λ d. fed.u64 (key_hash d)) (datum_eq-same a b same) };
-
-    fn hash<H: Hasher>(&self, state: &mut H) {
-        state.write_u64(self.key_hash());
     }
 }

@@ -2,13 +2,14 @@
 #![tactic(auto)]
 
 mod fault;
+mod feed;
 mod hash;
 mod order;
 mod term;
 mod view;
 
 pub use fault::{Fault, Refused};
-pub use term::{ListParts, ShortRow, Term, deepest};
+pub use term::{ListParts, ShortRow, Term, deepest, is_same, neighbours_differ};
 pub use view::View;
 
 /// The greatest depth of a term.

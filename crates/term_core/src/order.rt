@@ -7,7 +7,7 @@ ghost use Rattle.term_core.specs.Datum.Datum.{tuple, map};
 ghost use Rattle.term_core.specs.Order.{rank as rank_of, datum_cmp, items_cmp, keys_cmp, values_cmp};
 ghost use Rattle.term_core.specs.Term.{tail_of, IsTail};
 
-use crate::term::Term;
+use crate::term::{Term, is_same};
 use crate::view::{LIST_RANK, NIL_RANK, View};
 use std::alloc::Allocator;
 use std::cmp::Ordering;
@@ -31,7 +31,7 @@ fn tail_rank<A: Allocator>(tail: Option<&Term<A>>) -> u8
 }
 
 /// Which of two integers stands first.
-fn compare_integers(a: i64, b: i64) -> Ordering
+pub(crate) fn compare_integers(a: i64, b: i64) -> Ordering
     ensures { result ≡ int_cmp a b }
 {
     a.cmp(&b)
@@ -199,7 +199,7 @@ impl<A: Allocator> PartialEq for Term<A> {
     ghost laws = { partial_equiv_from_equiv (eq_by_cmp_equiv datum_cmp_total) };
 
     fn eq(&self, other: &Self) -> bool {
-        compare(self, other).is_eq()
+        is_same(self, other)
     }
 }
 

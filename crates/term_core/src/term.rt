@@ -3,7 +3,7 @@ ghost use Rattle.std.specs.Prelude.{◌≡◌, ◌<◌, ◌≤◌, ◌++◌, ◌
 ghost use Rattle.std.specs.Option.{option_copied};
 ghost use Rattle.term_core.specs.Datum.{items_of, cells as cells_of, cell_count};
 ghost use Rattle.term_core.specs.Datum.Datum.{atom, nil};
-ghost use Rattle.term_core.specs.Term.{tail_of, datum_of, IsTail, IsList, IsKept};
+ghost use Rattle.term_core.specs.Term.{tail_of, datum_of, padded, IsTail, IsList, IsKept};
 ghost use Rattle.term_core.specs.ListParts.{HandsBack};
 ghost use Rattle.term_core.specs.ShortRow.{row_items};
 ghost use Rattle.term_core.specs.Fault.{IsFault, IsDepthOf};
@@ -19,8 +19,15 @@ use std::sync::Arc;
 
 mod copy;
 mod map;
+mod pairs;
+mod rest;
+mod same;
 mod short_row;
+mod text;
 
+pub use pairs::neighbours_differ;
+use rest::{behind, prepended_to_rest};
+pub use same::is_same;
 pub use short_row::ShortRow;
 
 /// A term: an integer, an atom, a tuple, a list, a map or a binary.
@@ -37,7 +44,7 @@ const NONE: char = '\0';
 
 /// What a term is, each kind that holds terms with its depth. Copies share what they hold. A short atom stands here
 /// itself, so many of these characters, `{}` holds nothing, and the shortest tuples, lists and maps may hold what is in
-/// them without a row of their own.
+/// them without a row of their own. What is left of a list behind so many elements may share them with the list.
 #[cycle(term)]
 #[derive(Drop)]
 enum Shape<A: Allocator> {
@@ -53,6 +60,7 @@ enum Shape<A: Allocator> {
     Tuple(u8, Arc<Vec<Term<A>, A>, A>),
     ShortList(u8, Arc<ShortRow<A>, A>),
     List(u8, Arc<Cells<A>, A>),
+    Rest(u8, u32, Arc<Cells<A>, A>),
     MapOfOne(u8, Arc<(Term<A>, Term<A>), A>),
     Map(u8, Arc<Vec<(Term<A>, Term<A>), A>, A>),
     Binary(Arc<Vec<u8, A>, A>),
@@ -124,7 +132,9 @@ fn character_count(characters: &[char]) -> usize
 
 /// The atom of so many of three characters.
 fn atom_of_three<A: Allocator>(count: u8, first: char, second: char, third: char) -> Shape<A>
-    requires { count ≤ 3 }
+    requires few { count ≤ 3 }
+    requires padded { first ∷ second ∷ third ∷ []
+        ≡ padded (take count (first ∷ second ∷ third ∷ [])) }
     ensures value { datum_of result ≡ atom (take count (first ∷ second ∷ third ∷ [])) }
     ensures kept { IsKept result }
 {
@@ -144,6 +154,23 @@ fn short_atom<A: Allocator>(characters: &[char]) -> Option<Shape<A>>
         [first, second, third] => Some(atom_of_three(3, *first, *second, *third)),
         _ => None,
     }
+}
+
+/// The atom of more than three of these characters.
+fn long_atom<A: Allocator>(
+    alloc: A,
+    characters: Vec<char, A>,
+) -> Result<Term<A>, Refused<Vec<char, A>>>
+    requires within { IsTerm (atom characters.items) }
+    requires long { 3 < length characters.items }
+    ensures ok { IfOk result (λ t. t ≡ atom characters.items) }
+    ensures refused { IfErr result (λ r. (r.value.items ≡ characters.items)
+        × (r.fault ≡ Fault.Memory)) }
+{
+    let characters = shared(alloc, characters)?;
+    Ok(Term {
+        shape: Shape::Atom(characters),
+    })
 }
 
 /// How many bytes these are.
@@ -177,6 +204,7 @@ fn levels_of_tail<A: Allocator>(tail: &Option<Term<A>>) -> u8
     match &tail.shape {
         Shape::ShortList(depth, _) => *depth - 1,
         Shape::List(depth, _) => *depth - 1,
+        Shape::Rest(depth, _, _) => *depth - 1,
         _ => tail.depth(),
     }
 }
@@ -192,6 +220,7 @@ fn length_of_tail<A: Allocator>(tail: &Option<Term<A>>) -> usize
     match &tail.shape {
         Shape::ShortList(_, row) => row.as_slice().len(),
         Shape::List(_, cells) => cells.elements.len(),
+        Shape::Rest(_, count, cells) => cells.elements.len() - *count as usize,
         _ => 0,
     }
 }
@@ -426,6 +455,9 @@ fn joined<A: Allocator>(
         Shape::Nil => with_nil(alloc, depth, elements),
         Shape::ShortList(kept, row) => prepended_to_row(alloc, depth, elements, kept, row),
         Shape::List(kept, cells) => prepended(alloc, depth, elements, kept, cells),
+        Shape::Rest(kept, count, cells) => {
+            prepended_to_rest(alloc, depth, elements, kept, count, cells)
+        }
         shape => with_tail(alloc, depth, elements, Some(Term { shape })),
     }
 }
@@ -477,7 +509,7 @@ fn with_nil<A: Allocator>(
 }
 
 impl<A: Allocator> Term<A> {
-    ghost use Rattle.std.specs.Prelude.{◌≡◌, ◌≤◌, ◌∷◌, [], length, IfOk, IfErr, IfSome, IsSome};
+    ghost use Rattle.std.specs.Prelude.{◌≡◌, ◌≤◌, ◌∷◌, [], length, Some, None, MatchOption, IfOk, IfErr, IfSome, IsSome};
     ghost use Rattle.std.specs.Option.{option_copied};
     ghost use Rattle.term_core.specs.Datum.{items_of, cells as cells_of, proper_elements};
     ghost use Rattle.term_core.specs.Term.{tail_of};
@@ -486,6 +518,7 @@ impl<A: Allocator> Term<A> {
     ghost use Rattle.term_core.specs.Fault.{IsFault};
     ghost use Rattle.term_core.specs.View.{shown, IsSplit};
     ghost use Rattle.term_core.specs.Limits.{IsTerm, depth};
+    ghost use Rattle.term_core.specs.Parts.{field_of, is_tuple_of, is_map};
 
     /// An integer.
     pub fn int(value: i64) -> Self
@@ -532,13 +565,10 @@ impl<A: Allocator> Term<A> {
                 fault: Fault::TooLong,
             });
         }
-        if let Some(shape) = short_atom(characters.as_slice()) {
-            return Ok(Term { shape });
+        match short_atom(characters.as_slice()) {
+            Some(shape) => Ok(Term { shape }),
+            None => long_atom(alloc, characters),
         }
-        let characters = shared(alloc, characters)?;
-        Ok(Term {
-            shape: Shape::Atom(characters),
-        })
     }
 
     /// A binary. More than `MAX_BINARY` bytes are refused.
@@ -624,6 +654,7 @@ impl<A: Allocator> Term<A> {
             Shape::TupleOfThree(depth, _) | Shape::TupleOfFour(depth, _) => *depth,
             Shape::ShortList(depth, _) | Shape::MapOfOne(depth, _) => *depth,
             Shape::Tuple(depth, _) | Shape::List(depth, _) | Shape::Map(depth, _) => *depth,
+            Shape::Rest(depth, _, _) => *depth,
         }
     }
 
@@ -647,10 +678,41 @@ impl<A: Allocator> Term<A> {
             Shape::Tuple(_, elements) => View::Tuple(elements.as_slice()),
             Shape::ShortList(_, row) => View::List(row.as_slice(), None),
             Shape::List(_, cells) => View::List(cells.elements.as_slice(), cells.tail.as_ref()),
+            Shape::Rest(_, count, cells) => {
+                View::List(
+                    behind(cells.elements.as_slice(), *count as usize),
+                    cells.tail.as_ref(),
+                )
+            }
             Shape::MapOfOne(_, pair) => View::Map(slice::from_ref(&**pair)),
             Shape::Map(_, pairs) => View::Map(pairs.as_slice()),
             Shape::Binary(bytes) => View::Binary(bytes.as_slice()),
         }
+    }
+
+    /// The element of a tuple at a place that is counted from 1, where there is one.
+    #[inline(always)]
+    pub fn element_at(&self, place: u16) -> Option<&Term<A>>
+        ensures { MatchOption result (field_of place self.now ≡ None)
+            (λ element. field_of place self.now ≡ Some element.now) }
+    {
+        self.view().element_at(place)
+    }
+
+    /// Whether the term is a tuple of so many elements.
+    #[inline(always)]
+    pub fn is_tuple(&self, size: u16) -> bool
+        ensures { result ≡ is_tuple_of size self.now }
+    {
+        self.view().is_tuple(size)
+    }
+
+    /// Whether the term is a map.
+    #[inline(always)]
+    pub fn is_map(&self) -> bool
+        ensures { result ≡ is_map self.now }
+    {
+        self.view().is_map()
     }
 
     /// The elements of a list that has no tail but `[]`, none of any other term.

@@ -1,6 +1,9 @@
 //! What other crates see of a term.
-ghost use Rattle.std.specs.Prelude.{◌≡◌, ⊤};
+ghost use Rattle.std.specs.Prelude.{◌≡◌, ⊤, Some, None, MatchOption};
+ghost use Rattle.term_core.specs.Datum.{items_of};
+ghost use Rattle.term_core.specs.Datum.Datum.{tuple};
 ghost use Rattle.term_core.specs.Order.{rank};
+ghost use Rattle.term_core.specs.Parts.{field_of, is_tuple_of, is_map};
 ghost use Rattle.term_core.specs.View.{shown, IsSplit};
 
 use crate::term::Term;
@@ -10,6 +13,22 @@ use std::alloc::{AllocError, Allocator};
 pub(crate) const NIL_RANK: u8 = 4;
 /// Where the other lists stand.
 pub(crate) const LIST_RANK: u8 = 5;
+
+/// The element of a tuple of these elements at a place that is counted from 1.
+#[inline(always)]
+fn element_of<A: Allocator>(elements: &[Term<A>], place: u16) -> Option<&Term<A>>
+    ensures { MatchOption result (field_of place (tuple (items_of elements.now)) ≡ None)
+        (λ element. field_of place (tuple (items_of elements.now)) ≡ Some element.now) }
+{
+    let place = usize::from(place);
+    if place == 0 {
+        return None;
+    }
+    if elements.len() < place {
+        return None;
+    }
+    Some(&elements[place - 1])
+}
 
 /// A term taken apart one level down.
 pub enum View<'a, A: Allocator> {
@@ -56,6 +75,43 @@ impl<'a, A: Allocator> View<'a, A> {
             View::Nil => NIL_RANK,
             View::List(_elements, _tail) => LIST_RANK,
             View::Binary(_) => 6,
+        }
+    }
+
+    /// The element of a tuple at a place that is counted from 1, where there is one.
+    #[inline(always)]
+    pub fn element_at(self, place: u16) -> Option<&'a Term<A>>
+        requires { IsSplit self }
+        ensures { MatchOption result (field_of place (shown self.entry) ≡ None)
+            (λ element. field_of place (shown self.entry) ≡ Some element.now) }
+    {
+        match self {
+            View::Tuple(elements) => element_of(elements, place),
+            _ => None,
+        }
+    }
+
+    /// Whether the term is a tuple of so many elements.
+    #[inline(always)]
+    pub fn is_tuple(self, size: u16) -> bool
+        requires { IsSplit self }
+        ensures { result ≡ is_tuple_of size (shown self.entry) }
+    {
+        match self {
+            View::Tuple(elements) => elements.len() == usize::from(size),
+            _ => false,
+        }
+    }
+
+    /// Whether the term is a map.
+    #[inline(always)]
+    pub fn is_map(self) -> bool
+        requires { IsSplit self }
+        ensures { result ≡ is_map (shown self.entry) }
+    {
+        match self {
+            View::Map(_) => true,
+            _ => false,
         }
     }
 }

@@ -1,13 +1,7 @@
 -- How two terms stand that functions are given.
-use Rattle.std.specs.Prelude.{Bool}
-use Rattle.std.specs.Ordering.{is_eq}
 use Rattle.term_core.specs.Datum.{Datum}
 use Rattle.term_core.specs.Datum.Datum.{tuple, map, cons, binary}
-use Rattle.term_core.specs.Order.{datum_cmp}
-
--- the same term
-abbrev pub is_same : Datum → Datum → Bool
-is_same d e = is_eq (datum_cmp d e)
+pub use Rattle.term_core.specs.Order.{is_same}
 
 -- not both are lists with elements
 abbrev pub AreEnds : Datum → Datum → Type 0

@@ -1,9 +1,10 @@
 //! Terms that stand where they stood before, and parts of them.
-ghost use Rattle.std.specs.Prelude.{◌≡◌, ⊤, false, MatchOption, IfOk, IfSome};
+ghost use Rattle.std.specs.Prelude.{◌≡◌, ⊤, false, Some, None, MatchOption, IfOk, IfSome};
 ghost use Rattle.std.specs.Str.{chars};
 ghost use Rattle.term_core.specs.Datum.{items_of, entries_of};
 ghost use Rattle.term_core.specs.Datum.Datum.{atom, tuple, map, cons};
 ghost use Rattle.term_core.specs.Limits.{IsSound, ArePairsSound};
+ghost use Rattle.term_core.specs.Parts.{field_of, is_tuple_of, is_map};
 ghost use Rattle.term_build.specs.Rest.{rest_of};
 ghost use Rattle.term_core.specs.View.{shown, IsSplit};
 ghost use Rattle.term_operand.specs.View.{seen};
@@ -190,6 +191,39 @@ impl<'a, A: Allocator> Operand<'a, A> {
             Operand::Rest(list, count) => elements_of(view_behind(list, count)),
             Operand::Int(_) | Operand::Bool(_) => None,
         }
+    }
+
+    /// The element of a tuple at a place that is counted from 1, where there is one.
+    #[inline(always)]
+    pub fn element_at(self, place: u16) -> Option<&'a Term<A>>
+        ensures { MatchOption result (field_of place (operand_datum self.entry) ≡ None)
+            (λ element. field_of place (operand_datum self.entry) ≡ Some element.now) }
+    {
+        match self {
+            Operand::Term(term) => term.element_at(place),
+            Operand::Rest(list, count) => view_behind(list, count).element_at(place),
+            Operand::Int(_) | Operand::Bool(_) => None,
+        }
+    }
+
+    /// Whether the operand is a tuple of so many elements.
+    #[inline(always)]
+    pub fn is_tuple(self, size: u16) -> bool
+        ensures { result ≡ is_tuple_of size (operand_datum self.entry) }
+    {
+        match self {
+            Operand::Term(term) => term.is_tuple(size),
+            Operand::Rest(list, count) => view_behind(list, count).is_tuple(size),
+            Operand::Int(_) | Operand::Bool(_) => false,
+        }
+    }
+
+    /// Whether the operand is a map.
+    #[inline(always)]
+    pub fn is_map(self) -> bool
+        ensures { result ≡ is_map (operand_datum self.entry) }
+    {
+        self.view().is_map()
     }
 
     /// The pairs, where the operand is a map.

@@ -49,6 +49,9 @@ fn copy_shape<A: Allocator>(shape: &Shape<A>) -> Result<Shape<A>, AllocError>
         Shape::Tuple(depth, elements) => Ok(Shape::Tuple(*depth, Arc::try_clone(elements)?)),
         Shape::ShortList(depth, row) => Ok(Shape::ShortList(*depth, Arc::try_clone(row)?)),
         Shape::List(depth, cells) => Ok(Shape::List(*depth, Arc::try_clone(cells)?)),
+        Shape::Rest(depth, count, cells) => {
+            Ok(Shape::Rest(*depth, *count, Arc::try_clone(cells)?))
+        }
         Shape::Map(depth, pairs) => Ok(Shape::Map(*depth, Arc::try_clone(pairs)?)),
     }
 }

@@ -1,5 +1,5 @@
 //! Maps of pairs whose keys rise.
-ghost use Rattle.std.specs.Prelude.{◌≡◌, ◌∷◌, [], IfOk, IfErr};
+ghost use Rattle.std.specs.Prelude.{◌≡◌, ◌∷◌, [], length, IfOk, IfErr};
 ghost use Rattle.term_core.specs.Datum.{entries_of};
 ghost use Rattle.term_core.specs.Datum.Datum.{map};
 ghost use Rattle.term_core.specs.Fault.{IsFault};
@@ -9,6 +9,36 @@ use super::{Shape, Term, shared};
 use crate::MAX_DEPTH;
 use crate::fault::{Fault, Refused};
 use std::alloc::Allocator;
+
+/// The map, this deep, of one pair within the limits, in the least memory. The pair is put back where it is refused.
+fn from_one<A: Allocator>(
+    alloc: A,
+    depth: u8,
+    mut pairs: Vec<(Term<A>, Term<A>), A>,
+) -> Result<Term<A>, Refused<Vec<(Term<A>, Term<A>), A>>>
+    requires within { IsMapDepth depth pairs.items }
+    requires rising { AreRising (entries_of pairs.items) }
+    requires one { length pairs.items ≡ 1 }
+    ensures ok { IfOk result (λ t. t ≡ map (entries_of pairs.items)) }
+    ensures refused { IfErr result (λ r. (r.value.items ≡ pairs.items)
+        × (r.fault ≡ Fault.Memory)) }
+{
+    let Some(pair) = pairs.pop() else {
+        unreachable!()
+    };
+    match shared(alloc, pair) {
+        Ok(pair) => Ok(Term {
+            shape: Shape::MapOfOne(depth, pair),
+        }),
+        Err(refused) => {
+            pairs.push_reserved(refused.value);
+            Err(Refused {
+                value: pairs,
+                fault: refused.fault,
+            })
+        }
+    }
+}
 
 impl<A: Allocator> Term<A> {
     /// The map of one pair, in the least memory. A map deeper than `MAX_DEPTH` is refused.
@@ -46,6 +76,9 @@ impl<A: Allocator> Term<A> {
         ensures refused { IfErr result (λ r. (r.value.items ≡ pairs.items)
             × (r.fault ≡ Fault.Memory)) }
     {
+        if pairs.len() == 1 {
+            return from_one(alloc, depth, pairs);
+        }
         let pairs = shared(alloc, pairs)?;
         Ok(Term {
             shape: Shape::Map(depth, pairs),

@@ -16,22 +16,22 @@ copy_list-requires g c =
     let slice = rest_of-slice c.args.count list.elements.now (option_copied list.tail) c.args.term.now list.ensures.split.1 list.ensures.value in
     subst IsTerm (sym slice) (rest_of-IsTerm c.args.count c.args.term.now c.view.ensures.within)
 
-pub returns-then-count-elements : goal.returns-then-count-elements
-returns-then-count-elements g c =
+pub returns-in-None : goal.returns-in-None
+returns-in-None g c =
     let list = c.in-List in
     let slice = rest_of-slice c.args.count list.elements.now (option_copied list.tail) c.args.term.now list.ensures.split.1 list.ensures.value in
     IfOk-weaker c.copy_list.result _ _ (λ t is. is ∙ slice) c.copy_list.ensures
 
-pub returns-in-Some : goal.returns-in-Some
-returns-in-Some g c =
+pub returns-in-Some-tail : goal.returns-in-Some-tail
+returns-in-Some-tail g c =
     let list = c.in-List in
     let past = rest_of-past c.args.count list.elements.now (option_copied list.tail) c.args.term.now c.if-count-elements.false list.ensures.split.1 list.ensures.value in
-    let past = rw c.in-Some.is at past in
-    IfOk-weaker c.copy-in-Some.result _ _ (λ t is. is ∙ past) c.copy-in-Some.ensures
+    let past = rw c.in-Some-tail.is at past in
+    IfOk-weaker c.copy-in-Some-tail.result _ _ (λ t is. is ∙ past) c.copy-in-Some-tail.ensures
 
-pub returns-in-None : goal.returns-in-None
-returns-in-None g c =
+pub returns-in-None-tail : goal.returns-in-None-tail
+returns-in-None-tail g c =
     let list = c.in-List in
     let past = rest_of-past c.args.count list.elements.now (option_copied list.tail) c.args.term.now c.if-count-elements.false list.ensures.split.1 list.ensures.value in
-    let past = rw c.in-None.is at past in
+    let past = rw c.in-None-tail.is at past in
     c.nil.ensures ∙ past

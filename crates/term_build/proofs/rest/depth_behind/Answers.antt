@@ -1,7 +1,7 @@
 use Rattle.std.proofs.Common.{sym, subst, ap, ◌∙◌}
 use Rattle.std.specs.Option.{option_copied}
 use Rattle.term_core.specs.Limits.{depth, IsTerm}
-use Rattle.term_build.proofs.RestLemmas.{rest_of-IsTerm, rest_of-slice, rest_of-past, rest_of-end, no_list-end}
+use Rattle.term_build.proofs.RestLemmas.{rest_of-IsTerm, rest_of-slice, rest_of-past, rest_of-end, no_list-end, flat_left}
 use Rattle.term_build.proofs.rest.depth_behind.Goals as goal
 
 pub returns-in_default : goal.returns-in_default
@@ -26,3 +26,8 @@ returns g c =
     let list = c.in-List in
     let past = rest_of-past c.args.count list.elements.now (option_copied list.tail) c.args.term.now c.if-count-elements.false list.ensures.split.1 list.ensures.value in
     c.depth_of_tail.ensures ∙ ap depth past
+
+pub returns-then-depth-eq-FLAT : goal.returns-then-depth-eq-FLAT
+returns-then-depth-eq-FLAT g c =
+    let list = c.in-List in
+    flat_left c.args.count list.elements.now (option_copied list.tail) c.args.term.now c.if-count-elements.true list.ensures.split.1 list.ensures.value (sym c.depth-then-count-elements.ensures.value ∙ c.if-depth-eq-FLAT.true)

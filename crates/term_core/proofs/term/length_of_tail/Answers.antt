@@ -1,4 +1,4 @@
-use Rattle.std.proofs.Common.{None, length, ap, ◌∙◌, arith}
+use Rattle.std.proofs.Common.{None, length, drop, ap, ◌∙◌, length-drop, arith}
 use Rattle.term_core.specs.ShortRow.{row_items}
 use Rattle.term_core.proofs.LimitLemmas.{list-length, cell_count-sound}
 use Rattle.term_core.proofs.term.length_of_tail.Goals as goal
@@ -31,3 +31,32 @@ returns-in-List-clause-within g c =
     let count = list-length c.in-List.cells.value.elements.items c.in-List.cells.value.tail kept.2 in
     let len = rw held at c.len.ensures in
     let bound = cell_count-sound _ sound in omega (arith, c.in-List.cells.value.elements.ok)
+
+pub overflow_sub-result : goal.overflow_sub-result
+overflow_sub-result g c =
+    let kept = rw c.in-Rest.is at c.tail.invariant.1 in
+    let held = c.deref-in-Rest.ensures in
+    let len = rw held at c.len-in-Rest.ensures in
+    omega (arith, kept.0.1, length-drop c.in-Rest.count c.in-Rest.cells.value.elements.items)
+
+pub returns-in-Rest-clause-value : goal.returns-in-Rest-clause-value
+returns-in-Rest-clause-value g c =
+    let kept = rw c.in-Rest.is at c.tail.invariant.1 in
+    let seen = rw c.in-Rest.is at c.tail.view_is in
+    let some = c.in-Some.is in
+    let held = c.deref-in-Rest.ensures in
+    let left = drop c.in-Rest.count c.in-Rest.cells.value.elements.items in
+    let count = list-length left c.in-Rest.cells.value.tail kept.0.2 in
+    let len = rw held at c.len-in-Rest.ensures in
+    rw (some, ← seen) (omega (arith, length-drop c.in-Rest.count c.in-Rest.cells.value.elements.items, c.in-Rest.cells.value.elements.ok))
+
+pub returns-in-Rest-clause-within : goal.returns-in-Rest-clause-within
+returns-in-Rest-clause-within g c =
+    let kept = rw c.in-Rest.is at c.tail.invariant.1 in
+    let sound = rw c.in-Rest.is at c.tail.invariant.0.sound in
+    let held = c.deref-in-Rest.ensures in
+    let left = drop c.in-Rest.count c.in-Rest.cells.value.elements.items in
+    let count = list-length left c.in-Rest.cells.value.tail kept.0.2 in
+    let len = rw held at c.len-in-Rest.ensures in
+    let bound = cell_count-sound _ sound in
+    omega (arith, length-drop c.in-Rest.count c.in-Rest.cells.value.elements.items, c.in-Rest.cells.value.elements.ok)

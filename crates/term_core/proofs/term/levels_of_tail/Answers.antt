@@ -1,4 +1,4 @@
-use Rattle.std.proofs.Common.{None, arith}
+use Rattle.std.proofs.Common.{None, drop, arith}
 use Rattle.term_core.specs.ShortRow.{row_items}
 use Rattle.term_core.proofs.LimitLemmas.{list-levels}
 use Rattle.term_core.proofs.term.levels_of_tail.Goals as goal
@@ -25,4 +25,16 @@ returns-in-List-clause-value g c =
     let seen = rw c.in-List.is at c.tail.view_is in
     let some = c.in-Some.is in
     let levels = list-levels c.in-List.depth c.in-List.field-1.value.elements.items c.in-List.field-1.value.tail kept in
+    rw (some, ← seen) (omega arith)
+
+pub overflow_sub-result-in-Rest : goal.overflow_sub-result-in-Rest
+overflow_sub-result-in-Rest g c =
+    let kept = rw c.in-Rest.is at c.tail.invariant.1 in omega (arith, list-levels c.in-Rest.depth (drop c.in-Rest.field-1 c.in-Rest.field-2.value.elements.items) c.in-Rest.field-2.value.tail kept.0)
+
+pub returns-in-Rest-clause-value : goal.returns-in-Rest-clause-value
+returns-in-Rest-clause-value g c =
+    let kept = rw c.in-Rest.is at c.tail.invariant.1 in
+    let seen = rw c.in-Rest.is at c.tail.view_is in
+    let some = c.in-Some.is in
+    let levels = list-levels c.in-Rest.depth (drop c.in-Rest.field-1 c.in-Rest.field-2.value.elements.items) c.in-Rest.field-2.value.tail kept.0 in
     rw (some, ← seen) (omega arith)

@@ -1,4 +1,4 @@
-use Rattle.std.proofs.Common.{arith, sym, ◌∙◌}
+use Rattle.std.proofs.Common.{arith}
 use Rattle.term_core.proofs.LimitLemmas.{cell_count-sound}
 use Rattle.term_build.proofs.RestLemmas.{rest_of-count, rest_of-next}
 use Rattle.term_operand.proofs.ViewLemmas.{first_of_cells}

@@ -1,6 +1,0 @@
--- The copies so far and what is left make up the whole.
-use Rattle.std.proofs.Common.{◌≡◌, ◌++◌, drop}
-use Rattle.term_build.proofs.copies.copy_pairs.Given as goal
-
-abbrev pub invariant-loop-key : goal.invariant-loop-key
-invariant-loop-key g l = l.copies.items ++ drop l.key-index l.pairs ≡ l.pairs

@@ -1,7 +1,0 @@
--- The keys so far rise.
-use Rattle.std.specs.List.{AllAdjacentBelow}
-use Rattle.term_core.proofs.MapLemmas.{Rises}
-use Rattle.term_build.proofs.map.is_rising.Given as goal
-
-abbrev pub invariant-loop-later : goal.invariant-loop-later
-invariant-loop-later g l = AllAdjacentBelow Rises l.pairs l.later

@@ -1,0 +1,174 @@
+//! Maps, made of pairs in any order.
+ghost use Rattle.std.specs.Prelude.{◌≡◌, ◌<◌, ◌≤◌, ◌↔◌, length, map as map_list, IsTrue, IsSorted, IfOk, IfErr};
+ghost use Rattle.std.specs.List.{AllByRecursion, IsDistinct};
+ghost use Rattle.std.specs.Ordering.{eq_by_cmp};
+ghost use Rattle.term_core.specs.Datum.{entries_of};
+ghost use Rattle.term_core.specs.Limits.{entries_depth};
+ghost use Rattle.term_core.specs.MapPairs.{AreRising, HasTwice, IsMapOf, IsMapFault, IsMapDepth, IsPairSound, keys_of};
+ghost use Rattle.term_core.specs.Order.{datum_cmp};
+
+use super::Term;
+use crate::fault::{Fault, Refused};
+use crate::{MAX_DEPTH, MAX_MAP};
+use std::alloc::{AllocError, Allocator};
+
+/// The greatest depth among the keys and values of these pairs, 0 where there is none.
+fn deepest_pair<A: Allocator>(pairs: &[(Term<A>, Term<A>)]) -> u8
+    ensures value { result ≡ entries_depth (entries_of pairs.now) }
+    ensures sound { AllByRecursion IsPairSound pairs.now }
+{
+    let mut deepest = 0;
+    for pair in pairs {
+        deepest = deepest.max(pair.0.depth()).max(pair.1.depth());
+    }
+    deepest
+}
+
+/// How deep the map of these pairs is, or which limit it is past.
+fn map_depth<A: Allocator>(pairs: &[(Term<A>, Term<A>)]) -> Result<u8, Fault>
+    ensures ok { IfOk result (λ d. IsMapDepth d pairs.now) }
+    ensures refused { IfErr result (λ fault. IsMapFault fault pairs.now) }
+{
+    let deepest = deepest_pair(pairs);
+    if deepest >= MAX_DEPTH {
+        return Err(Fault::TooDeep);
+    }
+    if pairs.len() > MAX_MAP {
+        return Err(Fault::TooLong);
+    }
+    Ok(deepest + 1)
+}
+
+/// Whether each key stands before the next.
+fn is_rising<A: Allocator>(pairs: &[(Term<A>, Term<A>)]) -> bool
+    ensures { IsTrue result ↔ AreRising (entries_of pairs.now) }
+{
+    for later in 1..pairs.len() {
+        if pairs[later - 1].0 >= pairs[later].0 {
+            return false;
+        }
+    }
+    true
+}
+
+/// The keys of these pairs.
+fn keys<'a, A: Allocator>(
+    alloc: A,
+    pairs: &'a [(Term<A>, Term<A>)],
+) -> Result<Vec<&'a Term<A>, A>, AllocError>
+    ensures { IfOk result (λ keys. map_list (λ key. key.now) keys.items ≡ keys_of pairs.now) }
+{
+    let mut keys = Vec::with_capacity(alloc, pairs.len())?;
+    for pair in pairs {
+        keys.push(&pair.0)?;
+    }
+    Ok(keys)
+}
+
+/// Whether all of these terms, which do not fall, differ.
+pub fn neighbours_differ<A: Allocator>(terms: &[&Term<A>]) -> bool
+    requires { IsSorted (λ a b. datum_cmp a.now b.now) terms.now }
+    ensures { IsTrue result ↔ IsDistinct (eq_by_cmp datum_cmp)
+        (map_list (λ term. term.now) terms.now) }
+{
+    for later in 1..terms.len() {
+        if terms[later - 1] == terms[later] {
+            return false;
+        }
+    }
+    true
+}
+
+/// Whether a key stands twice among these pairs.
+fn has_twin<A: Allocator>(alloc: A, pairs: &[(Term<A>, Term<A>)]) -> Result<bool, AllocError>
+    ensures { IfOk result (λ twin. IsTrue twin ↔ HasTwice pairs.now) }
+{
+    let mut keys = keys(alloc, pairs)?;
+    keys.sort_unstable();
+    Ok(!neighbours_differ(keys.as_slice()))
+}
+
+/// Copies of these pairs.
+fn copy_pairs<A: Allocator>(
+    alloc: A,
+    pairs: &[(Term<A>, Term<A>)],
+) -> Result<Vec<(Term<A>, Term<A>), A>, AllocError>
+    ensures { IfOk result (λ v. v.items ≡ pairs.now) }
+{
+    let mut copies = Vec::with_capacity(alloc, pairs.len())?;
+    for (key, value) in pairs {
+        copies.push((key.copy()?, value.copy()?))?;
+    }
+    Ok(copies)
+}
+
+/// The map of pairs whose keys differ.
+fn sorted_map<A: Allocator + Copy>(
+    alloc: A,
+    depth: u8,
+    pairs: Vec<(Term<A>, Term<A>), A>,
+) -> Result<Term<A>, Refused<Vec<(Term<A>, Term<A>), A>>>
+    requires within { IsMapDepth depth pairs.items }
+    requires apart { ¬ HasTwice pairs.items }
+    ensures ok { IfOk result (λ t. IsMapOf pairs.items t) }
+    ensures refused { IfErr result (λ r. (r.value.items ≡ pairs.items) × (r.fault ≡ Fault.Memory)) }
+{
+    // Copies are sorted, so that the pairs are handed back in their order where there is no memory.
+    let Ok(mut sorted) = copy_pairs(alloc, pairs.as_slice()) else {
+        return Err(Refused {
+            value: pairs,
+            fault: Fault::Memory,
+        });
+    };
+    sorted.sort_unstable();
+    match Term::from_rising(alloc, depth, sorted) {
+        Ok(map) => Ok(map),
+        Err(_) => Err(Refused {
+            value: pairs,
+            fault: Fault::Memory,
+        }),
+    }
+}
+
+impl<A: Allocator + Copy> Term<A> {
+    ghost use Rattle.std.specs.Prelude.{◌≡◌, IfOk, IfErr};
+    ghost use Rattle.term_core.specs.Datum.{Datum};
+    ghost use Rattle.term_core.specs.MapPairs.{HasTwice, IsMapOf, IsMapFault};
+
+    /// The map of these pairs, which may come in any order. More than `MAX_MAP` are refused, a map deeper than
+    /// `MAX_DEPTH`, and a key that stands twice.
+    pub fn map(
+        alloc: A,
+        pairs: Vec<(Term<A>, Term<A>), A>,
+    ) -> Result<Self, Refused<Vec<(Term<A>, Term<A>), A>>>
+        ensures ok { IfOk result (λ t. IsMapOf pairs.items t) }
+        ensures only { IfOk result (λ t. (d : Datum) → IsMapOf pairs.items d → d ≡ t) }
+        ensures apart { IfOk result (λ t. ¬ HasTwice pairs.items) }
+        ensures refused { IfErr result (λ r. (r.value.items ≡ pairs.items)
+            × IsMapFault r.fault pairs.items) }
+    {
+        let depth = match map_depth(pairs.as_slice()) {
+            Ok(depth) => depth,
+            Err(fault) => {
+                return Err(Refused {
+                    value: pairs,
+                    fault,
+                });
+            }
+        };
+        if is_rising(pairs.as_slice()) {
+            return Term::from_rising(alloc, depth, pairs);
+        }
+        match has_twin(alloc, pairs.as_slice()) {
+            Ok(false) => sorted_map(alloc, depth, pairs),
+            Ok(true) => Err(Refused {
+                value: pairs,
+                fault: Fault::DuplicateKey,
+            }),
+            Err(AllocError) => Err(Refused {
+                value: pairs,
+                fault: Fault::Memory,
+            }),
+        }
+    }
+}
