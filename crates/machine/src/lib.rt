@@ -5,13 +5,14 @@
 //! the run is stuck. `run_true` gives whether that answer is `true`, and the same number; of code that makes no terms,
 //! and has few places and slots, it takes no memory.
 //!
-//! - `runs`: a `Machine`, which is made once and runs on any number of objects, and runs on one object. What a run does
-//!   is in `machine_step`.
+//! - `runs`: a `Machine`, which is made once and runs on any number of objects, and runs on one object; `placed`: the
+//!   places that the first run which needs them makes. What a run does is in `machine_step`.
 //! - `laws`: that a run has one end, that typed code is never stuck and ends with its answer (`answer_of` of
 //!   `mcode/specs/Answer.antt`), and that no run passes the budget.
 #![tactic(auto)]
 
 mod laws;
+mod placed;
 mod runs;
 
 pub use laws::{
