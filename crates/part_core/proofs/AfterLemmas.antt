@@ -91,7 +91,7 @@ counted_after o s counts =
 
 -- ---- objects that are put in
 
-with_live : (kind : TableKind) (k : Datum) (os : List Datum) (t : Datum) → is_live (k, objects_with kind os t) ≡ true
+pub with_live : (kind : TableKind) (k : Datum) (os : List Datum) (t : Datum) → is_live (k, objects_with kind os t) ≡ true
 with_live Set k os t = refl
 with_live OrderedSet k os t = refl
 with_live Bag k [] t = refl

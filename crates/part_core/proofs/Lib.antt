@@ -9,7 +9,6 @@ pub mod CoverLemmas
 pub mod StayLemmas
 pub mod KeyedLemmas
 pub mod AfterLemmas
-pub mod FieldLemmas
 pub mod ChosenLemmas
 pub mod LiveLemmas
 pub mod LawLemmas

@@ -14,3 +14,4 @@ pub mod Laws
 pub mod FaultNumbers
 pub mod Ops
 pub mod Served
+pub mod Held

@@ -1,7 +1,8 @@
 -- Which settings a part is made for.
-use Rattle.std.specs.Prelude.{ℕ, ◌≤◌, Bool, IsTrue}
+use Rattle.std.specs.Prelude.{ℕ, ◌≤◌, Bool, IsTrue, IsFalse}
 use Rattle.part_core.specs.declared.kind.TableKind.{TableKind}
 use Rattle.part_core.specs.declared.settings.Settings.{Settings}
+use Rattle.part_core.specs.Settings.{is_ordered}
 
 -- settings from their parts
 abbrev pub settings_with : TableKind → ℕ → ℕ → ℕ → Settings
@@ -18,3 +19,7 @@ pub record AreInRange (o : Settings) : Type 0 where
 pub record IsServed (serves : TableKind → Bool) (o : Settings) : Type 0 where
   pub kind : IsTrue (serves o.kind)
   pub ranges : AreInRange o
+
+-- what is asked of the kinds of parts that serve all tables but those that are walked by key
+abbrev pub ServesUnordered : (TableKind → Bool) → Type 0
+ServesUnordered serves = (kind : TableKind) → IsFalse (is_ordered kind) → IsTrue (serves kind)

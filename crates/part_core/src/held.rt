@@ -1,62 +1,187 @@
-//! The object of a key.
-ghost use Rattle.std.specs.Prelude.{◌≡◌, [], ◌∷◌, IfOk};
+//! The objects of a key.
+ghost use Rattle.std.specs.Prelude.{vec_len, vec_capacity, ◌≡◌, ◌+◌, ◌≤◌, [], ◌∷◌, ◌++◌, List, Some, None, IsSome, IfOk, OnOk, OnErr, unwrap_or, false, if◌then◌else◌};
+ghost use Rattle.std.specs.List.{list_any};
+ghost use Rattle.term_core.specs.Datum.{Datum};
+ghost use Rattle.term_core.specs.Datum.Datum.{nil};
+ghost use Rattle.term_operand.specs.Order.{is_same};
+ghost use Rattle.part_core.specs.Held.{objects_of};
+ghost use Rattle.part_core.specs.Rows.{objects_with, objects_without};
 
-use crate::room::push_within;
+use crate::kind::TableKind;
 use std::alloc::{AllocError, Allocator, Global};
 use std::marker::Model;
-use std::mem;
+use std::{mem, slice};
 use term_core::Term;
 
-/// The object that a set holds of a key, where it holds one; its row is dead where it doesn't.
+/// How many objects there is room for where a key gets its second.
+const FEW: usize = 4;
+
+/// No object, one, which stands in the row itself, or a list. A list stays one when objects go, since another place
+/// for them would want memory.
+#[derive(Drop)]
+enum Objects<A: Allocator> {
+    Empty,
+    One(Term<A>),
+    Many(Box<Vec<Term<A>, A>, A>),
+}
+
+/// The objects that are held of a key, in the order of time. A row that holds none is dead.
 #[derive(Drop)]
 pub struct Held<A: Allocator = Global> {
-    object: Option<Term<A>>,
+    objects: Objects<A>,
 }
 
 impl<A: Allocator> Model for Held<A> {
     ghost use Rattle.std.specs.Prelude.{List};
     ghost use Rattle.std.specs.Coded.{codes};
-    ghost use Rattle.std.specs.Option.{option_to_list};
     ghost use Rattle.term_core.specs.Datum.{Datum};
     ghost use Rattle.term_core.specs.DatumCode.{datum_code};
+    ghost use Rattle.part_core.specs.Held.{objects_of};
 
     ghost Value = { List Datum };
 
     ghost coded = { Prim.hlevel (codes, datum_code) };
 
-    ghost view = { λ held. option_to_list held.object };
-}
-
-/// A list of one term.
-fn list_of_one<A: Allocator>(alloc: A, term: Term<A>) -> Result<Vec<Term<A>, A>, AllocError>
-    ensures { IfOk result (λ list. list.items ≡ term ∷ []) }
-{
-    let mut list = Vec::with_capacity(alloc, 1)?;
-    push_within(&mut list, term);
-    Ok(list)
+    ghost view = { λ held. objects_of held.objects };
 }
 
 /// Lets an object go.
 fn let_go<A: Allocator>(_object: Option<Term<A>>) {}
 
+/// Lets objects go.
+fn let_all_go<A: Allocator>(_objects: Objects<A>) {}
+
+/// An object, taken from where it is.
+fn taken<A: Allocator>(object: &mut Option<Term<A>>) -> Term<A>
+    requires { IsSome object.old }
+    ensures object { result ≡ unwrap_or object.old nil }
+    ensures spent { object.new ≡ None }
+{
+    match object.take() {
+        Some(object) => object,
+        None => unreachable!(),
+    }
+}
+
+/// Whether an object is among some.
+fn is_among<A: Allocator>(object: &Term<A>, objects: &[Term<A>]) -> bool
+    ensures { result ≡ list_any (is_same object.now) objects.now }
+{
+    objects.iter().any(|present| object == present)
+}
+
+/// Lets those of a list go that are equal to an object.
+fn keep_others<A: Allocator>(list: &mut Vec<Term<A>, A>, object: &Term<A>)
+    ensures { list.new.items ≡ objects_without object.now list.old.items }
+{
+    list.retain(|present| object != present);
+}
+
+/// The object, where there is one alone.
+fn only<A: Allocator>(objects: Objects<A>) -> Option<Term<A>>
+    ensures { (object : Datum) → objects_of objects ≡ object ∷ [] → result ≡ Some object }
+{
+    match objects {
+        Objects::Empty => None,
+        Objects::One(object) => Some(object),
+        Objects::Many(mut list) => list.pop(),
+    }
+}
+
+/// Without those that are equal to an object.
+fn without<A: Allocator>(objects: Objects<A>, object: &Term<A>) -> Objects<A>
+    ensures { objects_of result ≡ objects_without object.now (objects_of objects) }
+{
+    match objects {
+        Objects::Empty => Objects::Empty,
+        Objects::One(present) => {
+            if object == &present {
+                Objects::Empty
+            } else {
+                Objects::One(present)
+            }
+        }
+        Objects::Many(mut list) => {
+            keep_others(&mut list, object);
+            Objects::Many(list)
+        }
+    }
+}
+
+/// A list in which there is room for a few objects.
+fn room_for_few<A: Allocator + Copy>(alloc: A) -> Result<Box<Vec<Term<A>, A>, A>, AllocError>
+    ensures items { IfOk result (λ list. list.value.items ≡ []) }
+    ensures room { IfOk result (λ list. vec_len list.value + 2 ≤ vec_capacity list.value) }
+{
+    let list = Vec::with_capacity(alloc, FEW)?;
+    let list = Box::new(alloc, list)?;
+    Ok(list)
+}
+
+/// One object and a second, in a list in which there is room for both.
+fn with_second<A: Allocator>(
+    first: Objects<A>,
+    list: Box<Vec<Term<A>, A>, A>,
+    second: Term<A>,
+) -> Objects<A>
+    requires items { list.value.items ≡ [] }
+    requires room { vec_len list.value + 2 ≤ vec_capacity list.value }
+    ensures { (object : Datum) → objects_of first ≡ object ∷ [] → objects_of result ≡ object ∷ second ∷ [] }
+{
+    let mut list = list;
+    if let Some(first) = only(first) {
+        list.push_reserved(first);
+    }
+    list.push_reserved(second);
+    Objects::Many(list)
+}
+
+/// Puts an object behind those of a list.
+fn push<A: Allocator>(
+    list: &mut Vec<Term<A>, A>,
+    object: &mut Option<Term<A>>,
+) -> Result<(), AllocError>
+    requires { IsSome object.old }
+    ensures done { OnOk result (list.new.items ≡ list.old.items ++ unwrap_or object.old nil ∷ []) }
+    ensures spent { OnOk result (object.new ≡ None) }
+    ensures back { OnErr result (object.new ≡ object.old) }
+    ensures refused { OnErr result (list.new.items ≡ list.old.items) }
+{
+    list.reserve(1)?;
+    list.push_reserved(taken(object));
+    Ok(())
+}
+
 impl<A: Allocator> Held<A> {
-    ghost use Rattle.std.specs.Prelude.{◌≡◌, [], ◌∷◌, if◌then◌else◌, IfOk};
-    ghost use Rattle.std.specs.Option.{option_to_list, option_copied};
-    ghost use Rattle.part_core.specs.Rows.{is_empty, objects_without};
+    ghost use Rattle.std.specs.Prelude.{Some};
+    ghost use Rattle.part_core.specs.Rows.{is_empty};
 
     /// No object.
     pub fn none() -> Self
         ensures { result ≡ [] }
     {
-        Held { object: None }
+        Held {
+            objects: Objects::Empty,
+        }
     }
 
     /// An object.
-    pub fn new(object: Term<A>) -> Self
+    pub fn one(object: Term<A>) -> Self
         ensures { result ≡ object ∷ [] }
     {
         Held {
-            object: Some(object),
+            objects: Objects::One(object),
+        }
+    }
+
+    /// The objects.
+    pub fn as_slice(&self) -> &[Term<A>]
+        ensures { result.now ≡ self.now }
+    {
+        match &self.objects {
+            Objects::Empty => &[],
+            Objects::One(object) => slice::from_ref(object),
+            Objects::Many(list) => list.as_slice(),
         }
     }
 
@@ -64,58 +189,154 @@ impl<A: Allocator> Held<A> {
     pub fn is_empty(&self) -> bool
         ensures { result ≡ is_empty self.now }
     {
-        self.object.is_none()
+        self.as_slice().is_empty()
     }
 
-    /// The object, if there is one.
-    pub fn object(&self) -> Option<&Term<A>>
-        ensures { option_to_list (option_copied result) ≡ self.now }
+    /// Whether one is equal to a term.
+    pub fn has(&self, object: &Term<A>) -> bool
+        ensures { result ≡ list_any (is_same object.now) self.now }
     {
-        self.object.as_ref()
+        is_among(object, self.as_slice())
     }
 
-    /// The object, if there is one, handed over.
+    /// The object, where there is one alone.
     pub fn into_object(self) -> Option<Term<A>>
-        ensures { option_to_list result ≡ self }
+        ensures { (object : Datum) → self ≡ object ∷ [] → result ≡ Some object }
     {
-        self.object
+        only(self.objects)
     }
 
-    /// Puts an object in the place of the one that is there.
-    pub fn put(&mut self, object: Term<A>)
-        ensures { self.new ≡ object ∷ [] }
-    {
-        let_go(mem::replace(&mut self.object, Some(object)));
-    }
-
-    /// Lets the object go where it is equal to a term.
+    /// Lets the objects go that are equal to a term. No memory is taken.
     pub fn remove(&mut self, object: &Term<A>)
         ensures { self.new ≡ objects_without object.now self.old }
     {
-        if self.has(object) {
-            let_go(self.object.take());
-        }
+        let objects = mem::replace(&mut self.objects, Objects::Empty);
+        let_all_go(mem::replace(&mut self.objects, without(objects, object)));
     }
 
-    /// Whether the object is equal to a term.
-    fn has(&self, object: &Term<A>) -> bool
-        ensures { objects_without object.now self.now ≡ (if result then [] else self.now) }
+    /// Puts an object in the place of those that are there.
+    fn put_alone(&mut self, object: &mut Option<Term<A>>)
+        requires { IsSome object.old }
+        ensures done { self.new ≡ unwrap_or object.old nil ∷ [] }
+        ensures spent { object.new ≡ None }
     {
-        match &self.object {
-            Some(present) => object == present,
-            None => false,
+        let_all_go(mem::replace(&mut self.objects, Objects::One(taken(object))));
+    }
+
+    /// Whether an object is equal to one that is there.
+    fn has_put(&self, object: &Option<Term<A>>) -> bool
+        requires { IsSome object.now }
+        ensures { result ≡ list_any (is_same (unwrap_or object.now nil)) self.now }
+    {
+        match object {
+            Some(object) => self.has(object),
+            None => unreachable!(),
+        }
+    }
+}
+
+impl<A: Allocator + Copy> Held<A> {
+    ghost use Rattle.part_core.specs.Rows.{is_empty};
+
+    /// Puts a second object behind the one that is there alone.
+    fn put_second(&mut self, alloc: A, object: &mut Option<Term<A>>) -> Result<(), AllocError>
+        requires { IsSome object.old }
+        ensures done { OnOk result ((first : Datum) → self.old ≡ first ∷ []
+            → self.new ≡ first ∷ unwrap_or object.old nil ∷ []) }
+        ensures spent { OnOk result (object.new ≡ None) }
+        ensures back { OnErr result (object.new ≡ object.old) }
+        ensures refused { OnErr result (self.new ≡ self.old) }
+    {
+        let list = room_for_few(alloc)?;
+        let first = mem::replace(&mut self.objects, Objects::Empty);
+        let both = with_second(first, list, taken(object));
+        let_all_go(mem::replace(&mut self.objects, both));
+        Ok(())
+    }
+
+    /// Puts an object behind those that are there.
+    fn put_behind(&mut self, alloc: A, object: &mut Option<Term<A>>) -> Result<(), AllocError>
+        requires { IsSome object.old }
+        ensures done { OnOk result (self.new ≡ self.old ++ unwrap_or object.old nil ∷ []) }
+        ensures spent { OnOk result (object.new ≡ None) }
+        ensures back { OnErr result (object.new ≡ object.old) }
+        ensures refused { OnErr result (self.new ≡ self.old) }
+        ensures some { OnErr result (is_empty self.old ≡ false) }
+    {
+        if self.is_empty() {
+            self.put_alone(object);
+            return Ok(());
+        }
+        match &mut self.objects {
+            Objects::Many(list) => push(list, object),
+            Objects::Empty | Objects::One(_) => self.put_second(alloc, object),
         }
     }
 
-    /// A copy of the object in a list.
+    /// Puts an object in: in a set in the place of those that are there, in a bag behind them, unless one is equal to
+    /// it. Memory is wanted only where there is one.
+    pub fn put(
+        &mut self,
+        alloc: A,
+        kind: TableKind,
+        object: &mut Option<Term<A>>,
+    ) -> Result<(), AllocError>
+        requires { IsSome object.old }
+        ensures done { OnOk result (self.new ≡ objects_with kind self.old (unwrap_or object.old nil)) }
+        ensures spent { OnOk result (object.new ≡ None) }
+        ensures back { OnErr result (object.new ≡ object.old) }
+        ensures refused { OnErr result (self.new ≡ self.old) }
+        ensures some { OnErr result (is_empty self.old ≡ false) }
+    {
+        match kind {
+            TableKind::Set | TableKind::OrderedSet => {
+                self.put_alone(object);
+                Ok(())
+            }
+            TableKind::Bag => {
+                if self.has_put(object) {
+                    let_go(object.take());
+                    return Ok(());
+                }
+                self.put_behind(alloc, object)
+            }
+            TableKind::DuplicateBag => self.put_behind(alloc, object),
+        }
+    }
+
+    /// Puts copies of the objects behind others.
+    pub fn copy_into(&self, into: &mut Vec<Term<A>, A>) -> Result<(), AllocError>
+        ensures { IfOk result (λ _. into.new.items ≡ into.old.items ++ self.now) }
+    {
+        for object in self.as_slice() {
+            into.push(object.copy()?)?;
+        }
+        Ok(())
+    }
+
+    /// Copies of the objects in a list.
     pub fn objects(&self, alloc: A) -> Result<Vec<Term<A>, A>, AllocError>
-    where
-        A: Copy,
         ensures { IfOk result (λ objects. objects.items ≡ self.now) }
     {
-        match &self.object {
-            Some(object) => list_of_one(alloc, object.copy()?),
-            None => Ok(Vec::new(alloc)),
+        let mut objects = Vec::with_capacity(alloc, self.as_slice().len())?;
+        self.copy_into(&mut objects)?;
+        Ok(objects)
+    }
+
+    /// The objects of a list.
+    pub fn from_list(alloc: A, list: Vec<Term<A>, A>) -> Result<Self, AllocError>
+        ensures { IfOk result (λ held. held ≡ list.items) }
+    {
+        let mut list = list;
+        if list.len() > 1 {
+            let list = Box::new(alloc, list)?;
+            return Ok(Held {
+                objects: Objects::Many(list),
+            });
+        }
+        match list.pop() {
+            Some(object) => Ok(Held::one(object)),
+            None => Ok(Held::none()),
         }
     }
 }

@@ -3,17 +3,19 @@ use Rattle.std.proofs.Common.{◌≡◌, ℕ, ◌+◌, ◌-◌, ◌≤◌, List,
 use Rattle.std.specs.Prelude.{Bool, true, false, ◌||◌, ◌==◌, if◌then◌else◌, Option, Some, None, option_map, unwrap_or, is_some, filter}
 use Rattle.std.specs.List.{IsDistinct}
 use Rattle.std.specs.Map.{keys_of, values_of, lookup, remove_entry}
-use Rattle.std.proofs.lemmas.Bool.{eqb-true}
+use Rattle.std.proofs.lemmas.Bool.{eqb-true, not-true}
 use Rattle.std.proofs.lemmas.List.{length-map}
 use Rattle.std.proofs.lemmas.List.Sums.{count_by-le-length, sum_by-cons}
 use Rattle.std.proofs.lemmas.Map.Entries.{sum_by-remove_entry, sum_by-set_value}
 use Rattle.term_core.specs.Datum.{Datum}
 use Rattle.term_operand.specs.Order.{is_same}
-use Rattle.part_core.specs.declared.kind.TableKind.TheVariants.{Set}
+use Rattle.part_core.specs.declared.kind.TableKind.{TableKind}
 use Rattle.part_core.specs.declared.settings.Settings.{Settings}
-use Rattle.part_core.specs.Settings.{key_of}
-use Rattle.part_core.specs.Rows.{Row, has_row, is_empty, is_live, objects_at, rows_at_key, with_object}
+use Rattle.part_core.specs.Settings.{is_ordered, key_of}
+use Rattle.part_core.specs.Rows.{Row, has_row, is_empty, is_live, objects_at, objects_with, rows_at_key, with_object}
+use Rattle.part_core.proofs.AfterLemmas.{with_live}
 use Rattle.part_core.proofs.KeyLemmas.{by_test}
+use Rattle.part_core.proofs.KeyedLemmas.{written_of}
 use Rattle.part_engine.specs.Dead.{dead_rows, one_dead}
 use Rattle.part_rows.specs.Shown.{rows_exchanged}
 use Rattle.part_engine.proofs.SetLemmas.{exchanged_out, exchanged_there, written}
@@ -80,30 +82,39 @@ exchanged_count k (t ∷ os) false rows apart there =
     ap (λ (rs : List Row). dead_rows rs + one_dead (objects_at rows k)) (sym (exchanged_there k (t ∷ os) false rows refl) ∙ sym (written k (t ∷ os) rows apart))
     ∙ sum_by-set_value one_dead (is_same k) rows (objects_at rows k) (t ∷ os) (there_is k rows there)
 
--- a row that holds an object behind the others
-live_behind : (k t : Datum) (rows : List Row) → dead_rows (rows ++ (k, t ∷ []) ∷ []) ≡ dead_rows rows
-live_behind k t [] = refl
-live_behind k t (r ∷ rows) =
-    dead_cons r (rows ++ (k, t ∷ []) ∷ []) ∙ ap (λ n. one_dead r.1 + n) (live_behind k t rows) ∙ sym (dead_cons r rows)
+-- a row that holds objects behind the others
+pub live_behind : (k : Datum) (os : List Datum) (rows : List Row) → one_dead os ≡ 0 → dead_rows (rows ++ (k, os) ∷ []) ≡ dead_rows rows
+live_behind k os [] live = dead_cons (k, os) [] ∙ ap (λ n. n + dead_rows []) live
+live_behind k os (r ∷ rows) live =
+    dead_cons r (rows ++ (k, os) ∷ []) ∙ ap (λ n. one_dead r.1 + n) (live_behind k os rows live) ∙ sym (dead_cons r rows)
 
--- an object put in a set: a dead row of its key is live then
-pub put_count : (o : Settings) (t : Datum) (rows : List Row) → o.kind ≡ Set → IsDistinct is_same (keys_of rows) → dead_rows (with_object o t rows) + unwrap_or (option_map one_dead (lookup (is_same (key_of o t)) rows)) 0 ≡ dead_rows rows
-put_count o t rows kind apart =
+-- a row into which an object is put is live
+put_lives : (kind : TableKind) (os : List Datum) (t : Datum) → one_dead (objects_with kind os t) ≡ 0
+put_lives kind os t =
+    ap (λ b. if b then 1 else 0) (not-true (is_empty (objects_with kind os t)) (with_live kind t os t))
+
+-- an object put in: a dead row of its key is live then
+pub put_count : (o : Settings) (t : Datum) (rows : List Row) → is_ordered o.kind ≡ false → IsDistinct is_same (keys_of rows) → dead_rows (with_object o t rows) + unwrap_or (option_map one_dead (lookup (is_same (key_of o t)) rows)) 0 ≡ dead_rows rows
+put_count o t rows plain apart =
     by_test (has_row rows (key_of o t)) _
-    (λ there. ap (λ (found : Option (List Datum)). dead_rows (with_object o t rows) + unwrap_or (option_map one_dead found) 0) (there_is (key_of o t) rows there)
-    ∙ ap (λ (rs : List Row). dead_rows rs + one_dead (objects_at rows (key_of o t))) (over there ∙ sym (written (key_of o t) (t ∷ []) rows apart))
-    ∙ sum_by-set_value one_dead (is_same (key_of o t)) rows (objects_at rows (key_of o t)) (t ∷ []) (there_is (key_of o t) rows there)
+    (λ there. let k : Datum = key_of o t in
+    let os : List Datum = objects_with o.kind (objects_at rows k) t in
+    ap (λ (found : Option (List Datum)). dead_rows (with_object o t rows) + unwrap_or (option_map one_dead found) 0) (there_is k rows there)
+    ∙ ap (λ (rs : List Row). dead_rows rs + one_dead (objects_at rows k)) (over there ∙ sym (written k os rows apart))
+    ∙ sum_by-set_value one_dead (is_same k) rows (objects_at rows k) os (there_is k rows there)
+    ∙ ap (λ n. dead_rows rows + n) (put_lives o.kind (objects_at rows k) t)
     ∙ sym (plus_none (dead_rows rows)))
     (λ none. ap (λ (found : Option (List Datum)). dead_rows (with_object o t rows) + unwrap_or (option_map one_dead found) 0) (nothing (lookup (is_same (key_of o t)) rows) none)
     ∙ sym (plus_none (dead_rows (with_object o t rows)))
     ∙ ap dead_rows (behind none)
-    ∙ live_behind (key_of o t) t rows)
+    ∙ live_behind (key_of o t) (objects_with o.kind [] t) rows (put_lives o.kind [] t))
   where
-    over : has_row rows (key_of o t) ≡ true → with_object o t rows ≡ rows_at_key (key_of o t) (λ _. t ∷ []) rows
-    over there = rw (there, kind) refl
+    over : has_row rows (key_of o t) ≡ true → with_object o t rows ≡ rows_at_key (key_of o t) (λ _. objects_with o.kind (objects_at rows (key_of o t)) t) rows
+    over there =
+        rw there (written_of (key_of o t) (λ os. objects_with o.kind os t) (objects_at rows (key_of o t)) rows apart refl)
 
-    behind : has_row rows (key_of o t) ≡ false → with_object o t rows ≡ rows ++ (key_of o t, t ∷ []) ∷ []
-    behind none = rw (none, kind) refl
+    behind : has_row rows (key_of o t) ≡ false → with_object o t rows ≡ rows ++ (key_of o t, objects_with o.kind [] t) ∷ []
+    behind none = rw (none, plain) refl
 
     nothing : (found : Option (List Datum)) → is_some found ≡ false → found ≡ None
     nothing None h = refl
@@ -133,27 +144,27 @@ none_left n m e = omega (arith, e)
 minus_none : (n : ℕ) → n - 0 ≡ n
 minus_none n = omega arith
 
-counted : (o : Settings) (t : Datum) (rows : List Row) (dead : ℕ) (put replaces : Bool) → o.kind ≡ Set → IsDistinct is_same (keys_of rows) → dead ≡ dead_rows rows → put ≡ (replaces || is_empty (objects_at rows (key_of o t))) → dead - unwrap_or (option_map one_dead (lookup (is_same (key_of o t)) rows)) 0 ≡ dead_rows (if put then with_object o t rows else rows)
-counted o t rows dead true replaces kind apart count puts =
-    less (dead_rows (with_object o t rows)) (unwrap_or (option_map one_dead (lookup (is_same (key_of o t)) rows)) 0) dead (put_count o t rows kind apart ∙ sym count)
-counted o t rows dead false true kind apart count puts = cc
-counted o t rows dead false false kind apart count puts =
+counted : (o : Settings) (t : Datum) (rows : List Row) (dead : ℕ) (put replaces : Bool) → is_ordered o.kind ≡ false → IsDistinct is_same (keys_of rows) → dead ≡ dead_rows rows → put ≡ (replaces || is_empty (objects_at rows (key_of o t))) → dead - unwrap_or (option_map one_dead (lookup (is_same (key_of o t)) rows)) 0 ≡ dead_rows (if put then with_object o t rows else rows)
+counted o t rows dead true replaces plain apart count puts =
+    less (dead_rows (with_object o t rows)) (unwrap_or (option_map one_dead (lookup (is_same (key_of o t)) rows)) 0) dead (put_count o t rows plain apart ∙ sym count)
+counted o t rows dead false true plain apart count puts = cc
+counted o t rows dead false false plain apart count puts =
     ap (λ n. dead - n) (live_count (key_of o t) rows (sym puts)) ∙ minus_none dead ∙ count
 
 -- where none is dead, none is looked for
-counted_none : (o : Settings) (t : Datum) (rows : List Row) (put : Bool) → o.kind ≡ Set → IsDistinct is_same (keys_of rows) → 0 ≡ dead_rows rows → 0 ≡ dead_rows (if put then with_object o t rows else rows)
-counted_none o t rows true kind apart count =
-    none_left (dead_rows (with_object o t rows)) (unwrap_or (option_map one_dead (lookup (is_same (key_of o t)) rows)) 0) (put_count o t rows kind apart ∙ sym count)
-counted_none o t rows false kind apart count = count
+counted_none : (o : Settings) (t : Datum) (rows : List Row) (put : Bool) → is_ordered o.kind ≡ false → IsDistinct is_same (keys_of rows) → 0 ≡ dead_rows rows → 0 ≡ dead_rows (if put then with_object o t rows else rows)
+counted_none o t rows true plain apart count =
+    none_left (dead_rows (with_object o t rows)) (unwrap_or (option_map one_dead (lookup (is_same (key_of o t)) rows)) 0) (put_count o t rows plain apart ∙ sym count)
+counted_none o t rows false plain apart count = count
 
-pub put_dead : (o : Settings) (t : Datum) (rows : List Row) (dead going left : ℕ) (put replaces : Bool) → o.kind ≡ Set → IsDistinct is_same (keys_of rows) → dead ≡ dead_rows rows → put ≡ (replaces || is_empty (objects_at rows (key_of o t))) → going ≡ going_of dead (key_of o t) rows → left ≡ dead - going → left ≡ dead_rows (if put then with_object o t rows else rows)
-put_dead o t rows dead going left put replaces kind apart count puts is falls =
+pub put_dead : (o : Settings) (t : Datum) (rows : List Row) (dead going left : ℕ) (put replaces : Bool) → is_ordered o.kind ≡ false → IsDistinct is_same (keys_of rows) → dead ≡ dead_rows rows → put ≡ (replaces || is_empty (objects_at rows (key_of o t))) → going ≡ going_of dead (key_of o t) rows → left ≡ dead - going → left ≡ dead_rows (if put then with_object o t rows else rows)
+put_dead o t rows dead going left put replaces plain apart count puts is falls =
     by_test (dead == 0) _
     (λ none. let zero : dead ≡ 0 = eqb-true dead 0 none in
     let unseen : going_of dead (key_of o t) rows ≡ 0 = rw none refl in
-    falls ∙ ap (λ n. dead - n) (is ∙ unseen) ∙ minus_none dead ∙ zero ∙ counted_none o t rows put kind apart (sym zero ∙ count))
+    falls ∙ ap (λ n. dead - n) (is ∙ unseen) ∙ minus_none dead ∙ zero ∙ counted_none o t rows put plain apart (sym zero ∙ count))
     (λ some. let seen : going_of dead (key_of o t) rows ≡ unwrap_or (option_map one_dead (lookup (is_same (key_of o t)) rows)) 0 = rw some refl in
-    falls ∙ ap (λ n. dead - n) (is ∙ seen) ∙ counted o t rows dead put replaces kind apart count puts)
+    falls ∙ ap (λ n. dead - n) (is ∙ seen) ∙ counted o t rows dead put replaces plain apart count puts)
 
 -- dead rows that come and go where what is held of a key is exchanged
 pub exchanged_dead : (k : Datum) (os now : List Datum) (keeps : Bool) (rows : List Row) (dead coming going : ℕ) → IsDistinct is_same (keys_of rows) → has_row rows k ≡ true → dead ≡ dead_rows rows → coming ≡ (if keeps then one_dead os else 0) → now ≡ objects_at rows k → going ≡ one_dead now → dead + coming - going ≡ dead_rows (rows_exchanged k os keeps rows)

@@ -1,5 +1,5 @@
--- Rows of sets.
-use Rattle.std.proofs.Common.{◌≡◌, List, [], ◌∷◌, refl, ap, sym, ◌∙◌}
+-- Rows of tables that aren't walked by key.
+use Rattle.std.proofs.Common.{◌≡◌, ℕ, List, [], ◌∷◌, refl, ap, sym, ◌∙◌}
 use Rattle.std.specs.Prelude.{Bool, true, false, not, ◌&&◌, ◌||◌, IsTrue, filter}
 use Rattle.std.specs.List.{IsDistinct}
 use Rattle.std.specs.Map.{keys_of, remove_entry, set_value}
@@ -9,18 +9,25 @@ use Rattle.term_core.specs.Datum.{Datum}
 use Rattle.term_operand.specs.Order.{is_same}
 use Rattle.part_core.specs.declared.kind.TableKind.{TableKind}
 use Rattle.part_core.specs.declared.kind.TableKind.TheVariants.{Set, OrderedSet, Bag, DuplicateBag}
+use Rattle.part_core.specs.Settings.{is_ordered}
 use Rattle.part_core.specs.Rows.{Row, is_empty, is_live, has_row, objects_at, rows_at_key}
+use Rattle.part_core.specs.After.{slots_after}
 use Rattle.part_core.proofs.KeyLemmas.{by_test, same_is}
 use Rattle.part_core.proofs.KeyedLemmas.{no_other, none_there}
 use Rattle.part_core.proofs.RowLemmas.{unwritten}
 use Rattle.part_rows.specs.Shown.{rows_exchanged}
 use Rattle.part_engine.specs.Sets.{serves}
 
-pub set_served : (kind : TableKind) → IsTrue (serves kind) → kind ≡ Set
-set_served Set h = refl
-set_served OrderedSet h = cc
-set_served Bag h = cc
-set_served DuplicateBag h = cc
+-- a kind that is served is not walked by key
+pub plain_served : (kind : TableKind) → IsTrue (serves kind) → is_ordered kind ≡ false
+plain_served Set h = refl
+plain_served OrderedSet h = cc
+plain_served Bag h = refl
+plain_served DuplicateBag h = refl
+
+-- such tables get their slots as a set does
+pub plain_slots : (kind : TableKind) (before now slots : ℕ) → is_ordered kind ≡ false → slots_after kind before now slots ≡ slots_after Set before now slots
+plain_slots kind before now slots plain = rw plain refl
 
 -- the row of a key is the only one
 pub alone : (k : Datum) (rows : List Row) → IsDistinct is_same (keys_of rows) → has_row rows k ≡ true → filter (λ (r : Row). is_same k r.0) rows ≡ (k, objects_at rows k) ∷ []

@@ -1,9 +1,6 @@
 -- What visits are answered and leave, by the rows that they saw.
 use Rattle.std.proofs.Common.{◌≡◌, ℕ, ◌≤◌, ◌<◌, ◌+◌, ◌-◌, List, [], ◌∷◌, ◌++◌, refl, ap, sym, subst, ◌∙◌, length, take, get_or, arith, append_assoc, length-append}
-use Rattle.std.specs.Prelude.{Bool, true, false, not, ◌&&◌, ◌||◌, ◌==◌, min, if◌then◌else◌, IsTrue, ◌↔◌, Option, Some, filter, map, All}
-use Rattle.term_operand.specs.Operand.{boolean}
-use Rattle.mcode.specs.Answer.{answer_of}
-use Rattle.part_core.proofs.ChosenLemmas.{holds_is}
+use Rattle.std.specs.Prelude.{Bool, true, false, not, ◌&&◌, ◌==◌, min, if◌then◌else◌, Option, filter, map, All}
 use Rattle.std.specs.List.{list_any}
 use Rattle.std.specs.Map.{keys_of}
 use Rattle.std.proofs.lemmas.List.{append-nil, length-map, map-append, take_more}
@@ -145,34 +142,7 @@ chosen_each o w fixes base p scope wanted left total next state inside chosen =
     let is : left ≡ rows_left p (filter (λ r. covers o scope (next_of o s Deletes p scope wanted) r.0) w.rows) = chosen.left ∙ ap (rows_left p) (deleted_is o w fixes base p scope wanted ∙ covered) in
     rw is (left_each o p _ (All-filter (λ (r : Row). covers o scope (next_of o s Deletes p scope wanted) r.0) (IsRow o) w.rows state.each))
 
--- ---- objects that answer true
-
--- how many of one object answer true
-pub one_true : (p : Program) (t : Datum) (os : List Datum) (b : Bool) → (t ∷ []) ≡ os → (IsTrue b ↔ (answer_of p t ≡ Some (boolean true))) → length (filter (is_true p) os) ≡ (if b then 1 else 0)
-one_true p t os b one both =
-    subst (λ (ts : List Datum). length (filter (is_true p) ts) ≡ (if b then 1 else 0)) one (of b (holds_is p t b both))
-  where
-    of : (x : Bool) → x ≡ is_true p t → length (filter (is_true p) (t ∷ [])) ≡ (if x then 1 else 0)
-    of true e = rw (← e) refl
-    of false e = rw (← e) refl
-
-map_if : (f : Row → Row) (b : Bool) (r : Row) → map f (if b then r ∷ [] else []) ≡ (if b then f r ∷ [] else [])
-map_if f true r = refl
-map_if f false r = refl
-
-abbrev left_if : Datum → Datum → Bool → List Row
-left_if k t x = if x || false then (k, if not x then t ∷ [] else []) ∷ [] else []
-
--- what is left of one object
-pub one_left : (p : Program) (k t : Datum) (os : List Datum) (b : Bool) → (t ∷ []) ≡ os → (IsTrue b ↔ (answer_of p t ≡ Some (boolean true))) → rows_left p ((k, os) ∷ []) ≡ (if b then (k, []) ∷ [] else [])
-one_left p k t os b one both =
-    subst (λ (ts : List Datum). rows_left p ((k, ts) ∷ []) ≡ (if b then (k, []) ∷ [] else [])) one
-    (map_if (λ (r : Row). (r.0, filter (λ u. not (is_true p u)) r.1)) (is_true p t || false) (k, t ∷ [])
-    ∙ ap (left_if k t) (sym (holds_is p t b both)) ∙ of b)
-  where
-    of : (x : Bool) → left_if k t x ≡ (if x then (k, []) ∷ [] else [])
-    of true = refl
-    of false = refl
+-- ---- what is left of rows
 
 pub left_next : (p : Program) (rows : List Row) (place : ℕ) (r : Row) (before after : List Row) → place < length rows → r ≡ get_or rows place r → before ≡ rows_left p (take place rows) → after ≡ before ++ rows_left p (r ∷ []) → after ≡ rows_left p (take (place + 1) rows)
 left_next p rows place r before after within is so_far more =

@@ -10,9 +10,8 @@ use Rattle.std.proofs.lemmas.List.Elements.{filter-append}
 use Rattle.std.proofs.lemmas.Map.Entries.{lookup-filter-keys}
 use Rattle.term_core.specs.Datum.{Datum}
 use Rattle.term_operand.specs.Order.{is_same}
-use Rattle.part_core.specs.declared.kind.TableKind.TheVariants.{Set}
 use Rattle.part_core.specs.declared.settings.Settings.{Settings}
-use Rattle.part_core.specs.Settings.{class_at}
+use Rattle.part_core.specs.Settings.{class_at, is_ordered}
 use Rattle.part_core.specs.Rows.{Row, has_row}
 use Rattle.part_core.specs.Visits.{in_class, walk_order}
 use Rattle.part_core.specs.Replies.{rows_past}
@@ -31,8 +30,8 @@ rows_none o base class rows past =
     let none : base - class ≡ 0 = omega arith in
     ap (λ n. flat_map (λ c. in_class o base c rows) (range_with_len class n)) none
 
--- a set is walked from its first class on
-pub walk_unordered : (o : Settings) (base : ℕ) (rows : List Row) → o.kind ≡ Set → rows_from o base 0 rows ≡ walk_order o base rows
+-- a table that isn't walked by key is walked from its first class on
+pub walk_unordered : (o : Settings) (base : ℕ) (rows : List Row) → is_ordered o.kind ≡ false → rows_from o base 0 rows ≡ walk_order o base rows
 unfolding walk_order
 walk_unordered o base rows kind =
     let all : base - 0 ≡ base = omega arith in
@@ -77,7 +76,7 @@ past_here o base k before row after more none there =
     ∙ rw there refl
 
 -- the rows behind that of a key are those of its class made after it, and those of the classes above
-pub walk_behind : (o : Settings) (base : ℕ) (k : Datum) (rows before : List Row) (row : Row) (after : List Row) → o.kind ≡ Set → class_at o base k < base → rows ≡ before ++ row ∷ after → has_row before k ≡ false → is_same k row.0 ≡ true → rows_past k (walk_order o base rows) ≡ in_class o base (class_at o base k) after ++ rows_from o base (class_at o base k + 1) rows
+pub walk_behind : (o : Settings) (base : ℕ) (k : Datum) (rows before : List Row) (row : Row) (after : List Row) → is_ordered o.kind ≡ false → class_at o base k < base → rows ≡ before ++ row ∷ after → has_row before k ≡ false → is_same k row.0 ≡ true → rows_past k (walk_order o base rows) ≡ in_class o base (class_at o base k) after ++ rows_from o base (class_at o base k + 1) rows
 walk_behind o base k rows before row after kind below whole first there =
     ap (rows_past k) (sym (walk_unordered o base rows kind))
     ∙ past_classes o base k rows (class_at o base k) 0 (omega arith) below

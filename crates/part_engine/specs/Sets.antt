@@ -1,17 +1,16 @@
--- What rows of sets have in common.
-use Rattle.std.specs.Prelude.{ℕ, ◌-◌, Bool, true, false, if◌then◌else◌, flat_map, List, [], ◌∷◌, ◌++◌}
+-- What rows of tables that aren't walked by key have in common.
+use Rattle.std.specs.Prelude.{ℕ, ◌-◌, Bool, not, if◌then◌else◌, flat_map, List, [], ◌∷◌, ◌++◌}
 use Rattle.std.specs.List.{range_with_len}
 use Rattle.term_core.specs.Datum.{Datum}
 use Rattle.part_core.specs.declared.kind.TableKind.{TableKind}
-use Rattle.part_core.specs.declared.kind.TableKind.TheVariants.{Set}
 use Rattle.part_core.specs.declared.settings.Settings.{Settings}
+use Rattle.part_core.specs.Settings.{is_ordered}
 use Rattle.part_core.specs.Rows.{Row, has_row}
 use Rattle.part_core.specs.Visits.{in_class}
 
--- the kind that is served
+-- the kinds that are served: all but those that are walked by key
 abbrev pub serves : TableKind → Bool
-serves Set = true
-serves kind = false
+serves kind = not (is_ordered kind)
 
 -- the rows with one of a key, a dead one behind the others where there was none
 abbrev pub with_key : Datum → List Row → List Row

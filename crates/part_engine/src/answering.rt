@@ -1,58 +1,20 @@
 //! Visits that answer.
 ghost use Rattle.std.specs.Prelude.{ℕ, ◌≡◌, ◌≤◌, ◌-◌, ◌++◌, IfOk, length, sum_by, take};
-ghost use Rattle.std.specs.Option.{option_to_list};
 ghost use Rattle.part_core.specs.Acts.Act.{Visit};
 ghost use Rattle.part_core.specs.Acts.Purpose.{Answers};
 ghost use Rattle.part_core.specs.Ops.{answer_in, scope_of};
-ghost use Rattle.part_core.specs.Visits.{answers_of, yields, yield_of_rows};
+ghost use Rattle.part_core.specs.Visits.{answers_of, yield_of_rows};
 ghost use Rattle.part_engine.specs.Looks.{rows_until};
 ghost use Rattle.part_engine.specs.Stored.{Leads};
 
 use crate::looking::{Reach, is_over};
 use crate::stored::StoredPart;
 use machine::Machine;
-use part_core::{Fault, Held, Look, Reply};
-use part_rows::{Rows, SeenRow};
+use part_core::{Fault, Look, Reply};
+use part_rows::{Rows, SeenRow, gather};
 use std::alloc::{AllocError, Allocator};
 use term_core::Term;
 use verifier::Verified;
-
-/// What code answers on what is held of a key.
-fn answer<'r, A: Allocator + Copy>(
-    machine: &mut Machine<'r, '_, A>,
-    held: &'r Held<A>,
-) -> Result<Option<Term<A>>, AllocError>
-    ensures code { machine.new.code ≡ machine.old.code }
-    ensures answer { IfOk result (λ answer. option_to_list answer ≡ yields Answers machine.old.code held.now) }
-{
-    match held.object() {
-        Some(object) => {
-            let (answer, _executed) = machine.run(object)?;
-            Ok(answer)
-        }
-        None => Ok(None),
-    }
-}
-
-/// Puts the answers on what is held of a key behind others, and counts them.
-fn gather<'r, A: Allocator + Copy>(
-    machine: &mut Machine<'r, '_, A>,
-    held: &'r Held<A>,
-    found: &mut Vec<Term<A>, A>,
-) -> Result<u64, AllocError>
-    ensures code { machine.new.code ≡ machine.old.code }
-    ensures found { IfOk result (λ count. found.new.items
-        ≡ found.old.items ++ yields Answers machine.old.code held.now) }
-    ensures count { IfOk result (λ count. count ≡ length (yields Answers machine.old.code held.now)) }
-{
-    match answer(machine, held)? {
-        Some(answer) => {
-            found.push(answer)?;
-            Ok(1)
-        }
-        None => Ok(0),
-    }
-}
 
 /// Puts the answers on rows behind others, until there are those that are wanted where it stops there.
 fn gather_until<'r, A: Allocator + Copy>(

@@ -1,37 +1,20 @@
 //! Visits that count.
-ghost use Rattle.std.specs.Prelude.{ℕ, ◌≡◌, ◌≤◌, ◌-◌, IfOk, filter, length, min, sum_by, take};
+ghost use Rattle.std.specs.Prelude.{ℕ, ◌≡◌, ◌≤◌, ◌-◌, IfOk, length, min, sum_by, take};
 ghost use Rattle.part_core.specs.Acts.Act.{Visit};
 ghost use Rattle.part_core.specs.Acts.Purpose.{Counts};
 ghost use Rattle.part_core.specs.Ops.{answer_in, scope_of};
 ghost use Rattle.part_core.specs.Replies.{most_counted};
-ghost use Rattle.part_core.specs.Visits.{answers_of, is_true, yield_of_rows};
+ghost use Rattle.part_core.specs.Visits.{answers_of, yield_of_rows};
 ghost use Rattle.part_engine.specs.Looks.{rows_until};
 ghost use Rattle.part_engine.specs.Stored.{Leads};
 
 use crate::looking::{Reach, is_over};
 use crate::stored::StoredPart;
 use machine::Machine;
-use part_core::{Fault, Held, Look, Reply};
-use part_rows::{Rows, SeenRow};
+use part_core::{Fault, Look, Reply};
+use part_rows::{Rows, SeenRow, count_true};
 use std::alloc::{AllocError, Allocator};
 use verifier::Verified;
-
-/// How many of the objects that are held of a key answer true.
-fn count_true<'r, A: Allocator + Copy>(
-    machine: &mut Machine<'r, '_, A>,
-    held: &'r Held<A>,
-) -> Result<u64, AllocError>
-    ensures code { machine.new.code ≡ machine.old.code }
-    ensures count { IfOk result (λ count. count ≡ length (filter (is_true machine.old.code) held.now)) }
-{
-    match held.object() {
-        Some(object) => {
-            let (holds, _executed) = machine.run_true(object)?;
-            if holds { Ok(1) } else { Ok(0) }
-        }
-        None => Ok(0),
-    }
-}
 
 /// Adds to a total how many objects of rows answer true, until there are as many as are wanted where it stops there.
 fn count_until<'r, A: Allocator + Copy>(

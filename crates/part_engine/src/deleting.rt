@@ -1,5 +1,5 @@
 //! Visits that delete.
-ghost use Rattle.std.specs.Prelude.{ℕ, ◌≡◌, ◌≤◌, ◌-◌, ◌++◌, [], ◌∷◌, IsTrue, IfOk, All, filter, length, min, sum_by, take};
+ghost use Rattle.std.specs.Prelude.{ℕ, ◌≡◌, ◌≤◌, ◌-◌, ◌++◌, [], ◌∷◌, IsTrue, IfOk, All, not, filter, length, min, sum_by, take};
 ghost use Rattle.std.specs.Option.{option_map};
 ghost use Rattle.part_core.specs.Acts.Act.{Visit};
 ghost use Rattle.part_core.specs.Acts.Purpose.{Deletes};
@@ -18,7 +18,7 @@ use crate::looking::{Reach, is_over};
 use crate::stored::StoredPart;
 use machine::Machine;
 use part_core::{Cursor, Fault, Held, Look, Reply, Settings, is_fixed};
-use part_rows::{Rows, SeenRow};
+use part_rows::{Rows, SeenRow, holds};
 use std::alloc::{AllocError, Allocator};
 use std::marker::Model;
 use term_core::Term;
@@ -68,7 +68,74 @@ impl<A: Allocator> Left<A> {
     }
 }
 
+/// Puts what is left of a row of one object behind others where that answers true, and counts it.
+fn sort_one<'r, A: Allocator + Copy>(
+    machine: &mut Machine<'r, '_, A>,
+    key: &Term<A>,
+    object: &'r Term<A>,
+    left: &mut Vec<Left<A>, A>,
+) -> Result<u64, AllocError>
+    ensures code { machine.new.code ≡ machine.old.code }
+    ensures left { IfOk result (λ count. left.new.items
+        ≡ left.old.items ++ rows_left machine.old.code ((key.now, object.now ∷ []) ∷ [])) }
+    ensures count { IfOk result (λ count. count ≡ length (filter (is_true machine.old.code) (object.now ∷ []))) }
+{
+    if !holds(machine, object)? {
+        return Ok(0);
+    }
+    let key = key.copy()?;
+    left.push(Left {
+        key,
+        held: Held::none(),
+    })?;
+    Ok(1)
+}
+
+/// Puts copies of those of some objects that don't answer true behind others.
+fn keep_others<'r, A: Allocator + Copy>(
+    machine: &mut Machine<'r, '_, A>,
+    objects: &'r [Term<A>],
+    kept: &mut Vec<Term<A>, A>,
+) -> Result<(), AllocError>
+    ensures code { machine.new.code ≡ machine.old.code }
+    ensures kept { IfOk result (λ _. kept.new.items
+        ≡ kept.old.items ++ filter (λ t. not (is_true machine.old.code t)) objects.now) }
+{
+    for object in objects {
+        if !holds(machine, object)? {
+            kept.push(object.copy()?)?;
+        }
+    }
+    Ok(())
+}
+
 /// Puts what is left of a row behind others where objects of it answer true, and counts these.
+fn sort_many<'r, A: Allocator + Copy>(
+    machine: &mut Machine<'r, '_, A>,
+    key: &Term<A>,
+    objects: &'r [Term<A>],
+    left: &mut Vec<Left<A>, A>,
+) -> Result<u64, AllocError>
+    ensures code { machine.new.code ≡ machine.old.code }
+    ensures left { IfOk result (λ count. left.new.items
+        ≡ left.old.items ++ rows_left machine.old.code ((key.now, objects.now) ∷ [])) }
+    ensures count { IfOk result (λ count. count ≡ length (filter (is_true machine.old.code) objects.now)) }
+{
+    let alloc = *left.allocator();
+    let mut kept = Vec::new(alloc);
+    keep_others(machine, objects, &mut kept)?;
+    let count = objects.len() - kept.len();
+    if count == 0 {
+        return Ok(0);
+    }
+    let held = Held::from_list(alloc, kept)?;
+    let key = key.copy()?;
+    left.push(Left { key, held })?;
+    Ok(count as u64)
+}
+
+/// Puts what is left of a row behind others where objects of it answer true, and counts these. Of one object no list
+/// is made.
 fn sort_out<'r, A: Allocator + Copy>(
     machine: &mut Machine<'r, '_, A>,
     row: &SeenRow<'r, A>,
@@ -78,19 +145,11 @@ fn sort_out<'r, A: Allocator + Copy>(
     ensures left { IfOk result (λ count. left.new.items ≡ left.old.items ++ rows_left machine.old.code (row.now ∷ [])) }
     ensures count { IfOk result (λ count. count ≡ length (filter (is_true machine.old.code) row.now.1)) }
 {
-    let Some(object) = row.held().object() else {
-        return Ok(0);
-    };
-    let (holds, _executed) = machine.run_true(object)?;
-    if !holds {
-        return Ok(0);
+    match row.held().as_slice() {
+        [] => Ok(0),
+        [object] => sort_one(machine, row.key(), object, left),
+        objects => sort_many(machine, row.key(), objects, left),
     }
-    let key = row.key().copy()?;
-    left.push(Left {
-        key,
-        held: Held::none(),
-    })?;
-    Ok(1)
 }
 
 /// Sorts rows out, and adds to a total how many objects go, until there are as many as are wanted where it stops there.

@@ -1,9 +1,9 @@
-//! A row of a set, which keeps the hash of its key.
+//! A row of a table that isn't walked by key, which keeps the hash of its key.
 ghost use Rattle.std.specs.Prelude.{◌≡◌, ◌<◌, ◌/◌, ◌%◌};
 
-use part_core::{Held, Settings};
+use part_core::{Held, Settings, TableKind};
 use part_rows::SeenRow;
-use std::alloc::Allocator;
+use std::alloc::{AllocError, Allocator};
 use std::marker::Model;
 use std::mem;
 use term_core::Term;
@@ -43,7 +43,7 @@ pub fn class_of(settings: Settings, base: u64, hash: u64) -> u64
 }
 
 impl<A: Allocator> HashedRow<A> {
-    ghost use Rattle.std.specs.Prelude.{◌≡◌, ◌<◌, ◌==◌, [], ◌∷◌};
+    ghost use Rattle.std.specs.Prelude.{◌≡◌, ◌<◌, ◌==◌, []};
     ghost use Rattle.term_core.specs.KeyHash.{key_hash};
     ghost use Rattle.term_operand.specs.Order.{is_same};
     ghost use Rattle.part_core.specs.Settings.{class_at};
@@ -113,13 +113,6 @@ impl<A: Allocator> HashedRow<A> {
         class_of(settings, base, self.hash) == class
     }
 
-    /// Puts an object in the place of the one that is there.
-    pub fn put(&mut self, object: Term<A>)
-        ensures { self.new ≡ (self.old.0, object ∷ []) }
-    {
-        self.held.put(object);
-    }
-
     /// What is held of the key and `held` change places.
     pub fn exchange(&mut self, held: &mut Held<A>)
         ensures row { self.new ≡ (self.old.0, held.old) }
@@ -130,4 +123,28 @@ impl<A: Allocator> HashedRow<A> {
 
     /// Lets the row go.
     pub fn let_go(self) {}
+}
+
+impl<A: Allocator + Copy> HashedRow<A> {
+    ghost use Rattle.std.specs.Prelude.{◌≡◌, true, None, IsSome, OnOk, OnErr, unwrap_or};
+    ghost use Rattle.term_core.specs.Datum.Datum.{nil};
+    ghost use Rattle.part_core.specs.Rows.{is_live, objects_with};
+
+    /// Puts an object in among those that are held of the key, as the kind of table has it. Memory is wanted only
+    /// where there is one.
+    pub fn put(
+        &mut self,
+        alloc: A,
+        kind: TableKind,
+        object: &mut Option<Term<A>>,
+    ) -> Result<(), AllocError>
+        requires { IsSome object.old }
+        ensures done { OnOk result (self.new ≡ (self.old.0, objects_with kind self.old.1 (unwrap_or object.old nil))) }
+        ensures spent { OnOk result (object.new ≡ None) }
+        ensures back { OnErr result (object.new ≡ object.old) }
+        ensures refused { OnErr result (self.new ≡ self.old) }
+        ensures live { OnErr result (is_live self.old ≡ true) }
+    {
+        self.held.put(alloc, kind, object)
+    }
 }

@@ -8,7 +8,8 @@
 //!   state, and what an operation leads to.
 //! - `reading`, `writing`, `fixing`, `walking`: its operations at one key, on its counts of fixes, and by the order
 //!   of a walk.
-//! - `hashed`: a row that keeps its key's hash, for rows of sets; `specs/Sets.antt` has what these have in common.
+//! - `hashed`: a row that keeps its key's hash, for rows of tables that aren't walked by key; `specs/Sets.antt` has
+//!   what these have in common.
 //! - `dead`: how many dead rows come and go, for rows that count them; `key`: the key of an object that is put in.
 //! - `looking`, `answering`, `counting`, `deleting`: visits. `specs/Looks.antt` says how far
 //!   a visit goes.

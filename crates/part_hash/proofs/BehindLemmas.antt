@@ -11,9 +11,8 @@ use Rattle.slab.specs.Slab.{Slab, get}
 use Rattle.term_core.specs.Datum.{Datum}
 use Rattle.term_core.specs.KeyHash.{key_hash}
 use Rattle.term_operand.specs.Order.{is_same}
-use Rattle.part_core.specs.declared.kind.TableKind.TheVariants.{Set}
 use Rattle.part_core.specs.declared.settings.Settings.{Settings}
-use Rattle.part_core.specs.Settings.{class_at}
+use Rattle.part_core.specs.Settings.{class_at, is_ordered}
 use Rattle.part_core.specs.Replies.{rows_past}
 use Rattle.part_core.specs.Rows.{Row, has_row}
 use Rattle.part_core.specs.Visits.{in_class, walk_order}
@@ -78,7 +77,7 @@ after_it (e ∷ before) it after rising =
     last_of (f ∷ es) later = last_of es (All-tail (λ (f : Standing). e.0.made < f.0.made) f (es ++ it ∷ after) later)
 
 -- the place of a key's row, and what is walked behind it
-pub behind : {S : Type 0} {o : Settings} {slab : Slab Row} {index : HashMap Datum ℕ S} {slots : List (List Place)} {made : ℕ} {rows : List Row} (base : ℕ) (k : Datum) (at : ℕ) (row : Row) (s : Stands o slab index slots made rows) → o.kind ≡ Set → class_at o base k < base → 0 < length slots → has_row rows k ≡ true → get slab at ≡ Some row → row.0 ≡ k → (p : Place) × (find (λ (q : Place). q.at == at) (get_or slots ((key_hash k / spread o) % length slots) []) ≡ Some p) × (p.made < made) × (rows_past k (walk_order o base rows) ≡ in_class o base (class_at o base k) (made_from (p.made + 1) s.list) ++ rows_from o base (class_at o base k + 1) rows)
+pub behind : {S : Type 0} {o : Settings} {slab : Slab Row} {index : HashMap Datum ℕ S} {slots : List (List Place)} {made : ℕ} {rows : List Row} (base : ℕ) (k : Datum) (at : ℕ) (row : Row) (s : Stands o slab index slots made rows) → is_ordered o.kind ≡ false → class_at o base k < base → 0 < length slots → has_row rows k ≡ true → get slab at ≡ Some row → row.0 ≡ k → (p : Place) × (find (λ (q : Place). q.at == at) (get_or slots ((key_hash k / spread o) % length slots) []) ≡ Some p) × (p.made < made) × (rows_past k (walk_order o base rows) ≡ in_class o base (class_at o base k) (made_from (p.made + 1) s.list) ++ rows_from o base (class_at o base k + 1) rows)
 behind {S} {o} {slab} {index} {slots} {made} {rows} base k at row s kind below some there here own =
     let sp : IsSplit k s.list = split k s.list (ap (λ rs. has_row rs k) (sym s.are) ∙ there) in
     let slot : ℕ = (key_hash k / spread o) % length slots in

@@ -4,7 +4,6 @@ use Rattle.std.specs.Prelude.{Bool, true, false, if◌then◌else◌}
 use Rattle.std.specs.HashMap.{HashMap, hash_map_len}
 use Rattle.slab.specs.Slab.{Slab}
 use Rattle.term_core.specs.Datum.{Datum}
-use Rattle.part_core.specs.declared.kind.TableKind.{TableKind}
 use Rattle.part_core.specs.declared.kind.TableKind.TheVariants.{Set}
 use Rattle.part_core.specs.declared.settings.Settings.{Settings}
 use Rattle.part_core.specs.Rows.{Row, with_object}
@@ -13,7 +12,7 @@ use Rattle.part_core.proofs.AfterLemmas.{slots_same}
 use Rattle.part_engine.specs.Dead.{dead_rows}
 use Rattle.part_rows.specs.Shown.{Shown, shown_with}
 use Rattle.part_engine.proofs.DeadLemmas.{dead_few}
-use Rattle.part_engine.proofs.SetLemmas.{set_served}
+use Rattle.part_engine.proofs.SetLemmas.{plain_served, plain_slots}
 use Rattle.part_hash.specs.declared.places.Place.{Place}
 use Rattle.part_hash.specs.Standing.{Stands}
 use Rattle.part_hash.specs.Served.{IsShown}
@@ -24,7 +23,7 @@ shown_either {S} {o} {slab} {new} {index} {next} {slots} {lists} {made} {later} 
   served = shown.served;
   rows = stands;
   spread = shown.spread;
-  slots = ap (λ (kind : TableKind). slots_after kind (length w.rows) (length (with_object o t w.rows)) w.slots) (set_served o.kind shown.served)
+  slots = plain_slots o.kind (length w.rows) (length (with_object o t w.rows)) w.slots (plain_served o.kind shown.served)
       ∙ ap (slots_after Set (length w.rows) (length (with_object o t w.rows))) shown.slots ∙ sym size;
   count = count;
 }

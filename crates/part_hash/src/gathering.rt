@@ -1,9 +1,9 @@
 //! The objects of all rows, in the order of a walk.
-ghost use Rattle.std.specs.Prelude.{◌≡◌, ◌<◌, ◌++◌, List, Option, [], IfOk, flat_map};
+ghost use Rattle.std.specs.Prelude.{◌≡◌, ◌<◌, ◌++◌, List, Option, [], IfOk, IsFalse, flat_map};
 ghost use Rattle.std.specs.Option.{option_map_or};
 ghost use Rattle.slab.specs.Slab.{get};
-ghost use Rattle.part_core.specs.declared.kind.TableKind.TheVariants.{Set};
 ghost use Rattle.part_core.specs.Rows.{Row as AnyRow};
+ghost use Rattle.part_core.specs.Settings.{is_ordered};
 ghost use Rattle.part_core.specs.Visits.{in_class, walk_order};
 ghost use Rattle.part_hash.specs.Places.{rows_of};
 ghost use Rattle.part_hash.specs.Standing.{Stands};
@@ -17,7 +17,7 @@ use slab::Slab;
 use std::alloc::{AllocError, Allocator};
 use term_core::Term;
 
-/// Puts a copy of the object of the row at a key of the slab behind others.
+/// Puts copies of the objects of the row at a key of the slab behind others.
 fn gather_row<A: Allocator + Copy>(
     rows: &Slab<Row<A>, A>,
     at: usize,
@@ -27,9 +27,7 @@ fn gather_row<A: Allocator + Copy>(
         ≡ into.old.items ++ option_map_or (λ r. r.1) (get rows.now at) []) }
 {
     if let Some(row) = rows.get(at) {
-        if let Some(object) = row.hashed().held().object() {
-            into.push(object.copy()?)?;
-        }
+        row.hashed().held().copy_into(into)?;
     }
     Ok(())
 }
@@ -82,7 +80,7 @@ pub(crate) fn gather<A: Allocator + Copy>(
 ) -> Result<(), AllocError>
     requires parts { 0 < settings.parts }
     requires base { 0 < base }
-    ensures { IfOk result (λ _. (rows : List AnyRow) → settings.kind ≡ Set
+    ensures { IfOk result (λ _. (rows : List AnyRow) → IsFalse (is_ordered settings.kind)
         → Stands settings store.now.rows store.now.index store.now.slots.items store.now.made rows
         → into.new.items ≡ into.old.items ++ flat_map (λ r. r.1) (walk_order settings base rows)) }
 {

@@ -1,7 +1,7 @@
-//! The rows of a set, found by their keys in the same time however many there are.
+//! The rows of sets and bags, found by their keys in the same time however many there are.
 //!
-//! The one contract: `HashRows` keeps the trait `Rows` of `part_rows`, for sets alone. Its rows lie in a slab; an
-//! index finds the key of the slab at a row's key, and each slot lists the places of its rows in the order in which
+//! The one contract: `HashRows` keeps the trait `Rows` of `part_rows`, for all tables but ordered sets. Its rows lie in a
+//! slab; an index finds the key of the slab at a row's key, and each slot lists the places of its rows in the order in which
 //! they were made. `Stands` of `specs/Standing.antt` says what these have to do with the list of rows that is shown.
 //!
 //! - `rows`: the type. It hands each operation to a function over its store.
@@ -33,5 +33,6 @@ pub use laws::hash_parts_may_be_sent;
 use part_engine::StoredPart;
 pub use rows::HashRows;
 
-/// A part of a set whose rows lie in a slab: each operation finds its key in the same time however many rows there are.
+/// A part of a set or a bag whose rows lie in a slab: each operation finds its key in the same time however many rows
+/// there are.
 pub type HashPart<A> = StoredPart<HashRows<A>, A>;

@@ -1,13 +1,12 @@
 //! The rows that a visit looks at.
-ghost use Rattle.std.specs.Prelude.{ℕ, ◌≡◌, ◌<◌, ◌==◌, ◌++◌, List, IfOk, OnOk, IsTrue, filter};
+ghost use Rattle.std.specs.Prelude.{ℕ, ◌≡◌, ◌<◌, ◌==◌, ◌++◌, List, IfOk, OnOk, IsTrue, IsFalse, filter};
 ghost use Rattle.std.specs.List.Sorted.{IsNonDecreasingBy};
 ghost use Rattle.std.specs.Option.{option_to_list};
 ghost use Rattle.slab.specs.Slab.{get};
 ghost use Rattle.term_operand.specs.Order.{is_same};
-ghost use Rattle.part_core.specs.declared.kind.TableKind.TheVariants.{Set};
 ghost use Rattle.part_core.specs.Ops.{scope_of};
 ghost use Rattle.part_core.specs.Rows.{Row as AnyRow};
-ghost use Rattle.part_core.specs.Settings.{class_at};
+ghost use Rattle.part_core.specs.Settings.{class_at, is_ordered};
 ghost use Rattle.part_core.specs.Visits.{in_class};
 ghost use Rattle.part_rows.specs.Looks.{is_placed, looked_at};
 ghost use Rattle.part_hash.specs.Classes.{class_of_slots};
@@ -195,7 +194,7 @@ pub(crate) fn look<'r, A: Allocator + Copy>(
     requires parts { 0 < settings.parts }
     requires base { 0 < base }
     requires placed { IsTrue (is_placed settings (scope_of scope.now)) }
-    ensures { IfOk result (λ _. (rows : List AnyRow) → settings.kind ≡ Set
+    ensures { IfOk result (λ _. (rows : List AnyRow) → IsFalse (is_ordered settings.kind)
         → Stands settings store.now.rows store.now.index store.now.slots.items store.now.made rows
         → into.new.items ≡ into.old.items ++ looked_at settings base (scope_of scope.now) rows) }
 {

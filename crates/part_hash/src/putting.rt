@@ -1,20 +1,20 @@
 //! Objects that are put in.
-ghost use Rattle.std.specs.Prelude.{◌≡◌, ◌||◌, ◌∷◌, [], List, Option, None, Some, IfOk, OnOk, OnErr, IsTrue, false, if◌then◌else◌, length, unwrap_or};
+ghost use Rattle.std.specs.Prelude.{◌≡◌, ◌||◌, List, Option, None, Some, IsSome, IfOk, OnOk, OnErr, IsTrue, IsFalse, false, if◌then◌else◌, length, unwrap_or};
 ghost use Rattle.std.specs.Option.{option_map_or};
 ghost use Rattle.slab.specs.Slab.{Updates, get};
 ghost use Rattle.term_core.specs.Datum.{Datum};
 ghost use Rattle.term_core.specs.Datum.Datum.{nil};
 ghost use Rattle.part_core.specs.declared.kind.TableKind.TheVariants.{Set};
 ghost use Rattle.part_core.specs.After.{slots_after};
-ghost use Rattle.part_core.specs.Settings.{is_object, key_of};
-ghost use Rattle.part_core.specs.Rows.{Row as AnyRow, is_empty, is_live, objects_at, with_object};
+ghost use Rattle.part_core.specs.Settings.{is_object, is_ordered, key_of};
+ghost use Rattle.part_core.specs.Rows.{Row as AnyRow, is_empty, is_live, objects_at, objects_with, with_object};
 ghost use Rattle.part_hash.specs.Standing.{Stands};
 ghost use Rattle.part_engine.specs.Sets.{with_key};
 
 use crate::adding::add;
 use crate::row::Row;
 use crate::store::Store;
-use part_core::Settings;
+use part_core::{Settings, TableKind};
 use part_engine::key_of;
 use slab::Slab;
 use std::alloc::{AllocError, Allocator};
@@ -83,18 +83,33 @@ fn is_live_at<A: Allocator>(rows: &Slab<Row<A>, A>, at: usize) -> bool
 /// Lets an object go.
 fn let_go<A: Allocator>(_object: Option<Term<A>>) {}
 
-/// Puts an object into the row at a key of the slab, in the place of the one that is there.
-fn put_at<A: Allocator>(rows: &mut Slab<Row<A>, A>, at: usize, object: Term<A>)
-    ensures { (row : AnyRow) → get rows.old at ≡ Some row
-        → Updates rows.old rows.new at (Some (row.0, object ∷ [])) }
+/// Puts an object into the row at a key of the slab, as the kind of table has it.
+fn put_at<A: Allocator + Copy>(
+    alloc: A,
+    rows: &mut Slab<Row<A>, A>,
+    at: usize,
+    kind: TableKind,
+    object: &mut Option<Term<A>>,
+) -> Result<(), AllocError>
+    requires { IsSome object.old }
+    ensures done { OnOk result ((row : AnyRow) → get rows.old at ≡ Some row → Updates rows.old rows.new at
+        (Some (row.0, objects_with kind row.1 (unwrap_or object.old nil)))) }
+    ensures spent { OnOk result (object.new ≡ None) }
+    ensures back { OnErr result (object.new ≡ object.old) }
+    ensures refused { OnErr result ((row : AnyRow) → get rows.old at ≡ Some row
+        → Updates rows.old rows.new at (Some row) × IsTrue (is_live row)) }
 {
-    if let Some(row) = rows.get_mut(at) {
-        row.put(object);
+    match rows.get_mut(at) {
+        Some(row) => row.put(alloc, kind, object),
+        None => {
+            let_go(object.take());
+            Ok(())
+        }
     }
 }
 
-/// Puts an object in, in the place of the one with its key if it replaces that, else if its key has none, and says
-/// whether it did.
+/// Puts an object in, as the kind of table has it: in any case if it `replaces`, else if its key has none. Says whether
+/// it did.
 pub(crate) fn put<A: Allocator + Copy>(
     store: &mut Store<A>,
     settings: Settings,
@@ -102,7 +117,7 @@ pub(crate) fn put<A: Allocator + Copy>(
     replaces: bool,
 ) -> Result<bool, AllocError>
     requires { IsTrue (is_object settings (unwrap_or object.old nil)) }
-    ensures done { IfOk result (λ put. (rows : List AnyRow) → settings.kind ≡ Set
+    ensures done { IfOk result (λ put. (rows : List AnyRow) → IsFalse (is_ordered settings.kind)
         → Stands settings store.old.rows store.old.index store.old.slots.items store.old.made rows
         → (put ≡ (replaces || is_empty (objects_at rows (key_of settings (unwrap_or object.old nil)))))
         × Stands settings store.new.rows store.new.index store.new.slots.items store.new.made
@@ -114,17 +129,15 @@ pub(crate) fn put<A: Allocator + Copy>(
     ensures back { OnErr result (object.new ≡ object.old) }
     ensures refused { OnErr result ((rows : List AnyRow)
         → Stands settings store.old.rows store.old.index store.old.slots.items store.old.made rows
-        → Stands settings store.new.rows store.new.index store.new.slots.items store.new.made rows) }
-    ensures slots { OnErr result (length store.new.slots.items ≡ length store.old.slots.items) }
+        → Stands settings store.new.rows store.new.index store.new.slots.items store.new.made rows
+        × (length store.new.slots.items ≡ length store.old.slots.items)) }
 {
     let at = row_for_object(store, settings, object)?;
     if !replaces && is_live_at(&store.rows, at) {
         let_go(object.take());
         return Ok(false);
     }
-    match object.take() {
-        Some(object) => put_at(&mut store.rows, at, object),
-        None => unreachable!(),
-    }
+    let alloc = *store.slots.allocator();
+    put_at(alloc, &mut store.rows, at, settings.kind, object)?;
     Ok(true)
 }

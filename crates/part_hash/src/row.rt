@@ -1,7 +1,7 @@
 //! A row that remembers how many were made before it.
-use part_core::Held;
+use part_core::{Held, TableKind};
 use part_engine::HashedRow;
-use std::alloc::Allocator;
+use std::alloc::{AllocError, Allocator};
 use std::marker::Model;
 use term_core::Term;
 
@@ -26,7 +26,7 @@ impl<A: Allocator> Model for Row<A> {
 }
 
 impl<A: Allocator> Row<A> {
-    ghost use Rattle.std.specs.Prelude.{◌≡◌, [], ◌∷◌};
+    ghost use Rattle.std.specs.Prelude.{◌≡◌, []};
     ghost use Rattle.term_core.specs.KeyHash.{key_hash};
 
     /// A dead row of a key, whose hash is known, before which so many were made.
@@ -52,13 +52,6 @@ impl<A: Allocator> Row<A> {
         self.made
     }
 
-    /// Puts an object in the place of the one that is there.
-    pub fn put(&mut self, object: Term<A>)
-        ensures { self.new ≡ (self.old.0, object ∷ []) }
-    {
-        self.hashed.put(object);
-    }
-
     /// What is held of the key and `held` change places.
     pub fn exchange(&mut self, held: &mut Held<A>)
         ensures row { self.new ≡ (self.old.0, held.old) }
@@ -70,5 +63,29 @@ impl<A: Allocator> Row<A> {
     /// Lets the row go.
     pub fn let_go(self) {
         self.hashed.let_go();
+    }
+}
+
+impl<A: Allocator + Copy> Row<A> {
+    ghost use Rattle.std.specs.Prelude.{◌≡◌, true, None, IsSome, OnOk, OnErr, unwrap_or};
+    ghost use Rattle.term_core.specs.Datum.Datum.{nil};
+    ghost use Rattle.part_core.specs.Rows.{is_live, objects_with};
+
+    /// Puts an object in among those that are held of the key, as the kind of table has it. Memory is wanted only
+    /// where there is one.
+    pub fn put(
+        &mut self,
+        alloc: A,
+        kind: TableKind,
+        object: &mut Option<Term<A>>,
+    ) -> Result<(), AllocError>
+        requires { IsSome object.old }
+        ensures done { OnOk result (self.new ≡ (self.old.0, objects_with kind self.old.1 (unwrap_or object.old nil))) }
+        ensures spent { OnOk result (object.new ≡ None) }
+        ensures back { OnErr result (object.new ≡ object.old) }
+        ensures refused { OnErr result (self.new ≡ self.old) }
+        ensures live { OnErr result (is_live self.old ≡ true) }
+    {
+        self.hashed.put(alloc, kind, object)
     }
 }

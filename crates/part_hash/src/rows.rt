@@ -15,7 +15,7 @@ use part_rows::{Rows, SeenRow};
 use std::alloc::{AllocError, Allocator, Global};
 use term_core::Term;
 
-/// The rows of a set in a slab: an index finds them by their keys, and slots list those of each class.
+/// The rows of a table that isn't walked by key in a slab: an index finds them by their keys, and slots list those of each class.
 #[derive(Drop)]
 pub struct HashRows<A: Allocator = Global> {
     store: Store<A>,
@@ -40,7 +40,7 @@ impl<A: Allocator + Copy> Rows<A> for HashRows<A> {
         IsShown o p.store.rows p.store.index p.store.slots.items p.store.made p.spread p.dead w };
 
     fn is_served(kind: TableKind) -> bool {
-        matches!(kind, TableKind::Set)
+        !kind.is_ordered()
     }
 
     fn new(alloc: A, settings: Settings) -> Result<Self, AllocError> {

@@ -1,10 +1,10 @@
 //! The order of a walk: class by class, in each as the rows were made.
-ghost use Rattle.std.specs.Prelude.{◌≡◌, ◌<◌, ◌+◌, ◌/◌, ◌%◌, ◌≤◌, ◌==◌, ◌++◌, [], List, None, find, get_or, length, option_map, IsTrue};
+ghost use Rattle.std.specs.Prelude.{◌≡◌, ◌<◌, ◌+◌, ◌/◌, ◌%◌, ◌≤◌, ◌==◌, ◌++◌, [], List, None, find, get_or, length, option_map, IsTrue, IsFalse};
 ghost use Rattle.std.specs.Option.{option_copied};
 ghost use Rattle.slab.specs.Slab.{get};
-ghost use Rattle.part_core.specs.declared.kind.TableKind.TheVariants.{Set};
 ghost use Rattle.part_core.specs.Replies.{first_live, rows_past};
 ghost use Rattle.part_core.specs.Rows.{Row as AnyRow, has_row};
+ghost use Rattle.part_core.specs.Settings.{is_ordered};
 ghost use Rattle.part_core.specs.States.{IsBase};
 ghost use Rattle.part_core.specs.Visits.{in_class, walk_order};
 ghost use Rattle.part_hash.specs.Classes.{earlier as earlier_of, is_next as is_next_of, made_from, next_of_class, slot_of_class, step_of as step_between};
@@ -202,7 +202,7 @@ pub(crate) fn first_live<A: Allocator>(
 ) -> Option<&Term<A>>
     requires parts { 0 < settings.parts }
     requires base { 0 < base }
-    ensures { (rows : List AnyRow) → settings.kind ≡ Set
+    ensures { (rows : List AnyRow) → IsFalse (is_ordered settings.kind)
         → Stands settings store.now.rows store.now.index store.now.slots.items store.now.made rows
         → option_copied result ≡ first_live (walk_order settings base rows) }
 {
@@ -274,7 +274,7 @@ pub(crate) fn live_past<'r, A: Allocator>(
 ) -> Option<&'r Term<A>>
     requires parts { 0 < settings.parts }
     requires base { 0 < base }
-    ensures { (rows : List AnyRow) → settings.kind ≡ Set → IsTrue (has_row rows key.now)
+    ensures { (rows : List AnyRow) → IsFalse (is_ordered settings.kind) → IsTrue (has_row rows key.now)
         → Stands settings store.now.rows store.now.index store.now.slots.items store.now.made rows
         → option_copied result ≡ first_live (rows_past key.now (walk_order settings base rows)) }
 {

@@ -102,19 +102,6 @@ pub(crate) fn key_behind<'r, A: Allocator>(tree: &'r Tree<A>, key: &Term<A>) -> 
     None
 }
 
-/// Puts a copy of the object of a row behind others.
-fn put_copy<A: Allocator + Copy>(
-    held: &Held<A>,
-    into: &mut Vec<Term<A>, A>,
-) -> Result<(), AllocError>
-    ensures { IfOk result (λ _. into.new.items ≡ into.old.items ++ held.now) }
-{
-    if let Some(object) = held.object() {
-        into.push(object.copy()?)?;
-    }
-    Ok(())
-}
-
 /// Puts copies of all objects behind others, by rising key.
 pub(crate) fn gather<A: Allocator + Copy>(
     tree: &Tree<A>,
@@ -123,7 +110,7 @@ pub(crate) fn gather<A: Allocator + Copy>(
     ensures { IfOk result (λ _. into.new.items ≡ into.old.items ++ flat_map (λ r. r.1) tree.now.entries) }
 {
     for (_key, held) in tree {
-        put_copy(held, into)?;
+        held.copy_into(into)?;
     }
     Ok(())
 }

@@ -89,7 +89,7 @@ impl<A: Allocator> OrderRows<A> {
         let Some(taken) = object.take() else {
             unreachable!();
         };
-        match self.tree.insert(key, Held::new(taken)) {
+        match self.tree.insert(key, Held::one(taken)) {
             Ok(replaced) => {
                 self.dead -= dead_gone(replaced);
                 Ok(())

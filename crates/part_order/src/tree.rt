@@ -1,7 +1,8 @@
 //! A tree of rows, found by their keys.
-ghost use Rattle.std.specs.Prelude.{◌≡◌, ◌||◌, ◌&&◌, filter, not, if◌then◌else◌, unwrap_or};
+ghost use Rattle.std.specs.Prelude.{◌≡◌, ◌||◌, ◌&&◌, [], ◌∷◌, Some, filter, not, if◌then◌else◌, unwrap_or};
 ghost use Rattle.std.specs.Map.{set_value};
-ghost use Rattle.std.specs.Option.{option_map, option_to_list};
+ghost use Rattle.std.specs.Option.{option_map};
+ghost use Rattle.term_core.specs.Datum.{Datum};
 ghost use Rattle.term_operand.specs.Order.{is_same};
 ghost use Rattle.part_core.specs.Rows.{has_row, is_empty, objects_at};
 
@@ -30,7 +31,7 @@ pub(crate) fn put_down<A: Allocator>(place: &mut Held<A>, held: Held<A>)
 
 /// Puts the object of a row that was made and not put in back where it was taken from.
 pub(crate) fn put_back<A: Allocator>(place: &mut Option<Term<A>>, row: (Term<A>, Held<A>))
-    ensures { option_to_list place.new ≡ row.1 }
+    ensures { (object : Datum) → row.1 ≡ object ∷ [] → place.new ≡ Some object }
 {
     let_go(mem::replace(place, row.1.into_object()));
 }

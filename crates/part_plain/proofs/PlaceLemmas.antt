@@ -14,9 +14,8 @@ use Rattle.part_core.proofs.KeyLemmas.{by_test}
 use Rattle.part_core.proofs.RowLemmas.{unwritten}
 use Rattle.part_core.proofs.KeyedLemmas.{no_other, none_there}
 use Rattle.part_plain.specs.Places.{IsPlace}
-use Rattle.part_core.specs.declared.kind.TableKind.TheVariants.{Set}
 use Rattle.part_core.specs.declared.settings.Settings.{Settings}
-use Rattle.part_core.specs.Settings.{class_at}
+use Rattle.part_core.specs.Settings.{class_at, is_ordered}
 use Rattle.part_core.specs.Visits.{in_class, walk_order}
 use Rattle.part_core.specs.Replies.{rows_past}
 use Rattle.part_engine.specs.Sets.{rows_from}
@@ -110,7 +109,7 @@ alone {k} {rows} {place} row p at apart =
     ∙ rest)
 
 -- the rows behind the place of a key's row are those of its class behind there, and those of the classes above
-pub walk_behind : (o : Settings) (base : ℕ) {k : Datum} {rows : List Row} {place : ℕ} → o.kind ≡ Set → class_at o base k < base → IsPlace k rows place → rows_past k (walk_order o base rows) ≡ in_class o base (class_at o base k) (drop (place + 1) rows) ++ rows_from o base (class_at o base k + 1) rows
+pub walk_behind : (o : Settings) (base : ℕ) {k : Datum} {rows : List Row} {place : ℕ} → is_ordered o.kind ≡ false → class_at o base k < base → IsPlace k rows place → rows_past k (walk_order o base rows) ≡ in_class o base (class_at o base k) (drop (place + 1) rows) ++ rows_from o base (class_at o base k + 1) rows
 walk_behind o base {k} {rows} {place} kind below p =
     behind_in_walk o base k rows p.before p.row p.after kind below p.whole p.first p.there
     ∙ ap (λ rs. in_class o base (class_at o base k) rs ++ rows_from o base (class_at o base k + 1) rows) (sym (ap (drop (place + 1)) p.whole ∙ rest_at p.before p.row p.after place p.count))

@@ -6,15 +6,14 @@ use Rattle.std.specs.Map.{keys_of}
 use Rattle.std.proofs.lemmas.Bool.{true≢false, not-false, not-true}
 use Rattle.term_core.specs.Datum.{Datum}
 use Rattle.term_operand.specs.Order.{is_same}
-use Rattle.part_core.specs.declared.kind.TableKind.TheVariants.{Set}
 use Rattle.part_core.specs.declared.settings.Settings.{Settings}
-use Rattle.part_core.specs.Settings.{key_of}
-use Rattle.part_core.specs.Rows.{Row, is_empty, is_live, has_row, objects_at, rows_at_key, with_object}
+use Rattle.part_core.specs.Settings.{is_ordered, key_of}
+use Rattle.part_core.specs.Rows.{Row, is_empty, is_live, has_row, objects_at, objects_with, rows_at_key, with_object}
 use Rattle.part_core.proofs.KeyLemmas.{by_test, same_from}
 use Rattle.part_core.proofs.RowLemmas.{keys_new_distinct, no_objects}
 use Rattle.part_plain.specs.Places.{IsPlace}
 use Rattle.part_engine.specs.Sets.{with_key}
-use Rattle.part_plain.proofs.PlaceLemmas.{lookup_past, place_objects, place_written, written_at}
+use Rattle.part_plain.proofs.PlaceLemmas.{lookup_past, place_objects, place_row, place_set, place_written, written_at}
 
 -- ---- a row for a key
 
@@ -49,21 +48,21 @@ distinct_kept k rows apart =
 
 -- ---- the object
 
--- in a set an object that is put in takes the place of what its key's row holds
-put_at_key : (o : Settings) (t : Datum) (rows : List Row) → o.kind ≡ Set → IsDistinct is_same (keys_of rows) → rows_at_key (key_of o t) (λ _. t ∷ []) (with_key (key_of o t) rows) ≡ with_object o t rows
-put_at_key o t rows kind apart =
+-- an object that is put in is put in among those of its key's row
+put_at_key : (o : Settings) (t : Datum) (rows : List Row) → is_ordered o.kind ≡ false → IsDistinct is_same (keys_of rows) → rows_at_key (key_of o t) (λ os. objects_with o.kind os t) (with_key (key_of o t) rows) ≡ with_object o t rows
+put_at_key o t rows plain apart =
     by_test (has_row rows (key_of o t)) _
-    (λ there. rw (there, kind) refl)
-    (λ none. rw (none, kind) (written_at (key_of o t) (λ _. t ∷ []) rows (key_of o t, []) [] (keys_new_distinct (key_of o t) [] rows apart none) none (same_from (key_of o t) (key_of o t) refl)))
+    (λ there. rw there refl)
+    (λ none. rw (none, plain) (written_at (key_of o t) (λ os. objects_with o.kind os t) rows (key_of o t, []) [] (keys_new_distinct (key_of o t) [] rows apart none) none (same_from (key_of o t) (key_of o t) refl)))
 
--- a row that was put at its key's place
-pub put_there : (o : Settings) (t : Datum) (rows found : List Row) (place : ℕ) (row new : Row) → found ≡ with_key (key_of o t) rows → IsPlace (key_of o t) found place → row ≡ get_or found place row → new ≡ (row.0, t ∷ []) → o.kind ≡ Set → IsDistinct is_same (keys_of rows) → set found place new ≡ with_object o t rows
-put_there o t rows found place row new is p at made kind apart =
+-- a row into which it was put at its key's place
+pub put_there : (o : Settings) (t : Datum) (rows found : List Row) (place : ℕ) (row new : Row) → found ≡ with_key (key_of o t) rows → IsPlace (key_of o t) found place → row ≡ get_or found place row → new ≡ (row.0, objects_with o.kind row.1 t) → is_ordered o.kind ≡ false → IsDistinct is_same (keys_of rows) → set found place new ≡ with_object o t rows
+put_there o t rows found place row new is p at made plain apart =
     let distinct : IsDistinct is_same (keys_of found) = subst (λ rs. IsDistinct is_same (keys_of rs)) (sym is) (distinct_kept (key_of o t) rows apart) in
-    ap (set found place) (made ∙ ap (λ (r : Row). (r.0, t ∷ [])) at)
-    ∙ place_written (λ _. t ∷ []) row p distinct
-    ∙ ap (rows_at_key (key_of o t) (λ _. t ∷ [])) is
-    ∙ put_at_key o t rows kind apart
+    ap (set found place) (made ∙ ap (λ (r : Row). (r.0, objects_with o.kind r.1 t)) at)
+    ∙ place_written (λ os. objects_with o.kind os t) row p distinct
+    ∙ ap (rows_at_key (key_of o t) (λ os. objects_with o.kind os t)) is
+    ∙ put_at_key o t rows plain apart
 
 -- ---- whether it is put in
 
@@ -95,3 +94,11 @@ puts_free k rows found place row replaces is p at none dead =
 
 pub puts_replacing : (b replaces : Bool) → replaces ≡ true → true ≡ (replaces || b)
 puts_replacing b replaces all = rw all refl
+
+-- a live row that was written back as it was
+pub put_back : (k : Datum) (rows found : List Row) (place : ℕ) (row new : Row) → found ≡ with_key k rows → IsPlace k found place → row ≡ get_or found place row → new ≡ row → is_live row ≡ true → set found place new ≡ rows
+put_back k rows found place row new is p at same live =
+    ap (set found place) (same ∙ at ∙ place_row row p)
+    ∙ place_set p.row p
+    ∙ sym p.whole
+    ∙ live_stays k rows found is (sym (live_there k rows found place row is p at) ∙ live)

@@ -2,7 +2,6 @@
 use Rattle.std.proofs.Common.{◌≡◌, ℕ, ◌≤◌, ◌+◌, List, ap, sym, subst, ◌∙◌, arith, length}
 use Rattle.std.specs.Prelude.{Bool, true, false, if◌then◌else◌}
 use Rattle.term_core.specs.Datum.{Datum}
-use Rattle.part_core.specs.declared.kind.TableKind.{TableKind}
 use Rattle.part_core.specs.declared.kind.TableKind.TheVariants.{Set}
 use Rattle.part_core.specs.declared.settings.Settings.{Settings}
 use Rattle.part_core.specs.Settings.{is_ordered}
@@ -15,7 +14,7 @@ use Rattle.part_engine.specs.Dead.{dead_rows}
 use Rattle.part_rows.specs.Shown.{Shown, rows_exchanged, shown_exchanged, shown_with}
 use Rattle.part_plain.specs.Served.{IsShown}
 use Rattle.part_engine.proofs.DeadLemmas.{dead_few}
-use Rattle.part_engine.proofs.SetLemmas.{set_served}
+use Rattle.part_engine.proofs.SetLemmas.{plain_served, plain_slots}
 
 -- ---- slots
 
@@ -27,29 +26,29 @@ grown_base before now slots result is same =
 -- ---- an object that is put in, or is not
 
 -- rows to which an object was put show it
-pub shown_put : (o : Settings) (t : Datum) (rows new : List Row) (slots more dead left : ℕ) (w : Shown) → IsShown o rows slots dead w → (o.kind ≡ Set → new ≡ with_object o t rows) → (length new ≤ length rows + 1 → more ≡ slots_after Set (length rows) (length new) slots) → left ≡ dead_rows (with_object o t rows) → IsShown o new more left (shown_with o t w)
+pub shown_put : (o : Settings) (t : Datum) (rows new : List Row) (slots more dead left : ℕ) (w : Shown) → IsShown o rows slots dead w → (is_ordered o.kind ≡ false → new ≡ with_object o t rows) → (length new ≤ length rows + 1 → more ≡ slots_after Set (length rows) (length new) slots) → left ≡ dead_rows (with_object o t rows) → IsShown o new more left (shown_with o t w)
 shown_put o t rows new slots more dead left w shown put grown count = record {
   served = shown.served;
   rows = ap (with_object o t) shown.rows ∙ sym is;
   slots = ap (λ (rs : List Row). slots_after o.kind (length rs) (length (with_object o t rs)) w.slots) shown.rows
       ∙ ap (slots_after o.kind (length rows) (length (with_object o t rows))) shown.slots
       ∙ ap (λ (rs : List Row). slots_after o.kind (length rows) (length rs) slots) (sym is)
-      ∙ ap (λ (kind : TableKind). slots_after kind (length rows) (length new) slots) kind
+      ∙ plain_slots o.kind (length rows) (length new) slots plain
       ∙ sym (grown few);
   count = count ∙ ap (λ (rs : List Row). dead_rows (with_object o t rs)) (sym shown.rows);
 }
   where
-    kind : o.kind ≡ Set
-    kind = set_served o.kind shown.served
+    plain : is_ordered o.kind ≡ false
+    plain = plain_served o.kind shown.served
 
     is : new ≡ with_object o t rows
-    is = put kind
+    is = put plain
 
     few : length new ≤ length rows + 1
-    few = subst (λ (rs : List Row). length rs ≤ length rows + 1) (sym is) (put_length o t rows (ap is_ordered kind))
+    few = subst (λ (rs : List Row). length rs ≤ length rows + 1) (sym is) (put_length o t rows plain)
 
 -- rows that stay show what they showed
-pub shown_left : (o : Settings) (rows new : List Row) (slots more dead left : ℕ) (w : Shown) → IsShown o rows slots dead w → (o.kind ≡ Set → new ≡ rows) → (length new ≤ length rows + 1 → more ≡ slots_after Set (length rows) (length new) slots) → left ≡ dead_rows rows → IsShown o new more left w
+pub shown_left : (o : Settings) (rows new : List Row) (slots more dead left : ℕ) (w : Shown) → IsShown o rows slots dead w → (is_ordered o.kind ≡ false → new ≡ rows) → (length new ≤ length rows + 1 → more ≡ slots_after Set (length rows) (length new) slots) → left ≡ dead_rows rows → IsShown o new more left w
 shown_left o rows new slots more dead left w shown stay grown count = record {
   served = shown.served;
   rows = shown.rows ∙ sym is;
@@ -58,13 +57,13 @@ shown_left o rows new slots more dead left w shown stay grown count = record {
 }
   where
     is : new ≡ rows
-    is = stay (set_served o.kind shown.served)
+    is = stay (plain_served o.kind shown.served)
 
     same : length new ≡ length rows
     same = ap length is
 
 -- what is left where an object was put in or not
-pub shown_either : (o : Settings) (t : Datum) (rows new : List Row) (slots more dead left : ℕ) (w : Shown) (b : Bool) → IsShown o rows slots dead w → (o.kind ≡ Set → new ≡ (if b then with_object o t rows else rows)) → (length new ≤ length rows + 1 → more ≡ slots_after Set (length rows) (length new) slots) → left ≡ dead_rows (if b then with_object o t rows else rows) → IsShown o new more left (if b then shown_with o t w else w)
+pub shown_either : (o : Settings) (t : Datum) (rows new : List Row) (slots more dead left : ℕ) (w : Shown) (b : Bool) → IsShown o rows slots dead w → (is_ordered o.kind ≡ false → new ≡ (if b then with_object o t rows else rows)) → (length new ≤ length rows + 1 → more ≡ slots_after Set (length rows) (length new) slots) → left ≡ dead_rows (if b then with_object o t rows else rows) → IsShown o new more left (if b then shown_with o t w else w)
 shown_either o t rows new slots more dead left w true shown put grown count = shown_put o t rows new slots more dead left w shown put grown count
 shown_either o t rows new slots more dead left w false shown put grown count = shown_left o rows new slots more dead left w shown put grown count
 

@@ -1,7 +1,6 @@
 //! The objects of all rows, in the order of a walk.
-ghost use Rattle.std.specs.Prelude.{◌≡◌, ◌<◌, ◌++◌, ◌==◌, if◌then◌else◌, flat_map, [], IfOk};
-ghost use Rattle.part_core.specs.declared.kind.TableKind.TheVariants.{Set};
-ghost use Rattle.part_core.specs.Settings.{class_at};
+ghost use Rattle.std.specs.Prelude.{◌≡◌, ◌<◌, ◌++◌, ◌==◌, if◌then◌else◌, flat_map, [], IfOk, IsFalse};
+ghost use Rattle.part_core.specs.Settings.{class_at, is_ordered};
 ghost use Rattle.part_core.specs.Visits.{in_class, walk_order};
 
 use part_core::Settings;
@@ -9,7 +8,7 @@ use part_engine::HashedRow;
 use std::alloc::{AllocError, Allocator};
 use term_core::Term;
 
-/// Puts a copy of a row's object behind others, where its key is of a class.
+/// Puts copies of a row's objects behind others, where its key is of a class.
 fn gather_row<A: Allocator + Copy>(
     row: &HashedRow<A>,
     settings: Settings,
@@ -23,9 +22,7 @@ fn gather_row<A: Allocator + Copy>(
         ++ (if class_at settings base row.now.0 == class then row.now.1 else [])) }
 {
     if row.is_in(settings, base, class) {
-        if let Some(object) = row.held().object() {
-            into.push(object.copy()?)?;
-        }
+        row.held().copy_into(into)?;
     }
     Ok(())
 }
@@ -58,7 +55,7 @@ pub(crate) fn gather<A: Allocator + Copy>(
 ) -> Result<(), AllocError>
     requires parts { 0 < settings.parts }
     requires base { 0 < base }
-    ensures { IfOk result (λ _. settings.kind ≡ Set → into.new.items ≡ into.old.items
+    ensures { IfOk result (λ _. IsFalse (is_ordered settings.kind) → into.new.items ≡ into.old.items
         ++ flat_map (λ r. r.1) (walk_order settings base rows.now)) }
 {
     for class in 0..base {

@@ -1,7 +1,7 @@
-//! The rows of a set in one list.
+//! The rows of sets and bags in one list.
 //!
-//! The one contract: `PlainRows` keeps the trait `Rows` of `part_rows`, for sets alone. What the rows show is their
-//! list and the number that is kept as that of their slots, with a count of the dead among them (`IsShown` of
+//! The one contract: `PlainRows` keeps the trait `Rows` of `part_rows`, for all tables but ordered sets. What the rows show
+//! is their list and the number that is kept as that of their slots, with a count of the dead among them (`IsShown` of
 //! `specs/Served.antt`). That no key has two rows isn't kept: it is a premise of `Rows`.
 //!
 //! - `rows`: the type. It hands each operation to a function whose contract is one over lists.
@@ -25,6 +25,6 @@ pub use laws::plain_parts_may_be_sent;
 use part_engine::StoredPart;
 pub use rows::PlainRows;
 
-/// A part of a set whose rows stand in one list, as they were made: each operation looks through them for its key, by
-/// hashes.
+/// A part of a set or a bag whose rows stand in one list, as they were made: each operation looks through them for its
+/// key, by hashes.
 pub type PlainPart<A> = StoredPart<PlainRows<A>, A>;

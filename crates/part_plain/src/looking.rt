@@ -1,10 +1,10 @@
 //! The rows that a visit looks at.
-ghost use Rattle.std.specs.Prelude.{◌≡◌, ◌<◌, ◌++◌, filter, IsTrue, IfOk};
+ghost use Rattle.std.specs.Prelude.{◌≡◌, ◌<◌, ◌++◌, filter, IsTrue, IsFalse, IfOk};
 ghost use Rattle.std.specs.List.{IsDistinct};
 ghost use Rattle.std.specs.Map.{keys_of};
 ghost use Rattle.term_operand.specs.Order.{is_same};
-ghost use Rattle.part_core.specs.declared.kind.TableKind.TheVariants.{Set};
 ghost use Rattle.part_core.specs.Ops.{scope_of};
+ghost use Rattle.part_core.specs.Settings.{is_ordered};
 ghost use Rattle.part_core.specs.Visits.{in_class};
 ghost use Rattle.part_rows.specs.Looks.{is_placed, looked_at};
 
@@ -50,7 +50,7 @@ fn look_at<'r, A: Allocator>(
     Ok(())
 }
 
-/// Puts the rows that a visit of a set looks at behind others.
+/// Puts the rows that a visit looks at behind others.
 pub(crate) fn look<'r, A: Allocator>(
     rows: &'r [HashedRow<A>],
     settings: Settings,
@@ -61,7 +61,7 @@ pub(crate) fn look<'r, A: Allocator>(
     requires parts { 0 < settings.parts }
     requires base { 0 < base }
     requires placed { IsTrue (is_placed settings (scope_of scope.now)) }
-    ensures { IfOk result (λ _. settings.kind ≡ Set → IsDistinct is_same (keys_of rows.now)
+    ensures { IfOk result (λ _. IsFalse (is_ordered settings.kind) → IsDistinct is_same (keys_of rows.now)
         → into.new.items ≡ into.old.items ++ looked_at settings base (scope_of scope.now) rows.now) }
 {
     match scope {

@@ -1,11 +1,10 @@
 //! Objects that are put in.
-ghost use Rattle.std.specs.Prelude.{vec_len, ◌≡◌, ◌<◌, ◌||◌, None, if◌then◌else◌, unwrap_or, IsTrue, IfOk, OnOk, OnErr};
+ghost use Rattle.std.specs.Prelude.{vec_len, ◌≡◌, ◌<◌, ◌||◌, None, if◌then◌else◌, unwrap_or, IsTrue, IsFalse, IfOk, OnOk, OnErr};
 ghost use Rattle.std.specs.List.{IsDistinct};
 ghost use Rattle.std.specs.Map.{keys_of};
 ghost use Rattle.term_core.specs.Datum.Datum.{nil};
 ghost use Rattle.term_operand.specs.Order.{is_same};
-ghost use Rattle.part_core.specs.declared.kind.TableKind.TheVariants.{Set};
-ghost use Rattle.part_core.specs.Settings.{is_object, key_of};
+ghost use Rattle.part_core.specs.Settings.{is_object, is_ordered, key_of};
 ghost use Rattle.part_core.specs.Rows.{is_empty, objects_at, with_object};
 ghost use Rattle.part_plain.specs.Places.{IsPlace};
 ghost use Rattle.part_engine.specs.Sets.{with_key};
@@ -57,8 +56,8 @@ fn place_of_object<A: Allocator + Copy>(
 /// Lets an object go.
 fn let_go<A: Allocator>(_object: Option<Term<A>>) {}
 
-/// Puts an object in, in the place of the one with its key if it replaces that, else if its key has none, and says
-/// whether it did.
+/// Puts an object in, as the kind of table has it: in any case if it `replaces`, else if its key has none. Says whether
+/// it did.
 pub(crate) fn put<A: Allocator + Copy>(
     settings: Settings,
     rows: &mut Vec<HashedRow<A>, A>,
@@ -68,7 +67,7 @@ pub(crate) fn put<A: Allocator + Copy>(
     requires { IsTrue (is_object settings (unwrap_or object.old nil)) }
     ensures put { IfOk result (λ put. put
         ≡ (replaces || is_empty (objects_at rows.old.items (key_of settings (unwrap_or object.old nil))))) }
-    ensures rows { IfOk result (λ put. settings.kind ≡ Set → IsDistinct is_same (keys_of rows.old.items)
+    ensures rows { IfOk result (λ put. IsFalse (is_ordered settings.kind) → IsDistinct is_same (keys_of rows.old.items)
         → rows.new.items ≡ (if put then with_object settings (unwrap_or object.old nil) rows.old.items
         else rows.old.items)) }
     ensures spent { OnOk result (object.new ≡ None) }
@@ -80,9 +79,7 @@ pub(crate) fn put<A: Allocator + Copy>(
         let_go(object.take());
         return Ok(false);
     }
-    match object.take() {
-        Some(object) => rows[place].put(object),
-        None => unreachable!(),
-    }
+    let alloc = *rows.allocator();
+    rows[place].put(alloc, settings.kind, object)?;
     Ok(true)
 }

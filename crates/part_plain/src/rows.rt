@@ -17,7 +17,8 @@ use part_rows::{Rows, SeenRow};
 use std::alloc::{AllocError, Allocator, Global};
 use term_core::Term;
 
-/// The rows of a set in one list, as they were made: each operation looks through them for its key, by hashes.
+/// The rows of a table that isn't walked by key in one list, as they were made: each operation looks through them for
+/// its key, by hashes.
 #[derive(Drop)]
 pub struct PlainRows<A: Allocator = Global> {
     rows: Vec<HashedRow<A>, A>,
@@ -54,7 +55,7 @@ impl<A: Allocator + Copy> Rows<A> for PlainRows<A> {
     ghost shows = { λ o p w. IsShown o p.rows.items p.slots p.dead w };
 
     fn is_served(kind: TableKind) -> bool {
-        matches!(kind, TableKind::Set)
+        !kind.is_ordered()
     }
 
     fn new(alloc: A, _settings: Settings) -> Result<Self, AllocError> {

@@ -1,9 +1,9 @@
 //! The order of a walk: class by class, in each as the rows were made.
-ghost use Rattle.std.specs.Prelude.{◌≡◌, ◌<◌, ◌+◌, ◌++◌, drop, length, IsTrue};
+ghost use Rattle.std.specs.Prelude.{◌≡◌, ◌<◌, ◌+◌, ◌++◌, drop, length, IsTrue, IsFalse};
 ghost use Rattle.std.specs.Option.{option_copied};
-ghost use Rattle.part_core.specs.declared.kind.TableKind.TheVariants.{Set};
 ghost use Rattle.part_core.specs.Replies.{first_live, rows_past};
 ghost use Rattle.part_core.specs.Rows.{has_row};
+ghost use Rattle.part_core.specs.Settings.{is_ordered};
 ghost use Rattle.part_core.specs.Visits.{in_class, walk_order};
 ghost use Rattle.part_engine.specs.Sets.{rows_from};
 
@@ -59,7 +59,7 @@ pub(crate) fn first_live<A: Allocator>(
 ) -> Option<&Term<A>>
     requires parts { 0 < settings.parts }
     requires base { 0 < base }
-    ensures { settings.kind ≡ Set
+    ensures { IsFalse (is_ordered settings.kind)
         → option_copied result ≡ first_live (walk_order settings base rows.now) }
 {
     live_from(rows, settings, base, 0)
@@ -95,7 +95,7 @@ pub(crate) fn live_past<'r, A: Allocator>(
 ) -> Option<&'r Term<A>>
     requires parts { 0 < settings.parts }
     requires base { 0 < base }
-    ensures { settings.kind ≡ Set → IsTrue (has_row rows.now key.now)
+    ensures { IsFalse (is_ordered settings.kind) → IsTrue (has_row rows.now key.now)
         → option_copied result ≡ first_live (rows_past key.now (walk_order settings base rows.now)) }
 {
     let hash = key.key_hash();

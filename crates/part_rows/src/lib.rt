@@ -5,13 +5,16 @@
 //! and queries: these stand in the part over them (`part_engine`).
 //!
 //! - `rows`: the trait; `specs/Looks.antt` says which rows a visit may look at. `seen`: a row, as a visit sees it.
+//! - `objects`: what code answers on the objects of a key, in the order of time.
 //! - `settling`: dead rows go, once no session fixes the part.
 #![tactic(auto)]
 
+mod objects;
 mod rows;
 mod seen;
 mod settling;
 
+pub use objects::{count_true, gather, holds};
 pub use rows::Rows;
 pub use seen::SeenRow;
 pub use settling::settle;

@@ -1,9 +1,8 @@
-use Rattle.std.proofs.Common.{[], ◌∷◌, ap, sym, ◌∙◌}
-use Rattle.std.specs.Prelude.{Option, unwrap_or}
-use Rattle.term_core.specs.Datum.{Datum}
+use Rattle.std.proofs.Common.{rules, sym, ◌∙◌}
+use Rattle.std.specs.Prelude.{unwrap_or}
 use Rattle.term_core.specs.Datum.Datum.{nil}
 use Rattle.part_core.specs.Settings.{key_of}
-use Rattle.part_plain.proofs.PutLemmas.{put_there, live_there, live_stays, stays_put, puts_free, puts_replacing}
+use Rattle.part_plain.proofs.PutLemmas.{put_back, put_there, live_there, live_stays, stays_put, puts_free, puts_replacing}
 use Rattle.part_plain.proofs.putting.put.Goals.{else-not-replaces-via-then-not-replaces+else-is_live, else-not-replaces-via-else-not-replaces}
 use Rattle.part_plain.proofs.putting.put.Goals as goal
 
@@ -24,5 +23,10 @@ returns-clause-put g c =
     ]
 
 pub returns-clause-rows : goal.returns-clause-rows
-returns-clause-rows g c = λ kind apart.
-    put_there c.args.settings (unwrap_or c.args.object.now nil) c.args.rows.now.items c.place_of_object.new.rows.items c.in_ok-place.place c.index_mut.result.now c.put.new.self c.in_ok-place.ensures.rows c.in_ok-place.ensures.place c.index_mut.ensures.value (c.put.ensures ∙ ap (λ (t : Option Datum). (c.index_mut.result.now.0, unwrap_or t nil ∷ [])) c.in-Some.ensures.value) kind apart
+returns-clause-rows g c = λ plain apart.
+    put_there c.args.settings (unwrap_or c.args.object.now nil) c.args.rows.now.items c.place_of_object.new.rows.items c.in_ok-place.place c.index_mut.result.now c.put.new.self c.in_ok-place.ensures.rows c.in_ok-place.ensures.place c.index_mut.ensures.value c.in_ok-put.ensures.done plain apart
+
+pub returns-in_err-put-clause-refused : goal.returns-in_err-put-clause-refused
+returns-in_err-put-clause-refused g c =
+    let back = put_back (key_of c.args.settings (unwrap_or c.args.object.now nil)) c.args.rows.now.items c.place_of_object.new.rows.items c.in_ok-place.place c.index_mut.result.now c.put.new.self c.in_ok-place.ensures.rows c.in_ok-place.ensures.place c.index_mut.ensures.value c.in_err-put.ensures.refused c.in_err-put.ensures.live in
+    search (rules, back)

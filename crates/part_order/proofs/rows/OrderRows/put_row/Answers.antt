@@ -13,4 +13,4 @@ pub invariant_of-self : goal.invariant_of-self
 invariant_of-self g c =
     ap (λ d. d - c.dead_gone.result) c.self.invariant
     ∙ (put_over_dead c.args.key c.in-Some.taken c.self.inside.tree.entries c.in-Ok.replaced c.dead_gone.result c.in-Ok.ensures.was_ordered c.in-Ok.ensures.old c.dead_gone.ensures).1
-    ∙ sym (ap dead_rows (c.in-Ok.ensures.entries ∙ ap (insert_entry datum_cmp c.self.inside.tree.entries c.args.key) c.new.ensures))
+    ∙ sym (ap dead_rows (c.in-Ok.ensures.entries ∙ ap (insert_entry datum_cmp c.self.inside.tree.entries c.args.key) c.one.ensures))

@@ -1,0 +1,11 @@
+-- The objects that are held of a key.
+use Rattle.std.specs.Prelude.{List, [], ◌∷◌}
+use Rattle.term_core.specs.Datum.{Datum}
+use Rattle.part_core.specs.declared.held.Objects.{Objects}
+use Rattle.part_core.specs.declared.held.Objects.TheVariants as objects
+
+-- the list that they are, in the order of time
+abbrev pub objects_of : {A : Type 0} → Objects A → List Datum
+objects_of objects.Empty = []
+objects_of (objects.One object) = object ∷ []
+objects_of (objects.Many list) = list.value.items
