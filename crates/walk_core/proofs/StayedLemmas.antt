@@ -19,14 +19,14 @@ use Rattle.part_core.specs.Settings.{is_object, is_set, key_of}
 use Rattle.part_core.specs.States.{IsRow, IsObjectOf}
 use Rattle.part_core.specs.Visits.{is_true, yields}
 use Rattle.part_core.proofs.HistoryLemmas.{content_of, legal_front_from, state_of}
-use Rattle.part_core.proofs.KeyLemmas.{by_test, same_is}
+use Rattle.part_core.proofs.KeyLemmas.{by_test, same_from, same_is}
 use Rattle.tables.specs.Options.{settings_of}
 use Rattle.tables.specs.Turns.{Views}
 use Rattle.walk_core.specs.Walk.{Walk, IsWalk, is_done, is_in_parts}
 use Rattle.walk_core.specs.Walk.Position.{Over}
 use Rattle.walk_core.specs.Moments.{Span, IsMoment, IsMet, Mark, Gathers, IsAnswer, AreLegal, answers_at, part_of_key}
 use Rattle.walk_core.specs.Once.{content_at}
-use Rattle.walk_core.specs.Stayed.{given_for, IsAnsweredOnce, IsAnsweredFor, IsContentOf}
+use Rattle.walk_core.specs.Stayed.{given_for, times, IsAnsweredOnce, IsAnsweredFor, IsContentOf}
 use Rattle.walk_core.proofs.GrowthLemmas.{key_inside}
 use Rattle.walk_core.proofs.StepLemmas.{mark_at}
 
@@ -62,6 +62,22 @@ given_among h (u ∷ ts) t a given (suc n, within, is) =
     of : Contains (filter_map h ts) a → (o : Option Datum) → h u ≡ o → Contains (filter_map h (u ∷ ts)) a
     of later None here = rw here later
     of later (Some b) here = rw here (suc later.0, omega (arith, later.1), later.2)
+
+-- what is given for an object stands among what is given at least as often as the object
+times_given : (h : Datum → Option Datum) (t a : Datum) (ts : List Datum) → h t ≡ Some a → times t ts ≤ times a (filter_map h ts)
+times_given h t a [] given = omega arith
+times_given h t a (u ∷ ts) given =
+    by_test (is_same t u) (times t (u ∷ ts) ≤ times a (filter_map h (u ∷ ts)))
+    (λ same. let here : h u ≡ Some a = ap h (sym (same_is t u same)) ∙ given in
+    let itself : is_same a a ≡ true = same_from a a refl in
+    rw (same, here, itself) (omega (arith, times_given h t a ts given)))
+    (λ other. rw other (of (times_given h t a ts given) (h u) refl))
+  where
+    of : times t ts ≤ times a (filter_map h ts) → (o : Option Datum) → h u ≡ o → times t ts ≤ times a (filter_map h (u ∷ ts))
+    of fewer None here = rw here fewer
+    of fewer (Some b) here =
+        rw here
+        (by_test (is_same a b) (times t ts ≤ times a (b ∷ filter_map h ts)) (λ same. rw same (omega (arith, fewer))) (λ apart. rw apart fewer))
 
 -- an object for which this is given
 record Giver (h : Datum → Option Datum) (ts : List Datum) (a : Datum) : Type 0 where
@@ -155,6 +171,12 @@ answered_among : (w : Walk) (now : Views) (k t a : Datum) (moment : ℕ) → giv
 answered_among w now k t a moment given there =
     subst (λ (xs : List Datum). Contains xs a) (sym (given_as w.purpose w.program (content_at w now k moment))) (given_among (given_for w.purpose w.program) (content_at w now k moment) t a given there)
 
+-- and stands among the answers at a moment at least as often as it was there
+each_answered : (w : Walk) (now : Views) (k t a : Datum) (moment : ℕ) → given_for w.purpose w.program t ≡ Some a → times t (content_at w now k moment) ≤ times a (answers_at w now k moment)
+each_answered w now k t a moment given =
+    subst (λ (xs : List Datum). times t (content_at w now k moment) ≤ times a xs) (sym (given_as w.purpose w.program (content_at w now k moment)))
+    (times_given (given_for w.purpose w.program) t a (content_at w now k moment) given)
+
 pub stayed_answered : (w : Walk) (calls : List Span) (now : Views) (answers : List Datum) (t a : Datum) → IsAnswer w calls now answers → IsTrue (is_object (settings_of w.options) t) → IsTrue (is_in_parts w w.to (key_of (settings_of w.options) t)) → given_for w.purpose w.program t ≡ Some a → ((moment : ℕ) → IsMoment w calls now (key_of (settings_of w.options) t) moment → Contains (content_at w now (key_of (settings_of w.options) t) moment) t) → IsAnsweredOnce w calls now answers t a
 stayed_answered w calls now answers t a ans object inside given stayed =
     of (ans.all (key_of (settings_of w.options) t) inside)
@@ -168,6 +190,7 @@ stayed_answered w calls now answers t a ans object inside given stayed =
           made = s.holds;
           there = stayed s.moment s.holds;
           given = answered_among w now k t a s.moment given (stayed s.moment s.holds);
+          each = each_answered w now k t a s.moment given;
           front = s.front;
           rest = s.rest;
           before = s.before;

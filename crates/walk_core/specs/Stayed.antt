@@ -1,6 +1,7 @@
 -- What follows for objects: one that stayed is answered once, nothing is invented, and a set answers once for a key.
-use Rattle.std.specs.Prelude.{ℕ, ◌≡◌, ◌≢◌, ◌≤◌, ◌++◌, if◌then◌else◌, Bool, IsTrue, All, Contains, Option, Some, None, flat_map, List, length}
+use Rattle.std.specs.Prelude.{ℕ, ◌≡◌, ◌≢◌, ◌≤◌, ◌++◌, if◌then◌else◌, Bool, IsTrue, All, Contains, Option, Some, None, filter, flat_map, List, length}
 use Rattle.term_core.specs.Datum.{Datum}
+use Rattle.term_operand.specs.Order.{is_same}
 use Rattle.mcode.specs.Answer.{answer_of}
 use Rattle.mcode.specs.Program.{Program}
 use Rattle.part_core.specs.Acts.{Purpose}
@@ -19,13 +20,19 @@ given_for Answers p t = answer_of p t
 given_for Counts p t = if is_true p t then Some t else None
 given_for Deletes p t = if is_true p t then Some t else None
 
--- An object is answered once: among the answers on its key's objects at one moment, at which it was there; the answers
--- before these and behind them are those of other keys.
+-- how often an object stands among others
+abbrev pub times : Datum → List Datum → ℕ
+times t ts = length (filter (is_same t) ts)
+
+-- An object is answered once: among the answers on its key's objects at one moment, at which it was there, at least as
+-- often as it stood there; the answers before these and behind them are those of other keys.
 pub record IsAnsweredOnce (w : Walk) (calls : List Span) (now : Views) (answers : List Datum) (t a : Datum) : Type 0 where
   pub moment : ℕ
   pub made : IsMoment w calls now (key_of (settings_of w.options) t) moment
   pub there : Contains (content_at w now (key_of (settings_of w.options) t) moment) t
   pub given : Contains (answers_at w now (key_of (settings_of w.options) t) moment) a
+  pub each : times t (content_at w now (key_of (settings_of w.options) t) moment)
+      ≤ times a (answers_at w now (key_of (settings_of w.options) t) moment)
   pub front : List Mark
   pub rest : List Mark
   pub before : All (λ m. m.key ≢ key_of (settings_of w.options) t) front
