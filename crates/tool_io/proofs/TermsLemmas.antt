@@ -9,7 +9,8 @@ use Rattle.term_text.specs.declared.fault.TextFault.TheVariants as text
 use Rattle.tool_io.specs.declared.fault.ToolFault.{ToolFault}
 use Rattle.tool_io.specs.declared.fault.ToolFault.TheVariants as fault
 use Rattle.tool_io.specs.Input.{IsReadFault}
-use Rattle.tool_io.specs.Terms.{OfInput, IsNoText, IsUnspelled, IsUnread, of_text}
+use Rattle.tool_io.specs.Terms.{OfInput, IsNoText, IsUnspelled, IsUnread}
+use Rattle.tool_io.specs.Wrapped.{of_text}
 
 no_text : (input : List ℕ) (f : TextFault) → f ≢ text.Memory → ((ds : List Datum) → Spells input ds → f ≡ text.Memory) → HasCause input f → ((at : ℕ) → (f ≡ text.BadUtf8 at) ↔ IsValidUpTo input at) → IsNoText input f
 no_text input f other only cause bad = record { unspelled = λ ds spelled. other (only ds spelled); other = other; cause = cause; bad_utf8 = bad }

@@ -1,4 +1,5 @@
 pub mod Fault
+pub mod Wrapped
 pub mod Input
 pub mod Terms
 pub mod Lines

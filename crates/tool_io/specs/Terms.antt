@@ -22,11 +22,6 @@ pub record HasTerms (input : List ℕ) (terms : List Datum) : Type 0 where
 abbrev pub OfTerms : Option (List ℕ) → (List Datum → Type 0) → Type 0
 OfTerms known P = OfInput known (λ input. (terms : List Datum) × HasTerms input terms × P terms)
 
--- a fault of the text as one of the program
-abbrev pub of_text : TextFault → ToolFault
-of_text text.Memory = fault.Memory
-of_text f = fault.Text f
-
 -- why an input spells no terms: what the refusal names stands at its byte, and bytes that begin no UTF-8 are named
 -- as such
 pub record IsNoText (input : List ℕ) (f : TextFault) : Type 0 where

@@ -6,22 +6,13 @@ ghost use Rattle.std.specs.Option.{option_to_list};
 ghost use Rattle.tool_io.specs.Fault.{number_of, arguments_of, status_by, status_of};
 ghost use Rattle.tool_io.specs.Fault.{argument_text, line_of};
 
+use crate::numbers::{BAD_INPUT, READ_FAILED, WRITE_FAILED};
 use code_file::FileFault;
 use mspec_syntax::SpecFault;
+use part_core::OpenFault;
 use std::alloc::{AllocError, Allocator};
 use term_text::TextFault;
 use thiserror::Error;
-
-/// The number of a term that is no object of the table.
-const TOO_SMALL: u8 = 50;
-/// The number of options outside their ranges.
-const BAD_OPTIONS: u8 = 60;
-/// The number of an input that has another number of terms than the command reads, or another kind.
-const BAD_INPUT: u8 = 65;
-/// The number of a reader that failed.
-const READ_FAILED: u8 = 70;
-/// The number of a writer that failed.
-const WRITE_FAILED: u8 = 71;
 
 /// Why a command ends without its whole answer.
 #[derive(Clone, Copy, Debug, PartialEq, Eq, Error)]
@@ -69,6 +60,62 @@ impl From<AllocError> for ToolFault {
     }
 }
 
+impl From<TextFault> for ToolFault {
+    ghost use Rattle.std.specs.Prelude.{◌≡◌};
+    ghost use Rattle.tool_io.specs.Wrapped.{of_text};
+
+    ghost from_gives = { λ given fault. fault ≡ of_text given };
+
+    fn from(fault: TextFault) -> Self {
+        match fault {
+            TextFault::Memory => ToolFault::Memory,
+            fault => ToolFault::Text(fault),
+        }
+    }
+}
+
+impl From<SpecFault> for ToolFault {
+    ghost use Rattle.std.specs.Prelude.{◌≡◌};
+    ghost use Rattle.tool_io.specs.Wrapped.{of_specification};
+
+    ghost from_gives = { λ given fault. fault ≡ of_specification given };
+
+    fn from(fault: SpecFault) -> Self {
+        match fault {
+            SpecFault::Memory => ToolFault::Memory,
+            fault => ToolFault::Specification(fault),
+        }
+    }
+}
+
+impl From<FileFault> for ToolFault {
+    ghost use Rattle.std.specs.Prelude.{◌≡◌};
+    ghost use Rattle.tool_io.specs.Wrapped.{of_file};
+
+    ghost from_gives = { λ given fault. fault ≡ of_file given };
+
+    fn from(fault: FileFault) -> Self {
+        match fault {
+            FileFault::Memory => ToolFault::Memory,
+            fault => ToolFault::File(fault),
+        }
+    }
+}
+
+impl From<verifier::Fault> for ToolFault {
+    ghost use Rattle.std.specs.Prelude.{◌≡◌};
+    ghost use Rattle.tool_io.specs.Wrapped.{of_code};
+
+    ghost from_gives = { λ given fault. fault ≡ of_code given };
+
+    fn from(fault: verifier::Fault) -> Self {
+        match fault {
+            verifier::Fault::Memory => ToolFault::Memory,
+            fault => ToolFault::Code(fault),
+        }
+    }
+}
+
 impl ToolFault {
     /// The number of the refusal.
     fn number(self) -> u8
@@ -81,8 +128,8 @@ impl ToolFault {
             ToolFault::Specification(fault) => fault.number(),
             ToolFault::File(fault) => fault.number(),
             ToolFault::Code(fault) => fault.number(),
-            ToolFault::TooSmall => TOO_SMALL,
-            ToolFault::BadOptions => BAD_OPTIONS,
+            ToolFault::TooSmall => part_core::Fault::TooSmall.number(),
+            ToolFault::BadOptions => OpenFault::BadOptions.number(),
             ToolFault::ReadFailed => READ_FAILED,
             ToolFault::WriteFailed => WRITE_FAILED,
         }

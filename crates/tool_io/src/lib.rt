@@ -7,15 +7,20 @@
 //!
 //! - `input`: the input, read whole, `specs/Input.antt`; `terms`: its terms, `specs/Terms.antt`.
 //! - `lines`: lines that are gathered and written, `specs/Lines.antt`.
-//! - `fault`: why a command ends early, and the line that says so, `specs/Fault.antt`.
+//! - `fault`: why a command ends early, and the line that says so, `specs/Fault.antt`; from faults of lower crates,
+//!   `specs/Wrapped.antt`. `numbers`: those of refusals that are the program's own.
 #![tactic(auto)]
 
 mod fault;
 mod input;
 mod lines;
+mod numbers;
 mod terms;
 
 pub use fault::{ToolFault, fault_line};
 pub use input::{most_reads, read_whole, read_within};
 pub use lines::{out_of_memory, put_line, write_if_many, write_lines};
+pub use numbers::{
+    BAD_INPUT, BAD_LIMIT, READ_FAILED, STRANGER_CONTINUATION, STRANGER_SESSION, WRITE_FAILED,
+};
 pub use terms::{read_input, read_script};

@@ -1,7 +1,7 @@
 //! The terms of an input.
 ghost use Rattle.std.specs.Prelude.{◌≡◌, IfOk, IfErr};
 ghost use Rattle.term_text.specs.Text.{Spells};
-ghost use Rattle.tool_io.specs.Terms.{OfInput, HasTerms, IsUnread, IsUnspelled, of_text};
+ghost use Rattle.tool_io.specs.Terms.{OfInput, HasTerms, IsUnread, IsUnspelled};
 
 use crate::fault::ToolFault;
 use crate::input::read_whole;
@@ -60,16 +60,6 @@ fn terms_of<A: Allocator + Copy>(alloc: A, input: &[u8]) -> Result<Vec<Term<A>, 
 {
     match read_terms(alloc, input) {
         Ok(terms) => Ok(terms),
-        Err(fault) => Err(text_fault(fault)),
-    }
-}
-
-/// A fault of the text as one of the program.
-fn text_fault(fault: TextFault) -> ToolFault
-    ensures { result ≡ of_text fault }
-{
-    match fault {
-        TextFault::Memory => ToolFault::Memory,
-        fault => ToolFault::Text(fault),
+        Err(fault) => Err(ToolFault::from(fault)),
     }
 }

@@ -31,7 +31,8 @@ use Rattle.verifier_types.specs.declared.fault.Fault.TheVariants as code
 use Rattle.tool_io.specs.declared.fault.ToolFault.{ToolFault}
 use Rattle.tool_io.specs.declared.fault.ToolFault.TheVariants as fault
 use Rattle.tool_query.specs.Code.{IsFileOf, IsNoBinary}
-use Rattle.tool_query.specs.Query.{Query, Answers, IsRead, IsQuery, IsLoaded, IsNoSpecification, IsUnloaded, IsNoQuery, of_specification, of_file, of_code}
+use Rattle.tool_query.specs.Query.{Query, Answers, IsRead, IsQuery, IsLoaded, IsNoSpecification, IsUnloaded, IsNoQuery}
+use Rattle.tool_io.specs.Wrapped.{of_specification, of_file, of_code}
 
 -- ---- refusals as those of the program
 

@@ -7,16 +7,13 @@ use Rattle.mcode.specs.Program.{Program}
 use Rattle.mspec_syntax.specs.Faults.{IsRefusal}
 use Rattle.mspec_syntax.specs.Grammar.{IsSpecification}
 use Rattle.mspec_syntax.specs.Specification.{Specification, IsWithinLimits}
-use Rattle.mspec_syntax.specs.declared.fault.SpecFault.{SpecFault}
 use Rattle.mspec_syntax.specs.declared.fault.SpecFault.TheVariants as specification
 use Rattle.mspec_meaning.specs.Meaning.{Means}
 use Rattle.code_file.specs.Faults.{IsNoFile}
 use Rattle.code_writer.specs.File.{Spells}
-use Rattle.code_file.specs.declared.fault.FileFault.{FileFault}
 use Rattle.code_file.specs.declared.fault.FileFault.TheVariants as file
 use Rattle.verifier.specs.Faults.{IsFirstFault}
 use Rattle.verifier.specs.Typing.{IsTyped}
-use Rattle.verifier_types.specs.declared.fault.Fault as code_fault
 use Rattle.verifier_types.specs.declared.fault.Fault.TheVariants as code
 use Rattle.tool_io.specs.declared.fault.ToolFault.{ToolFault}
 use Rattle.tool_io.specs.declared.fault.ToolFault.TheVariants as fault
@@ -62,16 +59,3 @@ IsUnloaded bytes f = ⊥
 abbrev pub IsNoQuery : Datum → ToolFault → Type 0
 IsNoQuery (binary bytes) f = IsUnloaded bytes f
 IsNoQuery d f = IsNoSpecification d f
-
--- faults of specifications, files and code as faults of the program
-abbrev pub of_specification : SpecFault → ToolFault
-of_specification specification.Memory = fault.Memory
-of_specification f = fault.Specification f
-
-abbrev pub of_file : FileFault → ToolFault
-of_file file.Memory = fault.Memory
-of_file f = fault.File f
-
-abbrev pub of_code : code_fault.Fault → ToolFault
-of_code code.Memory = fault.Memory
-of_code f = fault.Code f

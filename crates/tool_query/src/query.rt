@@ -6,17 +6,16 @@ ghost use Rattle.mspec_meaning.specs.Meaning.{Means};
 ghost use Rattle.tool_query.specs.Code.{IsFileOf};
 ghost use Rattle.tool_query.specs.Query.{Query as AnyQuery, Answers, IsRead, IsQuery, IsLoaded};
 ghost use Rattle.tool_query.specs.Query.{IsNoSpecification, IsUnloaded, IsNoQuery};
-ghost use Rattle.tool_query.specs.Query.{of_specification, of_file, of_code};
 
-use code_file::{FileFault, decode, encode, one_code};
+use code_file::{decode, encode, one_code};
 use compiler::compile;
 use machine::runs_end_with_the_answer;
 use mspec_reader::read_spec;
-use mspec_syntax::{Spec, SpecFault};
+use mspec_syntax::Spec;
 use std::alloc::{AllocError, Allocator};
 use term_core::{Term, View};
 use tool_io::ToolFault;
-use verifier::{Fault, Verified, faulty_code_is_untyped, verify};
+use verifier::{Verified, faulty_code_is_untyped, verify};
 
 /// The specification that a term is read as.
 pub fn specification_of<A: Allocator + Copy>(alloc: A, term: &Term<A>) -> Result<Spec<A>, ToolFault>
@@ -25,7 +24,7 @@ pub fn specification_of<A: Allocator + Copy>(alloc: A, term: &Term<A>) -> Result
 {
     match read_spec(alloc, term) {
         Ok(specification) => Ok(specification),
-        Err(fault) => Err(specification_fault(fault)),
+        Err(fault) => Err(ToolFault::from(fault)),
     }
 }
 
@@ -36,11 +35,11 @@ pub(crate) fn load<A: Allocator + Copy>(alloc: A, bytes: &[u8]) -> Result<Verifi
 {
     let code = match decode(alloc, bytes) {
         Ok(code) => code,
-        Err(fault) => return Err(file_fault(fault)),
+        Err(fault) => return Err(ToolFault::from(fault)),
     };
     match verify(alloc, code) {
         Ok(code) => Ok(code),
-        Err(refused) => Err(code_fault(refused.fault)),
+        Err(refused) => Err(ToolFault::from(refused.fault)),
     }
 }
 
@@ -94,34 +93,4 @@ pub(crate) fn code_of_query<A: Allocator + Copy>(
     }
     let specification = specification_of(alloc, term)?;
     code_from_file(alloc, &specification)
-}
-
-/// A fault of the specification as one of the program.
-fn specification_fault(fault: SpecFault) -> ToolFault
-    ensures { result ≡ of_specification fault }
-{
-    match fault {
-        SpecFault::Memory => ToolFault::Memory,
-        fault => ToolFault::Specification(fault),
-    }
-}
-
-/// A fault of the file as one of the program.
-fn file_fault(fault: FileFault) -> ToolFault
-    ensures { result ≡ of_file fault }
-{
-    match fault {
-        FileFault::Memory => ToolFault::Memory,
-        fault => ToolFault::File(fault),
-    }
-}
-
-/// A fault of the code as one of the program.
-fn code_fault(fault: Fault) -> ToolFault
-    ensures { result ≡ of_code fault }
-{
-    match fault {
-        Fault::Memory => ToolFault::Memory,
-        fault => ToolFault::Code(fault),
-    }
 }

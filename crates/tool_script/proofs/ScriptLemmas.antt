@@ -28,7 +28,7 @@ use Rattle.tool_script.proofs.CourseLemmas.{takes_in}
 use Rattle.tool_script.proofs.OptionLemmas.{options_named}
 
 -- the table that is open
-pub set_there : {S O A : Type 0} {s : Ghosts S A} (o : Ghosts O A) (t : open_type.OpenTable S A s) (state : Option OpenTable) → HasTable {S = S} {O = O} {A = A} {s = s} {o = o} (current.Set t) state → (there : OpenTable) × (state ≡ Some there) × IsOpen t there
+pub set_there : {S O A : Type 0} {s : Ghosts S A} (o : Ghosts O A) (t : open_type.OpenTable S A s) (state : Option OpenTable) → HasTable {S = S} {O = O} {A = A} {s = s} {o = o} (current.Unordered t) state → (there : OpenTable) × (state ≡ Some there) × IsOpen t there
 set_there o t None there = absurd there
 set_there o t (Some u) there = (u, refl, there)
 

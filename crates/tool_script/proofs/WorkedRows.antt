@@ -8,7 +8,7 @@ use Rattle.term_core.specs.KeyHash.{key_hash}
 use Rattle.term_core.specs.Order.{datum_cmp}
 use Rattle.term_operand.specs.Operand.{boolean}
 use Rattle.part_core.specs.declared.kind.TableKind.{TableKind}
-use Rattle.part_core.specs.declared.kind.TableKind.TheVariants.{Set, OrderedSet, Bag}
+use Rattle.part_core.specs.declared.kind.TableKind.TheVariants.{Set, OrderedSet, Bag, DuplicateBag}
 use Rattle.part_core.specs.Visits.{walk_order}
 use Rattle.part_core.specs.Replies.{reply_of}
 use Rattle.part_core.specs.After.{after}
@@ -67,9 +67,6 @@ abbrev does : ℕ → Ask → Command
 does n ask = Session (pos n) ask
 
 -- ---- what isn't opened
-
-no_bag : replies (opens Bag 1 1 1 ∷ []) ≡ error 60 ∷ []
-no_bag = refl
 
 one_part : replies (opens OrderedSet 1 2 1 ∷ []) ≡ error 60 ∷ []
 one_part = refl
@@ -134,6 +131,33 @@ ordered_session = refl
 ordered_keys : replies (opens OrderedSet 1 1 1 ∷ does 0 (InsertNew (two 2 (word (codes "c")))) ∷ does 0 First ∷ does 0 (Next (key 1)) ∷ Close ∷ []) ≡ yes ∷ yes ∷ key 2 ∷ key 2 ∷ list (two 2 (word (codes "c")) ∷ []) ∷ []
 unfolding reply_of after datum_cmp key_hash walk_order
 ordered_keys = refl
+
+-- ---- bags
+
+abbrev a : Datum
+a = two 1 (word (codes "a"))
+
+abbrev b : Datum
+b = two 1 (word (codes "b"))
+
+abbrev c : Datum
+c = two 2 (word (codes "c"))
+
+abbrev bag_session : TableKind → List Command
+bag_session kind =
+    opens kind 1 1 1 ∷ does 0 (Insert a) ∷ does 0 (Insert b) ∷ does 0 (Insert a) ∷ does 0 (Insert c)
+    ∷ does 0 (Lookup (key 1)) ∷ does 0 (InsertNew (two 1 (word (codes "z")))) ∷ does 0 (DeleteObject a)
+    ∷ does 0 (Take (key 1)) ∷ Close ∷ []
+
+-- an equal object changes nothing, and keeps its place
+of_a_bag : replies (bag_session Bag) ≡ yes ∷ yes ∷ yes ∷ yes ∷ yes ∷ list (a ∷ b ∷ []) ∷ not_so ∷ yes ∷ list (b ∷ []) ∷ list (c ∷ []) ∷ []
+unfolding reply_of after datum_cmp key_hash walk_order
+of_a_bag = refl
+
+-- an equal object is one more
+of_a_duplicate_bag : replies (bag_session DuplicateBag) ≡ yes ∷ yes ∷ yes ∷ yes ∷ yes ∷ list (a ∷ b ∷ a ∷ []) ∷ not_so ∷ yes ∷ list (b ∷ []) ∷ list (c ∷ []) ∷ []
+unfolding reply_of after datum_cmp key_hash walk_order
+of_a_duplicate_bag = refl
 
 -- ---- two sessions that fix a set
 

@@ -14,7 +14,7 @@ use Rattle.mcode.specs.Program.{Program}
 use Rattle.mcode.specs.declared.instr.Instr.{Instr}
 use Rattle.mcode.specs.declared.instr.Instr.TheVariants as instr
 use Rattle.part_core.specs.declared.kind.TableKind.{TableKind}
-use Rattle.part_core.specs.declared.kind.TableKind.TheVariants.{Set, OrderedSet}
+use Rattle.part_core.specs.declared.kind.TableKind.TheVariants.{Set, OrderedSet, Bag, DuplicateBag}
 use Rattle.part_core.specs.Visits.{walk_order}
 use Rattle.part_core.specs.Replies.{reply_of}
 use Rattle.part_core.specs.After.{after}
@@ -217,3 +217,31 @@ named_in_order = refl
 named_in_pieces : replies (opens Set 1 2 1 ∷ (inserts (1 ∷ 2 ∷ 3 ∷ []) ++ selects (pos 0) (SelectLimit names (pos 1)) (named (2 ∷ 1 ∷ [])) ∷ does 0 (Delete (key 1)) ∷ more 0 0 ∷ plain Close ∷ [])) ≡ yes ∷ (yes_each (1 ∷ 2 ∷ 3 ∷ []) ++ piece_term (word (codes "two") ∷ []) 0 ∷ yes ∷ end ∷ list (one 2 ∷ one 3 ∷ []) ∷ [])
 unfolding reply_of after datum_cmp key_hash answer_of walk_order
 named_in_pieces = refl
+
+-- ---- bags: a piece may end between two objects of a key
+
+abbrev pair : ℕ → List ℕ → Datum
+pair n cs = tuple (items_of (key n ∷ word cs ∷ []))
+
+abbrev whole : Verdict
+whole = Meant (answer_of (program [] (instr.Load ∷ instr.Answer ∷ []))) None
+
+-- the code of [{{'$1',a},[],[true]}], but for its match of tuples of two elements, which all objects here are
+abbrev is_a : Verdict
+is_a =
+    Meant (answer_of (program (word (codes "a") ∷ []) (instr.Load ∷ instr.Field 2 ∷ instr.Const 0 ∷ instr.Call (function.Comparison comparison.Equal) 2 5 ∷ instr.Answer ∷ instr.NoAnswer ∷ []))) None
+
+abbrev bag_walk : TableKind → List Line
+bag_walk kind =
+    opens kind 1 1 1 ∷ does 0 (Insert (pair 1 (codes "a"))) ∷ does 0 (Insert (pair 1 (codes "b")))
+    ∷ does 0 (Insert (pair 1 (codes "a"))) ∷ does 0 (Insert (pair 2 (codes "c")))
+    ∷ selects (pos 0) (SelectCount query) is_a ∷ selects (pos 0) (SelectLimit query (pos 2)) whole
+    ∷ selects (pos 0) (SelectMore (pos 0)) whole ∷ []
+
+bag_in_pieces : replies (bag_walk Bag) ≡ yes ∷ (yes_each (1 ∷ 1 ∷ 1 ∷ 2 ∷ []) ++ key 1 ∷ piece_term (pair 1 (codes "a") ∷ pair 1 (codes "b") ∷ []) 0 ∷ piece_term (pair 2 (codes "c") ∷ []) 1 ∷ [])
+unfolding reply_of after datum_cmp key_hash answer_of
+bag_in_pieces = refl
+
+duplicates_in_pieces : replies (bag_walk DuplicateBag) ≡ yes ∷ (yes_each (1 ∷ 1 ∷ 1 ∷ 2 ∷ []) ++ key 2 ∷ piece_term (pair 1 (codes "a") ∷ pair 1 (codes "b") ∷ []) 0 ∷ piece_term (pair 1 (codes "a") ∷ pair 2 (codes "c") ∷ []) 1 ∷ [])
+unfolding reply_of after datum_cmp key_hash answer_of
+duplicates_in_pieces = refl

@@ -5,7 +5,7 @@ use Rattle.term_core.specs.Datum.{Datum, cells}
 use Rattle.term_core.specs.Datum.Datum.{integer, atom, nil}
 use Rattle.term_operand.specs.Operand.{boolean}
 use Rattle.part_core.specs.declared.kind.TableKind.{TableKind}
-use Rattle.part_core.specs.Settings.{is_ordered, is_set, is_object, key_of, part_of}
+use Rattle.part_core.specs.Settings.{is_ordered, is_object, key_of, part_of}
 use Rattle.part_core.specs.Acts.{Act, Answer, Said, Refusal}
 use Rattle.part_core.specs.Acts.Said.{Nothing, Flag, Objects, AtKey, Found, Counted}
 use Rattle.part_core.specs.Acts.Answer.{Replied, Refused}
@@ -117,11 +117,10 @@ abbrev pub number_within : ℕ → ℕ → ℤ → Option ℕ
 number_within low high (pos n) = if nat_le low n && nat_le n high then Some n else None
 number_within low high z = None
 
--- the options of a table that can be opened: a set or an ordered set, with numbers in their ranges, and an ordered set
--- in one part
+-- the options of a table that can be opened: numbers in their ranges, and an ordered set in one part
 abbrev pub options_with : ℕ → TableKind → Option ℕ → Option ℕ → Option ℕ → Option Options
 options_with name kind (Some keypos) (Some parts) (Some sessions) =
-    if is_set kind && (not (is_ordered kind) || parts == 1)
+    if not (is_ordered kind) || parts == 1
     then Some (record { name = name; kind = kind; keypos = keypos; parts = parts; sessions = sessions }) else None
 options_with name kind keypos parts sessions = None
 

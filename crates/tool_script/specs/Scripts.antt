@@ -16,14 +16,14 @@ use Rattle.tool_script.specs.Replied.{course, IsReply}
 -- the table that is open is in its state, if one is
 abbrev pub HasTable : {S O A : Type 0} {s : Ghosts S A} {o : Ghosts O A} → Current S O A s o → Option OpenTable → Type 0
 HasTable current.NoTable None = Unit {0}
-HasTable (current.Set t) (Some state) = IsOpen t state
+HasTable (current.Unordered t) (Some state) = IsOpen t state
 HasTable (current.Ordered t) (Some state) = IsOpen t state
 HasTable t state = ⊥
 
 -- what it was opened with
 abbrev pub open_options : {S O A : Type 0} {s : Ghosts S A} {o : Ghosts O A} → Current S O A s o → Option Options
 open_options current.NoTable = None
-open_options (current.Set t) = Some t.table.options
+open_options (current.Unordered t) = Some t.table.options
 open_options (current.Ordered t) = Some t.table.options
 
 -- A script is in its state: how many tables were opened, one of which is the one that is open; its table; and its

@@ -12,9 +12,7 @@ use part_core::{MAX_KEYPOS, MAX_PARTS, MAX_SESSIONS, Part, TableKind};
 use std::alloc::{AllocError, Allocator, Global};
 use tables::{LocalTable, Options};
 use term_core::Term;
-
-/// The number of a session that isn't there, or has left.
-const STRANGER_SESSION: u8 = 61;
+use tool_io::STRANGER_SESSION;
 
 /// A number from 1 on, up to another.
 fn keypos_in(value: i64) -> Option<u16>
@@ -36,8 +34,8 @@ fn small_in(value: i64, most: u8) -> Option<u8>
     Some(value as u8)
 }
 
-/// The options of a table that can be opened, none where the numbers are outside their ranges, an ordered set has more
-/// than one part, or the table may hold more than one object a key.
+/// The options of a table that can be opened, none where the numbers are outside their ranges or an ordered set has
+/// more than one part.
 pub(crate) fn options_in(
     name: u64,
     kind: TableKind,
@@ -51,9 +49,6 @@ pub(crate) fn options_in(
     let keypos = keypos_in(keypos)?;
     let parts = small_in(parts, MAX_PARTS)?;
     let sessions = small_in(sessions, MAX_SESSIONS)?;
-    if !kind.is_set() {
-        return None;
-    }
     if kind.is_ordered() && parts != 1 {
         return None;
     }

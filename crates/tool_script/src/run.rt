@@ -1,6 +1,7 @@
 //! Scripts, from a reader to a writer.
 ghost use Rattle.std.specs.Prelude.{◌≡◌, ◌≤◌, ◌<◌, ◌+◌, IfErr, IfOk, IsTrue, OnOk, OnErr};
-ghost use Rattle.part_core.specs.declared.kind.TableKind.TheVariants.{Set, OrderedSet};
+ghost use Rattle.part_core.specs.declared.kind.TableKind.TheVariants.{OrderedSet};
+ghost use Rattle.part_core.specs.Served.{ServesUnordered};
 ghost use Rattle.tool_script.specs.Script.{beginning};
 ghost use Rattle.tool_script.specs.Scripts.{HasState};
 ghost use Rattle.tool_script.specs.Input.{OfScript, StopsScript};
@@ -20,7 +21,7 @@ fn put_next<S: Part<A> + Drop, O: Part<A> + Drop, A: Allocator + Copy>(
     term: &Term<A>,
     lines: &mut Vec<u8, A>,
 ) -> Result<(), AllocError>
-    requires set { IsTrue (S.serves Set) }
+    requires unordered { ServesUnordered S.serves }
     requires ordered { IsTrue (O.serves OrderedSet) }
     requires count { script.old.count < 18446744073709551615 }
     ensures count { script.new.count ≤ script.old.count + 1 }
@@ -39,7 +40,7 @@ pub(crate) fn run_terms<S: Part<A> + Drop, O: Part<A> + Drop, A: Allocator + Cop
     terms: &[Term<A>],
     writer: &mut W,
 ) -> Result<(), ToolFault>
-    requires set { IsTrue (S.serves Set) }
+    requires unordered { ServesUnordered S.serves }
     requires ordered { IsTrue (O.serves OrderedSet) }
     requires beginning { HasState script.old beginning }
     requires count { script.old.count ≡ 0 }
@@ -66,7 +67,7 @@ pub(crate) fn run_with<
     R: Read,
     W: Write,
 >(alloc: A, script: &mut Script<S, O, A>, reader: &mut R, writer: &mut W) -> Result<(), ToolFault>
-    requires set { IsTrue (S.serves Set) }
+    requires unordered { ServesUnordered S.serves }
     requires ordered { IsTrue (O.serves OrderedSet) }
     requires beginning { HasState script.old beginning }
     requires count { script.old.count ≡ 0 }
@@ -79,15 +80,15 @@ pub(crate) fn run_with<
     run_terms(alloc, script, terms.as_slice(), writer)
 }
 
-/// Reads a script, to the reader's end, and writes the line of the reply to each of its terms: tables of kind `set` are
-/// made of parts `S`, ordered sets of parts `O`. A text that is refused writes nothing; where memory runs out, the
+/// Reads a script, to the reader's end, and writes the line of the reply to each of its terms: sets and bags are made
+/// of parts `S`, ordered sets of parts `O`. A text that is refused writes nothing; where memory runs out, the
 /// lines of the replies to a beginning of the terms are written.
 pub fn run_script<S: Part<A> + Drop, O: Part<A> + Drop, A: Allocator + Copy, R: Read, W: Write>(
     alloc: A,
     reader: &mut R,
     writer: &mut W,
 ) -> Result<(), ToolFault>
-    requires set { IsTrue (S.serves Set) }
+    requires unordered { ServesUnordered S.serves }
     requires ordered { IsTrue (O.serves OrderedSet) }
     ensures ok { OnOk result (OfScript (R.remaining reader.old) (λ terms.
         WritesReplies terms (W.contents writer.old) (W.contents writer.new))) }

@@ -3,44 +3,42 @@ use crate::command::{Ask, Command, Selection, read_command};
 use crate::open::{OpenTable, options_in};
 use crate::reply::CommandReply;
 use crate::walk::Walks;
-use part_core::{Part, TableKind};
+use part_core::{OpenFault, Part, TableKind};
 use std::alloc::{AllocError, Allocator, Global};
 use std::mem;
 use tables::Options;
 use term_core::Term;
-
-/// The number of what is no command here.
-const BAD_INPUT: u8 = 65;
-/// The number of options with which no table is opened.
-const BAD_OPTIONS: u8 = 60;
+use tool_io::BAD_INPUT;
 
 /// The table that is open, by its kind, if one is.
 #[derive(Drop)]
 pub(crate) enum Current<S: Part<A> + Drop, O: Part<A> + Drop, A: Allocator = Global> {
     /// No table is open.
     NoTable,
-    /// A set.
-    Set(OpenTable<S, A>),
+    /// A set or a bag.
+    Unordered(OpenTable<S, A>),
     /// An ordered set.
     Ordered(OpenTable<O, A>),
 }
 
 impl<S: Part<A> + Drop, O: Part<A> + Drop, A: Allocator + Copy> Current<S, O, A> {
-    ghost use Rattle.std.specs.Prelude.{◌≡◌, ◌≢◌, IfOk, Option, Some, is_some};
+    ghost use Rattle.std.specs.Prelude.{◌≡◌, IfOk, IsFalse, IsTrue, Option, Some, is_some};
+    ghost use Rattle.part_core.specs.Settings.{is_ordered};
     ghost use Rattle.tables.specs.Options.{IsOpenable};
     ghost use Rattle.tool_script.specs.Script.{OpenTable as OpenState, newly_opened};
     ghost use Rattle.tool_script.specs.Scripts.{HasTable, open_options};
 
     /// A table that is opened.
     fn open(alloc: A, options: Options) -> Result<Self, AllocError>
-        requires set { options.kind ≡ TableKind.Set → IsOpenable S.serves options }
-        requires ordered { options.kind ≢ TableKind.Set → IsOpenable O.serves options }
+        requires unordered { IsFalse (is_ordered options.kind) → IsOpenable S.serves options }
+        requires ordered { IsTrue (is_ordered options.kind) → IsOpenable O.serves options }
         ensures table { IfOk result (λ current. HasTable current (Some (newly_opened options))) }
         ensures options { IfOk result (λ current. open_options current ≡ Some options) }
     {
-        match options.kind {
-            TableKind::Set => Ok(Current::Set(OpenTable::new(alloc, options)?)),
-            _ => Ok(Current::Ordered(OpenTable::new(alloc, options)?)),
+        if options.kind.is_ordered() {
+            Ok(Current::Ordered(OpenTable::new(alloc, options)?))
+        } else {
+            Ok(Current::Unordered(OpenTable::new(alloc, options)?))
         }
     }
 
@@ -50,7 +48,7 @@ impl<S: Part<A> + Drop, O: Part<A> + Drop, A: Allocator + Copy> Current<S, O, A>
     {
         match self {
             Current::NoTable => false,
-            Current::Set(_) => true,
+            Current::Unordered(_) => true,
             Current::Ordered(_) => true,
         }
     }
@@ -70,7 +68,8 @@ pub(crate) struct Script<S: Part<A> + Drop, O: Part<A> + Drop, A: Allocator = Gl
 
 impl<S: Part<A> + Drop, O: Part<A> + Drop, A: Allocator + Copy> Script<S, O, A> {
     ghost use Rattle.std.specs.Prelude.{◌≡◌, ◌≤◌, ◌<◌, ◌+◌, IfOk, IsTrue};
-    ghost use Rattle.part_core.specs.declared.kind.TableKind.TheVariants.{Set, OrderedSet};
+    ghost use Rattle.part_core.specs.declared.kind.TableKind.TheVariants.{OrderedSet};
+    ghost use Rattle.part_core.specs.Served.{ServesUnordered};
     ghost use Rattle.tool_script.specs.Command.Command.{Open, Session, Walk, Close};
     ghost use Rattle.tool_script.specs.Commands.{ask_of, command_of, selection_of};
     ghost use Rattle.tool_script.specs.Replies.{reply_term};
@@ -98,7 +97,7 @@ impl<S: Part<A> + Drop, O: Part<A> + Drop, A: Allocator + Copy> Script<S, O, A> 
         parts: i64,
         sessions: i64,
     ) -> Result<CommandReply<A>, AllocError>
-        requires set { IsTrue (S.serves Set) }
+        requires unordered { ServesUnordered S.serves }
         requires ordered { IsTrue (O.serves OrderedSet) }
         requires count { self.old.count < 18446744073709551615 }
         ensures count { self.new.count ≤ self.old.count + 1 }
@@ -109,7 +108,7 @@ impl<S: Part<A> + Drop, O: Part<A> + Drop, A: Allocator + Copy> Script<S, O, A> 
             return Ok(CommandReply::Error(BAD_INPUT));
         }
         let Some(options) = options_in(self.count, kind, keypos, parts, sessions) else {
-            return Ok(CommandReply::Error(BAD_OPTIONS));
+            return Ok(CommandReply::Error(OpenFault::BadOptions.number()));
         };
         let table = Current::open(self.alloc, options)?;
         mem::replace(&mut self.current, table).let_go();
@@ -124,7 +123,7 @@ impl<S: Part<A> + Drop, O: Part<A> + Drop, A: Allocator + Copy> Script<S, O, A> 
             IsStep self.old self.new Close (reply_term reply)) }
     {
         match mem::replace(&mut self.current, Current::NoTable) {
-            Current::Set(table) => Ok(CommandReply::Objects(table.close(self.alloc)?)),
+            Current::Unordered(table) => Ok(CommandReply::Objects(table.close(self.alloc)?)),
             Current::Ordered(table) => Ok(CommandReply::Objects(table.close(self.alloc)?)),
             Current::NoTable => Ok(CommandReply::Error(BAD_INPUT)),
         }
@@ -137,7 +136,7 @@ impl<S: Part<A> + Drop, O: Part<A> + Drop, A: Allocator + Copy> Script<S, O, A> 
             IsStep self.old self.new (Session number (ask_of ask.entry)) (reply_term reply)) }
     {
         match &mut self.current {
-            Current::Set(table) => table.admit(number, ask),
+            Current::Unordered(table) => table.admit(number, ask),
             Current::Ordered(table) => table.admit(number, ask),
             Current::NoTable => Ok(CommandReply::Error(BAD_INPUT)),
         }
@@ -156,7 +155,7 @@ impl<S: Part<A> + Drop, O: Part<A> + Drop, A: Allocator + Copy> Script<S, O, A> 
         let alloc = self.alloc;
         let walks = &mut self.walks;
         match &mut self.current {
-            Current::Set(table) => table.admit_walk(alloc, walks, number, selection),
+            Current::Unordered(table) => table.admit_walk(alloc, walks, number, selection),
             Current::Ordered(table) => table.admit_walk(alloc, walks, number, selection),
             Current::NoTable => Ok(CommandReply::Error(BAD_INPUT)),
         }
@@ -164,7 +163,7 @@ impl<S: Part<A> + Drop, O: Part<A> + Drop, A: Allocator + Copy> Script<S, O, A> 
 
     /// Does what a command says.
     fn obey(&mut self, command: Command<'_, A>) -> Result<CommandReply<A>, AllocError>
-        requires set { IsTrue (S.serves Set) }
+        requires unordered { ServesUnordered S.serves }
         requires ordered { IsTrue (O.serves OrderedSet) }
         requires count { self.old.count < 18446744073709551615 }
         ensures count { self.new.count ≤ self.old.count + 1 }
@@ -183,7 +182,7 @@ impl<S: Part<A> + Drop, O: Part<A> + Drop, A: Allocator + Copy> Script<S, O, A> 
 
     /// Obeys the command that a term says, and refuses a term that says none.
     pub(crate) fn interpret(&mut self, term: &Term<A>) -> Result<CommandReply<A>, AllocError>
-        requires set { IsTrue (S.serves Set) }
+        requires unordered { ServesUnordered S.serves }
         requires ordered { IsTrue (O.serves OrderedSet) }
         requires count { self.old.count < 18446744073709551615 }
         ensures count { self.new.count ≤ self.old.count + 1 }

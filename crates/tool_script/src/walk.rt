@@ -20,15 +20,11 @@ use std::alloc::{AllocError, Allocator};
 use std::mem;
 use tables::Turns;
 use term_core::Term;
+use tool_io::{BAD_LIMIT, STRANGER_CONTINUATION};
 use walks::{
     Continuation, Query, Step, select, select_count, select_delete, select_limit, select_more,
     steps_are_pieces, whole_walks_count, whole_walks_remove, whole_walks_select,
 };
-
-/// The number of a continuation that isn't there, is spent, or is of another table or session.
-const STRANGER_CONTINUATION: u8 = 62;
-/// The number of a limit below 1.
-const BAD_LIMIT: u8 = 63;
 
 /// The walks that can go on, by the numbers of their continuations; none in the place of one that is spent.
 pub(crate) type Walks<A> = Vec<Option<Continuation<A>>, A>;

@@ -2,13 +2,13 @@ use Rattle.std.proofs.Common.{◌≡◌, ◌∙◌, sym, refl, w64, to_z, of_z, 
 use Rattle.std.specs.Prelude.{FitsSigned}
 use Rattle.std.proofs.lemmas.Int.{to_z-of_z}
 use Rattle.tool_script.specs.Script.{number_within, options_with}
-use Rattle.tool_script.proofs.OptionLemmas.{set_openable, ordered_openable}
+use Rattle.tool_script.proofs.OptionLemmas.{unordered_openable, ordered_openable}
 use Rattle.tool_script.proofs.ScriptLemmas.{opened_step}
 use Rattle.tool_script.proofs.script.Script.open.Goals as goal
 
-pub open-requires-clause-set : goal.open-requires-clause-set
-open-requires-clause-set g c =
-    set_openable g.S.Part.serves c.args.self.now.count c.args.kind (to_z w64 (of_z w64 c.args.keypos)) (to_z w64 (of_z w64 c.args.parts)) (to_z w64 (of_z w64 c.args.sessions)) c.in-Some.options c.requires.set (sym c.options_in.ensures ∙ c.in-Some.is)
+pub open-requires-clause-unordered : goal.open-requires-clause-unordered
+open-requires-clause-unordered g c =
+    unordered_openable g.S.Part.serves c.args.self.now.count c.args.kind (to_z w64 (of_z w64 c.args.keypos)) (to_z w64 (of_z w64 c.args.parts)) (to_z w64 (of_z w64 c.args.sessions)) c.in-Some.options c.requires.unordered (sym c.options_in.ensures ∙ c.in-Some.is)
 
 pub open-requires-clause-ordered : goal.open-requires-clause-ordered
 open-requires-clause-ordered g c =
