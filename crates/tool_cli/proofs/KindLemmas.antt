@@ -7,7 +7,7 @@ use Rattle.clap.specs.Lexer.{has_byte}
 use Rattle.clap.specs.Kinds.{Kinds, or_else}
 use Rattle.clap.specs.Walk.{Text}
 use Rattle.clap.specs.declared.error.kind.ErrorKind.{ErrorKind}
-use Rattle.clap.specs.declared.error.kind.ErrorKind.TheVariants as kind
+use Rattle.clap.specs.declared.error.kind.ErrorKind.TheVariants as error
 use Rattle.tool_cli.specs.Words.{Asked, command, help, topic, mistake}
 
 -- ---- texts and tests
@@ -40,13 +40,13 @@ no_equals_sign (x ∷ xs) e =
 -- ---- kinds
 
 abbrev pub is_mistake : ErrorKind → Bool
-is_mistake kind.UnknownArgument = true
-is_mistake kind.InvalidSubcommand = true
-is_mistake kind.MissingSubcommand = true
-is_mistake kind.TooManyValues = true
-is_mistake kind.InvalidValue = true
-is_mistake kind.ValueValidation = true
-is_mistake kind.ArgumentConflict = true
+is_mistake error.UnknownArgument = true
+is_mistake error.InvalidSubcommand = true
+is_mistake error.MissingSubcommand = true
+is_mistake error.TooManyValues = true
+is_mistake error.InvalidValue = true
+is_mistake error.ValueValidation = true
+is_mistake error.ArgumentConflict = true
 is_mistake _ = false
 
 -- some kinds, all of them of words that are not understood
@@ -56,7 +56,7 @@ are_mistakes (k ∷ ks) = list_all is_mistake (k ∷ ks)
 
 -- what one flag is refused for, which enters no command
 abbrev pub Refuses : Asked → Kinds → Type 0
-Refuses help ks = ks ≡ kind.DisplayHelp ∷ []
+Refuses help ks = ks ≡ error.DisplayHelp ∷ []
 Refuses mistake ks = are_mistakes ks ≡ true
 Refuses a ks = ⊥
 

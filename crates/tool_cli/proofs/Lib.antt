@@ -1,7 +1,7 @@
 mod WorkedRows
 pub mod KindLemmas
 pub mod NumberLemmas
+pub mod KindReads
 pub mod OptionLemmas
-pub mod ScanLemmas
 pub mod WordsLemmas
 pub mod EndLemmas

@@ -2,14 +2,20 @@
 use Rattle.std.proofs.Common.{◌≡◌, ℕ, List, [], ◌∷◌, refl, codes}
 use Rattle.clap.proofs.OnLiterals.{clap_on_literals}
 use Rattle.clap.specs.Walk.{Text}
+use Rattle.tool_scan.specs.declared.options.ScanKind.{ScanKind}
+use Rattle.tool_scan.specs.declared.options.ScanKind.TheVariants as kinds
 use Rattle.tool_cli.specs.Words.{Asked, command, help, topic, mistake, asked}
 use Rattle.tool_cli.specs.declared.words.Request.TheVariants as request
 
 abbrev scan : List Text → Asked
 scan words = asked (codes "ets_tool" ∷ codes "scan" ∷ words)
 
+abbrev options_of : ScanKind → ℕ → ℕ → ℕ → Asked
+options_of kind keypos parts workers =
+    command (request.Scan (record { kind = kind; keypos = keypos; parts = parts; workers = workers }))
+
 abbrev options : ℕ → ℕ → ℕ → Asked
-options keypos parts workers = command (request.Scan (record { keypos = keypos; parts = parts; workers = workers }))
+options = options_of kinds.Set
 
 none_given : scan [] ≡ options 1 1 1
 none_given = refl
@@ -76,3 +82,47 @@ help_for_a_number = refl
 
 help_on_scan : asked (codes "ets_tool" ∷ codes "help" ∷ codes "scan" ∷ []) ≡ topic
 help_on_scan = refl
+
+a_bag : scan (codes "--kind" ∷ codes "bag" ∷ []) ≡ options_of kinds.Bag 1 1 1
+unfolding clap_on_literals
+a_bag = refl
+
+a_bag_attached : scan (codes "--kind=bag" ∷ codes "--parts" ∷ codes "2" ∷ []) ≡ options_of kinds.Bag 1 2 1
+unfolding clap_on_literals
+a_bag_attached = refl
+
+a_duplicate_bag : scan (codes "--workers" ∷ codes "3" ∷ codes "--kind" ∷ codes "duplicate_bag" ∷ []) ≡ options_of kinds.DuplicateBag 1 1 3
+unfolding clap_on_literals
+a_duplicate_bag = refl
+
+a_set : scan (codes "--kind=set" ∷ []) ≡ options 1 1 1
+unfolding clap_on_literals
+a_set = refl
+
+no_kind : scan (codes "--kind" ∷ []) ≡ mistake
+unfolding clap_on_literals
+no_kind = refl
+
+an_empty_kind : scan (codes "--kind=" ∷ []) ≡ mistake
+unfolding clap_on_literals
+an_empty_kind = refl
+
+another_kind : scan (codes "--kind" ∷ codes "heap" ∷ []) ≡ mistake
+unfolding clap_on_literals
+another_kind = refl
+
+an_ordered_kind : scan (codes "--kind" ∷ codes "ordered_set" ∷ []) ≡ mistake
+unfolding clap_on_literals
+an_ordered_kind = refl
+
+a_kind_in_capitals : scan (codes "--kind" ∷ codes "Bag" ∷ []) ≡ mistake
+unfolding clap_on_literals
+a_kind_in_capitals = refl
+
+a_kind_twice : scan (codes "--kind" ∷ codes "bag" ∷ codes "--kind=bag" ∷ []) ≡ mistake
+unfolding clap_on_literals
+a_kind_twice = refl
+
+help_behind_another_kind : scan (codes "--kind" ∷ codes "heap" ∷ codes "--help" ∷ []) ≡ mistake
+unfolding clap_on_literals
+help_behind_another_kind = refl

@@ -6,13 +6,18 @@ use Rattle.std.specs.Option.{option_and_then}
 use Rattle.std.specs.Str.{bytes_eq, chars}
 use Rattle.std.specs.Str.Parse.{digits_value, without_leading_plus}
 use Rattle.clap.specs.Lexer.{long_of, without_minus}
-use Rattle.clap.specs.ValueTests.{is_signed_in}
+use Rattle.clap.specs.ValueTests.{accepts, is_signed_in}
+use Rattle.clap.specs.Values.{reading_of}
 use Rattle.clap.specs.Walk.{Row, Rule, one_of}
 use Rattle.clap.specs.Words.{App, Text, kind_of, new_app, new_rule, with_rule, with_subcommand}
 use Rattle.clap.specs.Simple.{Shape}
+use Rattle.clap.specs.declared.builder.value_parser.Reading.TheVariants as reading
+use Rattle.clap.specs.declared.builder.value_parser.ValueParser.{ValueParser}
 use Rattle.clap.specs.declared.builder.value_parser.ValueParser.TheVariants as parser
 use Rattle.clap.specs.declared.error.Error.{Error}
-use Rattle.clap.specs.declared.error.kind.ErrorKind.TheVariants as kind
+use Rattle.clap.specs.declared.error.kind.ErrorKind.TheVariants as error
+use Rattle.tool_scan.specs.Options.{is_kind, kind_named}
+use Rattle.tool_scan.specs.declared.options.ScanKind.{ScanKind}
 use Rattle.tool_scan.specs.declared.options.ScanOptions.{ScanOptions}
 use Rattle.tool_cli.specs.declared.words.Request.{Request}
 use Rattle.tool_cli.specs.declared.words.Request.TheVariants as request
@@ -52,37 +57,51 @@ asked_behind r (word ∷ next ∷ rest) = asked_by_flag word
 
 -- ---- the options of `scan`
 
--- the most that the number of an option may be; none of another name
-abbrev pub most_of : Text → Option ℕ
-most_of name =
-    if bytes_eq (codes "keypos") name then Some 65535
-    else (if bytes_eq (codes "parts") name then Some 64
-    else (if bytes_eq (codes "workers") name then Some 16 else None))
+-- what an option takes: a number from 1 to a most, or the name of a kind of table
+pub data Takes : Type 0 where
+  number : ℕ → Takes
+  kind : Takes
 
--- options that were given, in their order: the name of each, and the text of its number
+-- none of another name
+abbrev pub takes_of : Text → Option Takes
+takes_of name =
+    if bytes_eq (codes "kind") name then Some kind
+    else (if bytes_eq (codes "keypos") name then Some (number 65535)
+    else (if bytes_eq (codes "parts") name then Some (number 64)
+    else (if bytes_eq (codes "workers") name then Some (number 16) else None)))
+
+-- options that were given, in their order: the name and the text of each
 abbrev pub Given : Type 0
 Given = List (Text × Text)
 
 abbrev pub is_given : Given → Text → Bool
 is_given given name = list_any (λ g. bytes_eq g.0 name) given
 
--- the text is a number from 1 to the most of an option
-abbrev pub is_number_of : Option ℕ → Text → Bool
-is_number_of None value = false
-is_number_of (Some most) value = is_signed_in (pos 1) (pos most) value
+-- the text is what an option takes
+abbrev pub is_value_of : Option Takes → Text → Bool
+is_value_of None value = false
+is_value_of (Some (number most)) value = is_signed_in (pos 1) (pos most) value
+is_value_of (Some kind) value = is_kind value
 
--- an option is taken that wasn't given before, with a number
+-- an option is taken that wasn't given before, with what it takes
 abbrev pub is_taken : Given → Text → Text → Bool
-is_taken given name value = not (is_given given name) && is_number_of (most_of name) value
+is_taken given name value = not (is_given given name) && is_value_of (takes_of name) value
+
+-- the text of an option, or another where it isn't given
+abbrev pub text_given : Text → Text → Given → Text
+text_given name other [] = other
+text_given name other (g ∷ rest) =
+    if bytes_eq g.0 name then g.1 else text_given name other rest
 
 -- the number of an option, which is 1 where it isn't given
 abbrev pub number_given : Text → Given → ℕ
-number_given name [] = 1
-number_given name (g ∷ rest) =
-    if bytes_eq g.0 name then digits_value 10 (without_leading_plus g.1) else number_given name rest
+number_given name given =
+    digits_value 10 (without_leading_plus (text_given name (codes "1") given))
 
+-- the kind of the table, which is a set where none is given
 abbrev pub options_by : Given → ScanOptions
 options_by given = record {
+  kind = kind_named (text_given (codes "kind") (codes "set") given);
   keypos = number_given (codes "keypos") given;
   parts = number_given (codes "parts") given;
   workers = number_given (codes "workers") given;
@@ -91,7 +110,7 @@ options_by given = record {
 -- the word is `--name` or `--name=value` of an option
 abbrev pub option_in : Text → Option (Text × Option Text)
 option_in word =
-    option_and_then (λ p. if is_some (most_of p.0) then Some p else None) (long_of word)
+    option_and_then (λ p. if is_some (takes_of p.0) then Some p else None) (long_of word)
 
 -- a hyphen with characters behind it
 abbrev pub is_some_text : Text → Bool
@@ -106,11 +125,11 @@ abbrev pub taken : Given → Text → Text → (Given → Asked) → Asked
 taken given name value next =
     if is_taken given name value then next (given ++ (name, value) ∷ []) else mistake
 
--- a word of options: one with its number, one whose number is the next word, or another
+-- a word of options: one with its value, one whose value is the next word, or another
 abbrev pub asked_word : Given → Text → Option (Text × Option Text) → (Given → Asked) → (Text → Asked) → Asked
-asked_word given word None with_number alone = asked_by_flag word
-asked_word given word (Some (name, Some value)) with_number alone = taken given name value with_number
-asked_word given word (Some (name, None)) with_number alone = alone name
+asked_word given word None with_value alone = asked_by_flag word
+asked_word given word (Some (name, Some value)) with_value alone = taken given name value with_value
+asked_word given word (Some (name, None)) with_value alone = alone name
 
 -- the words behind `scan`: options, maybe with `--` behind them, each once
 abbrev pub asked_options : Given → List Text → Asked
@@ -143,12 +162,12 @@ asked words = asked_by (drop 1 words)
 -- each case there may be no memory. On what stands behind `help` there is help, or no such command.
 abbrev pub Reads : Asked → Result Request Error → Type 0
 Reads (command r) (Ok answer) = answer ≡ r
-Reads (command r) (Err e) = kind_of e ≡ kind.OutOfMemory
-Reads help (Err e) = (kind_of e ≡ kind.OutOfMemory) ⊎ (kind_of e ≡ kind.DisplayHelp)
+Reads (command r) (Err e) = kind_of e ≡ error.OutOfMemory
+Reads help (Err e) = (kind_of e ≡ error.OutOfMemory) ⊎ (kind_of e ≡ error.DisplayHelp)
 Reads topic (Err e) =
-    (kind_of e ≡ kind.OutOfMemory)
-    ⊎ (kind_of e ≡ kind.DisplayHelp) ⊎ (kind_of e ≡ kind.InvalidSubcommand)
-Reads mistake (Err e) = (kind_of e ≢ kind.DisplayHelp) × (kind_of e ≢ kind.DisplayVersion)
+    (kind_of e ≡ error.OutOfMemory)
+    ⊎ (kind_of e ≡ error.DisplayHelp) ⊎ (kind_of e ≡ error.InvalidSubcommand)
+Reads mistake (Err e) = (kind_of e ≢ error.DisplayHelp) × (kind_of e ≢ error.DisplayVersion)
 Reads a (Ok answer) = ⊥
 
 -- the program, which wants a command, and a command of it, as `clap` is told of them
@@ -161,25 +180,46 @@ command_shape r = (new_app (name_of r)).top
 abbrev pub bare_app : App
 bare_app = record { top = tool_shape; subs = [] }
 
+-- The values of an option are taken that name a kind, and are read as they are written: what is known of the parser of
+-- `--kind`, whose names are those of a slice that `clap` holds.
+pub record IsKindParser (p : ValueParser) : Type 0 where
+  pub accepts : (value : Text) → accepts false p value ≡ is_kind value
+  pub reading : reading_of p ≡ reading.AsWritten
+
+abbrev pub parser_for : ValueParser → Takes → ValueParser
+parser_for p (number most) = parser.Signed (pos 1) (pos most)
+parser_for p kind = p
+
+-- what stands for an option that isn't given
+abbrev pub default_for : Takes → Text
+default_for (number most) = codes "1"
+default_for kind = codes "set"
+
 -- an option of `scan`
-abbrev pub option_rule : Text → ℕ → Rule
-option_rule name most = record (new_rule name) {
+abbrev pub option_rule : Text → Text → ValueParser → Rule
+option_rule name default p = record (new_rule name) {
   long = Some name;
   value_names = 1;
-  defaults = codes "1" ∷ [];
-  parser = Some (parser.Signed (pos 1) (pos most));
+  defaults = default ∷ [];
+  parser = Some p;
 }
 
-abbrev pub scan_shape : Shape
-scan_shape =
-    (with_rule
-    (with_rule
-    (with_rule (new_app (codes "scan")) (option_rule (codes "keypos") 65535))
-    (option_rule (codes "parts") 64))
-    (option_rule (codes "workers") 16)).top
+-- an option by what it takes, with the parser of kinds
+abbrev pub rule_for : ValueParser → Text → Takes → Rule
+rule_for p name t = option_rule name (default_for t) (parser_for p t)
 
-abbrev pub tool_app : App
-tool_app =
+abbrev pub scan_shape : ValueParser → Shape
+scan_shape p =
+    (with_rule
+    (with_rule
+    (with_rule
+    (with_rule (new_app (codes "scan")) (rule_for p (codes "kind") kind))
+    (rule_for p (codes "keypos") (number 65535)))
+    (rule_for p (codes "parts") (number 64)))
+    (rule_for p (codes "workers") (number 16))).top
+
+abbrev pub tool_app : ValueParser → App
+tool_app p =
     with_subcommand
     (with_subcommand
     (with_subcommand
@@ -190,7 +230,7 @@ tool_app =
     (command_shape request.Compile))
     (command_shape request.Verify))
     (command_shape request.Script))
-    scan_shape
+    (scan_shape p)
 
 -- an option has a row, whose text is this number, from 1 to the most
 pub record IsReadOf (name : Text) (most n : ℕ) (rows : List Row) : Type 0 where
@@ -199,8 +239,16 @@ pub record IsReadOf (name : Text) (most n : ℕ) (rows : List Row) : Type 0 wher
   pub passes : is_signed_in (pos 1) (pos most) text ≡ true
   pub number : n ≡ digits_value 10 (without_leading_plus text)
 
+-- an option has a row, whose text names this kind
+pub record IsKindOf (k : ScanKind) (rows : List Row) : Type 0 where
+  pub text : Text
+  pub looked : one_of (codes "kind") rows ≡ Some text
+  pub passes : is_kind text ≡ true
+  pub named : k ≡ kind_named text
+
 -- so it is with each option of `scan`
 pub record AreRead (o : ScanOptions) (rows : List Row) : Type 0 where
+  pub kind : IsKindOf o.kind rows
   pub keypos : IsReadOf (codes "keypos") 65535 o.keypos rows
   pub parts : IsReadOf (codes "parts") 64 o.parts rows
   pub workers : IsReadOf (codes "workers") 16 o.workers rows

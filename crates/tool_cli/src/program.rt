@@ -1,9 +1,9 @@
 //! The program from its words to its status: what it reads, and what it writes on which of two streams.
-ghost use Rattle.std.specs.Prelude.{◌≡◌, ◌≢◌, ◌⊎◌, [], IfErr, IsTrue, OnOk, map};
+ghost use Rattle.std.specs.Prelude.{◌≡◌, ◌≢◌, ◌⊎◌, [], IfErr, OnOk, map};
 ghost use Rattle.std.specs.Io.KnownBytes.{Appends, Keeps};
 ghost use Rattle.clap.specs.Words.{kind_of};
 ghost use Rattle.std.specs.IoError.{error_kind};
-ghost use Rattle.part_core.specs.declared.kind.TableKind.TheVariants.{Set};
+ghost use Rattle.part_core.specs.Served.{ServesUnordered};
 ghost use Rattle.tool_cli.specs.Program.{HasOutcome, EndsBy, EndsWith, EndsRequest, EndsHelp, EndsEarly};
 ghost use Rattle.tool_cli.specs.Program.{TellsMistake, EndsMistaken, EndsAsked, EndsProgram};
 ghost use Rattle.tool_cli.specs.Telling.{TellsText};
@@ -78,7 +78,7 @@ pub fn run_words<'a, H: Threads + Wait + Sync, S: AsStr, R: Read, O: Write, E: T
     }
 }
 
-/// Runs one command, and answers the status that the program ends with. Parts of the set of a scan are of the sort `P`.
+/// Runs one command, and answers the status that the program ends with. Parts of the table of a scan are of the sort `P`.
 pub fn run_request<
     H: Threads + Wait + Sync,
     P: Part<A> + Drop + Send,
@@ -87,7 +87,7 @@ pub fn run_request<
     O: Write,
     E: Tell,
 >(rt: &H, alloc: A, request: Request, reader: &mut R, out: &mut O, err: &mut E) -> u8
-    requires { IsTrue (P.serves Set) }
+    requires { ServesUnordered P.serves }
     ensures { EndsRequest request (R.remaining reader.old) (O.contents out.old)
         (O.contents out.new) (E.told err.old) (E.told err.new) (E.has_failed err.new) result }
 {
@@ -103,7 +103,7 @@ fn command_outcome<
     R: Read,
     O: Write,
 >(rt: &H, alloc: A, request: Request, reader: &mut R, out: &mut O) -> Result<(), ToolFault>
-    requires { IsTrue (P.serves Set) }
+    requires { ServesUnordered P.serves }
     ensures { HasOutcome request (R.remaining reader.old) (O.contents out.old)
         (O.contents out.new) result }
 {

@@ -1,16 +1,18 @@
 //! The words of the command line.
 ghost use Rattle.std.specs.Prelude.{ℕ, ◌≡◌, ◌≤◌, ◌<◌, pos, IfOk, codes, false, map};
 ghost use Rattle.clap.specs.Words.{app_of, found_of, new_app, rows_of, rule_of, shape_of};
+ghost use Rattle.clap.specs.declared.builder.value_parser.ValueParser.{ValueParser as ParserValue};
 ghost use Rattle.clap.specs.declared.builder.value_parser.ValueParser.TheVariants.{Signed};
 ghost use Rattle.clap.specs.declared.builder.command.Command.TheViews.{out-Command as fields_of};
-ghost use Rattle.tool_cli.specs.Words.{asked, Reads, bare_app, option_rule, scan_shape, tool_app};
-ghost use Rattle.tool_cli.specs.Words.{IsReadOf, AreRead};
+ghost use Rattle.tool_scan.specs.declared.options.ScanKind.{ScanKind as KindValue};
+ghost use Rattle.tool_cli.specs.Words.{asked, Reads, bare_app, option_rule, rule_for, scan_shape};
+ghost use Rattle.tool_cli.specs.Words.{kind, number, tool_app, IsKindOf, IsKindParser, IsReadOf, AreRead};
 
 use clap::builder::ValueParser;
 use clap::{Arg, ArgMatches, Command, Error, value_parser};
 use std::alloc::{AllocError, Global};
 use std::convert::AsStr;
-use tool_scan::ScanOptions;
+use tool_scan::{ScanKind, ScanOptions};
 
 /// What the program is asked to do.
 #[derive(Clone, Copy, Debug, PartialEq, Eq)]
@@ -113,12 +115,17 @@ A command that is refused is replied {error,N}., and the script goes on. Where
 the text can't be read nothing is written.
 
 Commands, with S the number of a session from 0:
-  {open,Kind,KeyPos,Parts,Sessions}  opens a table of Kind set or ordered_set,
-      whose key is element KeyPos (1 to 65535), with 1 to 64 parts and 1 to 16
-      sessions; an ordered set has one part
+  {open,Kind,KeyPos,Parts,Sessions}  opens a table of Kind set, ordered_set,
+      bag or duplicate_bag, whose key is element KeyPos (1 to 65535), with 1 to
+      64 parts and 1 to 16 sessions; an ordered set has one part
   {insert,S,T} {insert_new,S,T} {delete_object,S,T}       of an object T
   {lookup,S,K} {member,S,K} {delete,S,K} {take,S,K} {next,S,K}   of a key K
   {first,S} {fix,S} {unfix,S} {leave,S}
+  {select,S,Spec} {select_count,S,Spec} {select_delete,S,Spec}
+      by a match specification Spec: answers, how many objects are answered
+      true, and these are deleted
+  {select,S,Spec,Limit} {more,S,C}  at most Limit answers, and those behind
+      them by the number C that was replied
   {close}  replies the objects
 
 Example:
@@ -133,13 +140,15 @@ const SCAN_ABOUT: &str =
 
 const SCAN_EXAMPLE: &str = "\
 Reads from standard input, as term text: a match specification, then the
-objects, each term followed by a dot. The objects are put into a set in their
-order, so that of those with one key the last stays; each is a tuple with an
-element at the place of the key. Each thread has its share of the set's parts.
-Writes to standard output: for each object in the set that the specification
-answers on the answer, a dot and a line feed, in the order of the set, which is
-the same whatever the number of threads. Where the input is refused nothing is
-written.
+objects, each term followed by a dot. The objects are put into a table in their
+order; each is a tuple with an element at the place of the key. The table is of
+the kind that --kind names, and a set if none is given: of objects with one key
+a set keeps the last, a bag those that differ, and a duplicate_bag all. Each
+thread has its share of the table's parts.
+Writes to standard output: for each object in the table that the specification
+answers on the answer, a dot and a line feed, in the order of the table, which
+is the same whatever the number of threads. Where the input is refused nothing
+is written.
 
 Example:
   printf \"[{{'\\$1'},[],['\\$1']}]. {1}. {2}. {3}. {4}.\" | ets_tool scan --parts 2 --workers 2
@@ -148,6 +157,10 @@ writes
   4.
   1.
   3.";
+
+const KINDS: &[&str] = &["set", "bag", "duplicate_bag"];
+
+const KIND_HELP: &str = "The kind of the table";
 
 const KEYPOS_HELP: &str = "The element of an object that is its key: 1 to 65535";
 
@@ -173,53 +186,75 @@ fn command<'a>(alloc: Global, name: &'a str, about: &'a str, example: &'a str) -
     Command::new(alloc, name).about(about).after_help(example)
 }
 
-/// An option of such a number, which is 1 if it isn't given.
-fn option<'a>(alloc: Global, name: &'a str, about: &'a str, numbers: ValueParser<'a>) -> Arg<'a>
-    ensures rule { (most : ℕ) → numbers.entry ≡ Signed (pos 1) (pos most)
-        → rule_of result ≡ option_rule name.entry.now most }
+/// An option of such a value, which is another if it isn't given.
+fn option<'a>(
+    alloc: Global,
+    name: &'a str,
+    about: &'a str,
+    value_name: &'a str,
+    default: &'a str,
+    values: ValueParser<'a>,
+) -> Arg<'a>
+    ensures rule { rule_of result ≡ option_rule name.entry.now default.entry.now values.entry }
     ensures local { result.global ≡ false }
 {
     Arg::new(alloc, name)
         .long(name)
         .help(about)
-        .value_name("N")
-        .default_value("1")
-        .value_parser(numbers)
+        .value_name(value_name)
+        .default_value(default)
+        .value_parser(values)
+}
+
+/// The names of kinds.
+fn kind_names<'a>() -> ValueParser<'a>
+    ensures { IsKindParser result }
+{
+    ValueParser::Names(KINDS)
+}
+
+/// The kind of the table.
+fn kind<'a>(alloc: Global) -> Arg<'a>
+    ensures rule { (p : ParserValue) × IsKindParser p × (rule_of result ≡ rule_for p (codes "kind") kind) }
+    ensures local { result.global ≡ false }
+{
+    option(alloc, "kind", KIND_HELP, "KIND", "set", kind_names())
 }
 
 /// The place of a key.
 fn keypos<'a>(alloc: Global) -> Arg<'a>
-    ensures rule { rule_of result ≡ option_rule (codes "keypos") 65535 }
+    ensures rule { (p : ParserValue) → rule_of result ≡ rule_for p (codes "keypos") (number 65535) }
     ensures local { result.global ≡ false }
 {
     let numbers = value_parser!(u16).range(1..=65_535);
-    option(alloc, "keypos", KEYPOS_HELP, numbers)
+    option(alloc, "keypos", KEYPOS_HELP, "N", "1", numbers)
 }
 
 /// The number of parts.
 fn parts<'a>(alloc: Global) -> Arg<'a>
-    ensures rule { rule_of result ≡ option_rule (codes "parts") 64 }
+    ensures rule { (p : ParserValue) → rule_of result ≡ rule_for p (codes "parts") (number 64) }
     ensures local { result.global ≡ false }
 {
     let numbers = value_parser!(u16).range(1..=64);
-    option(alloc, "parts", PARTS_HELP, numbers)
+    option(alloc, "parts", PARTS_HELP, "N", "1", numbers)
 }
 
 /// The number of workers.
 fn workers<'a>(alloc: Global) -> Arg<'a>
-    ensures rule { rule_of result ≡ option_rule (codes "workers") 16 }
+    ensures rule { (p : ParserValue) → rule_of result ≡ rule_for p (codes "workers") (number 16) }
     ensures local { result.global ≡ false }
 {
     let numbers = value_parser!(u16).range(1..=16);
-    option(alloc, "workers", WORKERS_HELP, numbers)
+    option(alloc, "workers", WORKERS_HELP, "N", "1", numbers)
 }
 
 /// The command `scan`, with its options.
 fn scan_command<'a>(alloc: Global) -> Result<Command<'a>, AllocError>
-    ensures shape { IfOk result (λ command. shape_of command ≡ scan_shape) }
+    ensures shape { IfOk result (λ command. (p : ParserValue) × IsKindParser p × (shape_of command ≡ scan_shape p)) }
     ensures local { IfOk result (λ command. (fields_of command).has_globals ≡ false) }
 {
     command(alloc, "scan", SCAN_ABOUT, SCAN_EXAMPLE)
+        .arg(kind(alloc))?
         .arg(keypos(alloc))?
         .arg(parts(alloc))?
         .arg(workers(alloc))
@@ -227,7 +262,7 @@ fn scan_command<'a>(alloc: Global) -> Result<Command<'a>, AllocError>
 
 /// The program's commands, as `clap` reads them.
 fn program<'a>(alloc: Global) -> Result<Command<'a>, AllocError>
-    ensures { IfOk result (λ command. app_of command ≡ tool_app) }
+    ensures { IfOk result (λ command. (p : ParserValue) × IsKindParser p × (app_of command ≡ tool_app p)) }
 {
     let run = command(alloc, "run", RUN_ABOUT, RUN_EXAMPLE);
     let test = command(alloc, "test", TEST_ABOUT, TEST_EXAMPLE);
@@ -242,6 +277,17 @@ fn program<'a>(alloc: Global) -> Result<Command<'a>, AllocError>
         .subcommand(verify)?
         .subcommand(script)?
         .subcommand(scan)
+}
+
+/// The kind that is asked for.
+fn kind_in(matches: &ArgMatches<'_>) -> ScanKind
+    requires { (k : KindValue) × IsKindOf k (rows_of (found_of matches.now)) }
+    ensures { (k : KindValue) → IsKindOf k (rows_of (found_of matches.now)) → result ≡ k }
+{
+    match matches.get_one::<ScanKind>("kind") {
+        Some(kind) => kind,
+        None => unreachable!(),
+    }
 }
 
 /// The number of an option, which has one.
@@ -262,6 +308,7 @@ fn scan_options(matches: &ArgMatches<'_>) -> ScanOptions
     ensures { (o : ScanOptions) → AreRead o (rows_of (found_of matches.now)) → result ≡ o }
 {
     ScanOptions {
+        kind: kind_in(matches),
         keypos: number(matches, "keypos"),
         parts: number(matches, "parts") as u8,
         workers: number(matches, "workers") as u8,

@@ -1,3 +1,4 @@
+pub mod KindLemmas
 pub mod MembersLemmas
 pub mod AskingLemmas
 pub mod AnswersLemmas

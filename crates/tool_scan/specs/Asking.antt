@@ -1,4 +1,4 @@
--- The set of a scan, its sessions, and their answers.
+-- The table of a scan, its sessions, and their answers.
 use Rattle.std.specs.Prelude.{ℕ, ◌≡◌, ◌<◌, ◌++◌, false, Option, List, [], length, flat_map}
 use Rattle.std.specs.List.{AllZip}
 use Rattle.term_core.specs.Datum.{Datum}
@@ -16,7 +16,7 @@ use Rattle.tool_scan.specs.declared.options.ScanOptions.{ScanOptions}
 abbrev pub AreSeated : {M S : Type 0} → (M → S → Type 0) → List S → List M → List M → Type 0
 AreSeated {M} Sits sessions old new = (more : List M) × (new ≡ old ++ more) × AllZip Sits more sessions
 
--- A worker's session of a new set, which has seen nothing, did its part of a scan.
+-- A worker's session of a new table, which has seen nothing, did its part of a scan.
 pub record IsScanned (o : ScanOptions) (program : Program) (plan : Option (List Datum)) (objects : List Datum) (lists : List (List Datum)) (worker : ℕ) : Type 0 where
   pub home : Home
   pub opened : home.options ≡ table_of o

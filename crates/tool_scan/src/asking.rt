@@ -1,7 +1,7 @@
-//! The set of a scan, and its sessions.
-ghost use Rattle.std.specs.Prelude.{ℕ, ◌≡◌, ◌<◌, [], ◌∷◌, All, IsTrue, List, IfOk, OnOk, flat_map, length};
+//! The table of a scan, and its sessions.
+ghost use Rattle.std.specs.Prelude.{ℕ, ◌≡◌, ◌<◌, [], ◌∷◌, All, List, IfOk, OnOk, flat_map, length};
 ghost use Rattle.term_core.specs.Datum.{Datum};
-ghost use Rattle.part_core.specs.declared.kind.TableKind.TheVariants.{Set};
+ghost use Rattle.part_core.specs.Served.{ServesUnordered};
 ghost use Rattle.tables.specs.Opened.{AreOpened};
 ghost use Rattle.tables.specs.Sessions.{IsOpened};
 ghost use Rattle.walks.specs.Query.{plan_of};
@@ -80,12 +80,12 @@ fn ask<R: Threads + Wait + Sync, P: Part<A> + Drop + Send, A: Allocator + Copy +
     scan_members(rt, alloc, options, members.as_mut_slice(), objects, query)
 }
 
-/// A new set for a scan, and its sessions.
+/// A new table for a scan, and its sessions.
 fn opened<P: Part<A> + Drop, A: Allocator + Copy>(
     alloc: A,
     options: ScanOptions,
 ) -> Result<(Table<P, A>, Vec<Session<P, A>, A>), AllocError>
-    requires serves { IsTrue (P.serves Set) }
+    requires serves { ServesUnordered P.serves }
     requires allowed { AreAllowed options }
     ensures { IfOk result (λ made. (made.0.options ≡ table_of options)
         × AreOpened (table_of options) made.0.gates.items made.1.items) }
@@ -97,7 +97,7 @@ fn opened<P: Part<A> + Drop, A: Allocator + Copy>(
     }
 }
 
-/// What a specification is answered by a new set, once the objects are put in.
+/// What a specification is answered by a new table, once the objects are put in.
 pub(crate) fn answers_on<
     R: Threads + Wait + Sync,
     P: Part<A> + Drop + Send,
@@ -109,7 +109,7 @@ pub(crate) fn answers_on<
     specification: &Spec<A>,
     objects: &[Term<A>],
 ) -> Result<Vec<Term<A>, A>, AllocError>
-    requires serves { IsTrue (P.serves Set) }
+    requires serves { ServesUnordered P.serves }
     requires allowed { AreAllowed options }
     requires fit { All (IsFit options) objects.now }
     ensures { IfOk result (λ answers. AreAnswers options specification.now objects.now answers.items) }

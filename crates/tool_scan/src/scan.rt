@@ -1,6 +1,6 @@
 //! The command `scan`.
-ghost use Rattle.std.specs.Prelude.{◌<◌, IfErr, IsTrue, OnOk, length};
-ghost use Rattle.part_core.specs.declared.kind.TableKind.TheVariants.{Set};
+ghost use Rattle.std.specs.Prelude.{◌<◌, IfErr, OnOk, length};
+ghost use Rattle.part_core.specs.Served.{ServesUnordered};
 ghost use Rattle.tool_io.specs.Terms.{OfTerms};
 ghost use Rattle.tool_scan.specs.Options.{AreAllowed};
 ghost use Rattle.tool_scan.specs.Scan.{StopsScan, StopsTerms, WritesScan};
@@ -18,7 +18,7 @@ use term_core::Term;
 use tool_io::{ToolFault, read_input};
 use tool_query::specification_of;
 
-/// Writes what the first term answers on the others, once they are put into a set.
+/// Writes what the first term answers on the others, once they are put into a table.
 fn scan_terms<
     H: Threads + Wait + Sync,
     P: Part<A> + Drop + Send,
@@ -31,7 +31,7 @@ fn scan_terms<
     terms: &[Term<A>],
     writer: &mut W,
 ) -> Result<(), ToolFault>
-    requires serves { IsTrue (P.serves Set) }
+    requires serves { ServesUnordered P.serves }
     requires allowed { AreAllowed options }
     requires some { 0 < length terms.now }
     ensures ok { OnOk result (WritesScan options terms.now
@@ -50,7 +50,7 @@ fn scan_terms<
     }
 }
 
-/// Reads a specification and objects, to the reader's end, puts the objects into a set of parts `P` in their order,
+/// Reads a specification and objects, to the reader's end, puts the objects into a table of parts `P` in their order,
 /// asks the specification of it by sessions on threads of their own, and writes each answer: its canonical text, a dot
 /// and a line feed, part by part. Options outside their ranges are refused before anything is read; an input that is
 /// refused writes nothing, the first term before the others, of which each has to be an object. Where memory runs out
@@ -62,7 +62,7 @@ pub fn tool_scan<
     R: Read,
     W: Write,
 >(rt: &H, alloc: A, options: ScanOptions, reader: &mut R, writer: &mut W) -> Result<(), ToolFault>
-    requires { IsTrue (P.serves Set) }
+    requires { ServesUnordered P.serves }
     ensures ok { OnOk result (AreAllowed options × OfTerms (R.remaining reader.old) (λ terms.
         WritesScan options terms (W.contents writer.old) (W.contents writer.new))) }
     ensures refused { IfErr result (StopsScan options (R.remaining reader.old)

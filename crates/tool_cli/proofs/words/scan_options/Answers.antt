@@ -13,7 +13,8 @@ overflow_cast-result-2 c =
 
 pub returns : goal.returns
 returns c = λ o read.
+    let kind = c.kind_in.ensures o.kind read.kind in
     let keypos = c.number.ensures 65535 o.keypos (omega arith) read.keypos in
     let parts = c.number-2.ensures 64 o.parts (omega arith) read.parts in
     let workers = c.number-3.ensures 16 o.workers (omega arith) read.workers in
-    rw (keypos.0, parts.0, workers.0) refl
+    rw (kind, keypos.0, parts.0, workers.0) refl
