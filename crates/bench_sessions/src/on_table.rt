@@ -51,6 +51,8 @@ fn kind_of(name: &str) -> Option<TableKind> {
     match name {
         "set" => Some(TableKind::Set),
         "ordered_set" => Some(TableKind::OrderedSet),
+        "bag" => Some(TableKind::Bag),
+        "duplicate_bag" => Some(TableKind::DuplicateBag),
         _ => None,
     }
 }

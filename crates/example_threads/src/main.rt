@@ -15,14 +15,19 @@ use std::thread::{self, Threads};
 use tables::{Options, Session, Table, Turns, insert};
 use term_core::Term;
 
-/// Three sessions at a set of four parts, with keys at the first place.
-const OPTIONS: Options = Options {
-    name: 1,
-    kind: TableKind::Set,
-    keypos: 1,
-    parts: 4,
-    sessions: 3,
-};
+/// How many parts a table has.
+const PARTS: u8 = 4;
+
+/// Three sessions at a table of a kind, with keys at the first place.
+const fn options_of(kind: TableKind) -> Options {
+    Options {
+        name: 1,
+        kind,
+        keypos: 1,
+        parts: PARTS,
+        sessions: 3,
+    }
+}
 
 /// Puts the objects `{Key,Session}` of 100 keys in.
 fn put_keys<T: Turns<Global>>(alloc: Global, turns: &mut T) -> Option<()>
@@ -75,12 +80,14 @@ fn work_all<R: Threads + Wait + Sync, P: Part<Global> + Drop + Send>(
     .ok()
 }
 
-/// How many objects are left when all but one session have put theirs in, and the table is closed with that one.
+/// How many objects are left when all but one session have put theirs in, and the table is closed with that one: of a
+/// set one for each key, of a bag those of all sessions.
 fn objects_left<R: Threads + Wait + Sync, P: Part<Global> + Drop + Send>(
     rt: &R,
     alloc: Global,
+    kind: TableKind,
 ) -> Option<usize> {
-    let Ok((table, mut sessions)) = Table::<P>::open(alloc, OPTIONS) else {
+    let Ok((table, mut sessions)) = Table::<P>::open(alloc, options_of(kind)) else {
         return None;
     };
     let Some(last) = sessions.pop() else {
@@ -89,22 +96,29 @@ fn objects_left<R: Threads + Wait + Sync, P: Part<Global> + Drop + Send>(
     work_all(rt, alloc, &table, sessions)?;
     let mut closed = table.close(last);
     let mut count: usize = 0;
-    for _part in 0..OPTIONS.parts {
+    for _part in 0..PARTS {
         let part = closed.next_part()?.ok()?;
         count = count.saturating_add(part.objects(alloc).ok()?.len());
     }
     Some(count)
 }
 
-/// The line to be written.
-fn write_line<R: Threads + Wait + Sync>(rt: &R, alloc: Global, line: &mut String) -> Option<()> {
-    let count = objects_left::<_, HashPart<Global>>(rt, alloc)?;
-    writeln!(line, "{count} objects").ok()
+/// Writes the line of a table of a kind.
+fn write_line<R: Threads + Wait + Sync>(
+    rt: &R,
+    alloc: Global,
+    kind: TableKind,
+    lines: &mut String,
+) -> Option<()> {
+    let count = objects_left::<_, HashPart<Global>>(rt, alloc, kind)?;
+    writeln!(lines, "{kind:?}: {count} objects").ok()
 }
 
 fn main(rt: HostRuntime) -> ExitCode {
-    let mut line = String::new(rt.alloc());
-    write_line(&rt, rt.alloc(), &mut line);
-    rt.stdout().write_all(line.as_bytes()).ok();
+    let mut lines = String::new(rt.alloc());
+    for kind in [TableKind::Set, TableKind::Bag, TableKind::DuplicateBag] {
+        write_line(&rt, rt.alloc(), kind, &mut lines);
+    }
+    rt.stdout().write_all(lines.as_bytes()).ok();
     ExitCode::SUCCESS
 }

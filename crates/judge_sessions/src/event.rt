@@ -6,6 +6,8 @@ use crate::keys::Object;
 pub(crate) enum Event {
     /// An object was put in.
     Put(Object),
+    /// An object that was put in before was put in again.
+    PutAgain(Object),
     /// One was to be put in where its key had none, and whether it was.
     PutNew(Object, bool),
     /// What was found at a key.
@@ -18,6 +20,12 @@ pub(crate) enum Event {
     DeletedObject(Object),
     /// What was taken at a key.
     Taken(u32, Option<Object>),
+    /// An object of a list.
+    Item(Object),
+    /// The objects before this were found at a key.
+    Listed(u32),
+    /// They were taken there.
+    TakenAll(u32),
     /// The table was fixed once more.
     Fixed,
     /// It was to be released once, and whether it was.

@@ -9,9 +9,11 @@
 //!
 //! - `keys`: keys and objects; `event`: what is recorded; `worker`, `walking`: the calls of a session.
 //! - `runs`: a table and its sessions on threads.
-//! - `replay`: one session's record judged; `judge`: all of them; `wrong`: what can be wrong.
+//! - `replay`: one session's record judged, `bags`: that of a session at a bag, where keys have lists of objects; `judge`:
+//!   all of them; `wrong`: what can be wrong.
 #![tactic(auto)]
 
+mod bags;
 mod event;
 mod judge;
 mod keys;
@@ -41,6 +43,10 @@ fn kind_of(term: &Term) -> Option<TableKind> {
         Some(TableKind::Set)
     } else if is_atom(term, "ordered_set") {
         Some(TableKind::OrderedSet)
+    } else if is_atom(term, "bag") {
+        Some(TableKind::Bag)
+    } else if is_atom(term, "duplicate_bag") {
+        Some(TableKind::DuplicateBag)
     } else {
         None
     }

@@ -394,6 +394,9 @@ impl<'a> Replay<'a> {
             }
             Event::CountedAll(count) => self.is_count_of_all(count),
             Event::Cleared(count) => self.clears(count),
+            Event::PutAgain(_) | Event::Item(_) | Event::Listed(_) | Event::TakenAll(_) => {
+                Err(Wrong::NotOfAKind)
+            }
         }
     }
 

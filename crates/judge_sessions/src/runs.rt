@@ -4,8 +4,9 @@ ghost use Rattle.kit_members.specs.Members.{AreMembers};
 ghost use Rattle.tables.specs.Opened.{AllOpened};
 ghost use Rattle.tables.specs.Sessions.{IsOpened};
 
+use crate::bags::empty_lists;
 use crate::judge::judge;
-use crate::keys::{KEYS, Object, key_term};
+use crate::keys::{Object, key_term};
 use crate::worker::Worker;
 use crate::wrong::{Failure, Wrong};
 use gate::Closed;
@@ -41,7 +42,8 @@ fn played<R: Threads + Wait + Sync, P: Part<Global> + Drop, M: Turns<Global> + S
     requires members { AreMembers M.is_ready M.home members.old }
     ensures { IsOpened table.now.options table.now.gates.items session.new.number session.new.passes.items }
 {
-    let mut worker = Worker::new(alloc, run.seed, session.number);
+    let holds_many = !run.options.kind.is_set();
+    let mut worker = Worker::new(alloc, run.seed, session.number, holds_many);
     let mut at = table.at(rt, session);
     worker.run(rt, alloc, &mut at, members, run.calls)?;
     Some(worker)
@@ -86,19 +88,19 @@ fn is_part_of(key: u32, part: u8, parts: u8) -> bool
     part_of_key(&key, parts) == part
 }
 
-/// Keeps an object by its key.
-fn keep_left(object: Object, left: &mut [Option<Object>]) -> Result<(), Wrong> {
+/// Keeps an object by its key, behind others.
+fn keep_left(object: Object, left: &mut [Vec<Object>]) -> Result<(), Wrong> {
     match left.get_mut(object.key as usize) {
-        Some(place) => {
-            *place = Some(object);
-            Ok(())
-        }
+        Some(place) => match place.push(object) {
+            Ok(()) => Ok(()),
+            Err(_) => Err(Wrong::NoMemory),
+        },
         None => Err(Wrong::NoKey(object.key)),
     }
 }
 
 /// Puts an object by its key, where it stands in its key's part.
-fn put_left(object: Object, part: u8, parts: u8, left: &mut [Option<Object>]) -> Result<(), Wrong> {
+fn put_left(object: Object, part: u8, parts: u8, left: &mut [Vec<Object>]) -> Result<(), Wrong> {
     if parts == 0 {
         return Err(Wrong::Misplaced(object.key));
     }
@@ -113,7 +115,7 @@ fn put_all_left(
     objects: &[Term],
     part: u8,
     parts: u8,
-    left: &mut [Option<Object>],
+    left: &mut [Vec<Object>],
 ) -> Result<(), Failure> {
     for term in objects {
         let Some(object) = Object::of_term(term) else {
@@ -129,8 +131,8 @@ fn left_in<P: Part<Global> + Drop>(
     alloc: Global,
     mut closed: Closed<P>,
     parts: u8,
-) -> Result<Vec<Option<Object>>, Failure> {
-    let mut left: Vec<Option<Object>> = Vec::from_elem(alloc, None, KEYS as usize)?;
+) -> Result<Vec<Vec<Object>>, Failure> {
+    let mut left = empty_lists(alloc)?;
     for part in (0..parts).rev() {
         match closed.next_part() {
             Some(Ok(there)) => {
@@ -301,5 +303,5 @@ pub(crate) fn judged<R: Threads + Wait + Sync, P: Part<Global> + Drop + Send>(
     };
     let left = left_in(alloc, table.close(session), run.options.parts)?;
     let workers = all_workers(alloc, others, worker)?;
-    judge(alloc, workers.as_slice(), left.as_slice())
+    judge(alloc, run.options.kind, workers.as_slice(), left.as_slice())
 }

@@ -3,7 +3,7 @@ ghost use Rattle.std.specs.Prelude.{◌≡◌};
 ghost use Rattle.kit_members.specs.Members.{AreMembers};
 
 use crate::event::Event;
-use crate::keys::{COUNTED, KEYS, OPEN, Object, key_term, object_of};
+use crate::keys::{COUNTED, KEYS, OPEN, Object, key_term};
 use crate::worker::Worker;
 use kit_members::{counted, deleted, selected};
 use kit_rows::{number, term_of};
@@ -16,7 +16,7 @@ use term_core::Term;
 use walks::{Query, Step, first, next, select_limit, select_more};
 
 /// The most pieces of a walk, and the most keys of a tour.
-const MOST: u32 = KEYS + 1;
+const MOST: u32 = 1_000_000;
 
 /// The query of a specification.
 fn query(alloc: Global, specification: &str) -> Option<Query> {
@@ -34,6 +34,9 @@ fn record_piece(worker: &mut Worker, answers: &[Term]) -> Option<()> {
 
 /// Records the answers of a walk that was made at once: each was found when the session had made no other call since.
 fn record_all(worker: &mut Worker, answers: &[Term]) -> Option<()> {
+    if worker.holds_many {
+        return record_piece(worker, answers);
+    }
     for answer in answers {
         let object = Object::of_term(answer)?;
         worker.record(Event::Met(object.key))?;
@@ -133,7 +136,7 @@ enum Asking {
     Count,
     /// Deletes the session's objects of even or of odd sequence numbers at its own keys.
     Remove(u32),
-    /// The object at one of the session's keys, by a specification that names it.
+    /// The objects at one of the session's keys, by a specification that names it.
     Named(u32),
     /// How many objects the table has.
     CountAll,
@@ -155,7 +158,7 @@ impl Asking {
     }
 }
 
-/// The query of the object at a key.
+/// The query of the objects at a key.
 fn named_query(alloc: Global, key: u32) -> Option<Query> {
     let mut text = String::new(alloc);
     write!(text, "[{{{{{key},'_','_'}},[],['$_']}}].").ok()?;
@@ -206,7 +209,7 @@ fn ask<R: Threads + Wait + Sync, T: Turns<Global>, M: Turns<Global> + Send>(
         }
         Asking::Named(key) => {
             let found = selected(rt, alloc, turns, members, &query)?;
-            worker.record(Event::Found(key, object_of(found.as_slice())?))
+            worker.record_found(key, found.as_slice())
         }
         Asking::CountAll => {
             let count = counted(rt, turns, members, &query)?;

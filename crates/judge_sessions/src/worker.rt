@@ -11,6 +11,7 @@ use std::alloc::Global;
 use std::sync::Wait;
 use std::thread::Threads;
 use tables::{Turns, delete, delete_object, insert, insert_new, lookup, member, take};
+use term_core::Term;
 
 /// How many calls come to one walk.
 const CALLS_OF_A_WALK: u32 = 64;
@@ -54,16 +55,19 @@ pub(crate) struct Worker {
     random: Pcg32,
     /// The sequence number of the next object.
     sequence: u32,
+    /// Whether the table holds several objects of a key.
+    pub(crate) holds_many: bool,
     pub(crate) events: Vec<Event>,
 }
 
 impl Worker {
     /// One that has made no call. Its calls follow from the seed and its number.
-    pub(crate) fn new(alloc: Global, seed: u64, number: u8) -> Worker {
+    pub(crate) fn new(alloc: Global, seed: u64, number: u8, holds_many: bool) -> Worker {
         Worker {
             number,
             random: Pcg32::new(seed, u64::from(number)),
             sequence: 0,
+            holds_many,
             events: Vec::new(alloc),
         }
     }
@@ -76,6 +80,34 @@ impl Worker {
     /// Records an event.
     pub(crate) fn record(&mut self, event: Event) -> Option<()> {
         self.events.push(event).ok()
+    }
+
+    /// Records the objects of a list.
+    fn record_items(&mut self, objects: &[Term]) -> Option<()> {
+        for object in objects {
+            self.record(Event::Item(Object::of_term(object)?))?;
+        }
+        Some(())
+    }
+
+    /// Records what was found at a key.
+    pub(crate) fn record_found(&mut self, key: u32, found: &[Term]) -> Option<()> {
+        if self.holds_many {
+            self.record_items(found)?;
+            self.record(Event::Listed(key))
+        } else {
+            self.record(Event::Found(key, object_of(found)?))
+        }
+    }
+
+    /// Records what was taken at a key.
+    fn record_taken(&mut self, key: u32, taken: &[Term]) -> Option<()> {
+        if self.holds_many {
+            self.record_items(taken)?;
+            self.record(Event::TakenAll(key))
+        } else {
+            self.record(Event::Taken(key, object_of(taken)?))
+        }
     }
 
     /// A new object at a key.
@@ -151,6 +183,18 @@ impl Worker {
         self.record(Event::Put(object))
     }
 
+    /// Puts an object in that was put in before, at one key or another.
+    fn put_again<T: Turns<Global>>(&mut self, alloc: Global, turns: &mut T, key: u32) -> Option<()>
+        requires { T.is_ready turns.old }
+        ensures ready { T.is_ready turns.new }
+        ensures same { T.home turns.new ≡ T.home turns.old }
+    {
+        let object = self.earlier(key);
+        let term = object.term(alloc)?;
+        insert(turns, term).ok()?;
+        self.record(Event::PutAgain(object))
+    }
+
     fn put_new<T: Turns<Global>>(&mut self, alloc: Global, turns: &mut T, key: u32) -> Option<()>
         requires { T.is_ready turns.old }
         ensures ready { T.is_ready turns.new }
@@ -169,7 +213,7 @@ impl Worker {
     {
         let term = key_term(key);
         let found = lookup(turns, &term).ok()?;
-        self.record(Event::Found(key, object_of(found.as_slice())?))
+        self.record_found(key, found.as_slice())
     }
 
     fn ask<T: Turns<Global>>(&mut self, turns: &mut T, key: u32) -> Option<()>
@@ -215,7 +259,7 @@ impl Worker {
     {
         let term = key_term(key);
         let taken = take(turns, &term).ok()?;
-        self.record(Event::Taken(key, object_of(taken.as_slice())?))
+        self.record_taken(key, taken.as_slice())
     }
 
     /// A call of those that are made at keys which are written in every way.
@@ -258,6 +302,20 @@ impl Worker {
         }
     }
 
+    /// A call at a key of the session's own.
+    fn call_at_own_key<T: Turns<Global>>(&mut self, alloc: Global, turns: &mut T) -> Option<()>
+        requires { T.is_ready turns.old }
+        ensures ready { T.is_ready turns.new }
+        ensures same { T.home turns.new ≡ T.home turns.old }
+    {
+        let key = self.own_key();
+        if self.holds_many && self.below(4) == 0 {
+            return self.put_again(alloc, turns, key);
+        }
+        let call = self.any_call();
+        self.call(alloc, turns, call, key)
+    }
+
     /// A call at a key, of the session's own or of all.
     fn call_at_key<T: Turns<Global>>(&mut self, alloc: Global, turns: &mut T) -> Option<()>
         requires { T.is_ready turns.old }
@@ -265,9 +323,7 @@ impl Worker {
         ensures same { T.home turns.new ≡ T.home turns.old }
     {
         if self.below(2) == 0 {
-            let call = self.any_call();
-            let key = self.own_key();
-            self.call(alloc, turns, call, key)
+            self.call_at_own_key(alloc, turns)
         } else {
             self.call_at_shared_key(alloc, turns)
         }

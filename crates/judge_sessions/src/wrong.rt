@@ -31,6 +31,10 @@ pub(crate) enum Wrong {
     NeverDeleted(i64),
     /// An object is left in a part that isn't its key's.
     Misplaced(u32),
+    /// What was recorded isn't what sessions of such a table record.
+    NotOfAKind,
+    /// There is no memory to judge.
+    NoMemory,
 }
 
 /// Why a run isn't right, or didn't come to its end.

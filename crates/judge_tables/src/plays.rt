@@ -12,7 +12,7 @@ use term_text::read_terms;
 /// With memory, and with each request refused in turn.
 const FORMS: usize = 2;
 
-/// In how many forms a row is played: those of sets at a plain part, and then at a hashed one.
+/// In how many forms a row is played: those of sets and bags at a plain part, and then at a hashed one.
 pub(crate) fn forms(kind: &str) -> usize {
     if at_hashed(kind) == kind {
         FORMS
@@ -25,6 +25,8 @@ pub(crate) fn forms(kind: &str) -> usize {
 fn at_hashed(kind: &str) -> &str {
     match kind {
         "set" => "hashed_set",
+        "bag" => "hashed_bag",
+        "duplicate_bag" => "hashed_duplicate_bag",
         "make_set" => "make_hashed_set",
         _ => kind,
     }
@@ -110,6 +112,48 @@ fn options_row<A: Allocator + Copy, P: Part<A> + Drop>(
     made_text::<A, P>(alloc, heap, options, is_scarce)
 }
 
+/// The part that plays a row of steps.
+#[derive(Clone, Copy)]
+enum Place {
+    /// A plain part of a kind.
+    Plain(TableKind),
+    /// A hashed part of a kind.
+    Hashed(TableKind),
+    /// A part of an ordered set.
+    Ordered,
+}
+
+/// The part that a call of a row of steps names.
+fn place_of(call: &str) -> Option<Place> {
+    match call {
+        "set" => Some(Place::Plain(TableKind::Set)),
+        "bag" => Some(Place::Plain(TableKind::Bag)),
+        "duplicate_bag" => Some(Place::Plain(TableKind::DuplicateBag)),
+        "hashed_set" => Some(Place::Hashed(TableKind::Set)),
+        "hashed_bag" => Some(Place::Hashed(TableKind::Bag)),
+        "hashed_duplicate_bag" => Some(Place::Hashed(TableKind::DuplicateBag)),
+        "ordered_set" => Some(Place::Ordered),
+        _ => None,
+    }
+}
+
+/// What comes of a row of steps at a part.
+fn played_at<A: Allocator + Copy>(
+    alloc: Global,
+    heap: A,
+    place: Place,
+    row: &[Term<A>],
+    is_scarce: bool,
+) -> Option<Vec<u8>> {
+    match place {
+        Place::Plain(kind) => steps_row::<A, PlainPart<A>>(alloc, heap, kind, row, is_scarce),
+        Place::Hashed(kind) => steps_row::<A, HashPart<A>>(alloc, heap, kind, row, is_scarce),
+        Place::Ordered => {
+            steps_row::<A, OrderPart<A>>(alloc, heap, TableKind::OrderedSet, row, is_scarce)
+        }
+    }
+}
+
 /// What comes of a row by its call, which names the part that plays it.
 fn outcome_of<A: Allocator + Copy>(
     alloc: Global,
@@ -121,15 +165,10 @@ fn outcome_of<A: Allocator + Copy>(
     let row = read_terms(heap, given).ok()?;
     let row = row.as_slice();
     match call {
-        "set" => steps_row::<A, PlainPart<A>>(alloc, heap, TableKind::Set, row, is_scarce),
         "make_set" => options_row::<A, PlainPart<A>>(alloc, heap, row, is_scarce),
-        "hashed_set" => steps_row::<A, HashPart<A>>(alloc, heap, TableKind::Set, row, is_scarce),
         "make_hashed_set" => options_row::<A, HashPart<A>>(alloc, heap, row, is_scarce),
-        "ordered_set" => {
-            steps_row::<A, OrderPart<A>>(alloc, heap, TableKind::OrderedSet, row, is_scarce)
-        }
         "make_ordered_set" => options_row::<A, OrderPart<A>>(alloc, heap, row, is_scarce),
-        _ => None,
+        _ => played_at(alloc, heap, place_of(call)?, row, is_scarce),
     }
 }
 

@@ -1,6 +1,5 @@
-//! Rows of scripts: each is run with sets in plain parts and with sets in hashed parts.
-ghost use Rattle.std.specs.Prelude.{IsTrue};
-ghost use Rattle.part_core.specs.declared.kind.TableKind.TheVariants.{Set};
+//! Rows of scripts: each is run with sets and bags in plain parts, and in hashed parts.
+ghost use Rattle.part_core.specs.Served.{ServesUnordered};
 
 use kit_rows::{elements, listed};
 use part_core::Part;
@@ -12,7 +11,7 @@ use term_core::Term;
 use term_text::{read_terms, write_term};
 use tool_script::run_script;
 
-/// With sets in plain parts, and with sets in hashed parts.
+/// With sets and bags in plain parts, and in hashed parts.
 pub(crate) const FORMS: usize = 2;
 
 /// The text of commands, each with a dot behind it.
@@ -25,9 +24,9 @@ fn script_of(alloc: Global, commands: &[Term]) -> Option<Vec<u8>> {
     Some(text)
 }
 
-/// What a script is replied, with sets in such parts: the list of the replies.
+/// What a script is replied, with sets and bags in such parts: the list of the replies.
 fn replies<S: Part<Global> + Drop>(alloc: Global, commands: &[Term]) -> Option<Vec<u8>>
-    requires { IsTrue (S.serves Set) }
+    requires { ServesUnordered S.serves }
 {
     let script = script_of(alloc, commands)?;
     let mut reader = script.as_slice();

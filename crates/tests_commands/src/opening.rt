@@ -66,7 +66,8 @@ fn options_that_cannot_be_opened_are_refused_as_such(rt: HostRuntime) {
         (TableKind::Set, 1, 1, 0),
         (TableKind::Set, 1, 1, 17),
         (TableKind::OrderedSet, 1, 1, 1),
-        (TableKind::Bag, 1, 1, 1),
+        (TableKind::Bag, 1, 65, 1),
+        (TableKind::DuplicateBag, 0, 1, 1),
     ] {
         assert!(rt; of_set(rt.alloc(), numbers) == bad);
         assert!(rt; of_plain_set(rt.alloc(), numbers) == bad);
@@ -77,6 +78,7 @@ fn options_that_cannot_be_opened_are_refused_as_such(rt: HostRuntime) {
         (TableKind::OrderedSet, 0, 1, 1),
         (TableKind::OrderedSet, 1, 1, 17),
         (TableKind::Set, 1, 1, 1),
+        (TableKind::Bag, 1, 1, 1),
         (TableKind::DuplicateBag, 1, 1, 1),
     ] {
         assert!(rt; of_ordered_set(rt.alloc(), numbers) == bad);
@@ -86,7 +88,12 @@ fn options_that_cannot_be_opened_are_refused_as_such(rt: HostRuntime) {
 #[test]
 fn options_that_can_be_opened_want_only_memory(rt: HostRuntime) {
     let scarce = (None, Some(OpenFault::Memory));
-    for numbers in [(TableKind::Set, 1, 1, 1), (TableKind::Set, 65_535, 64, 16)] {
+    for numbers in [
+        (TableKind::Set, 1, 1, 1),
+        (TableKind::Set, 65_535, 64, 16),
+        (TableKind::Bag, 1, 1, 1),
+        (TableKind::DuplicateBag, 65_535, 64, 16),
+    ] {
         assert!(rt; of_set(rt.alloc(), numbers) == scarce);
         assert!(rt; of_plain_set(rt.alloc(), numbers) == scarce);
     }

@@ -127,14 +127,14 @@ const SET_SCRIPT: &str =
     "{open,set,1,1,2}. {insert,0,{1,[a]}}. {insert_new,1,{2,\"b\"}}. {insert_new,0,{2,c}}. {insert,0,a}. {lookup,0,1}. {member,1,2}.
 {fix,0}. {fix,1}. {delete,0,1}. {first,0}. {next,1,1}. {insert,1,{1,z}}. {unfix,0}. {leave,1}. {take,0,[3]}. {take,0,2}.
 {delete_object,0,{1,z}}. {insert,0,{[k|v],#{a=>{}}}}. {next,0,[k|v]}. {lookup,1,1}. nothing. {unfix,0}. {insert,0,{<<1>>,9}}. {close}.
-{open,bag,1,1,1}. {open,ordered_set,1,1,1}. {insert,0,{1,a}}. {close}.";
+{open,bag,0,1,1}. {open,ordered_set,1,1,1}. {insert,0,{1,a}}. {close}.";
 
 /// The same on an ordered set.
 const ORDERED_SET_SCRIPT: &str =
     "{open,ordered_set,1,1,2}. {insert,0,{1,[a]}}. {insert_new,1,{2,\"b\"}}. {insert_new,0,{2,c}}. {insert,0,a}. {lookup,0,1}. {member,1,2}.
 {fix,0}. {fix,1}. {delete,0,1}. {first,0}. {next,1,1}. {insert,1,{1,z}}. {unfix,0}. {leave,1}. {take,0,[3]}. {take,0,2}.
 {delete_object,0,{1,z}}. {insert,0,{[k|v],#{a=>{}}}}. {next,0,[k|v]}. {lookup,1,1}. nothing. {unfix,0}. {insert,0,{<<1>>,9}}. {close}.
-{open,bag,1,1,1}. {open,ordered_set,1,1,1}. {insert,0,{1,a}}. {close}.";
+{open,bag,0,1,1}. {open,ordered_set,1,1,1}. {insert,0,{1,a}}. {close}.";
 
 /// What both are replied.
 const SCRIPT_LINES: &str = "\
@@ -169,10 +169,49 @@ true.
 [{1,a}].
 ";
 
+/// Commands on a bag: a second and a fifth object of a key, slots that double, a key of which some objects go, one that
+/// is named, pieces that end between two objects of a key.
+const BAG_SCRIPT: &str =
+    "{open,bag,1,1,2}. {insert,0,{1,a}}. {insert,0,{1,b}}. {insert,1,{1,a}}. {insert,0,{1,[c]}}. {insert,0,{1,d}}. {insert,0,{1,e}}.
+{insert,0,{9,a}}. {insert_new,0,{9,b}}. {lookup,1,1}. {delete_object,0,{1,b}}. {fix,1}. {select,1,[{{1,'$1'},[],['$1']}],3}. {delete,0,1}.
+{more,1,0}. {more,1,1}. {insert,0,{1,[f]}}. {insert,0,{1,g}}. {unfix,1}. {select_count,0,[{{'_',a},[],[true]}]}.
+{select,0,[{'_',[],[['$_']]}],2}. {more,0,2}. {select_delete,0,[{{1,g},[],[true]},{{9,'_'},[],[false]}]}. {take,0,1}. {close}.";
+
+/// What it is replied.
+const BAG_LINES: &str = "\
+true.
+true.
+true.
+true.
+true.
+true.
+true.
+true.
+false.
+[{1,a},{1,b},{1,[c]},{1,d},{1,e}].
+true.
+true.
+{[a,[c],d],0}.
+true.
+{[e],1}.
+'$end_of_table'.
+true.
+true.
+true.
+1.
+{[[{1,[f]}],[{1,g}]],2}.
+{[[{9,a}]],3}.
+1.
+[{1,[f]}].
+[{9,a}].
+";
+
 #[test]
 fn each_request_of_a_script_refused_in_turn(rt: HostRuntime) {
     for input in [SET_SCRIPT, ORDERED_SET_SCRIPT] {
         let replied = Case::answered(Request::Script, input, SCRIPT_LINES);
         assert_eq!(rt; replied.tried(&rt, rt.alloc()), Ok(()));
     }
+    let replied = Case::answered(Request::Script, BAG_SCRIPT, BAG_LINES);
+    assert_eq!(rt; replied.tried(&rt, rt.alloc()), Ok(()));
 }

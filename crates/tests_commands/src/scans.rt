@@ -5,13 +5,20 @@ use std::alloc::Global;
 use std::sync::Wait;
 use std::thread::Threads;
 use tool_io::ToolFault;
-use tool_scan::{ScanOptions, tool_scan};
+use tool_scan::{ScanKind, ScanOptions, tool_scan};
 
-/// A specification and objects, of each of which the answer is made. The first two of the five have one key.
-const INPUT: &str = "[{{'$1','_'},[],[{{'$1',[]}}]}]. {1,old}. {1,a}. {2,b}. {3,c}. {4,d}.";
+/// A specification and objects, of each of which the answer is made. The first three of the six have one key, and two
+/// of these are equal.
+const INPUT: &str = "[{{'$1','_'},[],[{{'$1',[]}}]}]. {1,a}. {1,b}. {1,a}. {2,b}. {3,c}. {4,d}.";
 
-/// The answers of a set of two parts.
-const LINES: &str = "{2,[]}.\n{4,[]}.\n{1,[]}.\n{3,[]}.\n";
+/// The answers of a table of this kind and two parts.
+const fn lines_of(kind: ScanKind) -> &'static str {
+    match kind {
+        ScanKind::Set => "{2,[]}.\n{4,[]}.\n{1,[]}.\n{3,[]}.\n",
+        ScanKind::Bag => "{2,[]}.\n{4,[]}.\n{1,[]}.\n{1,[]}.\n{3,[]}.\n",
+        ScanKind::DuplicateBag => "{2,[]}.\n{4,[]}.\n{1,[]}.\n{1,[]}.\n{1,[]}.\n{3,[]}.\n",
+    }
+}
 
 /// Whether a scan ends with all lines, or for want of memory with a beginning of them.
 fn is_right<H: Threads + Wait + Sync>(
@@ -29,18 +36,23 @@ fn is_right<H: Threads + Wait + Sync>(
         &mut reader,
         &mut written,
     );
+    let lines = lines_of(options.kind).as_bytes();
     match ended {
-        Ok(()) => written.as_slice() == LINES.as_bytes(),
-        Err(ToolFault::Memory) => {
-            heap.was_refused() && LINES.as_bytes().starts_with(written.as_slice())
-        }
+        Ok(()) => written.as_slice() == lines,
+        Err(ToolFault::Memory) => heap.was_refused() && lines.starts_with(written.as_slice()),
         Err(_) => false,
     }
 }
 
-/// How a sweep over the requests of a scan by so many workers ends.
-fn swept<H: Threads + Wait + Sync>(rt: &H, alloc: Global, workers: u8) -> SweepOutcome {
+/// How a sweep over the requests of a scan of such a table by so many workers ends.
+fn swept<H: Threads + Wait + Sync>(
+    rt: &H,
+    alloc: Global,
+    kind: ScanKind,
+    workers: u8,
+) -> SweepOutcome {
     let options = ScanOptions {
+        kind,
         keypos: 1,
         parts: 2,
         workers,
@@ -51,9 +63,21 @@ fn swept<H: Threads + Wait + Sync>(rt: &H, alloc: Global, workers: u8) -> SweepO
 #[test]
 fn each_request_refused_in_turn(rt: HostRuntime) {
     for workers in [1, 2, 3] {
-        let outcome = swept(&rt, rt.alloc(), workers);
+        let outcome = swept(&rt, rt.alloc(), ScanKind::Set, workers);
         assert!(rt; outcome.is_complete(), "{outcome:?}");
     }
+}
+
+#[test]
+fn each_request_for_a_bag_refused_in_turn(rt: HostRuntime) {
+    let outcome = swept(&rt, rt.alloc(), ScanKind::Bag, 2);
+    assert!(rt; outcome.is_complete(), "{outcome:?}");
+}
+
+#[test]
+fn each_request_for_a_duplicate_bag_refused_in_turn(rt: HostRuntime) {
+    let outcome = swept(&rt, rt.alloc(), ScanKind::DuplicateBag, 2);
+    assert!(rt; outcome.is_complete(), "{outcome:?}");
 }
 
 /// Why a scan of no object with such options is refused, which writes nothing.
@@ -82,6 +106,7 @@ fn refused<H: Threads + Wait + Sync>(
 fn options_outside_their_ranges_are_refused(rt: HostRuntime) {
     for (keypos, parts, workers) in [(0, 1, 1), (1, 0, 1), (1, 65, 1), (1, 1, 0), (1, 1, 17)] {
         let options = ScanOptions {
+            kind: ScanKind::Set,
             keypos,
             parts,
             workers,
@@ -94,6 +119,7 @@ fn options_outside_their_ranges_are_refused(rt: HostRuntime) {
 #[test]
 fn a_term_that_is_no_object_is_refused(rt: HostRuntime) {
     let options = ScanOptions {
+        kind: ScanKind::Bag,
         keypos: 2,
         parts: 3,
         workers: 2,

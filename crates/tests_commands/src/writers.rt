@@ -7,7 +7,7 @@ use std::thread::Threads;
 use tool_cli::{Request, Told, run_request, run_words};
 use tool_io::ToolFault;
 use tool_query::tool_run;
-use tool_scan::ScanOptions;
+use tool_scan::{ScanKind, ScanOptions};
 
 /// Whether a command over this input has passed these lines on by its end, of a writer that holds them back.
 fn passes_on<H: Threads + Wait + Sync>(
@@ -43,6 +43,7 @@ const EMPTY: &str = "<<69,77,83,67,0,1,0,0,0,0,0,1,25,0,0>>.\n";
 #[test]
 fn all_lines_are_passed_on(rt: HostRuntime) {
     let options = ScanOptions {
+        kind: ScanKind::Set,
         keypos: 1,
         parts: 2,
         workers: 2,

@@ -3,6 +3,7 @@ use kit_alloc::Failing;
 use std::alloc::Global;
 use term_core::Fault::{self, TooLong};
 use term_core::{ShortRow, Term};
+use term_operand::Operand;
 use term_text::{read_terms, write_term};
 
 /// Whether the term is this text's and one level deep.
@@ -72,6 +73,25 @@ fn a_copy_takes_no_memory(rt: HostRuntime) {
     let term = b"[{1,a},#{k=><<1>>}|b].";
     assert!(rt; is_copied_without_memory(rt.alloc(), term) == Some(true));
     assert!(rt; is_copied_without_memory(rt.alloc(), b"7.") == Some(true));
+}
+
+/// Whether what is left behind the first element of the list of a text is made, when each request is refused once it is
+/// read.
+fn is_rest_shared(alloc: Global, text: &[u8]) -> Option<bool> {
+    let counting = Failing::counting(alloc);
+    let _terms = read_terms(&counting, text).ok()?;
+    let failing = Failing::refusing_from(alloc, counting.requests().saturating_add(1));
+    let terms = read_terms(&failing, text).ok()?;
+    Some(Operand::Rest(terms.first()?, 1).to_term(&failing).is_ok())
+}
+
+#[test]
+fn a_rest_as_deep_as_its_list_takes_no_memory(rt: HostRuntime) {
+    assert!(rt; is_rest_shared(rt.alloc(), b"[1,2,3,4,5,6].") == Some(true));
+    assert!(rt; is_rest_shared(rt.alloc(), b"[{1},2,3,4,{5},6].") == Some(true));
+    assert!(rt; is_rest_shared(rt.alloc(), b"[{1},2,3,4,5,6|{a}].") == Some(true));
+    assert!(rt; is_rest_shared(rt.alloc(), b"[{1},2,3,4,5,6].") == Some(false));
+    assert!(rt; is_rest_shared(rt.alloc(), b"[1,2,3,4,5].") == Some(false));
 }
 
 /// How many requests for memory were made in all once there was a tuple of one element, one of two as well, of three,
