@@ -7,9 +7,12 @@
 //! - `steps`: what sessions do, one on a thread behind the other and side by side.
 //! - `watching`: parts that look for each other, so that their turns must be made at the same time.
 //! - `walking`: a walk whose table another session empties meanwhile, and a visit out of place.
+//! - `leaving`: dead rows while sessions fix, and when the last of them leaves.
 //! - `refusals`: memory refused in turn, and calls that take none.
 #![tactic(auto)]
 
+#[cfg(test)]
+mod leaving;
 #[cfg(test)]
 mod objects;
 #[cfg(test)]
