@@ -1,0 +1,39 @@
+-- Cells, and the way that a search takes through them.
+use Rattle.std.specs.Prelude.{◌≡◌, ℕ, ◌+◌, ◌-◌, ◌^◌, ◌<◌, ◌⊎◌, Bool, List, length, slice_index_or, nat_le, bit_and}
+use Rattle.std.specs.Prelude.{if◌then◌else◌}
+use Rattle.hash_index.specs.declared.cell.Cell.{Cell}
+
+-- what a free cell has in the place of a row's number: no row has so high a number
+abbrev pub free : ℕ
+free = 2 ^ 32 - 1
+
+abbrev pub free_cell : Cell
+free_cell = record { mixed = 0; at = free }
+
+-- no row is at the cell
+abbrev pub is_free : Cell → Bool
+is_free cell = nat_le free cell.at
+
+-- a row is at the cell
+abbrev pub IsTaken : Cell → Type 0
+IsTaken cell = cell.at < free
+
+-- a cell by its place
+abbrev pub cell_at : List Cell → ℕ → Cell
+cell_at cells i = slice_index_or cells i free_cell
+
+-- the place where a search for a mixed hash begins, among so many cells
+unfoldable pub home : ℕ → ℕ → ℕ
+home count mixed = bit_and mixed (count - 1)
+
+-- a search goes on from one place to the next, and from the last to the first
+abbrev pub IsNext : ℕ → ℕ → ℕ → Type 0
+IsNext count from to = ((to ≡ from + 1) × (to < count)) ⊎ ((to ≡ 0) × (from + 1 ≡ count))
+
+-- how many cells a search that begins at one place passes before it comes to another
+unfoldable pub distance : ℕ → ℕ → ℕ → ℕ
+distance count from to = if nat_le from to then to - from else to + count - from
+
+-- how many cells a search for the mixed hash of the cell at a place passes before it comes to another place
+abbrev pub passed : List Cell → ℕ → ℕ → ℕ
+passed cells i to = distance (length cells) (home (length cells) (cell_at cells i).mixed) to

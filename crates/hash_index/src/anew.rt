@@ -1,0 +1,67 @@
+//! All rows put into new cells.
+ghost use Rattle.std.specs.Prelude.{◌≡◌, ℕ, ◌+◌, ◌*◌, ◌/◌, ◌^◌, ◌<◌, ◌≤◌, length, count_by, replicate, IfOk};
+ghost use Rattle.hash_index.specs.Cells.{free_cell, is_free};
+ghost use Rattle.hash_index.specs.Index.{AreMixed, HasIn};
+ghost use Rattle.hash_index.specs.Kept.{AreFound};
+
+use crate::cell::{Cell, free_cell};
+use crate::search::put_cell;
+use std::alloc::{AllocError, Allocator};
+
+/// How many cells there are at first.
+const FEWEST_CELLS: usize = 8;
+
+/// How many cells there are at most: a mixed hash of 32 bits leads to no further one.
+const MOST_CELLS: usize = 1 << 32;
+
+/// How many rows so many cells take in: more than three quarters make searches long.
+pub(crate) fn most_rows(count: usize) -> usize
+    ensures { result ≡ count / 4 * 3 }
+{
+    count / 4 * 3
+}
+
+/// How many cells there are when all rows are put in anew: as many where there is room, and else twice as many.
+pub(crate) fn count_anew(count: usize, left: usize) -> Result<usize, AllocError>
+    ensures { (free : ℕ) → count + left ≡ count / 4 * 3 + free → IfOk result (λ anew. count < anew / 4 * 3 + free) }
+{
+    if 0 < left {
+        return Ok(count);
+    }
+    if MOST_CELLS / 2 < count {
+        return Err(AllocError);
+    }
+    Ok(FEWEST_CELLS.max(2 * count))
+}
+
+/// So many free cells.
+pub(crate) fn free_cells<A: Allocator>(alloc: A, count: usize) -> Result<Vec<Cell, A>, AllocError>
+    ensures { IfOk result (λ cells. cells.items ≡ replicate count free_cell) }
+{
+    let mut cells = Vec::with_capacity(alloc, count)?;
+    cells.resize(count, free_cell())?;
+    Ok(cells)
+}
+
+/// Puts all rows into free cells, each under the mixed hash that it is to have. Answers how many more have room.
+pub(crate) fn put_all<F: Fn(Cell) -> u32>(cells: &mut [Cell], old: &[Cell], mixed_of: F) -> usize
+    requires callable { (m a : ℕ) → HasIn old.now m a → F.pre mixed_of (record { mixed = m; at = a }) }
+    requires free { cells.old ≡ replicate (length cells.old) free_cell }
+    requires room { length old.now < length cells.old / 4 * 3 + count_by is_free old.now }
+    requires found { AreFound old.now }
+    ensures found { AreFound cells.new }
+    ensures mixed { AreMixed (λ m a n. F.post mixed_of (record { mixed = m; at = a }) n) old.now cells.new }
+    ensures load { length cells.new + result ≡ length cells.new / 4 * 3 + count_by is_free cells.new }
+    ensures room { 0 < result }
+    ensures count { length cells.new ≡ length cells.old }
+{
+    let mut room = most_rows(cells.len());
+    for cell in old {
+        if !cell.is_free() {
+            let mixed = mixed_of(*cell);
+            let _passed = put_cell(cells, mixed, cell.at);
+            room -= 1;
+        }
+    }
+    room
+}

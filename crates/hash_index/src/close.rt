@@ -1,0 +1,73 @@
+//! A row taken out. No mark is left where it stood: the rows behind it whose search passed it move forward, so that
+//! searches stay short however many rows come and go.
+ghost use Rattle.std.specs.Prelude.{◌≡◌, ℕ, ◌+◌, ◌<◌, length, count_by};
+ghost use Rattle.hash_index.specs.Cells.{IsTaken, cell_at, is_free};
+ghost use Rattle.hash_index.specs.Index.{HasIn, Takes};
+ghost use Rattle.hash_index.specs.Kept.{AreFound, AreMoved, IsFilled, moved};
+
+use crate::cell::{Cell, distance, free_cell, home, next};
+use crate::search::find_cell;
+
+/// Moves what stands at one place to another, and leaves a hole.
+fn move_into(cells: &mut [Cell], from: usize, hole: usize)
+    requires from { from < length cells.old }
+    requires hole { hole < length cells.old }
+    ensures { cells.new ≡ moved cells.old from hole }
+{
+    cells[hole] = cells[from];
+    cells[from] = free_cell();
+}
+
+/// Moves the row at a place into the hole where a search for it comes to the hole first. Answers where the hole is now.
+fn fill(cells: &mut [Cell], hole: usize, pos: usize) -> usize
+    requires hole { hole < length cells.old }
+    requires pos { pos < length cells.old }
+    ensures { IsFilled cells.old cells.new hole pos result }
+{
+    let count = cells.len();
+    let start = home(count, cells[pos].mixed);
+    if distance(count, start, hole) < distance(count, start, pos) {
+        move_into(cells, pos, hole);
+        return pos;
+    }
+    hole
+}
+
+/// Takes out what stands at a place. The rows behind it close the hole, up to the next free cell.
+fn close(cells: &mut [Cell], gone: usize)
+    requires gone { IsTaken (cell_at cells.old gone) }
+    requires free { 0 < count_by is_free cells.old }
+    requires found { AreFound cells.old }
+    ensures found { AreFound cells.new }
+    ensures moved { AreMoved cells.old cells.new gone }
+    ensures free { count_by is_free cells.new ≡ count_by is_free cells.old + 1 }
+    ensures count { length cells.new ≡ length cells.old }
+{
+    let count = cells.len();
+    cells[gone] = free_cell();
+    let mut hole = gone;
+    let mut pos = next(count, gone);
+    for _passed in 0..count {
+        if cells[pos].is_free() {
+            return;
+        }
+        hole = fill(cells, hole, pos);
+        pos = next(count, pos);
+    }
+}
+
+/// Takes a row out that is there under a mixed hash.
+pub(crate) fn take_cell(cells: &mut [Cell], mixed: u32, at: usize)
+    requires there { HasIn cells.old mixed at }
+    requires free { 0 < count_by is_free cells.old }
+    requires found { AreFound cells.old }
+    ensures found { AreFound cells.new }
+    ensures takes { Takes cells.old cells.new at }
+    ensures free { count_by is_free cells.new ≡ count_by is_free cells.old + 1 }
+    ensures count { length cells.new ≡ length cells.old }
+{
+    match find_cell(cells, mixed, |row| row == at) {
+        Some(pos) => close(cells, pos),
+        None => unreachable!(),
+    }
+}

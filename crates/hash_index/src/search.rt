@@ -1,0 +1,72 @@
+//! A row looked for, and a row put in.
+ghost use Rattle.std.specs.Prelude.{◌≡◌, ℕ, ◌+◌, ◌-◌, ◌^◌, ◌<◌, true, false, length, count_by, IfSome, IfNone};
+ghost use Rattle.hash_index.specs.Cells.{cell_at, is_free};
+ghost use Rattle.hash_index.specs.Index.{HasIn, Holds, Passing, Puts};
+ghost use Rattle.hash_index.specs.Kept.{AreFound, IsFirstFree};
+
+use crate::cell::{Cell, distance, home, next};
+
+/// The place of a row under a mixed hash that `eq` takes for the one.
+#[inline(always)]
+pub(crate) fn find_cell<F: Fn(usize) -> bool>(cells: &[Cell], mixed: u32, eq: F) -> Option<usize>
+    requires found { AreFound cells.now }
+    requires callable { (at : ℕ) → HasIn cells.now mixed at → F.pre eq at }
+    ensures found { IfSome result (λ i. Holds cells.now mixed (cell_at cells.now i).at i
+        × F.post eq (cell_at cells.now i).at true) }
+    ensures absent { IfNone result ((at : ℕ) → HasIn cells.now mixed at → F.post eq at false) }
+{
+    let count = cells.len();
+    if count == 0 {
+        return None;
+    }
+    let mut pos = home(count, mixed);
+    for _passed in 0..count {
+        let cell = cells[pos];
+        if cell.is_free() {
+            return None;
+        }
+        if cell.mixed == mixed {
+            if eq(cell.at as usize) {
+                return Some(pos);
+            }
+        }
+        pos = next(count, pos);
+    }
+    None
+}
+
+/// The first free place from one on.
+fn free_from(cells: &[Cell], start: usize) -> usize
+    requires start { start < length cells.now }
+    requires free { 0 < count_by is_free cells.now }
+    ensures { IsFirstFree cells.now start result }
+{
+    let count = cells.len();
+    let mut pos = start;
+    for _taken in 0..count {
+        if cells[pos].is_free() {
+            return pos;
+        }
+        pos = next(count, pos);
+    }
+    unreachable!()
+}
+
+/// Puts a row in under its mixed hash, where a cell is free. Answers how many cells were passed.
+pub(crate) fn put_cell(cells: &mut [Cell], mixed: u32, at: u32) -> usize
+    requires at { at < 2 ^ 32 - 1 }
+    requires free { 0 < count_by is_free cells.old }
+    requires absent { (m : ℕ) → HasIn cells.old m at → ⊥ }
+    requires found { AreFound cells.old }
+    ensures found { AreFound cells.new }
+    ensures puts { Puts cells.old cells.new mixed at }
+    ensures passed { Passing cells.new mixed at result }
+    ensures free { count_by is_free cells.new + 1 ≡ count_by is_free cells.old }
+    ensures count { length cells.new ≡ length cells.old }
+{
+    let count = cells.len();
+    let start = home(count, mixed);
+    let pos = free_from(cells, start);
+    cells[pos] = Cell { mixed, at };
+    distance(count, start, pos)
+}
