@@ -31,7 +31,8 @@ use Rattle.part_core.proofs.KeyLemmas.{by_test}
 use Rattle.part_core.proofs.KeyedLemmas.{object_key, written_of, rewritten}
 use Rattle.part_core.proofs.RowLemmas.{unwritten}
 use Rattle.part_core.proofs.StateLemmas.{after_replied, after_refused}
-use Rattle.part_rows.specs.Shown.{Shown, AreSound, shown_exchanged, shown_live, shown_with, state_of}
+use Rattle.part_rows.specs.Dead.{Keeps, shown_settled}
+use Rattle.part_rows.specs.Shown.{Shown, AreSound, shown_exchanged, shown_with, state_of}
 use Rattle.part_engine.specs.Stored.{IsAfter, Leads}
 use Rattle.part_engine.specs.declared.stored.StoredPart.{StoredPart}
 use Rattle.part_engine.proofs.SweepLemmas.{exchanged}
@@ -207,7 +208,7 @@ fix_refused o w fixes base n full =
 -- what is left once counts were changed and rows settled
 abbrev pub settled_state : Shown → List ℕ → ℕ → PartState
 settled_state w counts base =
-    state_of (if is_fixed counts then w else shown_live w) counts (if is_fixed counts then base else w.slots)
+    state_of (shown_settled counts w) counts (if is_fixed counts then base else w.slots)
 
 settled_is : (w : Shown) (counts : List ℕ) (base : ℕ) → settled_state w counts base ≡ record { rows = if is_fixed counts then w.rows else filter is_live w.rows; fixes = counts; slots = w.slots; base = if is_fixed counts then base else w.slots }
 settled_is w counts base = by_test (is_fixed counts) _ (λ fixed. rw fixed refl) (λ free. rw free refl)
@@ -244,23 +245,23 @@ step : {R A : Type 0} (shows : Settings → R → Shown → Type 0) (p q : Store
 step shows p q n act answer log kept goes settings session asked leads now =
     let was : state_after p.settings log ≡ state_of now.shown p.fixes.items p.base = now.state in
     let state : IsState p.settings (state_of now.shown p.fixes.items p.base) = subst (IsState p.settings) was (kept p.settings log now.legal) in
-    let led = leads now.shown now.there state in
+    let led = leads now.shown now.keeps state in
     let e : Entry = record { session = n; act = act; answer = answer } in
     let legal : IsLegal p.settings (log ++ e ∷ []) = goes p.settings log e now.legal (record { session = session; asked = asked; answer = led.0 ∙ ap (λ s. reply_of p.settings s n act) (sym was) }) in
     let more : state_after p.settings (log ++ e ∷ []) ≡ state_of led.1.0 q.fixes.items q.base = state_more p.settings (opening p.settings) log (e ∷ []) ∙ ap (λ s. after p.settings s n act) was ∙ sym led.1.2 in
     record {
       shown = led.1.0;
-      there = subst (λ (o : Settings). shows o q.rows led.1.0) (sym settings) led.1.1;
+      keeps = subst (λ (o : Settings). Keeps shows o q.rows q.dead led.1.0) (sym settings) led.1.1;
       state = subst (λ (o : Settings). state_after o (log ++ e ∷ []) ≡ state_of led.1.0 q.fixes.items q.base) (sym settings) more;
       legal = subst (λ (o : Settings). IsLegal o (log ++ e ∷ [])) (sym settings) legal;
     }
 
 unmoved : {R A : Type 0} (shows : Settings → R → Shown → Type 0) (p q : StoredPart R A) (n : ℕ) (act : Act) (log : History) → q.settings ≡ p.settings → Leads shows p n act None q → IsAfter shows p log → IsAfter shows q (log ++ [])
 unmoved shows p q n act log settings leads now =
-    let led = leads now.shown now.there in
+    let led = leads now.shown now.keeps in
     subst (IsAfter shows q) (sym (append-nil log)) (record {
       shown = led.0;
-      there = subst (λ (o : Settings). shows o q.rows led.0) (sym settings) led.1;
+      keeps = subst (λ (o : Settings). Keeps shows o q.rows q.dead led.0) (sym settings) led.1;
       state = ap (λ o. state_after o log) settings ∙ now.state ∙ sym led.2;
       legal = subst (λ (o : Settings). IsLegal o log) (sym settings) now.legal;
     })

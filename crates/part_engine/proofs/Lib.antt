@@ -5,5 +5,4 @@ pub mod VisitLemmas
 pub mod ObjectLemmas
 pub mod SetLemmas
 pub mod WalkLemmas
-pub mod DeadLemmas
 pub mod SendLemmas

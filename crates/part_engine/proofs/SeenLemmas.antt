@@ -2,7 +2,7 @@
 use Rattle.std.proofs.Common.{◌≡◌, ℕ, zero, suc, ◌≤◌, ◌<◌, ◌+◌, ◌-◌, List, [], ◌∷◌, ◌++◌, refl, ap, sym, ◌∙◌, length, take, drop, get_or, sum_by, arith, append_assoc}
 use Rattle.std.specs.Prelude.{Bool, true, false, ◌&&◌, ◌||◌, ◌==◌, nat_le, if◌then◌else◌, Option, Some, None, option_map, slice_get}
 use Rattle.std.specs.List.{last_or}
-use Rattle.std.proofs.lemmas.Bool.{eqb-true, eqb-false, le-leb, lt-leb}
+use Rattle.std.proofs.lemmas.Bool.{true≢false, eqb-true, eqb-false, le-leb, lt-leb}
 use Rattle.std.proofs.lemmas.List.{append-nil, length-take-le, take_more, take_all, drop_more, drop_all}
 use Rattle.std.proofs.lemmas.List.Sums.{sum_by_push}
 use Rattle.mcode.specs.Program.{Program}
@@ -88,7 +88,7 @@ sees_all stops answers wanted rows place left over s =
 
 -- ---- what a visit sees
 
-until_all : (answers : Row → ℕ) (wanted : ℕ) (rows : List Row) → rows_until false answers wanted rows ≡ rows
+pub until_all : (answers : Row → ℕ) (wanted : ℕ) (rows : List Row) → rows_until false answers wanted rows ≡ rows
 unfolding rows_until
 until_all answers wanted [] = refl
 until_all answers wanted (r ∷ rows) = ap (λ rs. r ∷ rs) (until_all answers (wanted - answers r) rows)
@@ -129,6 +129,22 @@ goes_on o s purpose p (Named k) wanted = refl
 goes_on o s purpose p (After (Class base class)) wanted = refl
 goes_on o s purpose p (After (Behind k)) wanted = refl
 goes_on o s purpose p Begin wanted = refl
+
+-- where the walk goes on behind a visit that doesn't stop before its end depends on no row
+pub next_whole : (o : Settings) (base : ℕ) (scope : Scope) (answers : Row → ℕ) (wanted : ℕ) (rows others : List Row) → stops o scope ≡ false → next_after o base scope answers wanted rows ≡ next_after o base scope answers wanted others
+next_whole o base (Named k) answers wanted rows others whole = refl
+next_whole o base (After (Class other class)) answers wanted rows others whole = refl
+next_whole o base (After (Behind k)) answers wanted rows others whole =
+    absurd (true≢false whole)
+next_whole o base Begin answers wanted rows others whole = rw whole refl
+
+-- and behind one that may stop on the last that it saw
+pub next_stops : (o : Settings) (base : ℕ) (scope : Scope) (answers : Row → ℕ) (wanted : ℕ) (rows : List Row) → stops o scope ≡ true → next_after o base scope answers wanted rows ≡ next_key answers wanted rows
+next_stops o base (Named k) answers wanted rows stops = absurd (true≢false (sym stops))
+next_stops o base (After (Class other class)) answers wanted rows stops =
+    absurd (true≢false (sym stops))
+next_stops o base (After (Behind k)) answers wanted rows stops = refl
+next_stops o base Begin answers wanted rows stops = rw stops refl
 
 -- ---- where a visit of an ordered set stops
 

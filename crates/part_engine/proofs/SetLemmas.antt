@@ -16,6 +16,7 @@ use Rattle.part_core.proofs.KeyLemmas.{by_test, same_is}
 use Rattle.part_core.proofs.KeyedLemmas.{no_other, none_there}
 use Rattle.part_core.proofs.RowLemmas.{unwritten}
 use Rattle.part_rows.specs.Shown.{rows_exchanged}
+pub use Rattle.part_rows.proofs.DeadLemmas.{stays, others_stay, exchanged_none}
 use Rattle.part_engine.specs.Sets.{serves}
 
 -- a kind that is served is not walked by key
@@ -38,22 +39,6 @@ alone k (r ∷ rows) apart there =
     (λ other. rw other (alone k rows (IsDistinct-tail is_same r.0 (keys_of rows) apart) (rw other at there)))
 
 -- ---- what is held of a key exchanged
-
--- a row stays, unless it is a dead one of the key
-abbrev pub stays : Datum → Row → Bool
-stays k r = not (is_same k r.0) || is_live r
-
--- rows of other keys stay
-pub others_stay : (k : Datum) (rows : List Row) → has_row rows k ≡ false → filter (stays k) rows ≡ rows
-others_stay k [] none = refl
-others_stay k (r ∷ rows) none =
-    by_test (is_same k r.0) _ (λ here. absurd (true≢false (rw here at none))) (λ other. rw other (ap (λ rs. r ∷ rs) (others_stay k rows (rw other at none))))
-
--- nothing is exchanged where the key has no row
-pub exchanged_none : (k : Datum) (os : List Datum) (keeps : Bool) (rows : List Row) → has_row rows k ≡ false → rows ≡ rows_exchanged k os keeps rows
-exchanged_none k os true rows none = sym (unwritten k (λ _. os) rows none)
-exchanged_none k os false rows none =
-    sym (ap (filter (stays k)) (unwritten k (λ _. os) rows none) ∙ others_stay k rows none)
 
 -- objects written through what a look-up lent
 pub written : (k : Datum) (os : List Datum) (rows : List Row) → IsDistinct is_same (keys_of rows) → set_value (is_same k) rows os ≡ rows_at_key k (λ _. os) rows

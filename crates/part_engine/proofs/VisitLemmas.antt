@@ -24,12 +24,12 @@ use Rattle.part_core.specs.States.{IsRow, IsState}
 use Rattle.part_core.specs.Visits.{answers_of, is_inside, is_true, next_of, visited_rows, yields, yield_of_rows}
 use Rattle.part_core.proofs.AfterLemmas.{kept_after, read_after}
 use Rattle.part_core.proofs.StateLemmas.{after_replied, after_refused, visited_is_covered}
-use Rattle.part_engine.specs.Deletions.{deleted_from, rows_left, rows_swept, shown_swept, IsChosen}
+use Rattle.part_engine.specs.Deletions.{rows_left, rows_swept, shown_swept, IsChosen}
 use Rattle.part_rows.specs.Looks.{looked_at}
-use Rattle.part_engine.specs.Looks.{next_after, rows_until, stops}
+use Rattle.part_engine.specs.Looks.{next_after, rows_until, seen_from, stops, IsCounted, IsFound}
 use Rattle.part_rows.specs.Shown.{Shown, state_of}
 use Rattle.part_engine.proofs.LeadLemmas.{Says}
-use Rattle.part_engine.proofs.SeenLemmas.{Sees, Saw, sees_more, sees_last, visited, goes_on}
+use Rattle.part_engine.proofs.SeenLemmas.{Sees, Saw, sees_more, sees_last, until_all, next_whole, visited, goes_on}
 use Rattle.part_engine.proofs.SweepLemmas.{swept, left_each}
 
 -- ---- one more row
@@ -71,13 +71,47 @@ saw_last stops purpose p wanted rows place wanting later count r held within is 
 
 -- ---- the rows that a visit saw
 
-seen_rows : (o : Settings) (w : Shown) (fixes : List ℕ) (base : ℕ) (purpose : Purpose) (p : Program) (scope : Scope) (wanted : ℕ) (rows : List Row) (reach : ℕ) → rows ≡ looked_at o base scope w.rows → take reach rows ≡ rows_until (stops o scope) (answers_of purpose p) wanted rows → take reach rows ≡ visited_rows o (state_of w fixes base) purpose p scope wanted
-seen_rows o w fixes base purpose p scope wanted rows reach looked seen =
-    seen ∙ ap (rows_until (stops o scope) (answers_of purpose p) wanted) looked ∙ sym (visited o (state_of w fixes base) purpose p scope wanted)
+seen_is : (o : Settings) (w : Shown) (fixes : List ℕ) (base : ℕ) (purpose : Purpose) (p : Program) (scope : Scope) (wanted : ℕ) → seen_from purpose o base p scope wanted w.rows ≡ visited_rows o (state_of w fixes base) purpose p scope wanted
+seen_is o w fixes base purpose p scope wanted =
+    sym (visited o (state_of w fixes base) purpose p scope wanted)
 
-next_is : (o : Settings) (w : Shown) (fixes : List ℕ) (base : ℕ) (purpose : Purpose) (p : Program) (scope : Scope) (wanted : ℕ) (seen : List Row) → seen ≡ visited_rows o (state_of w fixes base) purpose p scope wanted → next_after o base scope (answers_of purpose p) wanted seen ≡ next_of o (state_of w fixes base) purpose p scope wanted
-next_is o w fixes base purpose p scope wanted seen same =
-    ap (next_after o base scope (answers_of purpose p) wanted) same ∙ sym (goes_on o (state_of w fixes base) purpose p scope wanted)
+next_is : (o : Settings) (w : Shown) (fixes : List ℕ) (base : ℕ) (purpose : Purpose) (p : Program) (scope : Scope) (wanted : ℕ) → next_after o base scope (answers_of purpose p) wanted (seen_from purpose o base p scope wanted w.rows) ≡ next_of o (state_of w fixes base) purpose p scope wanted
+next_is o w fixes base purpose p scope wanted =
+    ap (next_after o base scope (answers_of purpose p) wanted) (seen_is o w fixes base purpose p scope wanted) ∙ sym (goes_on o (state_of w fixes base) purpose p scope wanted)
+
+-- what a visit has found that went over rows one by one
+pub found_looking : (purpose : Purpose) (o : Settings) (base : ℕ) (p : Program) (scope : Scope) (wanted : ℕ) (all rows : List Row) (reach : ℕ) (found : List Datum) (next : Option Cursor) → rows ≡ looked_at o base scope all → take reach rows ≡ rows_until (stops o scope) (answers_of purpose p) wanted rows → found ≡ yield_of_rows purpose p (take reach rows) → next ≡ next_after o base scope (answers_of purpose p) wanted (take reach rows) → IsFound purpose o base p scope wanted all found next
+found_looking purpose o base p scope wanted all rows reach found next looked seen is behind =
+    let same : take reach rows ≡ seen_from purpose o base p scope wanted all = seen ∙ ap (rows_until (stops o scope) (answers_of purpose p) wanted) looked in
+    record {
+      found = is ∙ ap (yield_of_rows purpose p) same;
+      next = behind ∙ ap (next_after o base scope (answers_of purpose p) wanted) same;
+    }
+
+pub counted_looking : (purpose : Purpose) (o : Settings) (base : ℕ) (p : Program) (scope : Scope) (wanted : ℕ) (all rows : List Row) (reach total : ℕ) (next : Option Cursor) → rows ≡ looked_at o base scope all → take reach rows ≡ rows_until (stops o scope) (answers_of purpose p) wanted rows → total ≡ min (length (yield_of_rows purpose p (take reach rows))) most_counted → next ≡ next_after o base scope (answers_of purpose p) wanted (take reach rows) → IsCounted purpose o base p scope wanted all total next
+counted_looking purpose o base p scope wanted all rows reach total next looked seen is behind =
+    let same : take reach rows ≡ seen_from purpose o base p scope wanted all = seen ∙ ap (rows_until (stops o scope) (answers_of purpose p) wanted) looked in
+    record {
+      total = is ∙ ap (λ rs. min (length (yield_of_rows purpose p rs)) most_counted) same;
+      next = behind ∙ ap (next_after o base scope (answers_of purpose p) wanted) same;
+    }
+
+-- what a visit has found that doesn't stop before its end
+seen_whole : (purpose : Purpose) (o : Settings) (base : ℕ) (p : Program) (scope : Scope) (wanted : ℕ) (all rows : List Row) → stops o scope ≡ false → rows ≡ looked_at o base scope all → rows ≡ seen_from purpose o base p scope wanted all
+seen_whole purpose o base p scope wanted all rows whole looked =
+    looked ∙ sym (ap (λ b. rows_until b (answers_of purpose p) wanted (looked_at o base scope all)) whole ∙ until_all (answers_of purpose p) wanted (looked_at o base scope all))
+
+pub found_listed : (purpose : Purpose) (o : Settings) (base : ℕ) (p : Program) (scope : Scope) (wanted : ℕ) (all rows none : List Row) (found : List Datum) (next : Option Cursor) → stops o scope ≡ false → rows ≡ looked_at o base scope all → found ≡ yield_of_rows purpose p rows → next ≡ next_after o base scope (answers_of purpose p) wanted none → IsFound purpose o base p scope wanted all found next
+found_listed purpose o base p scope wanted all rows none found next whole looked is behind = record {
+  found = is ∙ ap (yield_of_rows purpose p) (seen_whole purpose o base p scope wanted all rows whole looked);
+  next = behind ∙ next_whole o base scope (answers_of purpose p) wanted none (seen_from purpose o base p scope wanted all) whole;
+}
+
+pub counted_listed : (purpose : Purpose) (o : Settings) (base : ℕ) (p : Program) (scope : Scope) (wanted : ℕ) (all rows none : List Row) (total : ℕ) (next : Option Cursor) → stops o scope ≡ false → rows ≡ looked_at o base scope all → total ≡ min (length (yield_of_rows purpose p rows)) most_counted → next ≡ next_after o base scope (answers_of purpose p) wanted none → IsCounted purpose o base p scope wanted all total next
+counted_listed purpose o base p scope wanted all rows none total next whole looked is behind = record {
+  total = is ∙ ap (λ rs. min (length (yield_of_rows purpose p rs)) most_counted) (seen_whole purpose o base p scope wanted all rows whole looked);
+  next = behind ∙ next_whole o base scope (answers_of purpose p) wanted none (seen_from purpose o base p scope wanted all) whole;
+}
 
 visit_reply : (o : Settings) (s : PartState) (n : ℕ) (purpose : Purpose) (p : Program) (scope : Scope) (wanted : ℕ) → is_inside o s scope ≡ true → reply_of o s n (Visit purpose p scope wanted) ≡ Replied (said_by_visit purpose (yield_of o s purpose p scope wanted) (next_of o s purpose p scope wanted))
 unfolding reply_of
@@ -91,23 +125,25 @@ visit_refused o s n purpose p scope wanted outside =
 
 -- ---- the three visits
 
-pub visit_says : (o : Settings) (w : Shown) (fixes : List ℕ) (base n : ℕ) (p : Program) (scope : Scope) (wanted : ℕ) (rows : List Row) (reach : ℕ) (found : List Datum) (next : Option Cursor) → IsState o (state_of w fixes base) → is_inside o (state_of w fixes base) scope ≡ true → rows ≡ looked_at o base scope w.rows → take reach rows ≡ rows_until (stops o scope) (answers_of Answers p) wanted rows → found ≡ yield_of_rows Answers p (take reach rows) → next ≡ next_after o base scope (answers_of Answers p) wanted (take reach rows) → Says o (state_of w fixes base) n (Visit Answers p scope wanted) (Replied (Found found next)) (state_of w fixes base)
-visit_says o w fixes base n p scope wanted rows reach found next state inside looked seen is behind =
-    let same = seen_rows o w fixes base Answers p scope wanted rows reach looked seen in
+pub visit_says : (o : Settings) (w : Shown) (fixes : List ℕ) (base n : ℕ) (p : Program) (scope : Scope) (wanted : ℕ) (found : List Datum) (next : Option Cursor) → IsState o (state_of w fixes base) → is_inside o (state_of w fixes base) scope ≡ true → IsFound Answers o base p scope wanted w.rows found next → Says o (state_of w fixes base) n (Visit Answers p scope wanted) (Replied (Found found next)) (state_of w fixes base)
+visit_says o w fixes base n p scope wanted found next state inside is =
     let reply = visit_reply o (state_of w fixes base) n Answers p scope wanted inside in (
-      ap (λ xs. Replied (Found xs next)) (is ∙ ap (yield_of_rows Answers p) same)
-          ∙ ap (λ at. Replied (Found (yield_of o (state_of w fixes base) Answers p scope wanted) at)) (behind ∙ next_is o w fixes base Answers p scope wanted (take reach rows) same)
+      ap (λ xs. Replied (Found xs next)) (is.found ∙ ap (yield_of_rows Answers p) (seen_is o w fixes base Answers p scope wanted))
+          ∙ ap (λ at. Replied (Found (yield_of o (state_of w fixes base) Answers p scope wanted) at)) (is.next ∙ next_is o w fixes base Answers p scope wanted)
           ∙ sym reply,
       sym (read_after o (state_of w fixes base) n (Visit Answers p scope wanted) _ state reply refl refl),
     )
 
-pub count_says : (o : Settings) (w : Shown) (fixes : List ℕ) (base n : ℕ) (p : Program) (scope : Scope) (wanted : ℕ) (rows : List Row) (reach total : ℕ) (next : Option Cursor) → IsState o (state_of w fixes base) → is_inside o (state_of w fixes base) scope ≡ true → rows ≡ looked_at o base scope w.rows → take reach rows ≡ rows_until (stops o scope) (answers_of Counts p) wanted rows → total ≡ min (length (yield_of_rows Counts p (take reach rows))) most_counted → next ≡ next_after o base scope (answers_of Counts p) wanted (take reach rows) → Says o (state_of w fixes base) n (Visit Counts p scope wanted) (Replied (Counted total next)) (state_of w fixes base)
-count_says o w fixes base n p scope wanted rows reach total next state inside looked seen is behind =
-    let same = seen_rows o w fixes base Counts p scope wanted rows reach looked seen in
+-- what a visit that counts or deletes replies
+counted_reply : (o : Settings) (w : Shown) (fixes : List ℕ) (base : ℕ) (purpose : Purpose) (p : Program) (scope : Scope) (wanted total : ℕ) (next : Option Cursor) → IsCounted purpose o base p scope wanted w.rows total next → Replied (Counted total next) ≡ Replied (Counted (min (length (yield_of o (state_of w fixes base) purpose p scope wanted)) most_counted) (next_of o (state_of w fixes base) purpose p scope wanted))
+counted_reply o w fixes base purpose p scope wanted total next is =
+    ap (λ m. Replied (Counted m next)) (is.total ∙ ap (λ rs. min (length (yield_of_rows purpose p rs)) most_counted) (seen_is o w fixes base purpose p scope wanted))
+    ∙ ap (λ at. Replied (Counted (min (length (yield_of o (state_of w fixes base) purpose p scope wanted)) most_counted) at)) (is.next ∙ next_is o w fixes base purpose p scope wanted)
+
+pub count_says : (o : Settings) (w : Shown) (fixes : List ℕ) (base n : ℕ) (p : Program) (scope : Scope) (wanted total : ℕ) (next : Option Cursor) → IsState o (state_of w fixes base) → is_inside o (state_of w fixes base) scope ≡ true → IsCounted Counts o base p scope wanted w.rows total next → Says o (state_of w fixes base) n (Visit Counts p scope wanted) (Replied (Counted total next)) (state_of w fixes base)
+count_says o w fixes base n p scope wanted total next state inside is =
     let reply = visit_reply o (state_of w fixes base) n Counts p scope wanted inside in (
-      ap (λ m. Replied (Counted m next)) (is ∙ ap (λ rs. min (length (yield_of_rows Counts p rs)) most_counted) same)
-          ∙ ap (λ at. Replied (Counted (min (length (yield_of o (state_of w fixes base) Counts p scope wanted)) most_counted) at)) (behind ∙ next_is o w fixes base Counts p scope wanted (take reach rows) same)
-          ∙ sym reply,
+      counted_reply o w fixes base Counts p scope wanted total next is ∙ sym reply,
       sym (read_after o (state_of w fixes base) n (Visit Counts p scope wanted) _ state reply refl refl),
     )
 
@@ -115,22 +151,17 @@ few_without : (p : Program) (keys : List Datum) (rows : List Row) → length (ro
 few_without p keys rows =
     omega (arith, length-map {B = Row} rows (λ (r : Row). (r.0, if list_any (is_same r.0) keys then filter (λ t. not (is_true p t)) r.1 else r.1)))
 
-deleted_is : (o : Settings) (w : Shown) (fixes : List ℕ) (base : ℕ) (p : Program) (scope : Scope) (wanted : ℕ) → deleted_from o base p scope wanted w.rows ≡ visited_rows o (state_of w fixes base) Deletes p scope wanted
-deleted_is o w fixes base p scope wanted = sym (visited o (state_of w fixes base) Deletes p scope wanted)
-
 pub delete_visit_says : (o : Settings) (w : Shown) (fixes : List ℕ) (base n : ℕ) (p : Program) (scope : Scope) (wanted : ℕ) (left : List Row) (total : ℕ) (next : Option Cursor) → IsState o (state_of w fixes base) → is_inside o (state_of w fixes base) scope ≡ true → IsChosen o base p scope wanted w.rows left total next → Says o (state_of w fixes base) n (Visit Deletes p scope wanted) (Replied (Counted total next)) (state_of (shown_swept (is_fixed fixes) left w) fixes base)
 delete_visit_says o w fixes base n p scope wanted left total next state inside chosen =
     let s : PartState = state_of w fixes base in
-    let same = deleted_is o w fixes base p scope wanted in
+    let same = seen_is o w fixes base Deletes p scope wanted in
     let covered = visited_is_covered o s Deletes p scope wanted state inside in
     let reply = visit_reply o s n Deletes p scope wanted inside in
     let rows : rows_swept (is_fixed fixes) left w.rows ≡ kept_rows fixes (rows_without_true p (keys_of (visited_rows o s Deletes p scope wanted)) w.rows) =
     ap (λ vs. rows_swept (is_fixed fixes) vs w.rows) (chosen.left ∙ ap (rows_left p) (same ∙ covered))
     ∙ swept p (covers o scope (next_of o s Deletes p scope wanted)) fixes w.rows state.rows.distinct state.live
     ∙ ap (λ (vs : List Row). kept_rows fixes (rows_without_true p (keys_of vs) w.rows)) (sym covered) in (
-      ap (λ m. Replied (Counted m next)) (chosen.total ∙ ap (λ rs. min (length (yield_of_rows Deletes p rs)) most_counted) same)
-          ∙ ap (λ at. Replied (Counted (min (length (yield_of o s Deletes p scope wanted)) most_counted) at)) (chosen.next ∙ next_is o w fixes base Deletes p scope wanted (deleted_from o base p scope wanted w.rows) same)
-          ∙ sym reply,
+      counted_reply o w fixes base Deletes p scope wanted total next chosen.counted ∙ sym reply,
       ap (λ (rs : List Row). record { rows = rs; fixes = fixes; slots = w.slots; base = base }) rows
           ∙ sym (after_replied o s n (Visit Deletes p scope wanted) _ reply ∙ kept_after o s (rows_without_true p (keys_of (visited_rows o s Deletes p scope wanted)) w.rows) state (few_without p (keys_of (visited_rows o s Deletes p scope wanted)) w.rows)),
     )
@@ -139,7 +170,7 @@ pub chosen_each : (o : Settings) (w : Shown) (fixes : List ℕ) (base : ℕ) (p 
 chosen_each o w fixes base p scope wanted left total next state inside chosen =
     let s : PartState = state_of w fixes base in
     let covered = visited_is_covered o s Deletes p scope wanted state inside in
-    let is : left ≡ rows_left p (filter (λ r. covers o scope (next_of o s Deletes p scope wanted) r.0) w.rows) = chosen.left ∙ ap (rows_left p) (deleted_is o w fixes base p scope wanted ∙ covered) in
+    let is : left ≡ rows_left p (filter (λ r. covers o scope (next_of o s Deletes p scope wanted) r.0) w.rows) = chosen.left ∙ ap (rows_left p) (seen_is o w fixes base Deletes p scope wanted ∙ covered) in
     rw is (left_each o p _ (All-filter (λ (r : Row). covers o scope (next_of o s Deletes p scope wanted) r.0) (IsRow o) w.rows state.each))
 
 -- ---- what is left of rows

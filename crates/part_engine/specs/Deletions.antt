@@ -1,15 +1,13 @@
 -- What a visit deletes, and what writing what is left makes of rows.
-use Rattle.std.specs.Prelude.{ℕ, ◌≡◌, Bool, not, Option, filter, map, length, min, List, [], ◌∷◌}
+use Rattle.std.specs.Prelude.{ℕ, ◌≡◌, Bool, not, Option, filter, map, List, [], ◌∷◌}
 use Rattle.std.specs.List.{list_any}
 use Rattle.mcode.specs.Program.{Program}
 use Rattle.part_core.specs.declared.settings.Settings.{Settings}
 use Rattle.part_core.specs.Acts.{Cursor, Scope}
 use Rattle.part_core.specs.Acts.Purpose.{Deletes}
-use Rattle.part_core.specs.Replies.{most_counted}
 use Rattle.part_core.specs.Rows.{Row}
-use Rattle.part_core.specs.Visits.{answers_of, is_true, yield_of_rows}
-use Rattle.part_rows.specs.Looks.{looked_at}
-use Rattle.part_engine.specs.Looks.{next_after, rows_until, stops}
+use Rattle.part_core.specs.Visits.{is_true}
+use Rattle.part_engine.specs.Looks.{seen_from, IsCounted}
 use Rattle.part_rows.specs.Shown.{Shown, rows_exchanged}
 
 -- what is left of the rows of which objects answer true
@@ -25,14 +23,8 @@ rows_swept keeps (v ∷ left) rows = rows_swept keeps left (rows_exchanged v.0 v
 abbrev pub shown_swept : Bool → List Row → Shown → Shown
 shown_swept keeps left w = record { rows = rows_swept keeps left w.rows; slots = w.slots }
 
--- the rows that a visit that deletes sees
-abbrev pub deleted_from : Settings → ℕ → Program → Scope → ℕ → List Row → List Row
-deleted_from o base p scope wanted rows =
-    rows_until (stops o scope) (answers_of Deletes p) wanted (looked_at o base scope rows)
-
 -- what a visit that deletes has found: what is left of the rows that it sees, how many objects go, and where the walk
 -- goes on
 pub record IsChosen (o : Settings) (base : ℕ) (p : Program) (scope : Scope) (wanted : ℕ) (rows remaining : List Row) (count : ℕ) (at : Option Cursor) : Type 0 where
-  pub left : remaining ≡ rows_left p (deleted_from o base p scope wanted rows)
-  pub total : count ≡ min (length (yield_of_rows Deletes p (deleted_from o base p scope wanted rows))) most_counted
-  pub next : at ≡ next_after o base scope (answers_of Deletes p) wanted (deleted_from o base p scope wanted rows)
+  pub left : remaining ≡ rows_left p (seen_from Deletes o base p scope wanted rows)
+  pub counted : IsCounted Deletes o base p scope wanted rows count at

@@ -2,4 +2,3 @@ pub mod Looks
 pub mod Deletions
 pub mod Stored
 pub mod Sets
-pub mod Dead

@@ -1,12 +1,16 @@
--- How far a visit goes, and where the walk goes on.
-use Rattle.std.specs.Prelude.{ℕ, ◌-◌, ◌==◌, ◌&&◌, Bool, true, false, if◌then◌else◌, Option, None, List, [], ◌∷◌}
+-- How far a visit goes, what it has found, and where the walk goes on.
+use Rattle.std.specs.Prelude.{ℕ, ◌≡◌, ◌-◌, ◌==◌, ◌&&◌, Bool, true, false, if◌then◌else◌, Option, None, length, min, List, [], ◌∷◌}
+use Rattle.term_core.specs.Datum.{Datum}
+use Rattle.mcode.specs.Program.{Program}
 use Rattle.part_core.specs.declared.settings.Settings.{Settings}
 use Rattle.part_core.specs.Settings.{is_ordered}
-use Rattle.part_core.specs.Acts.{Cursor, Scope}
+use Rattle.part_core.specs.Acts.{Cursor, Purpose, Scope}
 use Rattle.part_core.specs.Acts.Cursor.{Class, Behind}
 use Rattle.part_core.specs.Acts.Scope.{Begin, After, Named}
+use Rattle.part_core.specs.Replies.{most_counted}
 use Rattle.part_core.specs.Rows.{Row}
-use Rattle.part_core.specs.Visits.{next_class, next_key}
+use Rattle.part_core.specs.Visits.{answers_of, next_class, next_key, yield_of_rows}
+use Rattle.part_rows.specs.Looks.{looked_at}
 
 -- a visit stops once it has the answers that are wanted: one of an ordered set, but for a named key
 abbrev pub stops : Settings → Scope → Bool
@@ -28,3 +32,18 @@ unfoldable pub rows_until : Bool → (Row → ℕ) → ℕ → List Row → List
 rows_until stops answers wanted [] = []
 rows_until stops answers wanted (r ∷ rs) =
     r ∷ (if stops && (wanted - answers r == 0) then [] else rows_until stops answers (wanted - answers r) rs)
+
+-- the rows that a visit sees
+abbrev pub seen_from : Purpose → Settings → ℕ → Program → Scope → ℕ → List Row → List Row
+seen_from purpose o base p scope wanted rows =
+    rows_until (stops o scope) (answers_of purpose p) wanted (looked_at o base scope rows)
+
+-- what a visit that answers has found, and where the walk goes on
+pub record IsFound (purpose : Purpose) (o : Settings) (base : ℕ) (p : Program) (scope : Scope) (wanted : ℕ) (rows : List Row) (objects : List Datum) (at : Option Cursor) : Type 0 where
+  pub found : objects ≡ yield_of_rows purpose p (seen_from purpose o base p scope wanted rows)
+  pub next : at ≡ next_after o base scope (answers_of purpose p) wanted (seen_from purpose o base p scope wanted rows)
+
+-- how many a visit that counts has found, and where the walk goes on
+pub record IsCounted (purpose : Purpose) (o : Settings) (base : ℕ) (p : Program) (scope : Scope) (wanted : ℕ) (rows : List Row) (count : ℕ) (at : Option Cursor) : Type 0 where
+  pub total : count ≡ min (length (yield_of_rows purpose p (seen_from purpose o base p scope wanted rows))) most_counted
+  pub next : at ≡ next_after o base scope (answers_of purpose p) wanted (seen_from purpose o base p scope wanted rows)

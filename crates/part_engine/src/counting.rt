@@ -1,18 +1,21 @@
 //! Visits that count.
-ghost use Rattle.std.specs.Prelude.{ℕ, ◌≡◌, ◌≤◌, ◌-◌, IfOk, length, min, sum_by, take};
+ghost use Rattle.std.specs.Prelude.{ℕ, ◌≡◌, ◌≤◌, ◌-◌, IsTrue, IsFalse, IfOk, filter_map, length, min, sum_by, take};
+ghost use Rattle.std.specs.Option.{option_map};
 ghost use Rattle.part_core.specs.Acts.Act.{Visit};
 ghost use Rattle.part_core.specs.Acts.Purpose.{Counts};
-ghost use Rattle.part_core.specs.Ops.{answer_in, scope_of};
+ghost use Rattle.part_core.specs.Ops.{answer_in, cursor_of, scope_of};
 ghost use Rattle.part_core.specs.Replies.{most_counted};
 ghost use Rattle.part_core.specs.Visits.{answers_of, yield_of_rows};
-ghost use Rattle.part_engine.specs.Looks.{rows_until};
+ghost use Rattle.part_rows.specs.Looks.{is_placed, looked_at};
+ghost use Rattle.part_rows.specs.Shown.{Shown, AreSound};
+ghost use Rattle.part_engine.specs.Looks.{rows_until, stops, IsCounted};
 ghost use Rattle.part_engine.specs.Stored.{Leads};
 
 use crate::looking::{Reach, is_over};
 use crate::stored::StoredPart;
 use machine::Machine;
-use part_core::{Fault, Look, Reply};
-use part_rows::{Rows, SeenRow, count_true};
+use part_core::{Cursor, Fault, Look, Reply};
+use part_rows::{Place, Rows, SeenRow, count_listed, count_true};
 use std::alloc::{AllocError, Allocator};
 use verifier::Verified;
 
@@ -74,7 +77,79 @@ fn count<'r, A: Allocator + Copy>(
     Ok((total, reach?))
 }
 
+/// How many objects of the rows at places answer true, by one machine.
+fn total_listed<'r, R: Rows<A>, A: Allocator + Copy>(
+    heap: &A,
+    code: &'r Verified<A>,
+    rows: &'r R,
+    places: &[Place],
+) -> Result<u64, AllocError>
+    ensures { IfOk result (λ total. total
+        ≡ min (length (yield_of_rows Counts code.now (filter_map (R.row_of rows.now) places.now))) most_counted) }
+{
+    let mut machine = Machine::new(heap, code)?;
+    let total = count_listed(&mut machine, rows, places);
+    machine.finish();
+    total
+}
+
+/// What a visit that counts has found.
+#[derive(Drop)]
+struct Counted<A: Allocator> {
+    /// How many objects answer true.
+    total: u64,
+    /// Where the walk goes on.
+    next: Option<Cursor<A>>,
+}
+
 impl<R: Rows<A> + Drop, A: Allocator + Copy> StoredPart<R, A> {
+    /// What is counted among the rows that a visit may look at, one after the other.
+    fn count_looking(&self, look: &Look<'_, A>) -> Result<Counted<A>, AllocError>
+        requires { IsTrue (is_placed self.now.settings (scope_of look.now.scope)) }
+        ensures { IfOk result (λ counted. (w : Shown) → R.shows self.now.settings self.now.rows w
+            → AreSound self.now.settings w
+            → IsCounted Counts self.now.settings self.now.base look.now.code.now (scope_of look.now.scope)
+            look.now.wanted w.rows counted.total (option_map cursor_of counted.next)) }
+    {
+        let rows = self.look(&look.scope)?;
+        let stops = self.stops(&look.scope);
+        let (total, reach) = count(&self.alloc, look.code, rows.as_slice(), stops, look.wanted)?;
+        let next = self.next_of(&look.scope, rows.as_slice(), reach)?;
+        Ok(Counted { total, next })
+    }
+
+    /// What is counted at the places of the rows of a visit that doesn't stop before its end. No row of these is made.
+    fn count_places(&self, look: &Look<'_, A>, places: &[Place]) -> Result<Counted<A>, AllocError>
+        requires placed { IsTrue (is_placed self.now.settings (scope_of look.now.scope)) }
+        requires whole { IsFalse (stops self.now.settings (scope_of look.now.scope)) }
+        ensures { IfOk result (λ counted. (w : Shown)
+            → filter_map (R.row_of self.now.rows) places.now
+            ≡ looked_at self.now.settings self.now.base (scope_of look.now.scope) w.rows
+            → IsCounted Counts self.now.settings self.now.base look.now.code.now (scope_of look.now.scope)
+            look.now.wanted w.rows counted.total (option_map cursor_of counted.next)) }
+    {
+        let total = total_listed(&self.alloc, look.code, &self.rows, places)?;
+        let next = self.next_class(&look.scope);
+        Ok(Counted { total, next })
+    }
+
+    /// What is counted. Where the rows are listed by their places, they aren't gathered before.
+    fn count(&self, look: &Look<'_, A>) -> Result<Counted<A>, AllocError>
+        requires { IsTrue (is_placed self.now.settings (scope_of look.now.scope)) }
+        ensures { IfOk result (λ counted. (w : Shown) → R.shows self.now.settings self.now.rows w
+            → AreSound self.now.settings w
+            → IsCounted Counts self.now.settings self.now.base look.now.code.now (scope_of look.now.scope)
+            look.now.wanted w.rows counted.total (option_map cursor_of counted.next)) }
+    {
+        if self.stops(&look.scope) {
+            return self.count_looking(look);
+        }
+        match self.rows.listed(self.settings, self.base, &look.scope) {
+            Some(places) => self.count_places(look, places),
+            None => self.count_looking(look),
+        }
+    }
+
     /// How many objects answer true, at most 2^64 - 1.
     pub(crate) fn visit_count(&self, look: &Look<'_, A>) -> Result<Reply<A>, Fault>
         ensures { (n : ℕ) → Leads R.shows self.now n
@@ -83,10 +158,7 @@ impl<R: Rows<A> + Drop, A: Allocator + Copy> StoredPart<R, A> {
         if !self.is_inside(&look.scope) {
             return Err(Fault::CursorOutside);
         }
-        let rows = self.look(&look.scope)?;
-        let stops = self.stops(&look.scope);
-        let (total, reach) = count(&self.alloc, look.code, rows.as_slice(), stops, look.wanted)?;
-        let next = self.next_of(&look.scope, rows.as_slice(), reach)?;
+        let Counted { total, next } = self.count(look)?;
         Ok(Reply::Counted(total, next))
     }
 }

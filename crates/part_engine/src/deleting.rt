@@ -9,6 +9,7 @@ ghost use Rattle.part_core.specs.Rows.{is_fixed};
 ghost use Rattle.part_core.specs.States.{IsRow};
 ghost use Rattle.part_core.specs.Visits.{answers_of, is_true, yield_of_rows};
 ghost use Rattle.part_engine.specs.Deletions.{rows_left, shown_swept, IsChosen};
+ghost use Rattle.part_rows.specs.Dead.{Keeps};
 ghost use Rattle.part_rows.specs.Looks.{is_placed};
 ghost use Rattle.part_engine.specs.Looks.{rows_until};
 ghost use Rattle.part_rows.specs.Shown.{Shown, AreSound, shown_exchanged};
@@ -18,7 +19,7 @@ use crate::looking::{Reach, is_over};
 use crate::stored::StoredPart;
 use machine::Machine;
 use part_core::{Cursor, Fault, Held, Look, Reply, Settings, is_fixed};
-use part_rows::{Rows, SeenRow, holds};
+use part_rows::{Rows, SeenRow, exchange_counted, holds};
 use std::alloc::{AllocError, Allocator};
 use std::marker::Model;
 use term_core::Term;
@@ -59,12 +60,12 @@ impl<A: Allocator> Left<A> {
     ghost use Rattle.part_core.specs.declared.settings.Settings.{Settings as AnySettings};
 
     /// Writes it in the place of what is held of its key.
-    fn write<R: Rows<A>>(self, settings: Settings, rows: &mut R, keeps: bool)
-        ensures { (w : Shown) → R.shows settings rows.old w → AreSound settings w
-            → R.shows settings rows.new (shown_exchanged self.0 self.1 keeps w) }
+    fn write<R: Rows<A>>(self, settings: Settings, rows: &mut R, dead: &mut usize, keeps: bool)
+        ensures { (w : Shown) → Keeps R.shows settings rows.old dead.old w → AreSound settings w
+            → Keeps R.shows settings rows.new dead.new (shown_exchanged self.0 self.1 keeps w) }
     {
         let mut held = self.held;
-        rows.exchange(settings, &self.key, &mut held, keeps);
+        exchange_counted(rows, dead, settings, &self.key, &mut held, keeps);
     }
 }
 
@@ -220,9 +221,10 @@ impl<R: Rows<A> + Drop, A: Allocator + Copy> StoredPart<R, A> {
     /// What a visit deletes, and where the walk goes on. All objects are looked at before the first goes.
     fn choose(&self, look: &Look<'_, A>) -> Result<Chosen<A>, AllocError>
         requires { IsTrue (is_placed self.now.settings (scope_of look.now.scope)) }
-        ensures { IfOk result (λ chosen. (w : Shown) → R.shows self.now.settings self.now.rows w → AreSound self.now.settings w
-            → IsChosen self.now.settings self.now.base look.now.code.now (scope_of look.now.scope) look.now.wanted w.rows
-            chosen.left.items chosen.total (option_map cursor_of chosen.next)) }
+        ensures { IfOk result (λ chosen. (w : Shown) → R.shows self.now.settings self.now.rows w
+            → AreSound self.now.settings w
+            → IsChosen self.now.settings self.now.base look.now.code.now (scope_of look.now.scope)
+            look.now.wanted w.rows chosen.left.items chosen.total (option_map cursor_of chosen.next)) }
     {
         let rows = self.look(&look.scope)?;
         let stops = self.stops(&look.scope);
@@ -244,13 +246,14 @@ impl<R: Rows<A> + Drop, A: Allocator + Copy> StoredPart<R, A> {
         ensures settings { self.new.settings ≡ self.old.settings }
         ensures fixes { self.new.fixes.items ≡ self.old.fixes.items }
         ensures base { self.new.base ≡ self.old.base }
-        ensures rows { (w : Shown) → R.shows self.old.settings self.old.rows w → AreSound self.old.settings w
-            → All (IsRow self.old.settings) left.items
-            → R.shows self.old.settings self.new.rows (shown_swept (is_fixed self.old.fixes.items) left.items w) }
+        ensures rows { (w : Shown) → Keeps R.shows self.old.settings self.old.rows self.old.dead w
+            → AreSound self.old.settings w → All (IsRow self.old.settings) left.items
+            → Keeps R.shows self.old.settings self.new.rows self.new.dead
+            (shown_swept (is_fixed self.old.fixes.items) left.items w) }
     {
         let keeps = is_fixed(self.fixes.as_slice());
         for row in left {
-            row.write(self.settings, &mut self.rows, keeps);
+            row.write(self.settings, &mut self.rows, &mut self.dead, keeps);
         }
     }
 

@@ -4,7 +4,8 @@ ghost use Rattle.part_core.specs.Acts.Act.{Fix, Unfix, Release};
 ghost use Rattle.part_core.specs.Acts.Answer.{Replied};
 ghost use Rattle.part_core.specs.Ops.{answer_in, said_of};
 ghost use Rattle.part_core.specs.Rows.{is_fixed};
-ghost use Rattle.part_rows.specs.Shown.{Shown, shown_live};
+ghost use Rattle.part_rows.specs.Dead.{Keeps, shown_settled};
+ghost use Rattle.part_rows.specs.Shown.{Shown};
 ghost use Rattle.part_engine.specs.Stored.{Leads};
 
 use crate::stored::StoredPart;
@@ -17,12 +18,12 @@ impl<R: Rows<A> + Drop, A: Allocator> StoredPart<R, A> {
     fn settle(&mut self)
         ensures settings { self.new.settings ≡ self.old.settings }
         ensures fixes { self.new.fixes.items ≡ self.old.fixes.items }
-        ensures rows { (w : Shown) → R.shows self.old.settings self.old.rows w
-            → R.shows self.old.settings self.new.rows (if is_fixed self.old.fixes.items then w else shown_live w) }
-        ensures base { (w : Shown) → R.shows self.old.settings self.old.rows w
-            → self.new.base ≡ (if is_fixed self.old.fixes.items then self.old.base else w.slots) }
+        ensures settled { (w : Shown) → Keeps R.shows self.old.settings self.old.rows self.old.dead w
+            → Keeps R.shows self.old.settings self.new.rows self.new.dead (shown_settled self.old.fixes.items w)
+            × (self.new.base ≡ (if is_fixed self.old.fixes.items then self.old.base else w.slots)) }
     {
-        self.base = settle(&mut self.rows, self.fixes.as_slice(), self.base);
+        let fixes = self.fixes.as_slice();
+        self.base = settle(&mut self.rows, &mut self.dead, fixes, self.base);
     }
 
     /// Fixes the part once more, at most 65,535 times for a session.

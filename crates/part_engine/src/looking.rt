@@ -1,5 +1,5 @@
 //! Where a visit looks, how far it comes, and where the walk goes on.
-ghost use Rattle.std.specs.Prelude.{ℕ, ◌≡◌, ◌≤◌, ◌<◌, ◌+◌, ◌-◌, ◌&&◌, ◌||◌, ◌==◌, IsTrue, IfOk, sum_by, take, length, List};
+ghost use Rattle.std.specs.Prelude.{ℕ, ◌≡◌, ◌≤◌, ◌<◌, ◌+◌, ◌-◌, ◌&&◌, ◌||◌, ◌==◌, IsTrue, IsFalse, IfOk, sum_by, take, length, List};
 ghost use Rattle.std.specs.Option.{option_map};
 ghost use Rattle.part_core.specs.Ops.{cursor_of, scope_of};
 ghost use Rattle.part_core.specs.Rows.{Row};
@@ -103,6 +103,23 @@ impl<R: Rows<A> + Drop, A: Allocator> StoredPart<R, A> {
             },
         }
     }
+
+    /// Where the walk goes on behind a visit that doesn't stop before its end: at the next class, if there is one.
+    pub(crate) fn next_class(&self, scope: &Scope<'_, A>) -> Option<Cursor<A>>
+        requires placed { IsTrue (is_placed self.now.settings (scope_of scope.now)) }
+        requires whole { IsFalse (stops self.now.settings (scope_of scope.now)) }
+        ensures { (answers : Row → ℕ) (wanted : ℕ) (rows : List Row) → option_map cursor_of result
+            ≡ next_after self.now.settings self.now.base (scope_of scope.now) answers wanted rows }
+    {
+        match scope {
+            Scope::Begin => class_behind(self.base, 0),
+            Scope::Named(_) => None,
+            Scope::After(cursor) => match cursor {
+                Cursor::Class { base, class } => class_behind(*base, *class),
+                Cursor::Behind(_) => None,
+            },
+        }
+    }
 }
 
 impl<R: Rows<A> + Drop, A: Allocator + Copy> StoredPart<R, A> {
@@ -112,7 +129,8 @@ impl<R: Rows<A> + Drop, A: Allocator + Copy> StoredPart<R, A> {
         scope: &Scope<'_, A>,
     ) -> Result<Vec<SeenRow<'r, A>, A>, AllocError>
         requires { IsTrue (is_placed self.now.settings (scope_of scope.now)) }
-        ensures { IfOk result (λ rows. (w : Shown) → R.shows self.now.settings self.now.rows w → AreSound self.now.settings w
+        ensures { IfOk result (λ rows. (w : Shown) → R.shows self.now.settings self.now.rows w
+            → AreSound self.now.settings w
             → rows.items ≡ looked_at self.now.settings self.now.base (scope_of scope.now) w.rows) }
     {
         let mut rows = Vec::new(self.alloc);
@@ -134,18 +152,9 @@ impl<R: Rows<A> + Drop, A: Allocator + Copy> StoredPart<R, A> {
             → option_map cursor_of next ≡ next_after self.now.settings self.now.base (scope_of scope.now) answers wanted
             (take reach.rows rows.now)) }
     {
-        match scope {
-            Scope::Begin => {
-                if self.settings.kind.is_ordered() {
-                    return key_behind(rows, reach);
-                }
-                Ok(class_behind(self.base, 0))
-            }
-            Scope::Named(_) => Ok(None),
-            Scope::After(cursor) => match cursor {
-                Cursor::Class { base, class } => Ok(class_behind(*base, *class)),
-                Cursor::Behind(_) => key_behind(rows, reach),
-            },
+        if !self.stops(scope) {
+            return Ok(self.next_class(scope));
         }
+        key_behind(rows, reach)
     }
 }

@@ -100,6 +100,7 @@ impl<R: Rows<A> + Drop, A: Allocator + Copy> Part<A> for StoredPart<R, A> {
             alloc,
             settings,
             rows,
+            dead: 0,
             fixes,
             base: FIRST_SLOTS,
         })

@@ -10,6 +10,8 @@ pub struct StoredPart<R: Drop, A: Allocator = Global> {
     pub(crate) alloc: A,
     pub(crate) settings: Settings,
     pub(crate) rows: R,
+    /// How many rows are dead.
+    pub(crate) dead: usize,
     /// How often each session fixes the part.
     pub(crate) fixes: Vec<u16, A>,
     /// By how many classes a walk that begins goes over the part.

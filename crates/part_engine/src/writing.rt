@@ -11,7 +11,7 @@ ghost use Rattle.part_engine.specs.Stored.{Leads};
 
 use crate::stored::StoredPart;
 use part_core::{Fault, Held, Reply, Settings, is_fixed, key_in};
-use part_rows::Rows;
+use part_rows::{Rows, exchange_counted, put_counted};
 use std::alloc::Allocator;
 use term_core::Term;
 
@@ -24,9 +24,6 @@ fn is_object<A: Allocator>(settings: Settings, object: &Option<Term<A>>) -> bool
         None => false,
     }
 }
-
-/// Lets what was held of a key go.
-fn let_go<A: Allocator>(_held: Held<A>) {}
 
 impl<R: Rows<A> + Drop, A: Allocator> StoredPart<R, A> {
     /// The base of walks that begin: the number of slots, but the one that it was while some session fixes the part.
@@ -45,14 +42,15 @@ impl<R: Rows<A> + Drop, A: Allocator> StoredPart<R, A> {
     /// Puts an object in, in the place of the one with its key.
     pub(crate) fn insert(&mut self, object: &mut Option<Term<A>>) -> Result<Reply<A>, Fault>
         ensures settings { self.new.settings ≡ self.old.settings }
-        ensures leads { (n : ℕ) → Leads R.shows self.old n (Insert (unwrap_or object.old nil)) (answer_in result) self.new }
+        ensures leads { (n : ℕ)
+            → Leads R.shows self.old n (Insert (unwrap_or object.old nil)) (answer_in result) self.new }
         ensures spent { OnOk result (object.new ≡ None) }
         ensures back { OnErr result (object.new ≡ object.old) }
     {
         if !is_object(self.settings, object) {
             return Err(Fault::TooSmall);
         }
-        self.rows.put(self.settings, object, true)?;
+        put_counted(&mut self.rows, &mut self.dead, self.settings, object, true)?;
         self.base = self.base_now();
         Ok(Reply::Done)
     }
@@ -60,14 +58,15 @@ impl<R: Rows<A> + Drop, A: Allocator> StoredPart<R, A> {
     /// Puts an object in if its key has none.
     pub(crate) fn insert_new(&mut self, object: &mut Option<Term<A>>) -> Result<Reply<A>, Fault>
         ensures settings { self.new.settings ≡ self.old.settings }
-        ensures leads { (n : ℕ) → Leads R.shows self.old n (InsertNew (unwrap_or object.old nil)) (answer_in result) self.new }
+        ensures leads { (n : ℕ)
+            → Leads R.shows self.old n (InsertNew (unwrap_or object.old nil)) (answer_in result) self.new }
         ensures spent { OnOk result (object.new ≡ None) }
         ensures back { OnErr result (object.new ≡ object.old) }
     {
         if !is_object(self.settings, object) {
             return Err(Fault::TooSmall);
         }
-        let fresh = self.rows.put(self.settings, object, false)?;
+        let fresh = put_counted(&mut self.rows, &mut self.dead, self.settings, object, false)?;
         self.base = self.base_now();
         Ok(Reply::Flag(fresh))
     }
@@ -79,8 +78,15 @@ impl<R: Rows<A> + Drop, A: Allocator> StoredPart<R, A> {
     {
         let keeps = is_fixed(self.fixes.as_slice());
         let mut held = Held::none();
-        self.rows.exchange(self.settings, key, &mut held, keeps);
-        let_go(held);
+        exchange_counted(
+            &mut self.rows,
+            &mut self.dead,
+            self.settings,
+            key,
+            &mut held,
+            keeps,
+        );
+        drop(held);
         Reply::Done
     }
 
@@ -95,13 +101,28 @@ impl<R: Rows<A> + Drop, A: Allocator> StoredPart<R, A> {
         };
         let keeps = is_fixed(self.fixes.as_slice());
         let mut held = Held::none();
-        if !self.rows.exchange(self.settings, key, &mut held, true) {
-            let_go(held);
+        let is_there = exchange_counted(
+            &mut self.rows,
+            &mut self.dead,
+            self.settings,
+            key,
+            &mut held,
+            true,
+        );
+        if !is_there {
+            drop(held);
             return Ok(Reply::Done);
         }
         held.remove(object);
-        self.rows.exchange(self.settings, key, &mut held, keeps);
-        let_go(held);
+        exchange_counted(
+            &mut self.rows,
+            &mut self.dead,
+            self.settings,
+            key,
+            &mut held,
+            keeps,
+        );
+        drop(held);
         Ok(Reply::Done)
     }
 }
@@ -115,8 +136,15 @@ impl<R: Rows<A> + Drop, A: Allocator + Copy> StoredPart<R, A> {
         let objects = self.objects_of(key)?;
         let keeps = is_fixed(self.fixes.as_slice());
         let mut held = Held::none();
-        self.rows.exchange(self.settings, key, &mut held, keeps);
-        let_go(held);
+        exchange_counted(
+            &mut self.rows,
+            &mut self.dead,
+            self.settings,
+            key,
+            &mut held,
+            keeps,
+        );
+        drop(held);
         Ok(Reply::Objects(objects))
     }
 }

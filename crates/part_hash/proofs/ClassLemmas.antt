@@ -6,7 +6,6 @@ use Rattle.std.specs.List.Sorted.{IsNonDecreasingBy}
 use Rattle.std.specs.Map.{values_of}
 use Rattle.std.specs.Option.{option_to_list}
 use Rattle.std.proofs.lemmas.List.{append-nil, take_more}
-use Rattle.std.specs.HashMap.{HashMap}
 use Rattle.std.proofs.lemmas.Bool.{true≢false, eqb-true}
 use Rattle.std.proofs.lemmas.List.Elements.{All-head, All-tail, All-filter, All-map, filter-append, filter_map-append, filter_agree}
 use Rattle.std.proofs.Math.Nat.{le_of_mul-le-mul_right}
@@ -18,30 +17,33 @@ use Rattle.part_core.specs.Settings.{class_at}
 use Rattle.part_core.specs.Rows.{Row}
 use Rattle.part_core.specs.Visits.{in_class}
 use Rattle.part_core.proofs.KeyLemmas.{by_test}
-use Rattle.part_hash.specs.declared.places.Place.{Place}
-use Rattle.part_hash.specs.Places.{Standing, passes, places_where, rows_of, slot_at}
-use Rattle.part_hash.specs.Standing.{IsRising, Stands}
+use Rattle.part_rows.specs.declared.place.Place.{Place}
+use Rattle.part_hash.specs.declared.store.Store.{Store}
+use Rattle.part_hash.specs.Places.{Kept, Standing, passes, places_where, row_of, rows_of, slot_at}
+use Rattle.part_hash.specs.Slots.{listing_at}
+use Rattle.part_hash.specs.Standing.{AreAt, IsRising, Stands}
 use Rattle.part_hash.specs.Classes.{class_of_slots, slot_of_class, step_of}
-use Rattle.part_hash.proofs.StandLemmas.{AreAt}
+use Rattle.part_hash.proofs.PlaceLemmas.{passed_there, rows_there}
+use Rattle.part_hash.proofs.StandLemmas.{at_place}
 use Rattle.part_hash.proofs.TurnLemmas.{turn_of, slot_comes, turn_within, slot_there, spread_is, step_some}
 use Rattle.part_hash.proofs.SortLemmas.{is_made, Rise, same_places}
 
 -- ---- the rows at places
 
-pub rows_where : (slab : Slab Row) (q : Datum → Bool) (list : List Standing) → AreAt slab list → rows_of slab (places_where q list) ≡ filter (λ (r : Row). q r.0) (values_of list)
+pub rows_where : (slab : Slab Kept) (q : Datum → Bool) (list : List Standing) → AreAt slab list → rows_of slab (places_where q list) ≡ filter (λ (r : Row). q r.0) (values_of list)
 rows_where slab q [] at = refl
 rows_where slab q (e ∷ list) at =
-    let here : get slab e.0.at ≡ Some e.1 = All-head (λ (f : Standing). get slab f.0.at ≡ Some f.1) e list at in
-    let rest : rows_of slab (places_where q list) ≡ filter (λ (r : Row). q r.0) (values_of list) = rows_where slab q list (All-tail (λ (f : Standing). get slab f.0.at ≡ Some f.1) e list at) in
+    let here : row_of slab e.0 ≡ Some e.1 = at_place slab e (All-head (λ (f : Standing). get slab f.0.at ≡ Some (f.1, f.0.made)) e list at) in
+    let rest : rows_of slab (places_where q list) ≡ filter (λ (r : Row). q r.0) (values_of list) = rows_where slab q list (All-tail (λ (f : Standing). get slab f.0.at ≡ Some (f.1, f.0.made)) e list at) in
     by_test (q e.1.0) _ (λ passed. rw (passed, here) (ap (λ rs. e.1 ∷ rs) rest)) (λ failed. rw failed rest)
 
 -- where a class is a slot
-pub rows_in_slot : {S : Type 0} {o : Settings} {slab : Slab Row} {index : HashMap Datum ℕ S} {slots : List (List Place)} {made : ℕ} {rows : List Row} (class : ℕ) (s : Stands o slab index slots made rows) → 0 < o.parts → class < length slots → rows_of slab (get_or slots class []) ≡ in_class o (length slots) class rows
-rows_in_slot {S} {o} {slab} {index} {slots} {made} {rows} class s parts below =
-    ap (rows_of slab) (s.listed class below)
-    ∙ rows_where slab (λ k. slot_at o (length slots) k == class) s.list s.stands
-    ∙ filter_agree (λ (r : Row). slot_at o (length slots) r.0 == class) (λ (r : Row). class_at o (length slots) r.0 == class) (λ r. ap (λ d. ((key_hash r.0 / d) % length slots) == class) (spread_is o parts)) (values_of s.list)
-    ∙ ap (in_class o (length slots) class) (sym s.are)
+pub rows_in_slot : {A : Type 0} {o : Settings} {store : Store A} {rows : List Row} (class : ℕ) (s : Stands o store rows) → 0 < o.parts → class < length store.slots.items → rows_of store.rows (listing_at store.slots.items class).0 ≡ in_class o (length store.slots.items) class rows
+rows_in_slot {A} {o} {store} {rows} class s parts below =
+    rows_there store.rows (listing_at store.slots.items class).0 ∙ ap (rows_of store.rows) (s.listed class below).there
+    ∙ rows_where store.rows (λ k. slot_at o (length store.slots.items) k == class) s.list s.placed.stands
+    ∙ filter_agree (λ (r : Row). slot_at o (length store.slots.items) r.0 == class) (λ (r : Row). class_at o (length store.slots.items) r.0 == class) (λ r. ap (λ d. ((key_hash r.0 / d) % length store.slots.items) == class) (spread_is o parts)) (values_of s.list)
+    ∙ ap (in_class o (length store.slots.items) class) (sym s.are)
 
 -- ---- one slot after the other
 
@@ -104,11 +106,11 @@ one_numbered n (e ∷ list) rising =
 -- ---- the places of a class
 
 -- of a slot, those whose rows pass
-passed_in_slot : (slab : Slab Row) (p q : Datum → Bool) (list : List Standing) → AreAt slab list → filter (passes q slab) (places_where p list) ≡ places_where (λ k. p k && q k) list
+passed_in_slot : (slab : Slab Kept) (p q : Datum → Bool) (list : List Standing) → AreAt slab list → filter (passes q slab) (places_where p list) ≡ places_where (λ k. p k && q k) list
 passed_in_slot slab p q [] at = refl
 passed_in_slot slab p q (e ∷ list) at =
-    let here : get slab e.0.at ≡ Some e.1 = All-head (λ (f : Standing). get slab f.0.at ≡ Some f.1) e list at in
-    let rest : filter (passes q slab) (places_where p list) ≡ places_where (λ k. p k && q k) list = passed_in_slot slab p q list (All-tail (λ (f : Standing). get slab f.0.at ≡ Some f.1) e list at) in
+    let here : row_of slab e.0 ≡ Some e.1 = at_place slab e (All-head (λ (f : Standing). get slab f.0.at ≡ Some (f.1, f.0.made)) e list at) in
+    let rest : filter (passes q slab) (places_where p list) ≡ places_where (λ k. p k && q k) list = passed_in_slot slab p q list (All-tail (λ (f : Standing). get slab f.0.at ≡ Some (f.1, f.0.made)) e list at) in
     by_test (p e.1.0) _
     (λ one. by_test (q e.1.0) _ (λ two. rw (one, here, two) (ap (λ ps. e.0 ∷ ps) rest)) (λ none. rw (one, here, none) rest))
     (λ none. rw none rest)
@@ -167,37 +169,37 @@ rise_where q (e ∷ list) rising =
     (λ failed. rw failed (rise_where q list rising.1))
 
 -- at each number the slots have the places of the class
-each_found : {S : Type 0} {o : Settings} {slab : Slab Row} {index : HashMap Datum ℕ S} {slots : List (List Place)} {made : ℕ} {rows : List Row} (base class n : ℕ) (s : Stands o slab index slots made rows) → 0 < o.parts → 0 < base → 0 < length slots → filter (is_made n) (class_of_slots o base class slab slots) ≡ filter (is_made n) (places_where (is_of o base class) s.list)
-each_found {S} {o} {slab} {index} {slots} {made} {rows} base class n s parts based some =
-    let count : ℕ = length slots in
-    ap (filter (is_made n)) (flat_agree (λ i. filter (passes (is_of o base class) slab) (get_or slots (slot_of_class count base class i) [])) (λ i. places_where (found_in o count base class i) s.list) (count / step_of count base) 0
-    (λ i low high. ap (filter (passes (is_of o base class) slab)) (s.listed (slot_of_class count base class i) (slot_there count base class i based (omega (arith, high)))) ∙ passed_in_slot slab (λ k. slot_at o count k == slot_of_class count base class i) (is_of o base class) s.list s.stands))
+each_found : {A : Type 0} {o : Settings} {store : Store A} {rows : List Row} (base class n : ℕ) (s : Stands o store rows) → 0 < o.parts → 0 < base → 0 < length store.slots.items → filter (is_made n) (class_of_slots o base class store.rows store.slots.items) ≡ filter (is_made n) (places_where (is_of o base class) s.list)
+each_found {A} {o} {store} {rows} base class n s parts based some =
+    let count : ℕ = length store.slots.items in
+    ap (filter (is_made n)) (flat_agree (λ i. filter (passes (is_of o base class) store.rows) (listing_at store.slots.items (slot_of_class count base class i)).0) (λ i. places_where (found_in o count base class i) s.list) (count / step_of count base) 0
+    (λ i low high. passed_there store.rows (λ (r : Row). is_of o base class r.0) (listing_at store.slots.items (slot_of_class count base class i)).0 ∙ ap (filter (passes (is_of o base class) store.rows)) (s.listed (slot_of_class count base class i) (slot_there count base class i based (omega (arith, high)))).there ∙ passed_in_slot store.rows (λ k. slot_at o count k == slot_of_class count base class i) (is_of o base class) s.list s.placed.stands))
     ∙ filter_flat (is_made n) (λ i. places_where (found_in o count base class i) s.list) (range_with_len 0 (count / step_of count base))
     ∙ flat_agree (λ i. filter (is_made n) (places_where (found_in o count base class i) s.list)) (λ i. places_where (found_in o count base class i) (numbered n s.list)) (count / step_of count base) 0 (λ i low high. numbered_places n (found_in o count base class i) s.list)
-    ∙ few_found o count base class parts based some (numbered n s.list) (one_numbered n s.list s.rising)
+    ∙ few_found o count base class parts based some (numbered n s.list) (one_numbered n s.list s.placed.rising)
     ∙ sym (numbered_places n (is_of o base class) s.list)
 
 -- places in the order in which their rows were made, with those of the slots at each number, are those of the class
-pub rows_of_class : {S : Type 0} {o : Settings} {slab : Slab Row} {index : HashMap Datum ℕ S} {slots : List (List Place)} {made : ℕ} {rows : List Row} (base class : ℕ) (s : Stands o slab index slots made rows) → 0 < o.parts → 0 < base → 0 < length slots → (ps : List Place) → IsNonDecreasingBy (λ (p : Place). p.made) ps → ((n : ℕ) → filter (is_made n) ps ≡ filter (is_made n) (class_of_slots o base class slab slots)) → rows_of slab ps ≡ in_class o base class rows
-rows_of_class {S} {o} {slab} {index} {slots} {made} {rows} base class s parts based some ps up same =
-    ap (rows_of slab) (same_places ps (places_where (is_of o base class) s.list) up (rise_where (is_of o base class) s.list s.rising) (λ n. same n ∙ each_found base class n s parts based some))
-    ∙ rows_where slab (is_of o base class) s.list s.stands
+pub rows_of_class : {A : Type 0} {o : Settings} {store : Store A} {rows : List Row} (base class : ℕ) (s : Stands o store rows) → 0 < o.parts → 0 < base → 0 < length store.slots.items → (ps : List Place) → IsNonDecreasingBy (λ (p : Place). p.made) ps → ((n : ℕ) → filter (is_made n) ps ≡ filter (is_made n) (class_of_slots o base class store.rows store.slots.items)) → rows_of store.rows ps ≡ in_class o base class rows
+rows_of_class {A} {o} {store} {rows} base class s parts based some ps up same =
+    ap (rows_of store.rows) (same_places ps (places_where (is_of o base class) s.list) up (rise_where (is_of o base class) s.list s.placed.rising) (λ n. same n ∙ each_found base class n s parts based some))
+    ∙ rows_where store.rows (is_of o base class) s.list s.placed.stands
     ∙ ap (in_class o base class) (sym s.are)
 
 -- ---- loops
 
-single : (slab : Slab Row) (p : Place) → rows_of slab (p ∷ []) ≡ option_to_list (get slab p.at)
-single slab p = of (get slab p.at) refl
+single : (slab : Slab Kept) (p : Place) → rows_of slab (p ∷ []) ≡ option_to_list (row_of slab p)
+single slab p = of (row_of slab p) refl
   where
-    of : (found : Option Row) → get slab p.at ≡ found → rows_of slab (p ∷ []) ≡ option_to_list (get slab p.at)
+    of : (found : Option Row) → row_of slab p ≡ found → rows_of slab (p ∷ []) ≡ option_to_list (row_of slab p)
     of None is = rw is refl
     of (Some r) is = rw is refl
 
-pub rows_more : (slab : Slab Row) (ps : List Place) (i : ℕ) (p : Place) (before after initial : List Row) → i < length ps → p ≡ get_or ps i p → before ≡ initial ++ rows_of slab (take i ps) → after ≡ before ++ option_to_list (get slab p.at) → after ≡ initial ++ rows_of slab (take (i + 1) ps)
+pub rows_more : (slab : Slab Kept) (ps : List Place) (i : ℕ) (p : Place) (before after initial : List Row) → i < length ps → p ≡ get_or ps i p → before ≡ initial ++ rows_of slab (take i ps) → after ≡ before ++ option_to_list (row_of slab p) → after ≡ initial ++ rows_of slab (take (i + 1) ps)
 rows_more slab ps i p before after initial within is so_far more =
-    more ∙ ap (λ rs. rs ++ option_to_list (get slab p.at)) so_far
-    ∙ append_assoc initial (rows_of slab (take i ps)) (option_to_list (get slab p.at))
-    ∙ ap (λ rs. initial ++ rs) (ap (λ rs. rows_of slab (take i ps) ++ rs) (sym (single slab p)) ∙ sym (filter_map-append (λ (q : Place). get slab q.at) (take i ps) (p ∷ [])))
+    more ∙ ap (λ rs. rs ++ option_to_list (row_of slab p)) so_far
+    ∙ append_assoc initial (rows_of slab (take i ps)) (option_to_list (row_of slab p))
+    ∙ ap (λ rs. initial ++ rs) (ap (λ rs. rows_of slab (take i ps) ++ rs) (sym (single slab p)) ∙ sym (filter_map-append (row_of slab) (take i ps) (p ∷ [])))
     ∙ ap (λ q. initial ++ rows_of slab (take i ps ++ q ∷ [])) is
     ∙ ap (λ qs. initial ++ rows_of slab qs) (sym (take_more ps i p within))
 

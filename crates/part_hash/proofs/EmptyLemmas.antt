@@ -1,43 +1,54 @@
 -- No rows.
-use Rattle.std.proofs.Common.{◌≡◌, ℕ, ◌<◌, List, [], refl, ap, sym, ◌∙◌, length, get_or, arith}
-use Rattle.std.specs.Prelude.{Option, Some, None, replicate}
-use Rattle.std.specs.List.{IsDistinct}
-use Rattle.std.specs.Map.{lookup}
-use Rattle.std.specs.HashMap.{HashMap}
+use Rattle.std.proofs.Common.{◌≡◌, ℕ, ◌<◌, ◌≤◌, List, [], refl, ap, sym, subst, ◌∙◌, length, get_or, arith}
+use Rattle.std.specs.Prelude.{Bool, true, false, not, Option, Some, None, is_some, replicate}
+use Rattle.std.specs.List.{IsDistinct, count_by}
+use Rattle.std.specs.Option.{option_map_or}
+use Rattle.std.proofs.lemmas.Bool.{true≢false}
 use Rattle.std.proofs.lemmas.List.{get_or-replicate, length-replicate}
 use Rattle.slab.specs.Slab.{Slab, get}
-use Rattle.term_core.specs.Datum.{Datum}
 use Rattle.term_operand.specs.Order.{is_same}
 use Rattle.part_core.specs.declared.settings.Settings.{Settings}
-use Rattle.part_core.specs.Rows.{Row}
-use Rattle.part_hash.specs.declared.places.Place.{Place}
-use Rattle.part_hash.specs.Places.{Standing}
+use Rattle.part_core.specs.Rows.{is_live}
+use Rattle.part_rows.specs.declared.place.Place.{Place}
+use Rattle.part_hash.specs.declared.store.Store.{Store}
+use Rattle.part_hash.specs.Places.{Kept, Standing, low_of}
+use Rattle.part_hash.specs.Slots.{IsListed, Listing, listing_at, no_listing}
 use Rattle.part_hash.specs.Standing.{Stands}
-use Rattle.part_hash.proofs.StandLemmas.{all_none}
+use Rattle.part_hash.proofs.StandLemmas.{None≢Some, all_none}
 
-none_there : (slab : Slab Row) → slab.slots ≡ [] → (at : ℕ) (r : Row) → get slab at ≡ Some r → ⊥
-none_there slab none at r there = none_some (sym (get_past slab none at) ∙ there)
-  where
-    none_some : {r : Row} → ◌≡◌ {A = Option Row} None (Some r) → ⊥
-    none_some e = cc
+get_past : (slab : Slab Kept) → slab.slots ≡ [] → (at : ℕ) → get slab at ≡ None
+get_past slab none at = ap (λ (rs : List (Option Kept)). get_or rs at None) none
 
-    get_past : (slab : Slab Row) → slab.slots ≡ [] → (at : ℕ) → get slab at ≡ None
-    get_past slab none at = ap (λ rs. get_or rs at None) none
+none_there : (slab : Slab Kept) → slab.slots ≡ [] → (at : ℕ) (r : Kept) → get slab at ≡ Some r → ⊥
+none_there slab none at r there = None≢Some (sym (get_past slab none at) ∙ there)
 
 none_apart : IsDistinct is_same []
 unfolding IsDistinct
 none_apart = tt
 
-pub stands_none : {S : Type 0} (o : Settings) (slab : Slab Row) (index : HashMap Datum ℕ S) (slots : List (List Place)) (count made : ℕ) → slab.slots ≡ [] → index.entries ≡ [] → slots ≡ replicate count [] → Stands o slab index slots made []
-stands_none o slab index slots count made rows entries lists = record {
+pub stands_none : {A : Type 0} (o : Settings) (s : Store A) (count : ℕ) → s.rows.slots ≡ [] → s.slots.items ≡ replicate count no_listing → Stands o s []
+stands_none {A} o s count rows lists = record {
   list = [];
   are = refl;
-  stands = all_none (λ (e : Standing). get slab e.0.at ≡ Some e.1);
-  known = λ at r there. absurd (none_there slab rows at r there);
-  only = λ k none. ap (lookup (is_same k)) entries;
+  placed = record {
+    stands = all_none (λ (e : Standing). get s.rows e.0.at ≡ Some (e.1, e.0.made));
+    rising = tt;
+    below = all_none (λ (e : Standing). e.0.made < s.made);
+    low = all_none (λ (e : Standing). e.0.low ≡ low_of o e.1.0);
+  };
+  listed = λ j below. subst (λ v. IsListed s.rows s.made v []) (sym (ap (λ vs. listing_at vs j) lists ∙ get_or-replicate count j no_listing no_listing (omega (arith, below, ap length lists, length-replicate {A = Listing} count no_listing)))) (record {
+    there = refl;
+    gone = omega arith;
+    passed = λ k d low high. absurd (omega (arith, high));
+    below = all_none (λ (p : Place). p.made < s.made);
+    front = omega arith;
+  });
+  found = record {
+    those = λ at r there. absurd (none_there s.rows rows at r there);
+    once = λ i j r q there also same. absurd (none_there s.rows rows i r there);
+    known = λ at r there. absurd (none_there s.rows rows at r there);
+  };
   apart = none_apart;
-  count = ap length entries;
-  listed = λ j below. ap (λ pss. get_or pss j []) lists ∙ get_or-replicate count j [] [] (omega (arith, below, ap length lists, length-replicate {A = List Place} count []));
-  rising = tt;
-  below = all_none (λ (e : Standing). e.0.made < made);
+  count = ap (λ (xs : List (Option Kept)). count_by is_some xs) rows;
+  noted = λ at dead. absurd (true≢false (sym dead ∙ ap (λ (f : Option Kept). option_map_or (λ (r : Kept). not (is_live r.0)) f false) (get_past s.rows rows at)));
 }

@@ -1,10 +1,13 @@
+pub mod PlaceLemmas
+pub mod SlotLemmas
 pub mod StandLemmas
 pub mod ListedLemmas
-pub mod AddLemmas
 pub mod WriteLemmas
+pub mod AddLemmas
 pub mod RemoveLemmas
 pub mod ExchangeLemmas
 pub mod PutLemmas
+pub mod ShownLemmas
 pub mod SweepLemmas
 pub mod TurnLemmas
 pub mod NextLemmas
@@ -13,7 +16,4 @@ pub mod SortLemmas
 pub mod ClassLemmas
 pub mod GatherLemmas
 pub mod EmptyLemmas
-pub mod ShownLemmas
-pub mod HoleLemmas
-pub mod AloneLemmas
 pub mod SendLemmas

@@ -1,7 +1,6 @@
 -- The next row of a class, found in several slots.
 use Rattle.std.proofs.Common.{◌≡◌, ℕ, ◌<◌, ◌/◌, zero, suc, List, [], ◌∷◌, refl, ap, sym, ◌∙◌, length, get_or, arith, eq-eqb}
 use Rattle.std.specs.Prelude.{Bool, true, false, ◌==◌, ◌&&◌, ◌||◌, nat_le, Option, Some, None, MatchOption, IfSome, All, find, option_map}
-use Rattle.std.specs.HashMap.{HashMap}
 use Rattle.std.proofs.lemmas.Bool.{true≢false, eqb-true, le-leb, leb-true}
 use Rattle.std.proofs.lemmas.List.Elements.{All-head, All-tail}
 use Rattle.slab.specs.Slab.{Slab, get}
@@ -12,11 +11,14 @@ use Rattle.part_core.specs.Replies.{first_live}
 use Rattle.part_core.specs.Rows.{Row, is_live}
 use Rattle.part_core.specs.Visits.{in_class}
 use Rattle.part_core.proofs.KeyLemmas.{by_test}
-use Rattle.part_hash.specs.declared.places.Place.{Place}
-use Rattle.part_hash.specs.Places.{Standing, places_where, slot_at}
-use Rattle.part_hash.specs.Standing.{IsRising, Stands}
+use Rattle.part_rows.specs.declared.place.Place.{Place}
+use Rattle.part_hash.specs.declared.store.Store.{Store}
+use Rattle.part_hash.specs.Places.{Kept, Standing, places_where, row_of, slot_at}
+use Rattle.part_hash.specs.Slots.{listing_at}
+use Rattle.part_hash.specs.Standing.{AreAt, IsRising, Stands}
 use Rattle.part_hash.specs.Classes.{earlier, earliest, is_next, made_from, next_of_class, slot_of_class, step_of}
-use Rattle.part_hash.proofs.StandLemmas.{AreAt}
+use Rattle.part_hash.proofs.PlaceLemmas.{next_there}
+use Rattle.part_hash.proofs.StandLemmas.{at_place}
 use Rattle.part_hash.proofs.TurnLemmas.{turn_of, slot_comes, turn_within, slot_there}
 
 -- ---- the first of some rows
@@ -114,11 +116,11 @@ comes_next o base class from e =
     nat_le from e.0.made && (is_live e.1 && (class_at o base e.1.0 == class))
 
 -- those of a slot are found by their places
-next_in_slot : (o : Settings) (base class from : ℕ) (slab : Slab Row) (q : Datum → Bool) (list : List Standing) → AreAt slab list → find (is_next o base class from slab) (places_where q list) ≡ first_of (λ e. q e.1.0 && comes_next o base class from e) list
+next_in_slot : (o : Settings) (base class from : ℕ) (slab : Slab Kept) (q : Datum → Bool) (list : List Standing) → AreAt slab list → find (is_next o base class from slab) (places_where q list) ≡ first_of (λ e. q e.1.0 && comes_next o base class from e) list
 next_in_slot o base class from slab q [] at = refl
 next_in_slot o base class from slab q (e ∷ list) at =
-    let here : get slab e.0.at ≡ Some e.1 = All-head (λ (f : Standing). get slab f.0.at ≡ Some f.1) e list at in
-    let rest : find (is_next o base class from slab) (places_where q list) ≡ first_of (λ f. q f.1.0 && comes_next o base class from f) list = next_in_slot o base class from slab q list (All-tail (λ (f : Standing). get slab f.0.at ≡ Some f.1) e list at) in
+    let here : row_of slab e.0 ≡ Some e.1 = at_place slab e (All-head (λ (f : Standing). get slab f.0.at ≡ Some (f.1, f.0.made)) e list at) in
+    let rest : find (is_next o base class from slab) (places_where q list) ≡ first_of (λ f. q f.1.0 && comes_next o base class from f) list = next_in_slot o base class from slab q list (All-tail (λ (f : Standing). get slab f.0.at ≡ Some (f.1, f.0.made)) e list at) in
     by_test (q e.1.0) _
     (λ passed. by_test (comes_next o base class from e) _
     (λ next. rw (passed, here, next) refl)
@@ -126,15 +128,15 @@ next_in_slot o base class from slab q (e ∷ list) at =
     (λ failed. rw failed rest)
 
 -- the next row of a class is found among all
-pub next_found : {S : Type 0} {o : Settings} {slab : Slab Row} {index : HashMap Datum ℕ S} {slots : List (List Place)} {made : ℕ} {rows : List Row} (base class from : ℕ) (s : Stands o slab index slots made rows) → 0 < o.parts → 0 < base → 0 < length slots → next_of_class o base class from slab slots ≡ first_of (comes_next o base class from) s.list
-next_found {S} {o} {slab} {index} {slots} {made} {rows} base class from s parts based some =
-    earliest_agree (λ n. find (is_next o base class from slab) (get_or slots (slot_of_class (length slots) base class n) [])) (λ n. first_of (λ e. stands_at n e && comes_next o base class from e) s.list) (length slots / step_of (length slots) base)
-    (λ n below. ap (find (is_next o base class from slab)) (s.listed (slot_of_class (length slots) base class n) (slot_there (length slots) base class n based below)) ∙ next_in_slot o base class from slab (λ k. slot_at o (length slots) k == slot_of_class (length slots) base class n) s.list s.stands)
-    ∙ first_by_turns stands_at (comes_next o base class from) s.list s.rising (length slots / step_of (length slots) base)
-    ∙ first_agree (λ e. comes_below stands_at (length slots / step_of (length slots) base) e && comes_next o base class from e) (comes_next o base class from) all s.list
+pub next_found : {A : Type 0} {o : Settings} {store : Store A} {rows : List Row} (base class from : ℕ) (s : Stands o store rows) → 0 < o.parts → 0 < base → 0 < length store.slots.items → next_of_class o base class from store.rows store.slots.items ≡ first_of (comes_next o base class from) s.list
+next_found {A} {o} {store} {rows} base class from s parts based some =
+    earliest_agree (λ n. find (is_next o base class from store.rows) (listing_at store.slots.items (slot_of_class (length store.slots.items) base class n)).0) (λ n. first_of (λ e. stands_at n e && comes_next o base class from e) s.list) (length store.slots.items / step_of (length store.slots.items) base)
+    (λ n below. next_there store.rows (λ r. is_live r && (class_at o base r.0 == class)) from (listing_at store.slots.items (slot_of_class (length store.slots.items) base class n)).0 ∙ ap (find (is_next o base class from store.rows)) (s.listed (slot_of_class (length store.slots.items) base class n) (slot_there (length store.slots.items) base class n based below)).there ∙ next_in_slot o base class from store.rows (λ k. slot_at o (length store.slots.items) k == slot_of_class (length store.slots.items) base class n) s.list s.placed.stands)
+    ∙ first_by_turns stands_at (comes_next o base class from) s.list s.placed.rising (length store.slots.items / step_of (length store.slots.items) base)
+    ∙ first_agree (λ e. comes_below stands_at (length store.slots.items / step_of (length store.slots.items) base) e && comes_next o base class from e) (comes_next o base class from) all s.list
   where
     stands_at : ℕ → Standing → Bool
-    stands_at n e = slot_at o (length slots) e.1.0 == slot_of_class (length slots) base class n
+    stands_at n e = slot_at o (length store.slots.items) e.1.0 == slot_of_class (length store.slots.items) base class n
 
     fails : (a b c : Bool) → c ≡ false → (a && (b && c)) ≡ false
     fails true true c h = h
@@ -145,19 +147,19 @@ next_found {S} {o} {slab} {index} {slots} {made} {rows} base class from s parts 
     and_false true = refl
     and_false false = refl
 
-    all : (e : Standing) → (comes_below stands_at (length slots / step_of (length slots) base) e && comes_next o base class from e) ≡ comes_next o base class from e
+    all : (e : Standing) → (comes_below stands_at (length store.slots.items / step_of (length store.slots.items) base) e && comes_next o base class from e) ≡ comes_next o base class from e
     all e = by_test (class_at o base e.1.0 == class) _
-        (λ same. let there : comes_below stands_at (length slots / step_of (length slots) base) e ≡ true = comes_there stands_at e (length slots / step_of (length slots) base) (turn_of o (length slots) base e.1.0) (turn_within o (length slots) base e.1.0 some based) (eq-eqb _ _ (slot_comes o (length slots) base class e.1.0 parts (eqb-true _ _ same))) in
+        (λ same. let there : comes_below stands_at (length store.slots.items / step_of (length store.slots.items) base) e ≡ true = comes_there stands_at e (length store.slots.items / step_of (length store.slots.items) base) (turn_of o (length store.slots.items) base e.1.0) (turn_within o (length store.slots.items) base e.1.0 some based) (eq-eqb _ _ (slot_comes o (length store.slots.items) base class e.1.0 parts (eqb-true _ _ same))) in
         rw there refl)
         (λ other. let none : comes_next o base class from e ≡ false = fails (nat_le from e.0.made) (is_live e.1) (class_at o base e.1.0 == class) other in
-        rw none (and_false (comes_below stands_at (length slots / step_of (length slots) base) e)))
+        rw none (and_false (comes_below stands_at (length store.slots.items / step_of (length store.slots.items) base) e)))
 
 -- the key of the first live row of a class
-pub next_key : (o : Settings) (base class from : ℕ) (slab : Slab Row) (list : List Standing) → AreAt slab list → MatchOption (first_of (comes_next o base class from) list) (None ≡ first_live (in_class o base class (made_from from list))) (λ p. option_map (λ r. r.0) (get slab p.at) ≡ first_live (in_class o base class (made_from from list)))
+pub next_key : (o : Settings) (base class from : ℕ) (slab : Slab Kept) (list : List Standing) → AreAt slab list → MatchOption (first_of (comes_next o base class from) list) (None ≡ first_live (in_class o base class (made_from from list))) (λ p. option_map (λ r. r.0) (row_of slab p) ≡ first_live (in_class o base class (made_from from list)))
 next_key o base class from slab [] at = refl
 next_key o base class from slab (e ∷ list) at =
-    let here : get slab e.0.at ≡ Some e.1 = All-head (λ (f : Standing). get slab f.0.at ≡ Some f.1) e list at in
-    let rest : MatchOption (first_of (comes_next o base class from) list) (None ≡ first_live (in_class o base class (made_from from list))) (λ p. option_map (λ r. r.0) (get slab p.at) ≡ first_live (in_class o base class (made_from from list))) = next_key o base class from slab list (All-tail (λ (f : Standing). get slab f.0.at ≡ Some f.1) e list at) in
+    let here : row_of slab e.0 ≡ Some e.1 = at_place slab e (All-head (λ (f : Standing). get slab f.0.at ≡ Some (f.1, f.0.made)) e list at) in
+    let rest : MatchOption (first_of (comes_next o base class from) list) (None ≡ first_live (in_class o base class (made_from from list))) (λ p. option_map (λ r. r.0) (row_of slab p) ≡ first_live (in_class o base class (made_from from list))) = next_key o base class from slab list (All-tail (λ (f : Standing). get slab f.0.at ≡ Some (f.1, f.0.made)) e list at) in
     by_test (nat_le from e.0.made) _
     (λ after. by_test (class_at o base e.1.0 == class) _
     (λ same. by_test (is_live e.1) _

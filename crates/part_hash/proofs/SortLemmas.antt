@@ -5,7 +5,7 @@ use Rattle.std.specs.List.Sorted.{IsNonDecreasingBy}
 use Rattle.std.specs.Ordering.{is_lt, nat_cmp}
 use Rattle.std.proofs.lemmas.Bool.{true≢false, eqb-true, ltb-true, ltb-false, lt-ltb}
 use Rattle.part_core.proofs.KeyLemmas.{by_test}
-use Rattle.part_hash.specs.declared.places.Place.{Place}
+use Rattle.part_rows.specs.declared.place.Place.{Place}
 
 abbrev pub is_made : ℕ → Place → Bool
 is_made n p = p.made == n

@@ -1,49 +1,60 @@
--- Rows that are written.
-use Rattle.std.proofs.Common.{◌≡◌, ℕ, ◌<◌, List, [], ◌∷◌, refl, ap, sym, subst, ◌∙◌, eq-eqb}
-use Rattle.std.specs.Prelude.{Bool, ◌==◌, if◌then◌else◌, Option, Some, None, All, is_some, option_map, map}
-use Rattle.std.specs.List.{IsDistinct}
-use Rattle.std.specs.Map.{lookup, values_of}
-use Rattle.std.specs.HashMap.{HashMap, get_by}
-use Rattle.std.proofs.lemmas.Bool.{true≢false, eqb-true}
+-- Rows that are written, and dead ones that are noted.
+use Rattle.std.proofs.Common.{◌≡◌, ◌≢◌, ℕ, ◌<◌, ◌≤◌, ◌+◌, zero, suc, List, [], ◌∷◌, ◌++◌, refl, ap, sym, subst, ◌∙◌, length, get_or, set, get_or-set_same, get_or-set_other, arith, eq-eqb}
+use Rattle.std.specs.Prelude.{Bool, true, false, not, ◌==◌, ◌||◌, cond, if◌then◌else◌, Option, Some, None, All, filter, is_some, map, nat_lt, slice_index_or}
+use Rattle.std.specs.List.{IsDistinct, count_by, list_any}
+use Rattle.std.specs.Map.{keys_of, lookup, values_of}
+use Rattle.std.specs.Option.{option_map, option_map_or}
+use Rattle.std.proofs.lemmas.Bool.{true≢false, eqb-true, ltb-true, ltb-false, not-true}
 use Rattle.std.proofs.lemmas.List.{length-map}
-use Rattle.std.proofs.lemmas.List.Elements.{All-head, All-tail, All-cons, All-map, All-weaker}
-use Rattle.slab.specs.Slab.{Slab, Updates, get}
+use Rattle.std.proofs.lemmas.List.Elements.{All-head, All-tail, All-cons, All-map}
+use Rattle.std.proofs.lemmas.List.Sums.{sum_by-set}
+use Rattle.slab.specs.Slab.{Slab, Updates, get, slab_len, with_value}
 use Rattle.term_core.specs.Datum.{Datum}
 use Rattle.term_operand.specs.Order.{is_same}
+use Rattle.hash_index.specs.declared.cell.Cell.{Cell}
+use Rattle.hash_index.specs.Index.{Has}
 use Rattle.part_core.specs.declared.settings.Settings.{Settings}
-use Rattle.part_core.specs.Rows.{Row, has_row, rows_at_key}
-use Rattle.part_core.proofs.KeyLemmas.{by_test, same_is, same_from}
+use Rattle.part_core.specs.Rows.{Row, has_row, is_empty, is_live, rows_at_key}
+use Rattle.part_core.proofs.KeyLemmas.{by_test, same_is}
 use Rattle.part_core.proofs.RowLemmas.{lookup_by, keys_by}
-use Rattle.part_hash.specs.declared.places.Place.{Place}
-use Rattle.part_hash.specs.Places.{Standing, places_where}
-use Rattle.part_hash.specs.Standing.{IsRising, Stands}
-use Rattle.part_hash.proofs.StandLemmas.{AreAt, all_none}
+use Rattle.part_rows.specs.declared.place.Place.{Place}
+use Rattle.part_hash.specs.declared.store.Store.{Store}
+use Rattle.part_hash.specs.Mixed.{mixed}
+use Rattle.part_hash.specs.Places.{Kept, Standing, is_standing, low_of, places_in, places_where, row_of, if_made, standing}
+use Rattle.part_hash.specs.Slots.{AreListed, IsListed, Listing, is_gone, listing_at}
+use Rattle.part_hash.specs.Standing.{AreAt, AreFound, AreNoted, ArePlaced, IsRising, Stands, is_noted}
+use Rattle.part_hash.specs.Swept.{is_dead_at}
+use Rattle.part_hash.proofs.StandLemmas.{IsOwn, None≢Some, all_none, all_own, own_objects, some_is}
 
-pub None≢Some : {X : Type 0} {x : X} → ◌≡◌ {A = Option X} None (Some x) → ⊥
-None≢Some e = cc
+-- ---- a slab with another value at a key
 
-pub some_is : {X : Type 0} {x y : X} → Some x ≡ Some y → x ≡ y
-some_is e = cc
+none_past : {X : Type 0} (xs : List (Option X)) (i : ℕ) → length xs ≤ i → slice_index_or xs i None ≡ None
+none_past [] i over = refl
+none_past (x ∷ xs) zero over = absurd (omega (arith, over))
+none_past (x ∷ xs) (suc i) over = none_past xs i (omega (arith, over))
 
--- a place is that of a key's row where the row has the key
-abbrev pub IsOwn : ℕ → Datum → Standing → Type 0
-IsOwn at key e = (e.0.at == at) ≡ is_same key e.1.0
+-- a key beyond the slots has no row
+pub there_below : (slab : Slab Kept) (at : ℕ) (s : Kept) → get slab at ≡ Some s → at < length slab.slots
+there_below slab at s there =
+    by_test (nat_lt at (length slab.slots)) _ (λ inside. ltb-true _ _ inside) (λ outside. absurd (None≢Some (sym (none_past slab.slots at (ltb-false at (length slab.slots) outside)) ∙ there)))
 
-own : {S : Type 0} (slab : Slab Row) (index : HashMap Datum ℕ S) (at : ℕ) (row : Row) → ((i : ℕ) (r : Row) → get slab i ≡ Some r → get_by (is_same r.0) index ≡ Some i) → get slab at ≡ Some row → (e : Standing) → get slab e.0.at ≡ Some e.1 → IsOwn at row.0 e
-own slab index at row known there e here =
-    by_test (e.0.at == at) _
-    (λ same. let it : Some row ≡ Some e.1 = sym there ∙ ap (get slab) (sym (eqb-true e.0.at at same)) ∙ here in
-    same ∙ sym (same_from row.0 e.1.0 (ap (λ (r : Row). r.0) (some_is it))))
-    (λ other. by_test (is_same row.0 e.1.0) _
-    (λ key. let found : Some at ≡ Some e.0.at = sym (known at row there) ∙ ap (λ k. get_by (is_same k) index) (same_is row.0 e.1.0 key) ∙ known e.0.at e.1 here in
-    absurd (true≢false (sym (eq-eqb _ _ (sym (some_is found))) ∙ other)))
-    (λ apart. other ∙ sym apart))
+pub past_slots : (slab : Slab Kept) (at : ℕ) → length slab.slots ≤ at → get slab at ≡ None
+past_slots slab at over = none_past slab.slots at over
 
-pub all_own : {S : Type 0} {o : Settings} {slab : Slab Row} {index : HashMap Datum ℕ S} {slots : List (List Place)} {made : ℕ} {rows : List Row} (s : Stands o slab index slots made rows) (at : ℕ) (row : Row) → get slab at ≡ Some row → All (IsOwn at row.0) s.list
-all_own {S} {o} {slab} {index} {slots} {made} {rows} s at row there =
-    All-weaker (λ (e : Standing). get slab e.0.at ≡ Some e.1) (IsOwn at row.0) (own slab index at row s.known there) s.list s.stands
+pub updates_with : (slab new : Slab Kept) (at : ℕ) (s t : Kept) → get slab at ≡ Some s → new ≡ with_value slab at t → Updates slab new at (Some t)
+updates_with slab new at s t there is = subst (λ (n : Slab Kept). Updates slab n at (Some t)) (sym is) (record {
+  changed = get_or-set_same slab.slots at (Some t) None (there_below slab at s there);
+  others = λ i other. get_or-set_other slab.slots at i (Some t) None other;
+})
 
--- the same at other objects of a key
+pub count_with : (slab new : Slab Kept) (at : ℕ) (s t : Kept) → get slab at ≡ Some s → new ≡ with_value slab at t → slab_len new ≡ slab_len slab
+count_with slab new at s t there is =
+    let one : ◌≡◌ {A = ℕ} (cond (is_some (get slab at)) 1 0) 1 = ap (λ (x : Option Kept). cond (is_some x) 1 0) there in
+    let sum = sum_by-set (λ (x : Option Kept). cond (is_some x) 1 0) slab.slots at (Some t) None (there_below slab at s there) in
+    ap slab_len is ∙ omega (arith, one, sum)
+
+-- ---- the same at other objects of a key
+
 abbrev written : Datum → List Datum → Standing → Standing
 written key os e = (e.0, (e.1.0, if is_same key e.1.0 then os else e.1.1))
 
@@ -61,17 +72,21 @@ written_rising key os [] rising = rising
 written_rising key os (e ∷ list) rising =
     (All-map (λ (f : Standing). e.0.made < f.0.made) (written key os) list rising.0, written_rising key os list rising.1)
 
-written_at : (slab new : Slab Row) (at : ℕ) (key : Datum) (os : List Datum) → Updates slab new at (Some (key, os)) → (list : List Standing) → All (IsOwn at key) list → AreAt slab list → AreAt new (map (written key os) list)
-written_at slab new at key os updates [] owns stands = all_none (λ (e : Standing). get new e.0.at ≡ Some e.1)
-written_at slab new at key os updates (e ∷ list) owns stands =
-    All-cons (λ (f : Standing). get new f.0.at ≡ Some f.1) (written key os e) (map (written key os) list) here
-    (written_at slab new at key os updates list (All-tail (IsOwn at key) e list owns) (All-tail (λ (f : Standing). get slab f.0.at ≡ Some f.1) e list stands))
+written_at : (slab new : Slab Kept) (at made : ℕ) (key : Datum) (os : List Datum) (s : Kept) → get slab at ≡ Some s → s.1 ≡ made → Updates slab new at (Some ((key, os), made)) → (list : List Standing) → All (IsOwn at key) list → AreAt slab list → AreAt new (map (written key os) list)
+written_at slab new at made key os s there is updates [] owns stands = all_none (λ (e : Standing). get new e.0.at ≡ Some (e.1, e.0.made))
+written_at slab new at made key os s there is updates (e ∷ list) owns stands =
+    All-cons (λ (f : Standing). get new f.0.at ≡ Some (f.1, f.0.made)) (written key os e) (map (written key os) list) here
+    (written_at slab new at made key os s there is updates list (All-tail (IsOwn at key) e list owns) (All-tail (λ (f : Standing). get slab f.0.at ≡ Some (f.1, f.0.made)) e list stands))
   where
-    here : get new e.0.at ≡ Some (written key os e).1
+    stood : get slab e.0.at ≡ Some (e.1, e.0.made)
+    stood = All-head (λ (f : Standing). get slab f.0.at ≡ Some (f.1, f.0.made)) e list stands
+
+    here : get new e.0.at ≡ Some ((written key os e).1, e.0.made)
     here = by_test (is_same key e.1.0) _
         (λ it. let same : e.0.at ≡ at = eqb-true e.0.at at (All-head (IsOwn at key) e list owns ∙ it) in
-        rw it (ap (get new) same ∙ updates.changed ∙ ap (λ (k : Datum). Some (k, os)) (same_is key e.1.0 it)))
-        (λ other. rw other (updates.others e.0.at (λ same. true≢false (sym (eq-eqb _ _ same) ∙ All-head (IsOwn at key) e list owns ∙ other)) ∙ All-head (λ (f : Standing). get slab f.0.at ≡ Some f.1) e list stands))
+        let number : made ≡ e.0.made = sym is ∙ ap (λ (t : Kept). t.1) (some_is (sym there ∙ ap (get slab) (sym same) ∙ stood)) in
+        rw it (ap (get new) same ∙ updates.changed ∙ ap (λ (k : Datum). Some ((k, os), made)) (same_is key e.1.0 it) ∙ ap (λ n. Some ((e.1.0, os), n)) number))
+        (λ other. rw other (updates.others e.0.at (λ same. true≢false (sym (eq-eqb _ _ same) ∙ All-head (IsOwn at key) e list owns ∙ other)) ∙ stood))
 
 has_written : (key : Datum) (os : List Datum) (k : Datum) (rows : List Row) → has_row (rows_at_key key (λ _. os) rows) k ≡ has_row rows k
 has_written key os k rows =
@@ -81,20 +96,117 @@ has_written key os k rows =
     of None = refl
     of (Some before) = refl
 
+-- each key of the slab has a row made as before, of the same key
+same_kept : (slab new : Slab Kept) (at : ℕ) (s t : Kept) → get slab at ≡ Some s → t.0.0 ≡ s.0.0 → t.1 ≡ s.1 → Updates slab new at (Some t) → (i : ℕ) (r : Kept) → get new i ≡ Some r → (u : Kept) × (get slab i ≡ Some u) × (r.0.0 ≡ u.0.0) × (r.1 ≡ u.1)
+same_kept slab new at s t there key made updates i r here =
+    by_test (i == at) _
+    (λ same. let is : i ≡ at = eqb-true i at same in
+    let it : t ≡ r = some_is (sym updates.changed ∙ ap (get new) (sym is) ∙ here) in
+    (s, ap (get slab) is ∙ there, ap (λ (v : Kept). v.0.0) (sym it) ∙ key, ap (λ (v : Kept). v.1) (sym it) ∙ made))
+    (λ other. (r, sym (updates.others i (λ e. true≢false (sym (eq-eqb _ _ e) ∙ other))) ∙ here, refl, refl))
+
+-- where a row stands, one stands that was written
+same_there : (slab new : Slab Kept) (at : ℕ) (s t : Kept) → get slab at ≡ Some s → t.1 ≡ s.1 → Updates slab new at (Some t) → (p : Place) → is_standing new p ≡ is_standing slab p
+same_there slab new at s t there made updates p =
+    by_test (p.at == at) _
+    (λ same. let is : p.at ≡ at = eqb-true p.at at same in
+    ap (λ (f : Option Kept). is_some (if_made p.made f)) (ap (get new) is ∙ updates.changed)
+    ∙ by_test (s.1 == p.made) _
+    (λ own. let also : (t.1 == p.made) ≡ true = ap (λ n. n == p.made) made ∙ own in rw also (sym (stood is ∙ rw own refl)))
+    (λ other. let also : (t.1 == p.made) ≡ false = ap (λ n. n == p.made) made ∙ other in rw also (sym (stood is ∙ rw other refl))))
+    (λ other. ap (λ (f : Option Kept). is_some (if_made p.made f)) (updates.others p.at (λ e. true≢false (sym (eq-eqb _ _ e) ∙ other))))
+  where
+    stood : p.at ≡ at → is_standing slab p ≡ is_some (if_made p.made (Some s))
+    stood is = ap (λ (f : Option Kept). is_some (if_made p.made f)) (ap (get slab) is ∙ there)
+
+same_standing : (slab new : Slab Kept) → ((p : Place) → is_standing new p ≡ is_standing slab p) → (places : List Place) → (standing new places ≡ standing slab places) × (length (filter (is_gone new) places) ≡ length (filter (is_gone slab) places))
+same_standing slab new same [] = (refl, refl)
+same_standing slab new same (p ∷ places) =
+    let rest = same_standing slab new same places in
+    by_test (is_standing slab p) _
+    (λ stands. let also : is_standing new p ≡ true = same p ∙ stands in rw (stands, also) (ap (λ ps. p ∷ ps) rest.0, rest.1))
+    (λ gone. let also : is_standing new p ≡ false = same p ∙ gone in rw (gone, also) (rest.0, ap suc rest.1))
+
+-- slots list what they listed where the same places stand
+pub listed_same : (o : Settings) (slab new : Slab Kept) (made : ℕ) (slots : List Listing) (list more : List Standing) → ((p : Place) → is_standing new p ≡ is_standing slab p) → ((j : ℕ) → places_in o (length slots) j more ≡ places_in o (length slots) j list) → AreListed o slab made slots list → AreListed o new made slots more
+listed_same o slab new made slots list more same places listed = λ j below.
+    let was = listed j below in
+    let v : Listing = listing_at slots j in
+    let both = same_standing slab new same v.0 in record {
+      there = both.0 ∙ was.there ∙ sym (places j);
+      gone = omega (arith, was.gone, both.1);
+      passed = λ k d low high. same (get_or v.0 k d) ∙ was.passed k d low high;
+      below = was.below;
+      front = was.front;
+    }
+
 -- a row whose objects are others stands where it stood
-pub stands_written : {S : Type 0} {o : Settings} {slab : Slab Row} {index : HashMap Datum ℕ S} {slots : List (List Place)} {made : ℕ} {rows : List Row} (new : Slab Row) (at : ℕ) (row : Row) (os : List Datum) (s : Stands o slab index slots made rows) → get slab at ≡ Some row → Updates slab new at (Some (row.0, os)) → Stands o new index slots made (rows_at_key row.0 (λ _. os) rows)
-stands_written {S} {o} {slab} {index} {slots} {made} {rows} new at row os s there updates = record {
-  list = map (written row.0 os) s.list;
-  are = ap (rows_at_key row.0 (λ _. os)) s.are ∙ written_rows row.0 os s.list;
-  stands = written_at slab new at row.0 os updates s.list (all_own s at row there) s.stands;
-  known = λ i r here. by_test (i == at) _
-      (λ same. let it : Some (row.0, os) ≡ Some r = sym updates.changed ∙ ap (get new) (sym (eqb-true i at same)) ∙ here in
-      ap (λ (q : Row). get_by (is_same q.0) index) (sym (some_is it)) ∙ s.known at row there ∙ ap (λ n. Some n) (sym (eqb-true i at same)))
-      (λ other. s.known i r (sym (updates.others i (λ same. true≢false (sym (eq-eqb _ _ same) ∙ other))) ∙ here));
-  only = λ k none. s.only k (sym (has_written row.0 os k rows) ∙ none);
-  apart = subst (λ ks. IsDistinct is_same ks) (sym (keys_by (λ j before. if is_same row.0 j then os else before) rows)) s.apart;
-  count = s.count ∙ sym (length-map rows (λ (r : Row). (r.0, if is_same row.0 r.0 then os else r.1)));
-  listed = λ j below. s.listed j below ∙ sym (written_places _ row.0 os s.list);
-  rising = written_rising row.0 os s.list s.rising;
-  below = All-map (λ (e : Standing). e.0.made < made) (written row.0 os) s.list s.below;
+pub stands_written : {A : Type 0} (o : Settings) (s t : Store A) (rows : List Row) (at made : ℕ) (key : Datum) (before os : List Datum) → Stands o s rows → get s.rows at ≡ Some ((key, before), made) → t.rows ≡ with_value s.rows at ((key, os), made) → t.index ≡ s.index → t.seed ≡ s.seed → t.slots.items ≡ s.slots.items → t.made ≡ s.made → t.dying.items ≡ s.dying.items → t.lost ≡ s.lost → (is_live (key, os) ≡ false → is_noted s.lost s.dying.items at ≡ true) → Stands o t (rows_at_key key (λ _. os) rows)
+stands_written {A} o s t rows at made key before os stands there is index seed slots later dying lost dead = record {
+  list = map (written key os) stands.list;
+  are = ap (rows_at_key key (λ _. os)) stands.are ∙ written_rows key os stands.list;
+  placed = record {
+    stands = written_at s.rows t.rows at made key os ((key, before), made) there refl updates stands.list owns stands.placed.stands;
+    rising = written_rising key os stands.list stands.placed.rising;
+    below = subst (λ n. All (λ (e : Standing). e.0.made < n) (map (written key os) stands.list)) (sym later) (All-map (λ (e : Standing). e.0.made < s.made) (written key os) stands.list stands.placed.below);
+    low = All-map (λ (e : Standing). e.0.low ≡ low_of o e.1.0) (written key os) stands.list stands.placed.low;
+  };
+  listed = subst (λ (vs : List Listing). AreListed o t.rows t.made vs (map (written key os) stands.list)) (sym slots)
+      (subst (λ n. AreListed o t.rows n s.slots.items (map (written key os) stands.list)) (sym later)
+      (listed_same o s.rows t.rows s.made s.slots.items stands.list (map (written key os) stands.list) (same_there s.rows t.rows at ((key, before), made) ((key, os), made) there refl updates) (λ j. written_places _ key os stands.list) stands.listed));
+  found = record {
+    those = λ i r here. let u = kept i r here in has_written key os r.0.0 rows ∙ ap (has_row rows) u.2 ∙ stands.found.those i u.0 u.1;
+    once = λ i j r q here there_q same. let u = kept i r here in let v = kept j q there_q in stands.found.once i j u.0 v.0 u.1 v.1 (ap (λ k. is_same k v.0.0.0) (sym u.2) ∙ ap (is_same r.0.0) (sym v.2) ∙ same);
+    known = λ i r here. let u = kept i r here in subst (λ m. Has t.index m i) (ap (mixed s.seed) (sym u.2) ∙ ap (λ n. mixed n r.0.0) (sym seed)) (subst (λ (x : List Cell × ℕ). Has x (mixed s.seed u.0.0.0) i) (sym index) (stands.found.known i u.0 u.1));
+  };
+  apart = subst (λ ks. IsDistinct is_same ks) (sym (keys_by (λ j was. if is_same key j then os else was) rows)) stands.apart;
+  count = count_with s.rows t.rows at ((key, before), made) ((key, os), made) there is ∙ stands.count ∙ sym (length-map rows (λ (r : Row). (r.0, if is_same key r.0 then os else r.1)));
+  noted = λ i gone. ap (λ b. is_noted b t.dying.items i) lost ∙ ap (λ ns. is_noted s.lost ns i) dying ∙ by_test (i == at) _
+      (λ same. let own : i ≡ at = eqb-true i at same in
+      let it : is_live (key, os) ≡ false = not-true (is_live (key, os)) (sym (ap (λ (f : Option Kept). option_map_or (λ (r : Kept). not (is_live r.0)) f false) (ap (get t.rows) own ∙ updates.changed)) ∙ gone) in
+      ap (is_noted s.lost s.dying.items) own ∙ dead it)
+      (λ other. stands.noted i (ap (λ (f : Option Kept). option_map_or (λ (r : Kept). not (is_live r.0)) f false) (sym (updates.others i (λ e. true≢false (sym (eq-eqb _ _ e) ∙ other)))) ∙ gone));
 }
+  where
+    updates : Updates s.rows t.rows at (Some ((key, os), made))
+    updates = updates_with s.rows t.rows at ((key, before), made) ((key, os), made) there is
+
+    owns : All (IsOwn at key) stands.list
+    owns = all_own s.rows s.index s.seed rows stands.list at ((key, before), made) stands.placed.stands stands.found there
+
+    kept : (i : ℕ) (r : Kept) → get t.rows i ≡ Some r → (u : Kept) × (get s.rows i ≡ Some u) × (r.0.0 ≡ u.0.0) × (r.1 ≡ u.1)
+    kept = same_kept s.rows t.rows at ((key, before), made) ((key, os), made) there refl refl updates
+
+-- the same, where what becomes of the rows is known by an equation
+pub written_as : {A : Type 0} (o : Settings) (s t : Store A) (rows after : List Row) (at made : ℕ) (key : Datum) (before os : List Datum) → rows_at_key key (λ _. os) rows ≡ after → Stands o s rows → get s.rows at ≡ Some ((key, before), made) → t.rows ≡ with_value s.rows at ((key, os), made) → t.index ≡ s.index → t.seed ≡ s.seed → t.slots.items ≡ s.slots.items → t.made ≡ s.made → t.dying.items ≡ s.dying.items → t.lost ≡ s.lost → (is_live (key, os) ≡ false → is_noted s.lost s.dying.items at ≡ true) → Stands o t after
+written_as {A} o s t rows after at made key before os same stands there is index seed slots later dying lost dead =
+    subst (λ rs. Stands o t rs) same (stands_written o s t rows at made key before os stands there is index seed slots later dying lost dead)
+
+-- ---- notes
+
+any_push : (at : ℕ) (ns : List ℕ) (n : ℕ) → list_any (λ m. m == at) (ns ++ n ∷ []) ≡ (list_any (λ m. m == at) ns || (n == at))
+any_push at [] n = of (n == at)
+  where
+    of : (b : Bool) → (b || false) ≡ (false || b)
+    of true = refl
+    of false = refl
+any_push at (m ∷ ns) n =
+    by_test (m == at) _ (λ here. rw here refl) (λ other. rw other (any_push at ns n))
+
+-- what was noted is noted still where one more is
+pub noted_still : (lost : Bool) (ns : List ℕ) (n at : ℕ) → is_noted lost ns at ≡ true → is_noted lost (ns ++ n ∷ []) at ≡ true
+noted_still true ns n at noted = refl
+noted_still false ns n at noted = any_push at ns n ∙ rw noted refl
+
+pub noted_now : (lost : Bool) (ns : List ℕ) (at : ℕ) → is_noted lost (ns ++ at ∷ []) at ≡ true
+noted_now true ns at = refl
+noted_now false ns at = any_push at ns at ∙ either (list_any (λ m. m == at) ns)
+  where
+    either : (b : Bool) → (b || (at == at)) ≡ true
+    either true = refl
+    either false = eq-eqb at at refl
+
+-- a row that has objects needs no note
+pub live_noted : (k : Datum) (os : List Datum) (lost : Bool) (ns : List ℕ) (at : ℕ) → is_empty os ≡ false → is_live (k, os) ≡ false → is_noted lost ns at ≡ true
+live_noted k [] lost ns at some dead = absurd (true≢false some)
+live_noted k (t ∷ os) lost ns at some dead = absurd (true≢false dead)

@@ -1,14 +1,15 @@
 -- The rows of classes, in the order of a walk.
-use Rattle.std.specs.Prelude.{ℕ, suc, zero, ◌+◌, ◌*◌, ◌/◌, ◌%◌, ◌==◌, ◌&&◌, Bool, false, if◌then◌else◌, nat_le, Option, Some, None, filter, find, flat_map, get_or, length, List, []}
+use Rattle.std.specs.Prelude.{ℕ, suc, zero, ◌+◌, ◌*◌, ◌/◌, ◌%◌, ◌==◌, ◌&&◌, Bool, false, if◌then◌else◌, nat_le, Option, Some, None, filter, find, flat_map, length, List}
 use Rattle.std.specs.List.{range_with_len}
 use Rattle.std.specs.Map.{values_of}
 use Rattle.std.specs.Option.{option_map_or}
-use Rattle.slab.specs.Slab.{Slab, get}
+use Rattle.slab.specs.Slab.{Slab}
 use Rattle.part_core.specs.declared.settings.Settings.{Settings}
 use Rattle.part_core.specs.Settings.{class_at}
 use Rattle.part_core.specs.Rows.{Row, is_live}
-use Rattle.part_hash.specs.declared.places.Place.{Place}
-use Rattle.part_hash.specs.Places.{Standing, passes}
+use Rattle.part_rows.specs.declared.place.Place.{Place}
+use Rattle.part_hash.specs.Places.{Kept, Standing, passes, row_of}
+use Rattle.part_hash.specs.Slots.{Listing, listing_at}
 
 -- by how many the slots are apart in which rows of a class may stand: where the base doesn't divide them, in any
 abbrev pub step_of : ℕ → ℕ → ℕ
@@ -30,26 +31,26 @@ earliest f zero = None
 earliest f (suc n) = earlier (earliest f n) (f n)
 
 -- a live row of a class, made after so many
-abbrev pub is_next : Settings → ℕ → ℕ → ℕ → Slab Row → Place → Bool
+abbrev pub is_next : Settings → ℕ → ℕ → ℕ → Slab Kept → Place → Bool
 is_next o base class from slab p =
-    nat_le from p.made && option_map_or (λ r. is_live r && (class_at o base r.0 == class)) (get slab p.at) false
+    nat_le from p.made && option_map_or (λ r. is_live r && (class_at o base r.0 == class)) (row_of slab p) false
 
 -- the rows made after so many
 abbrev pub made_from : ℕ → List Standing → List Row
 made_from from list = values_of (filter (λ e. nat_le from e.0.made) list)
 
 -- the first live row of a class, made after so many
-abbrev pub next_of_class : Settings → ℕ → ℕ → ℕ → Slab Row → List (List Place) → Option Place
+abbrev pub next_of_class : Settings → ℕ → ℕ → ℕ → Slab Kept → List Listing → Option Place
 next_of_class o base class from slab slots =
-    earliest (λ n. find (is_next o base class from slab) (get_or slots (slot_of_class (length slots) base class n) []))
+    earliest (λ n. find (is_next o base class from slab) (listing_at slots (slot_of_class (length slots) base class n)).0)
     (length slots / step_of (length slots) base)
 
 -- the places of the rows of a class in a slot
-abbrev pub part_of_class : Settings → ℕ → ℕ → Slab Row → List (List Place) → ℕ → List Place
+abbrev pub part_of_class : Settings → ℕ → ℕ → Slab Kept → List Listing → ℕ → List Place
 part_of_class o base class slab slots n =
-    filter (passes (λ k. class_at o base k == class) slab) (get_or slots (slot_of_class (length slots) base class n) [])
+    filter (passes (λ k. class_at o base k == class) slab) (listing_at slots (slot_of_class (length slots) base class n)).0
 
 -- the places of the rows of a class, slot after slot
-abbrev pub class_of_slots : Settings → ℕ → ℕ → Slab Row → List (List Place) → List Place
+abbrev pub class_of_slots : Settings → ℕ → ℕ → Slab Kept → List Listing → List Place
 class_of_slots o base class slab slots =
     flat_map (part_of_class o base class slab slots) (range_with_len 0 (length slots / step_of (length slots) base))

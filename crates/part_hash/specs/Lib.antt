@@ -1,6 +1,7 @@
-pub mod Served
+pub mod Mixed
 pub mod Places
+pub mod Slots
 pub mod Standing
 pub mod Swept
 pub mod Classes
-pub mod Holes
+pub mod Served

@@ -1,100 +1,89 @@
 //! Rows that are added.
-ghost use Rattle.std.specs.Prelude.{ℕ, ◌≡◌, ◌<◌, ◌≤◌, ◌+◌, ◌-◌, ◌*◌, ◌==◌, ◌∷◌, ◌++◌, [], List, All, cond, if◌then◌else◌, Some, None, OnOk, OnErr, IfOk, IsFalse, IsTrue, filter, length, map};
+ghost use Rattle.std.specs.Prelude.{ℕ, ◌≡◌, ◌<◌, ◌≤◌, ◌+◌, ◌-◌, ◌*◌, ◌%◌, ◌^◌, ◌==◌, ◌∷◌, ◌++◌, [], List, if◌then◌else◌, IsTrue, None, Some, OnOk, OnErr, IfOk, IsFalse, filter, is_some, length, map, unwrap_or};
 ghost use Rattle.std.specs.List.{range_with_len};
-ghost use Rattle.std.specs.HashMap.{get_by, hash_map_len, spare};
-ghost use Rattle.slab.specs.Slab.{HasRoomFor, Updates, get};
+ghost use Rattle.slab.specs.Slab.{Slab as AnySlab, HasRoomFor, Updates, get, slab_len};
 ghost use Rattle.term_core.specs.Datum.{Datum};
+ghost use Rattle.term_core.specs.Datum.Datum.{nil};
 ghost use Rattle.term_core.specs.KeyHash.{key_hash};
-ghost use Rattle.term_operand.specs.Order.{is_same};
+ghost use Rattle.hash_index.specs.Index.{AreMixed, Puts, cells, room};
 ghost use Rattle.part_core.specs.declared.kind.TableKind.TheVariants.{Set};
 ghost use Rattle.part_core.specs.declared.settings.Settings.{Settings as AnySettings};
 ghost use Rattle.part_core.specs.After.{slots_after};
 ghost use Rattle.part_core.specs.Rows.{Row as AnyRow, has_row};
+ghost use Rattle.part_core.specs.Settings.{is_object, key_of};
 ghost use Rattle.part_core.specs.States.{IsBase};
-ghost use Rattle.part_hash.specs.Places.{Standing, passes, half_at, slot_at};
-ghost use Rattle.part_hash.specs.Standing.{Stands, AreListed};
+ghost use Rattle.part_rows.specs.declared.place.Place.{Place as AnyPlace};
+ghost use Rattle.part_hash.specs.Mixed.{mixed as mixed_of};
+ghost use Rattle.part_hash.specs.Places.{Kept, Standing, low_of as low_at};
+ghost use Rattle.part_hash.specs.Slots.{AreListed, IsAdded, half_at, listing_at};
+ghost use Rattle.part_hash.specs.Standing.{AreLow, Stands};
 
-use crate::index;
-use crate::places::{Place, Slot, places_in, slot_of, spread_of};
+use crate::mixing::mixed;
+use crate::places::{Slot, low_of, slot_of, spread_of};
 use crate::row::Row;
 use crate::store::Store;
+use hash_index::HashIndex;
 use part_core::{Settings, slots_with_row};
+use part_engine::key_of;
+use part_rows::Place;
 use slab::Slab;
 use std::alloc::{AllocError, Allocator};
 use std::mem;
 use term_core::Term;
 
-/// Whether the row at a place stands in a slot among so many.
-fn is_in<A: Allocator>(
-    rows: &Slab<Row<A>, A>,
-    settings: Settings,
-    count: u64,
-    number: u64,
-    place: Place,
-) -> bool
-    requires { 0 < count }
-    ensures { result ≡ passes (λ k. slot_at settings count k == number) rows.now place }
-{
-    match rows.get(place.at) {
-        Some(row) => slot_of(spread_of(settings), row.hashed().hash(), count) == number,
-        None => false,
-    }
-}
+/// How many cells of the index a search may pass before all hashes are mixed anew. By chance none passes so many.
+const MOST_PASSED: usize = 1_000;
 
-/// Those of a slot's places whose rows stand in a slot among so many.
+/// For how many rows that die there is room at least,
+const FEWEST_NOTED: usize = 64;
+/// and of how many rows one has room.
+const ROWS_A_NOTE: usize = 16;
+
+/// Those of some places that stand in a slot among so many, which divide 2^32.
 fn part<A: Allocator>(
     alloc: A,
-    rows: &Slab<Row<A>, A>,
-    settings: Settings,
+    places: &[Place],
     count: u64,
     number: u64,
-    slot: &[Place],
-) -> Result<Slot<A>, AllocError>
+) -> Result<Vec<Place, A>, AllocError>
     requires { 0 < count }
-    ensures { IfOk result (λ part. part
-        ≡ filter (passes (λ k. slot_at settings count k == number) rows.now) slot.now) }
+    ensures { IfOk result (λ part. part.items ≡ filter (λ p. p.low % count == number) places.now) }
 {
-    let mut part = Slot::new(alloc);
-    for place in slot {
-        if is_in(rows, settings, count, number, *place) {
+    let mut part = Vec::new(alloc);
+    for place in places {
+        if u64::from(place.low) % count == number {
             part.push(*place)?;
         }
     }
     Ok(part)
 }
 
-/// The places of a slot among twice as many.
-fn half<A: Allocator>(
-    alloc: A,
-    rows: &Slab<Row<A>, A>,
-    settings: Settings,
-    slots: &[Slot<A>],
-    number: usize,
-) -> Result<Slot<A>, AllocError>
+/// A slot among twice as many.
+fn half<A: Allocator>(alloc: A, slots: &[Slot<A>], number: usize) -> Result<Slot<A>, AllocError>
     requires some { 0 < length slots.now }
     requires few { length slots.now ≤ 65536 }
-    ensures { IfOk result (λ half. half ≡ half_at settings rows.now slots.now number) }
+    ensures { IfOk result (λ half. half ≡ half_at slots.now number) }
 {
     let count = slots.len();
-    let slot = places_in(rows, &slots[number % count]);
-    part(alloc, rows, settings, 2 * count as u64, number as u64, slot)
+    let places = part(
+        alloc,
+        slots[number % count].places(),
+        2 * count as u64,
+        number as u64,
+    )?;
+    Ok(Slot::of(places))
 }
 
-/// The places of all rows in twice as many slots.
-fn doubled<A: Allocator + Copy>(
-    alloc: A,
-    rows: &Slab<Row<A>, A>,
-    settings: Settings,
-    slots: &[Slot<A>],
-) -> Result<Vec<Slot<A>, A>, AllocError>
+/// Twice as many slots. No row is looked at.
+fn doubled<A: Allocator + Copy>(alloc: A, slots: &[Slot<A>]) -> Result<Vec<Slot<A>, A>, AllocError>
     requires some { 0 < length slots.now }
     requires few { length slots.now ≤ 65536 }
     ensures { IfOk result (λ wide. wide.items
-        ≡ map (half_at settings rows.now slots.now) (range_with_len 0 (2 * length slots.now))) }
+        ≡ map (half_at slots.now) (range_with_len 0 (2 * length slots.now))) }
 {
     let mut wide = Vec::new(alloc);
     for number in 0..2 * slots.len() {
-        wide.push(half(alloc, rows, settings, slots, number)?)?;
+        wide.push(half(alloc, slots, number)?)?;
     }
     Ok(wide)
 }
@@ -102,19 +91,23 @@ fn doubled<A: Allocator + Copy>(
 /// Puts a place behind those of the slot of a hash.
 fn list_in<A: Allocator>(
     slots: &mut Vec<Slot<A>, A>,
+    rows: &Slab<Row<A>, A>,
     settings: Settings,
     hash: u64,
     place: Place,
 ) -> Result<(), AllocError>
     requires { 0 < length slots.old.items }
     ensures count { length slots.new.items ≡ length slots.old.items }
-    ensures listed { OnOk result ((key : Datum) (list : List Standing) → hash ≡ key_hash key
-        → AreListed settings slots.old.items list
-        → AreListed settings slots.new.items (list ++ (place, (key, [])) ∷ [])) }
-    ensures refused { OnErr result (slots.new.items ≡ slots.old.items) }
+    ensures listed { OnOk result ((new : AnySlab Kept) (row : AnyRow) (list : List Standing) → hash ≡ key_hash row.0
+        → IsAdded rows.now new place row
+        → AreListed settings rows.now place.made slots.old.items list
+        → AreListed settings new (place.made + 1) slots.new.items (list ++ (place, row) ∷ [])) }
+    ensures refused { OnErr result ((made : ℕ) (list : List Standing)
+        → AreListed settings rows.now made slots.old.items list
+        → AreListed settings rows.now made slots.new.items list) }
 {
     let number = slot_of(spread_of(settings), hash, slots.len() as u64) as usize;
-    slots[number].push(place)?;
+    slots[number].push(rows, place)?;
     Ok(())
 }
 
@@ -132,28 +125,29 @@ fn are_too_few<A: Allocator>(slots: &[Slot<A>], count: usize) -> bool
 /// Twice as many slots, with a further place, by the hash of its row's key.
 fn list_doubled<A: Allocator + Copy>(
     alloc: A,
+    slots: &[Slot<A>],
     rows: &Slab<Row<A>, A>,
     settings: Settings,
-    slots: &[Slot<A>],
     hash: u64,
     place: Place,
 ) -> Result<Vec<Slot<A>, A>, AllocError>
-    requires some { 0 < length slots.now }
-    requires few { length slots.now ≤ 65536 }
+    requires base { IsBase (length slots.now) }
     ensures count { IfOk result (λ wide. length wide.items ≡ 2 * length slots.now) }
-    ensures listed { IfOk result (λ wide. (key : Datum) (list : List Standing) → hash ≡ key_hash key
-        → All (λ e. get rows.now e.0.at ≡ Some e.1) list → AreListed settings slots.now list
-        → AreListed settings wide.items (list ++ (place, (key, [])) ∷ [])) }
+    ensures listed { IfOk result (λ wide. (new : AnySlab Kept) (row : AnyRow) (list : List Standing)
+        → hash ≡ key_hash row.0
+        → IsAdded rows.now new place row → AreLow settings list
+        → AreListed settings rows.now place.made slots.now list
+        → AreListed settings new (place.made + 1) wide.items (list ++ (place, row) ∷ [])) }
 {
-    let mut wide = doubled(alloc, rows, settings, slots)?;
-    list_in(&mut wide, settings, hash, place)?;
+    let mut wide = doubled(alloc, slots)?;
+    list_in(&mut wide, rows, settings, hash, place)?;
     Ok(wide)
 }
 
 /// Lists a place by the hash of its row's key, in twice as many slots where there are too few.
 fn enlist<A: Allocator + Copy>(
-    rows: &Slab<Row<A>, A>,
     slots: &mut Vec<Slot<A>, A>,
+    rows: &Slab<Row<A>, A>,
     settings: Settings,
     count: usize,
     hash: u64,
@@ -164,88 +158,191 @@ fn enlist<A: Allocator + Copy>(
     ensures base { IsBase (length slots.new.items) }
     ensures slots { OnOk result (length slots.new.items
         ≡ slots_after Set (count - 1) count (length slots.old.items)) }
-    ensures listed { OnOk result ((key : Datum) (list : List Standing) → hash ≡ key_hash key
-        → All (λ e. get rows.now e.0.at ≡ Some e.1) list → AreListed settings slots.old.items list
-        → AreListed settings slots.new.items (list ++ (place, (key, [])) ∷ [])) }
-    ensures refused { OnErr result (slots.new.items ≡ slots.old.items) }
+    ensures listed { OnOk result ((new : AnySlab Kept) (row : AnyRow) (list : List Standing) → hash ≡ key_hash row.0
+        → IsAdded rows.now new place row → AreLow settings list
+        → AreListed settings rows.now place.made slots.old.items list
+        → AreListed settings new (place.made + 1) slots.new.items (list ++ (place, row) ∷ [])) }
+    ensures same { OnErr result (length slots.new.items ≡ length slots.old.items) }
+    ensures refused { OnErr result ((made : ℕ) (list : List Standing)
+        → AreListed settings rows.now made slots.old.items list
+        → AreListed settings rows.now made slots.new.items list) }
 {
     if are_too_few(slots.as_slice(), count) {
         let alloc = *slots.allocator();
-        let wide = list_doubled(alloc, rows, settings, slots.as_slice(), hash, place)?;
-        let_go(mem::replace(slots, wide));
+        let wide = list_doubled(alloc, slots.as_slice(), rows, settings, hash, place)?;
+        drop(mem::replace(slots, wide));
         Ok(())
     } else {
-        list_in(slots, settings, hash, place)
+        list_in(slots, rows, settings, hash, place)?;
+        Ok(())
     }
 }
 
-/// Lets slots go.
-fn let_go<A: Allocator>(_slots: Vec<Slot<A>, A>) {}
+/// Makes room for the keys of rows that die among so many.
+fn reserve_notes<A: Allocator>(dying: &mut Vec<u32, A>, count: usize) -> Result<(), AllocError>
+    ensures { dying.new.items ≡ dying.old.items }
+{
+    let wanted = FEWEST_NOTED + count / ROWS_A_NOTE;
+    if dying.capacity() < wanted {
+        dying.reserve(wanted - dying.len())?;
+    }
+    Ok(())
+}
 
 /// Makes room for one more row.
 fn reserve<A: Allocator + Copy>(store: &mut Store<A>) -> Result<(), AllocError>
     ensures rows { OnOk result (HasRoomFor store.new.rows 1) }
-    ensures index { OnOk result (0 < spare store.new.index) }
-    ensures kept { (o : AnySettings) (rows : List AnyRow)
-        → Stands o store.old.rows store.old.index store.old.slots.items store.old.made rows
-        → Stands o store.new.rows store.new.index store.new.slots.items store.new.made rows }
+    ensures index { OnOk result (0 < room store.new.index) }
+    ensures kept { (o : AnySettings) (rows : List AnyRow) → Stands o store.old rows → Stands o store.new rows }
+    ensures seed { store.new.seed ≡ store.old.seed }
     ensures slots { length store.new.slots.items ≡ length store.old.slots.items }
 {
+    let count = store.rows.len();
     store.rows.reserve(1)?;
-    index::reserve(&mut store.index)
+    store.index.reserve()?;
+    reserve_notes(&mut store.dying, count)
 }
 
-/// Puts a row in, where there is room, at a key of the slab that the index is to find.
-fn enter<A: Allocator + Copy>(store: &mut Store<A>, row: Row<A>, key: Term<A>, made: u64) -> usize
+/// At which key of the slab the next row is put in, unless there are as many rows as the index takes in.
+fn vacant<A: Allocator>(rows: &Slab<Row<A>, A>) -> Result<u32, AllocError>
+    ensures at { IfOk result (λ at. at ≡ rows.now.vacant_key) }
+    ensures small { IfOk result (λ at. at < 2 ^ 32 - 1) }
+    ensures none { IfOk result (λ at. get rows.now at ≡ None) }
+{
+    let at = rows.vacant_key();
+    if at < u32::MAX as usize {
+        Ok(at as u32)
+    } else {
+        Err(AllocError)
+    }
+}
+
+/// Puts a row in, where there is room, that the index finds by a mixed hash, and answers how many cells of it a search
+/// passes.
+fn enter<A: Allocator + Copy>(store: &mut Store<A>, row: Row<A>, mixed: u32, made: u64) -> usize
     requires rows { HasRoomFor store.old.rows 1 }
-    requires index { 0 < spare store.old.index }
-    ensures at { result ≡ store.old.rows.vacant_key }
-    ensures vacant { get store.old.rows result ≡ None }
-    ensures rows { Updates store.old.rows store.new.rows result (Some row) }
-    ensures index { (k : Datum) → get_by (is_same k) store.new.index
-        ≡ cond (is_same key k) (Some result) (get_by (is_same k) store.old.index) }
-    ensures count { get_by (is_same key) store.old.index ≡ None
-        → hash_map_len store.new.index ≡ hash_map_len store.old.index + 1 }
+    requires index { 0 < room store.old.index }
+    requires small { store.old.rows.vacant_key < 2 ^ 32 - 1 }
+    ensures rows { Updates store.old.rows store.new.rows store.old.rows.vacant_key (Some row) }
+    ensures count { slab_len store.new.rows ≡ slab_len store.old.rows + 1 }
+    ensures index { Puts (cells store.old.index) (cells store.new.index) mixed store.old.rows.vacant_key }
     ensures slots { store.new.slots.items ≡ store.old.slots.items }
     ensures made { store.new.made ≡ made }
+    ensures seed { store.new.seed ≡ store.old.seed }
+    ensures dying { store.new.dying.items ≡ store.old.dying.items }
+    ensures lost { store.new.lost ≡ store.old.lost }
 {
     let at = store.rows.insert_reserved(row);
-    index::put(&mut store.index, key, at);
+    let passed = store.index.put(mixed, at);
     store.made = made;
-    at
+    passed
 }
 
-/// Adds a dead row of a key that has none, and answers at which key of the slab it is.
+/// The mixed hash, by a seed, of the key of the row at a key of the slab.
+fn mixed_at<A: Allocator>(rows: &Slab<Row<A>, A>, seed: u64, at: usize) -> u32
+    ensures { (s : Kept) → get rows.now at ≡ Some s → result ≡ mixed_of seed s.0.0 }
+{
+    match rows.get(at) {
+        Some(row) => mixed(seed, row.key()),
+        None => 0,
+    }
+}
+
+/// Mixes the hashes of all keys by another seed.
+fn mix_by<A: Allocator + Copy>(
+    index: &mut HashIndex<A>,
+    rows: &Slab<Row<A>, A>,
+    seed: u64,
+) -> Result<(), AllocError>
+    ensures mixed { OnOk result (AreMixed (λ m at n. (s : Kept) → get rows.now at ≡ Some s → n ≡ mixed_of seed s.0.0)
+        (cells index.old) (cells index.new)) }
+    ensures refused { OnErr result (index.new ≡ index.old) }
+{
+    index.mix(|at| mixed_at(rows, seed, at))?;
+    Ok(())
+}
+
+/// Mixes all hashes anew, if there is memory: where searches are long, keys have hashes that are alike.
+fn mix<A: Allocator + Copy>(store: &mut Store<A>)
+    ensures kept { (o : AnySettings) (rows : List AnyRow) → Stands o store.old rows → Stands o store.new rows }
+    ensures slots { length store.new.slots.items ≡ length store.old.slots.items }
+{
+    let seed = store.seed.wrapping_add(1);
+    match mix_by(&mut store.index, &store.rows, seed) {
+        Ok(()) => store.seed = seed,
+        Err(_) => {}
+    }
+}
+
+/// Mixes all hashes anew where a search passes too many cells.
+fn keep_short<A: Allocator + Copy>(store: &mut Store<A>, passed: usize)
+    ensures kept { (o : AnySettings) (rows : List AnyRow) → Stands o store.old rows → Stands o store.new rows }
+    ensures slots { length store.new.slots.items ≡ length store.old.slots.items }
+{
+    if MOST_PASSED < passed {
+        mix(store);
+    }
+}
+
+/// How many rows there are with one more, for which there is room.
+fn with_one<A: Allocator>(rows: &Slab<Row<A>, A>) -> usize
+    requires { HasRoomFor rows.now 1 }
+    ensures { result ≡ slab_len rows.now + 1 }
+{
+    let _most = rows.capacity();
+    rows.len() + 1
+}
+
+/// An object, taken from where it is.
+fn taken<A: Allocator>(object: &mut Option<Term<A>>) -> Term<A>
+    requires { IsTrue (is_some object.old) }
+    ensures object { result ≡ unwrap_or object.old nil }
+    ensures spent { object.new ≡ None }
+{
+    match object.take() {
+        Some(object) => object,
+        None => unreachable!(),
+    }
+}
+
+/// Adds a row for an object whose key has none; the key's mixed hash is known.
 pub(crate) fn add<A: Allocator + Copy>(
     store: &mut Store<A>,
     settings: Settings,
-    key: &Term<A>,
-) -> Result<usize, AllocError>
-    ensures done { IfOk result (λ at. (rows : List AnyRow) → IsFalse (has_row rows key.now)
-        → Stands settings store.old.rows store.old.index store.old.slots.items store.old.made rows
-        → Stands settings store.new.rows store.new.index store.new.slots.items store.new.made
-        (rows ++ (key.now, []) ∷ [])
-        × (get store.new.rows at ≡ Some (key.now, []))
+    mixed: u32,
+    object: &mut Option<Term<A>>,
+) -> Result<(), AllocError>
+    requires object { IsTrue (is_object settings (unwrap_or object.old nil)) }
+    requires mixed { mixed ≡ mixed_of store.old.seed (key_of settings (unwrap_or object.old nil)) }
+    ensures done { OnOk result ((rows : List AnyRow)
+        → IsFalse (has_row rows (key_of settings (unwrap_or object.old nil)))
+        → Stands settings store.old rows
+        → Stands settings store.new
+        (rows ++ (key_of settings (unwrap_or object.old nil), unwrap_or object.old nil ∷ []) ∷ [])
         × (length store.new.slots.items ≡ slots_after Set (length rows) (length rows + 1)
         (length store.old.slots.items))) }
+    ensures spent { OnOk result (object.new ≡ None) }
+    ensures back { OnErr result (object.new ≡ object.old) }
     ensures refused { OnErr result ((rows : List AnyRow)
-        → Stands settings store.old.rows store.old.index store.old.slots.items store.old.made rows
-        → Stands settings store.new.rows store.new.index store.new.slots.items store.new.made rows) }
+        → Stands settings store.old rows → Stands settings store.new rows) }
     ensures slots { OnErr result (length store.new.slots.items ≡ length store.old.slots.items) }
 {
     reserve(store)?;
-    // Each row that was ever made has a number of its own. That these run out is never reached.
+    let at = vacant(&store.rows)?;
+    let key = key_of(settings, object).copy()?;
+    let hash = key.key_hash();
     let Some(made) = store.made.checked_add(1) else {
         return Err(AllocError);
     };
-    let hash = key.key_hash();
-    let row = Row::new(key.copy()?, hash, store.made);
-    let own = key.copy()?;
     let place = Place {
         made: store.made,
-        at: store.rows.vacant_key(),
+        at,
+        low: low_of(spread_of(settings), hash),
     };
-    let count = store.index.len() + 1;
-    enlist(&store.rows, &mut store.slots, settings, count, hash, place)?;
-    Ok(enter(store, row, own, made))
+    let count = with_one(&store.rows);
+    enlist(&mut store.slots, &store.rows, settings, count, hash, place)?;
+    let row = Row::new(key, taken(object), store.made);
+    let passed = enter(store, row, mixed, made);
+    keep_short(store, passed);
+    Ok(())
 }

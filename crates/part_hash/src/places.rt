@@ -1,48 +1,43 @@
-//! Where rows stand.
-ghost use Rattle.std.specs.Prelude.{◌≡◌, ◌<◌, ◌/◌, ◌%◌, ◌==◌, ◌++◌, [], ◌∷◌, All, IsTrue, not, filter, find, IfSome, None, OnOk, OnErr};
-ghost use Rattle.slab.specs.Slab.{get};
-ghost use Rattle.part_hash.specs.Holes.{AreRising, FindsSame, HasAt, IsAlone, gone, is_at, there};
-ghost use Rattle.part_hash.specs.Places.{spread};
+//! Places, and the slots that list them.
+ghost use Rattle.std.specs.Prelude.{ℕ, ◌≡◌, ◌<◌, ◌≤◌, ◌+◌, ◌++◌, ◌∷◌, ◌/◌, ◌%◌, ◌^◌, [], All, IsTrue, OnOk, OnErr, drop, false, get_or, length};
+ghost use Rattle.std.specs.List.{AllWithin};
+ghost use Rattle.part_hash.specs.Places.{is_standing, row_of, spread, standing};
+ghost use Rattle.part_hash.specs.Slots.{Adds, AreRising, FindsSame, Relists, with_gone};
 
 use crate::row::Row;
 use part_core::Settings;
+use part_rows::{Place, SeenRow};
 use slab::Slab;
 use std::alloc::{AllocError, Allocator};
 use std::marker::Model;
 
-/// The key of the slab at a hole: no slab has so many.
-const GONE: usize = usize::MAX;
+/// How many places may have gone in a slot that isn't packed for it.
+const FEW: usize = 4;
 
-/// At which key of the slab a row is, and how many were made before it.
-#[derive(Clone, Copy)]
-pub struct Place {
-    /// How many were made before it.
-    pub made: u64,
-    /// At which key of the slab it is.
-    pub at: usize,
-}
-
-/// The places of the rows of a slot, in the order in which they were made.
+/// The places of the rows of a slot, in the order in which they were made. A row that goes leaves its place, at which
+/// no row stands from then on: a row that takes its key of the slab was made later.
 #[derive(Drop)]
 pub struct Slot<A: Allocator> {
-    // A place that was taken out is a hole, until every eighth one would be.
     places: Vec<Place, A>,
-    gone: usize,
+    // How many of the rows have gone, at least.
+    gone: u32,
+    // How many places at the front are known to be of rows that have gone.
+    front: u32,
 }
 
 impl<A: Allocator> Model for Slot<A> {
-    ghost use Rattle.std.specs.Prelude.{List};
+    ghost use Rattle.std.specs.Prelude.{ℕ, ◌≤◌, List, length};
     ghost use Rattle.std.specs.Coded.{codes};
-    ghost use Rattle.part_hash.specs.declared.places.Place.{Place as AnyPlace};
-    ghost use Rattle.part_hash.specs.Holes.{AreRising, there};
+    ghost use Rattle.part_rows.specs.declared.place.Place.{Place as AnyPlace};
+    ghost use Rattle.part_hash.specs.Slots.{AreRising};
 
-    ghost Value = { List AnyPlace };
+    ghost Value = { List AnyPlace × ℕ × ℕ };
 
     ghost coded = { Prim.hlevel codes };
 
-    ghost view = { λ slot. there slot.places.items };
+    ghost view = { λ slot. (slot.places.items, slot.gone, slot.front) };
 
-    ghost invariant = { λ slot. AreRising slot.places.items };
+    ghost invariant = { λ slot. AreRising slot.places.items × (slot.front ≤ length slot.places.items) };
 }
 
 /// By what the hashes of a part's keys are divided.
@@ -67,39 +62,56 @@ pub(crate) fn slot_of(spread: u64, hash: u64, count: u64) -> u64
     (hash / spread) % count
 }
 
-/// Whether a place is no hole, and at a key of the slab.
-fn is_at(place: Place, at: usize) -> bool
-    ensures { result ≡ is_at at place }
+/// The part of a hash that says in which slot its key stands, however many there are.
+pub(crate) fn low_of(spread: u64, hash: u64) -> u32
+    requires { 0 < spread }
+    ensures { result ≡ (hash / spread) % 2 ^ 32 }
 {
-    place.at != GONE && place.at == at
+    (hash / spread % (1 << 32)) as u32
 }
 
-/// Where a place is, looked for by how many rows were made before its own.
-fn position(places: &[Place], at: usize, made: u64) -> Option<usize>
-    ensures { IfSome result (HasAt at places.now) }
+/// The row that stands at a place.
+pub(crate) fn row_at<A: Allocator>(rows: &Slab<Row<A>, A>, place: Place) -> Option<SeenRow<'_, A>>
+    ensures { result ≡ row_of rows.now place }
 {
-    match places.binary_search_by_key(&made, |place| place.made) {
-        Ok(number) => {
-            if is_at(places[number], at) {
-                Some(number)
+    match rows.get(place.at as usize) {
+        Some(row) => {
+            if row.made() == place.made {
+                Some(row.seen())
             } else {
                 None
             }
         }
-        Err(_) => None,
+        None => None,
     }
 }
 
-/// The place at a key of the slab.
-fn place_at(places: &[Place], at: usize) -> Option<Place>
-    ensures { result ≡ find (is_at at) places.now }
+/// Whether a row stands at a place.
+fn is_standing<A: Allocator>(rows: &Slab<Row<A>, A>, place: Place) -> bool
+    ensures { result ≡ is_standing rows.now place }
 {
-    for place in places {
-        if is_at(*place, at) {
-            return Some(*place);
+    row_at(rows, place).is_some()
+}
+
+/// The first place from one on at which a row stands, or how many places there are.
+fn first_standing<A: Allocator>(rows: &Slab<Row<A>, A>, places: &[Place], from: usize) -> usize
+    requires { from ≤ length places.now }
+    ensures within { result ≤ length places.now }
+    ensures gone { AllWithin (λ p. is_standing rows.now p ≡ false) places.now from result }
+{
+    for number in from..places.len() {
+        if is_standing(rows, places[number]) {
+            return number;
         }
     }
-    None
+    places.len()
+}
+
+/// A number, or the greatest of 32 bits where it is greater.
+fn capped(number: usize) -> u32
+    ensures { result ≤ number }
+{
+    number.min(u32::MAX as usize) as u32
 }
 
 /// Whether a row before which so many were made was made after those at places.
@@ -120,71 +132,137 @@ pub(crate) fn later(places: &[Place], from: u64) -> &[Place]
     &places[begin..]
 }
 
+/// Whether so many places that have gone are many among all: more than a few, and than three quarters.
+fn are_many(gone: usize, count: usize) -> bool {
+    FEW < gone && count - count / 4 < gone
+}
+
 impl<A: Allocator> Slot<A> {
     /// A slot with no rows.
     pub fn new(alloc: A) -> Self
-        ensures { result ≡ [] }
+        ensures { result ≡ ([], 0, 0) }
     {
         Slot {
             places: Vec::new(alloc),
             gone: 0,
+            front: 0,
         }
     }
 
-    /// The places, with holes.
-    fn places(&self) -> &[Place]
-        ensures places { there result.now ≡ self.now }
+    /// A slot with these places.
+    pub fn of(places: Vec<Place, A>) -> Self
+        requires { AreRising places.items }
+        ensures { result ≡ (places.items, 0, 0) }
+    {
+        Slot {
+            places,
+            gone: 0,
+            front: 0,
+        }
+    }
+
+    /// The places, those of rows that have gone among them.
+    pub fn places(&self) -> &[Place]
+        ensures places { result.now ≡ self.now.0 }
         ensures rising { AreRising result.now }
     {
         self.places.as_slice()
     }
 
-    /// Puts a place behind the others.
-    pub fn push(&mut self, place: Place) -> Result<(), AllocError>
-        ensures done { OnOk result (self.new ≡ self.old ++ place ∷ []) }
-        ensures refused { OnErr result (self.new ≡ self.old) }
+    /// The places from the first on that isn't known to be of a row that has gone.
+    pub fn from_front(&self) -> &[Place]
+        ensures places { result.now ≡ drop self.now.2 self.now.0 }
+        ensures rising { AreRising result.now }
     {
-        // A row that is added is the last one made, and no slab has so many keys: neither is ever reached.
-        if place.at == GONE || !is_last(self.places.as_slice(), place.made) {
+        &self.places[self.front as usize..]
+    }
+
+    /// Puts a place behind the others. Where that wants memory, and a quarter of the rows have gone, the others move up
+    /// instead.
+    pub fn push(&mut self, rows: &Slab<Row<A>, A>, place: Place) -> Result<(), AllocError>
+        ensures done { OnOk result (Adds rows.now place self.old self.new) }
+        ensures refused { OnErr result (Relists rows.now self.old self.new) }
+    {
+        // A row that is added is the last one made, so this is never reached.
+        if !is_last(self.places.as_slice(), place.made) {
             return Err(AllocError);
         }
+        self.make_room(rows);
+        self.put_behind(place)
+    }
+
+    /// Lets the places go of rows that have gone, where there is no room for one more and they are a quarter.
+    fn make_room(&mut self, rows: &Slab<Row<A>, A>)
+        ensures kept { Relists rows.now self.old self.new }
+        ensures last { (made : ℕ) → All (λ p. p.made < made) self.old.0 → All (λ p. p.made < made) self.new.0 }
+    {
+        let count = self.places.len();
+        if count == self.places.capacity() && 0 < self.gone && count / 4 <= self.gone as usize {
+            self.pack(rows);
+        }
+    }
+
+    /// Puts a place behind the others.
+    fn put_behind(&mut self, place: Place) -> Result<(), AllocError>
+        requires { All (λ p. p.made < place.made) self.old.0 }
+        ensures done { OnOk result (self.new ≡ (self.old.0 ++ place ∷ [], self.old.1, self.old.2)) }
+        ensures refused { OnErr result (self.new ≡ self.old) }
+    {
         self.places.push(place)?;
         Ok(())
     }
 
-    /// The place at a key of the slab, before whose row so many were made.
-    pub fn find(&self, at: usize, made: u64) -> Option<Place>
-        ensures { IsAlone at self.now → result ≡ find (λ p. p.at == at) self.now }
+    /// Counts a row as gone, before which so many were made. Nothing is looked for: only where no row is left, or few
+    /// in a long slot, are the places let go.
+    pub fn lose(&mut self, rows: &Slab<Row<A>, A>, made: u64)
+        ensures { Relists rows.now (with_gone self.old) self.new }
     {
-        match position(self.places.as_slice(), at, made) {
-            Some(number) => Some(self.places[number]),
-            None => place_at(self.places.as_slice(), at),
+        self.gone = self.gone.saturating_add(1);
+        let count = self.places.len();
+        let gone = self.gone as usize;
+        if count <= gone {
+            self.clear();
+        } else if are_many(gone, count) {
+            self.pack(rows);
+        } else {
+            self.pass(rows, made);
         }
     }
 
-    /// Takes the place at a key of the slab out, before whose row so many were made.
-    pub fn remove(&mut self, at: usize, made: u64)
-        ensures { IsAlone at self.old → self.new ≡ filter (λ p. not (p.at == at)) self.old }
+    /// Lets all places go.
+    fn clear(&mut self)
+        ensures { self.new ≡ ([], 0, 0) }
     {
-        if self.gone < self.places.len() / 8 {
-            if let Some(number) = position(self.places.as_slice(), at, made) {
-                self.places[number].at = GONE;
-                self.gone += 1;
-                return;
-            }
-        }
-        self.places
-            .retain(|place| place.at != at && place.at != GONE);
+        self.places.clear();
         self.gone = 0;
+        self.front = 0;
     }
-}
 
-/// The places of a slot, with holes, at which no row is: a slab has fewer keys.
-pub(crate) fn places_in<'s, A: Allocator>(rows: &Slab<Row<A>, A>, slot: &'s Slot<A>) -> &'s [Place]
-    ensures places { there result.now ≡ slot.now }
-    ensures rising { AreRising result.now }
-    ensures holes { get rows.now gone ≡ None }
-{
-    let _keys = rows.capacity();
-    slot.places()
+    /// Lets the places go at which no row stands.
+    fn pack(&mut self, rows: &Slab<Row<A>, A>)
+        ensures { self.new ≡ (standing rows.now self.old.0, 0, 0) }
+    {
+        self.places.retain(|place| is_standing(rows, *place));
+        self.gone = 0;
+        self.front = 0;
+    }
+
+    /// Where the row of the place at the front has gone, before which so many were made, that place and those behind it
+    /// at which no row stands are known to be of such rows.
+    fn pass(&mut self, rows: &Slab<Row<A>, A>, made: u64)
+        ensures { Relists rows.now self.old self.new }
+    {
+        let front = self.front as usize;
+        if self.is_front(made) {
+            self.front = capped(first_standing(rows, self.places.as_slice(), front));
+        }
+    }
+
+    /// Whether the place at the front is that of a row before which so many were made.
+    fn is_front(&self, made: u64) -> bool {
+        match self.places.get(self.front as usize) {
+            Some(place) => place.made == made,
+            None => false,
+        }
+    }
 }

@@ -1,90 +1,42 @@
 //! Objects that are put in.
-ghost use Rattle.std.specs.Prelude.{◌≡◌, ◌||◌, List, Option, None, Some, IsSome, IfOk, OnOk, OnErr, IsTrue, IsFalse, false, if◌then◌else◌, length, unwrap_or};
+ghost use Rattle.std.specs.Prelude.{◌≡◌, ◌<◌, ℕ, List, Some, None, [], IfOk, IsFalse, IsSome, IsTrue, OnOk, OnErr, false, if◌then◌else◌, is_some, length, unwrap_or};
+ghost use Rattle.std.specs.Map.{lookup};
 ghost use Rattle.std.specs.Option.{option_map_or};
-ghost use Rattle.slab.specs.Slab.{Updates, get};
+ghost use Rattle.slab.specs.Slab.{get, with_value};
 ghost use Rattle.term_core.specs.Datum.{Datum};
 ghost use Rattle.term_core.specs.Datum.Datum.{nil};
+ghost use Rattle.term_operand.specs.Order.{is_same};
 ghost use Rattle.part_core.specs.declared.kind.TableKind.TheVariants.{Set};
 ghost use Rattle.part_core.specs.After.{slots_after};
+ghost use Rattle.part_core.specs.Rows.{Row as AnyRow, is_live, objects_with, rows_at_key, with_object};
 ghost use Rattle.part_core.specs.Settings.{is_object, is_ordered, key_of};
-ghost use Rattle.part_core.specs.Rows.{Row as AnyRow, is_empty, is_live, objects_at, objects_with, with_object};
+ghost use Rattle.part_rows.specs.Puts.{is_put, put_at};
+ghost use Rattle.part_hash.specs.Places.{Kept, row_in};
 ghost use Rattle.part_hash.specs.Standing.{Stands};
-ghost use Rattle.part_engine.specs.Sets.{with_key};
 
 use crate::adding::add;
+use crate::mixing::mixed;
 use crate::row::Row;
 use crate::store::Store;
 use part_core::{Settings, TableKind};
 use part_engine::key_of;
+use part_rows::Put;
 use slab::Slab;
 use std::alloc::{AllocError, Allocator};
 use term_core::Term;
 
-/// At which key of the slab the row of a key is, which is added behind the others, dead, where there is none.
-fn row_for<A: Allocator + Copy>(
-    store: &mut Store<A>,
-    settings: Settings,
-    key: &Term<A>,
-) -> Result<usize, AllocError>
-    ensures done { IfOk result (λ at. (rows : List AnyRow)
-        → Stands settings store.old.rows store.old.index store.old.slots.items store.old.made rows
-        → Stands settings store.new.rows store.new.index store.new.slots.items store.new.made
-        (with_key key.now rows)
-        × (get store.new.rows at ≡ Some (key.now, objects_at rows key.now))
-        × (length store.new.slots.items ≡ slots_after Set (length rows) (length (with_key key.now rows))
-        (length store.old.slots.items))) }
-    ensures refused { OnErr result ((rows : List AnyRow)
-        → Stands settings store.old.rows store.old.index store.old.slots.items store.old.made rows
-        → Stands settings store.new.rows store.new.index store.new.slots.items store.new.made rows) }
-    ensures slots { OnErr result (length store.new.slots.items ≡ length store.old.slots.items) }
-{
-    if let Some(at) = store.find(key) {
-        return Ok(at);
-    }
-    let at = add(store, settings, key)?;
-    Ok(at)
-}
-
-/// The row of the key of an object, the same way.
-fn row_for_object<A: Allocator + Copy>(
-    store: &mut Store<A>,
-    settings: Settings,
-    object: &Option<Term<A>>,
-) -> Result<usize, AllocError>
-    requires { IsTrue (is_object settings (unwrap_or object.now nil)) }
-    ensures done { IfOk result (λ at. (rows : List AnyRow)
-        → Stands settings store.old.rows store.old.index store.old.slots.items store.old.made rows
-        → Stands settings store.new.rows store.new.index store.new.slots.items store.new.made
-        (with_key (key_of settings (unwrap_or object.now nil)) rows)
-        × (get store.new.rows at ≡ Some (
-          key_of settings (unwrap_or object.now nil),
-          objects_at rows (key_of settings (unwrap_or object.now nil)),
-        ))
-        × (length store.new.slots.items ≡ slots_after Set (length rows)
-        (length (with_key (key_of settings (unwrap_or object.now nil)) rows)) (length store.old.slots.items))) }
-    ensures refused { OnErr result ((rows : List AnyRow)
-        → Stands settings store.old.rows store.old.index store.old.slots.items store.old.made rows
-        → Stands settings store.new.rows store.new.index store.new.slots.items store.new.made rows) }
-    ensures slots { OnErr result (length store.new.slots.items ≡ length store.old.slots.items) }
-{
-    row_for(store, settings, key_of(settings, object))
-}
-
 /// Whether there is a live row at a key of the slab.
 fn is_live_at<A: Allocator>(rows: &Slab<Row<A>, A>, at: usize) -> bool
-    ensures { result ≡ option_map_or is_live (get rows.now at) false }
+    ensures { result ≡ option_map_or is_live (row_in rows.now at) false }
 {
     match rows.get(at) {
-        Some(row) => row.hashed().is_live(),
+        Some(row) => row.is_live(),
         None => false,
     }
 }
 
-/// Lets an object go.
-fn let_go<A: Allocator>(_object: Option<Term<A>>) {}
-
 /// Puts an object into the row at a key of the slab, as the kind of table has it.
-fn put_at<A: Allocator + Copy>(
+fn write_at<A: Allocator + Copy>(
     alloc: A,
     rows: &mut Slab<Row<A>, A>,
     at: usize,
@@ -92,52 +44,86 @@ fn put_at<A: Allocator + Copy>(
     object: &mut Option<Term<A>>,
 ) -> Result<(), AllocError>
     requires { IsSome object.old }
-    ensures done { OnOk result ((row : AnyRow) → get rows.old at ≡ Some row → Updates rows.old rows.new at
-        (Some (row.0, objects_with kind row.1 (unwrap_or object.old nil)))) }
+    ensures done { OnOk result ((s : Kept) → get rows.old at ≡ Some s → rows.new
+        ≡ with_value rows.old at ((s.0.0, objects_with kind s.0.1 (unwrap_or object.old nil)), s.1)) }
     ensures spent { OnOk result (object.new ≡ None) }
     ensures back { OnErr result (object.new ≡ object.old) }
-    ensures refused { OnErr result ((row : AnyRow) → get rows.old at ≡ Some row
-        → Updates rows.old rows.new at (Some row) × IsTrue (is_live row)) }
+    ensures refused { OnErr result ((s : Kept) → get rows.old at ≡ Some s
+        → (rows.new ≡ with_value rows.old at s) × IsTrue (is_live s.0)) }
+    ensures same { (i : ℕ) → is_some (get rows.new i) ≡ is_some (get rows.old i) }
 {
     match rows.get_mut(at) {
         Some(row) => row.put(alloc, kind, object),
         None => {
-            let_go(object.take());
+            drop(object.take());
             Ok(())
         }
     }
 }
 
-/// Puts an object in, as the kind of table has it: in any case if it `replaces`, else if its key has none. Says whether
-/// it did.
+/// Puts an object into the row at a key of the slab, unless that has one and it doesn't replace that.
+fn put_into<A: Allocator + Copy>(
+    store: &mut Store<A>,
+    settings: Settings,
+    at: usize,
+    object: &mut Option<Term<A>>,
+    replaces: bool,
+) -> Result<Put, AllocError>
+    requires { IsSome object.old }
+    ensures done { IfOk result (λ put. (rows : List AnyRow) (key : Datum) (os : List Datum)
+        → Stands settings store.old rows → row_in store.old.rows at ≡ Some (key, os)
+        → (put ≡ put_at replaces (Some os))
+        × Stands settings store.new (if is_put put
+        then rows_at_key key (λ _. objects_with settings.kind os (unwrap_or object.old nil)) rows else rows)) }
+    ensures spent { OnOk result (object.new ≡ None) }
+    ensures back { OnErr result (object.new ≡ object.old) }
+    ensures refused { OnErr result ((rows : List AnyRow) (key : Datum) (os : List Datum)
+        → Stands settings store.old rows → row_in store.old.rows at ≡ Some (key, os)
+        → Stands settings store.new (rows_at_key key (λ _. os) rows)) }
+    ensures slots { store.new.slots.items ≡ store.old.slots.items }
+{
+    let live = is_live_at(&store.rows, at);
+    if live && !replaces {
+        drop(object.take());
+        return Ok(Put::Kept);
+    }
+    let alloc = *store.slots.allocator();
+    write_at(alloc, &mut store.rows, at, settings.kind, object)?;
+    Ok(if live { Put::Done } else { Put::Revived })
+}
+
+/// Puts an object in, as the kind of table has it: in any case if it `replaces`, else if its key has none. Says what
+/// became of the key's row.
 pub(crate) fn put<A: Allocator + Copy>(
     store: &mut Store<A>,
     settings: Settings,
     object: &mut Option<Term<A>>,
     replaces: bool,
-) -> Result<bool, AllocError>
+) -> Result<Put, AllocError>
     requires { IsTrue (is_object settings (unwrap_or object.old nil)) }
     ensures done { IfOk result (λ put. (rows : List AnyRow) → IsFalse (is_ordered settings.kind)
-        → Stands settings store.old.rows store.old.index store.old.slots.items store.old.made rows
-        → (put ≡ (replaces || is_empty (objects_at rows (key_of settings (unwrap_or object.old nil)))))
-        × Stands settings store.new.rows store.new.index store.new.slots.items store.new.made
-        (if put then with_object settings (unwrap_or object.old nil) rows else rows)
+        → Stands settings store.old rows
+        → (put ≡ put_at replaces (lookup (is_same (key_of settings (unwrap_or object.old nil))) rows))
+        × Stands settings store.new (if is_put put then with_object settings (unwrap_or object.old nil) rows else rows)
         × (length store.new.slots.items ≡ slots_after Set (length rows)
-        (length (if put then with_object settings (unwrap_or object.old nil) rows else rows))
+        (length (if is_put put then with_object settings (unwrap_or object.old nil) rows else rows))
         (length store.old.slots.items))) }
     ensures spent { OnOk result (object.new ≡ None) }
     ensures back { OnErr result (object.new ≡ object.old) }
     ensures refused { OnErr result ((rows : List AnyRow)
-        → Stands settings store.old.rows store.old.index store.old.slots.items store.old.made rows
-        → Stands settings store.new.rows store.new.index store.new.slots.items store.new.made rows
-        × (length store.new.slots.items ≡ length store.old.slots.items)) }
+        → Stands settings store.old rows → Stands settings store.new rows) }
+    ensures slots { OnErr result (length store.new.slots.items ≡ length store.old.slots.items) }
 {
-    let at = row_for_object(store, settings, object)?;
-    if !replaces && is_live_at(&store.rows, at) {
-        let_go(object.take());
-        return Ok(false);
+    let key = key_of(settings, object);
+    let mixed = mixed(store.seed, key);
+    match store.find(mixed, key) {
+        Some(at) => {
+            let put = put_into(store, settings, at, object, replaces)?;
+            Ok(put)
+        }
+        None => {
+            add(store, settings, mixed, object)?;
+            Ok(Put::Done)
+        }
     }
-    let alloc = *store.slots.allocator();
-    put_at(alloc, &mut store.rows, at, settings.kind, object)?;
-    Ok(true)
 }

@@ -1,28 +1,26 @@
 //! Rows that are found by their hashes.
 ghost use Rattle.std.specs.Prelude.{◌<◌};
 
-use crate::dead::dead_at;
+use crate::finding::empty;
 use crate::gathering::gather;
-use crate::looking::look;
-use crate::places::spread_of;
+use crate::looking::{listed, look};
+use crate::places::{row_at, spread_of};
 use crate::putting::put;
 use crate::removing::{exchange, keep_live};
-use crate::store::{Store, empty};
+use crate::store::Store;
 use crate::walking::{first_live, live_past};
 use part_core::{Held, Scope, Settings, TableKind};
-use part_engine::{dead_coming, dead_in};
-use part_rows::{Rows, SeenRow};
+use part_rows::{Place, Put, Rows, SeenRow};
 use std::alloc::{AllocError, Allocator, Global};
 use term_core::Term;
 
-/// The rows of a table that isn't walked by key in a slab: an index finds them by their keys, and slots list those of each class.
+/// The rows of a table that isn't walked by key in a slab: an index finds them by their keys, and slots list those of
+/// each class.
 #[derive(Drop)]
 pub struct HashRows<A: Allocator = Global> {
     store: Store<A>,
     // By what the hashes of the part's keys are divided.
     spread: u64,
-    // How many rows are dead.
-    dead: usize,
     ghost some: { 0 < spread },
 }
 
@@ -31,13 +29,15 @@ impl<A: Allocator + Copy> Rows<A> for HashRows<A> {
     ghost use Rattle.part_core.specs.Ops.{scope_of};
     ghost use Rattle.part_rows.specs.Shown.{Shown, AreSound};
     ghost use Rattle.part_rows.specs.Looks.{is_placed, looked_at};
+    ghost use Rattle.part_hash.specs.Places.{row_of};
     ghost use Rattle.part_hash.specs.Served.{IsShown};
     ghost use Rattle.part_engine.specs.Sets.{serves};
 
     ghost serves = { serves };
 
-    ghost shows = { λ o p w.
-        IsShown o p.store.rows p.store.index p.store.slots.items p.store.made p.spread p.dead w };
+    ghost shows = { λ o p w. IsShown o p.store p.spread w };
+
+    ghost row_of = { λ p place. row_of p.store.rows place };
 
     fn is_served(kind: TableKind) -> bool {
         !kind.is_ordered()
@@ -47,7 +47,6 @@ impl<A: Allocator + Copy> Rows<A> for HashRows<A> {
         Ok(HashRows {
             store: empty(alloc)?,
             spread: spread_of(settings),
-            dead: 0,
         })
     }
 
@@ -64,10 +63,8 @@ impl<A: Allocator + Copy> Rows<A> for HashRows<A> {
         settings: Settings,
         object: &mut Option<Term<A>>,
         replaces: bool,
-    ) -> Result<bool, AllocError> {
-        let going = dead_at(&self.store, settings, object, self.dead);
+    ) -> Result<Put, AllocError> {
         let put = put(&mut self.store, settings, object, replaces)?;
-        self.dead = self.dead.saturating_sub(going);
         Ok(put)
     }
 
@@ -78,22 +75,11 @@ impl<A: Allocator + Copy> Rows<A> for HashRows<A> {
         held: &mut Held<A>,
         keeps: bool,
     ) -> bool {
-        prove!(self.store.index.len() < usize::MAX);
-        let coming = dead_coming(held, keeps);
-        if !exchange(&mut self.store, settings, key, held, keeps) {
-            return false;
-        }
-        let going = dead_in(held);
-        self.dead = self.dead.saturating_add(coming).saturating_sub(going);
-        true
+        exchange(&mut self.store, settings, key, held, keeps)
     }
 
     fn keep_live(&mut self) {
-        if self.dead == 0 {
-            return;
-        }
         keep_live(&mut self.store, self.spread);
-        self.dead = 0;
     }
 
     fn look<'r>(
@@ -106,14 +92,20 @@ impl<A: Allocator + Copy> Rows<A> for HashRows<A> {
         requires parts { 0 < settings.parts }
         requires base { 0 < base }
         requires placed { IsTrue (is_placed settings (scope_of scope.now)) }
-        ensures { IfOk result (λ _. (w : Shown)
-            → IsShown settings self.now.store.rows self.now.store.index self.now.store.slots.items
-            self.now.store.made self.now.spread self.now.dead w
+        ensures { IfOk result (λ _. (w : Shown) → IsShown settings self.now.store self.now.spread w
             → AreSound settings w
             → into.new.items ≡ into.old.items ++ looked_at settings base (scope_of scope.now) w.rows) }
     {
         look(&self.store, settings, u64::from(base), scope, into)?;
         Ok(())
+    }
+
+    fn listed(&self, settings: Settings, base: u32, scope: &Scope<'_, A>) -> Option<&[Place]> {
+        listed(&self.store, settings, u64::from(base), scope)
+    }
+
+    fn row_at(&self, place: Place) -> Option<SeenRow<'_, A>> {
+        row_at(&self.store.rows, place)
     }
 
     fn first_key(&self, settings: Settings, base: u32) -> Option<&Term<A>> {

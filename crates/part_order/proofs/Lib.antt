@@ -1,5 +1,4 @@
 pub mod TreeLemmas
-pub mod DeadLemmas
 pub mod LookLemmas
 pub mod ShownLemmas
 pub mod SendLemmas

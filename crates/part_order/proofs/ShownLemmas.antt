@@ -1,15 +1,15 @@
 -- What rows in a tree show, by what is done with their entries.
-use Rattle.std.proofs.Common.{◌≡◌, ℕ, List, ap, sym, subst, ◌∙◌}
-use Rattle.std.specs.Prelude.{Bool, true, if◌then◌else◌, filter}
+use Rattle.std.proofs.Common.{◌≡◌, ℕ, ◌<◌, List, ap, sym, subst, ◌∙◌, length}
+use Rattle.std.specs.Prelude.{Bool, true, false, if◌then◌else◌, filter}
 use Rattle.std.specs.List.{IsDistinct}
 use Rattle.std.specs.Map.{keys_of}
 use Rattle.term_core.specs.Datum.{Datum}
 use Rattle.term_operand.specs.Order.{is_same}
 use Rattle.part_core.specs.declared.settings.Settings.{Settings}
 use Rattle.part_core.specs.Settings.{is_ordered}
-use Rattle.part_core.specs.Rows.{Row, is_live, has_row, objects_at}
+use Rattle.part_core.specs.Rows.{Row, is_live, has_row, objects_at, with_object}
 use Rattle.part_core.specs.Visits.{walk_order}
-use Rattle.part_rows.specs.Shown.{Shown, AreSound, rows_exchanged, shown_exchanged, shown_live}
+use Rattle.part_rows.specs.Shown.{Shown, AreSound, rows_exchanged, shown_exchanged, shown_live, shown_with}
 use Rattle.part_order.specs.Served.{IsShown}
 
 -- no key has two rows
@@ -33,6 +33,22 @@ exchange_shows o rows now w k before after keeps there shows is held written = (
     slots = shows.slots;
   },
 )
+
+-- an object that is put in, or is not
+pub put_shows : (o : Settings) (t : Datum) (rows now : List Row) (w : Shown) (b : Bool) → IsShown o rows w → now ≡ (if b then with_object o t rows else rows) → IsShown o now (if b then shown_with o t w else w)
+put_shows o t rows now w true shows is =
+    let ordered : is_ordered o.kind ≡ true = ap is_ordered shows.kind in
+    record {
+      kind = shows.kind;
+      rows = ap (with_object o t) shows.rows ∙ sym is;
+      slots = rw ordered shows.slots;
+    }
+put_shows o t rows now w false shows is = record { kind = shows.kind; rows = shows.rows ∙ sym is; slots = shows.slots }
+
+-- so few are shown as there are
+pub few_shows : (o : Settings) (rows : List Row) (w : Shown) (most : ℕ) → IsShown o rows w → length rows < most → length w.rows < most
+few_shows o rows w most shows few =
+    subst (λ (rs : List Row). length rs < most) (sym shows.rows) few
 
 pub live_shows : (o : Settings) (rows now : List Row) (w : Shown) → now ≡ filter is_live rows → IsShown o rows w → IsShown o now (shown_live w)
 live_shows o rows now w is shows = record {

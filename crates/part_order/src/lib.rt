@@ -3,7 +3,7 @@
 //! The one contract: `OrderRows` keeps the trait `Rows` of `part_rows`, for ordered sets alone. What it shows is the
 //! entries of its tree, the rows by rising key, in 8 slots (`IsShown` of `specs/Served.antt`).
 //!
-//! - `rows`: the type, which counts its dead rows, so that they are looked for only where there are some.
+//! - `rows`: the type. It hands each operation to a function over the tree.
 //! - `tree`: what is done with the row of a key in the tree.
 //! - `looking`: what a visit looks at, and the order of a walk.
 //! - `laws`: parts may be sent to other threads (`proofs/SendLemmas.antt`).

@@ -1,11 +1,9 @@
-//! Rows in a tree that counts the dead ones.
+//! Rows in a tree.
 use crate::looking::{first_key, gather, key_behind, look};
-use crate::tree::{
-    Tree, dead_gone, goes, is_put, keep_live, let_go, put_back, put_down, swap_held,
-};
+use crate::tree::{Tree, goes, keep_live, put_back, put_down, swap_held};
 use part_core::{FIRST_SLOTS, Held, Scope, Settings, TableKind};
-use part_engine::{dead_in, key_of};
-use part_rows::{Rows, SeenRow};
+use part_engine::key_of;
+use part_rows::{Place, Put, Rows, SeenRow};
 use std::alloc::{AllocError, Allocator, Global};
 use std::marker::Model;
 use term_core::Term;
@@ -14,36 +12,33 @@ use term_core::Term;
 #[derive(Drop)]
 pub struct OrderRows<A: Allocator = Global> {
     tree: Tree<A>,
-    dead: usize,
 }
 
 impl<A: Allocator> Model for OrderRows<A> {
-    ghost use Rattle.std.specs.Prelude.{◌≡◌, List};
+    ghost use Rattle.std.specs.Prelude.{List};
     ghost use Rattle.std.specs.Coded.{codes};
     ghost use Rattle.term_core.specs.Datum.{Datum};
     ghost use Rattle.term_core.specs.DatumCode.{datum_code};
-    ghost use Rattle.part_engine.specs.Dead.{dead_rows};
 
     ghost Value = { List (Datum × List Datum) };
 
     ghost coded = { Prim.hlevel (codes, datum_code) };
 
     ghost view = { λ r. r.tree.entries };
-
-    ghost invariant = { λ r. r.dead ≡ dead_rows r.tree.entries };
 }
 
 impl<A: Allocator> OrderRows<A> {
-    ghost use Rattle.std.specs.Prelude.{◌≡◌, [], ◌∷◌, ◌||◌, None, IfOk, OnOk, OnErr, IsSome, IsTrue, if◌then◌else◌, unwrap_or};
+    ghost use Rattle.std.specs.Prelude.{◌≡◌, [], ◌∷◌, None, IfOk, OnOk, OnErr, IsSome, IsTrue, if◌then◌else◌, unwrap_or};
     ghost use Rattle.std.specs.BTreeMap.{insert_entry};
     ghost use Rattle.std.specs.List.Sorted.{IsStrictlySortedBy};
-    ghost use Rattle.std.specs.Map.{keys_of, remove_entry, set_value};
+    ghost use Rattle.std.specs.Map.{keys_of, lookup, remove_entry, set_value};
     ghost use Rattle.term_core.specs.Datum.Datum.{nil};
     ghost use Rattle.term_core.specs.Order.{datum_cmp};
     ghost use Rattle.term_operand.specs.Order.{is_same};
     ghost use Rattle.part_core.specs.declared.kind.TableKind.TheVariants.{OrderedSet};
-    ghost use Rattle.part_core.specs.Rows.{has_row, is_empty, objects_at, with_object};
+    ghost use Rattle.part_core.specs.Rows.{has_row, objects_at, with_object};
     ghost use Rattle.part_core.specs.Settings.{is_object, key_of};
+    ghost use Rattle.part_rows.specs.Puts.{is_put, put_at};
 
     /// What is held of a key and `held` change places, where the key has a row, and the answer says whether it has.
     fn swap(&mut self, key: &Term<A>, held: &mut Held<A>) -> bool
@@ -51,14 +46,7 @@ impl<A: Allocator> OrderRows<A> {
         ensures held { held.new ≡ (if result then objects_at self.old key.now else held.old) }
         ensures rows { self.new ≡ set_value (is_same key.now) self.old held.old }
     {
-        prove!(self.dead <= self.tree.len());
-        let coming = dead_in(held);
-        if !swap_held(&mut self.tree, key, held) {
-            return false;
-        }
-        let going = dead_in(held);
-        self.dead = self.dead + coming - going;
-        true
+        swap_held(&mut self.tree, key, held)
     }
 
     /// Takes the row of a key out, where it has one, and says whether it had. What was held of it is in `held` then.
@@ -70,7 +58,6 @@ impl<A: Allocator> OrderRows<A> {
         let Some(removed) = self.tree.remove(key) else {
             return false;
         };
-        self.dead -= dead_in(&removed);
         put_down(held, removed);
         true
     }
@@ -91,7 +78,7 @@ impl<A: Allocator> OrderRows<A> {
         };
         match self.tree.insert(key, Held::one(taken)) {
             Ok(replaced) => {
-                self.dead -= dead_gone(replaced);
+                drop(replaced);
                 Ok(())
             }
             Err(failed) => {
@@ -101,38 +88,39 @@ impl<A: Allocator> OrderRows<A> {
         }
     }
 
-    /// Puts an object in, unless its key has one that it doesn't replace, and says whether it was put in. It is taken
-    /// either way, but for want of memory.
+    /// Puts an object in, unless its key has one that it doesn't replace, and says what became of its key's row. It is
+    /// taken either way, but for want of memory.
     fn put_object(
         &mut self,
         settings: Settings,
         object: &mut Option<Term<A>>,
         replaces: bool,
-    ) -> Result<bool, AllocError>
+    ) -> Result<Put, AllocError>
     where
         A: Copy,
         requires { IsTrue (is_object settings (unwrap_or object.old nil)) }
         ensures put { IfOk result (λ put. put
-            ≡ (replaces || is_empty (objects_at self.old (key_of settings (unwrap_or object.old nil))))) }
+            ≡ put_at replaces (lookup (is_same (key_of settings (unwrap_or object.old nil))) self.old)) }
         ensures rows { IfOk result (λ put. settings.kind ≡ OrderedSet
-            → self.new ≡ (if put then with_object settings (unwrap_or object.old nil) self.old else self.old)) }
+            → self.new ≡ (if is_put put then with_object settings (unwrap_or object.old nil) self.old else self.old)) }
         ensures spent { OnOk result (object.new ≡ None) }
         ensures back { OnErr result (object.new ≡ object.old) }
         ensures refused { OnErr result (self.new ≡ self.old) }
     {
         let key = key_of(settings, object);
-        if !is_put(&self.tree, key, replaces) {
-            let_go(object.take());
-            return Ok(false);
+        let put = Put::over(self.tree.get(key), replaces);
+        if !put.is_done() {
+            drop(object.take());
+            return Ok(put);
         }
         let key = key.copy()?;
         self.put_row(key, object)?;
-        Ok(true)
+        Ok(put)
     }
 }
 
 impl<A: Allocator + Copy> Rows<A> for OrderRows<A> {
-    ghost use Rattle.std.specs.Prelude.{◌≡◌, ◌<◌, ◌++◌, IsTrue, IfOk};
+    ghost use Rattle.std.specs.Prelude.{◌≡◌, ◌<◌, ◌++◌, None, IsTrue, IfOk};
     ghost use Rattle.part_core.specs.Ops.{scope_of};
     ghost use Rattle.part_rows.specs.Shown.{Shown, AreSound};
     ghost use Rattle.part_rows.specs.Looks.{is_placed, looked_at};
@@ -142,6 +130,8 @@ impl<A: Allocator + Copy> Rows<A> for OrderRows<A> {
 
     ghost shows = { λ o rows w. IsShown o rows w };
 
+    ghost row_of = { λ rows place. None };
+
     fn is_served(kind: TableKind) -> bool {
         kind.is_ordered()
     }
@@ -149,7 +139,6 @@ impl<A: Allocator + Copy> Rows<A> for OrderRows<A> {
     fn new(alloc: A, _settings: Settings) -> Result<Self, AllocError> {
         Ok(OrderRows {
             tree: Tree::new(alloc),
-            dead: 0,
         })
     }
 
@@ -166,8 +155,9 @@ impl<A: Allocator + Copy> Rows<A> for OrderRows<A> {
         settings: Settings,
         object: &mut Option<Term<A>>,
         replaces: bool,
-    ) -> Result<bool, AllocError> {
-        self.put_object(settings, object, replaces)
+    ) -> Result<Put, AllocError> {
+        let put = self.put_object(settings, object, replaces)?;
+        Ok(put)
     }
 
     fn exchange(
@@ -177,6 +167,7 @@ impl<A: Allocator + Copy> Rows<A> for OrderRows<A> {
         held: &mut Held<A>,
         keeps: bool,
     ) -> bool {
+        prove!(self.tree.len() < usize::MAX);
         if goes(held, keeps) {
             return self.take_row(key, held);
         }
@@ -184,10 +175,7 @@ impl<A: Allocator + Copy> Rows<A> for OrderRows<A> {
     }
 
     fn keep_live(&mut self) {
-        if self.dead > 0 {
-            keep_live(&mut self.tree);
-            self.dead = 0;
-        }
+        keep_live(&mut self.tree);
     }
 
     fn look<'r>(
@@ -204,6 +192,14 @@ impl<A: Allocator + Copy> Rows<A> for OrderRows<A> {
             → into.new.items ≡ into.old.items ++ looked_at settings base (scope_of scope.now) w.rows) }
     {
         look(&self.tree, scope, into)
+    }
+
+    fn listed(&self, _settings: Settings, _base: u32, _scope: &Scope<'_, A>) -> Option<&[Place]> {
+        None
+    }
+
+    fn row_at(&self, _place: Place) -> Option<SeenRow<'_, A>> {
+        None
     }
 
     fn first_key(&self, _settings: Settings, _base: u32) -> Option<&Term<A>> {

@@ -1,13 +1,11 @@
 //! A tree of rows, found by their keys.
-ghost use Rattle.std.specs.Prelude.{◌≡◌, ◌||◌, ◌&&◌, [], ◌∷◌, Some, filter, not, if◌then◌else◌, unwrap_or};
+ghost use Rattle.std.specs.Prelude.{◌≡◌, ◌&&◌, [], ◌∷◌, Some, filter, not, if◌then◌else◌};
 ghost use Rattle.std.specs.Map.{set_value};
-ghost use Rattle.std.specs.Option.{option_map};
 ghost use Rattle.term_core.specs.Datum.{Datum};
 ghost use Rattle.term_operand.specs.Order.{is_same};
 ghost use Rattle.part_core.specs.Rows.{has_row, is_empty, objects_at};
 
 use part_core::Held;
-use part_engine::dead_in;
 use std::alloc::Allocator;
 use std::collections::BTreeMap;
 use std::mem;
@@ -16,51 +14,18 @@ use term_core::Term;
 /// Rows by their keys.
 pub(crate) type Tree<A> = BTreeMap<Term<A>, Held<A>, A>;
 
-/// Lets an object go.
-pub(crate) fn let_go<A: Allocator>(_object: Option<Term<A>>) {}
-
-/// Lets what was held of a key go.
-fn let_held_go<A: Allocator>(_held: Held<A>) {}
-
 /// Puts what is held of a key in the place of what was.
 pub(crate) fn put_down<A: Allocator>(place: &mut Held<A>, held: Held<A>)
     ensures { place.new ≡ held }
 {
-    let_held_go(mem::replace(place, held));
+    drop(mem::replace(place, held));
 }
 
 /// Puts the object of a row that was made and not put in back where it was taken from.
 pub(crate) fn put_back<A: Allocator>(place: &mut Option<Term<A>>, row: (Term<A>, Held<A>))
     ensures { (object : Datum) → row.1 ≡ object ∷ [] → place.new ≡ Some object }
 {
-    let_go(mem::replace(place, row.1.into_object()));
-}
-
-/// How many dead rows a row was that is gone, none where there was no row.
-pub(crate) fn dead_gone<A: Allocator>(held: Option<Held<A>>) -> usize
-    ensures { result ≡ unwrap_or (option_map (λ os. if is_empty os then 1 else 0) held) 0 }
-{
-    match held {
-        Some(held) => dead_in(&held),
-        None => 0,
-    }
-}
-
-/// Whether a key has no object.
-fn is_vacant<A: Allocator>(tree: &Tree<A>, key: &Term<A>) -> bool
-    ensures { result ≡ is_empty (objects_at tree.now.entries key.now) }
-{
-    match tree.get(key) {
-        Some(held) => held.is_empty(),
-        None => true,
-    }
-}
-
-/// Whether an object of a key is put in: where it replaces what is there, or nothing is.
-pub(crate) fn is_put<A: Allocator>(tree: &Tree<A>, key: &Term<A>, replaces: bool) -> bool
-    ensures { result ≡ (replaces || is_empty (objects_at tree.now.entries key.now)) }
-{
-    replaces || is_vacant(tree, key)
+    drop(mem::replace(place, row.1.into_object()));
 }
 
 /// Whether a row goes whose objects become what is held.

@@ -1,9 +1,9 @@
 -- An object put at its key's place in a list of rows.
-use Rattle.std.proofs.Common.{◌≡◌, ℕ, List, [], ◌∷◌, ◌++◌, refl, ap, sym, subst, ◌∙◌, length, set, get_or}
-use Rattle.std.specs.Prelude.{Bool, true, false, not, ◌||◌, unwrap_or}
+use Rattle.std.proofs.Common.{◌≡◌, ℕ, ◌<◌, ◌≤◌, ◌+◌, List, [], ◌∷◌, ◌++◌, refl, ap, sym, subst, ◌∙◌, arith, length, length-append, set, get_or}
+use Rattle.std.specs.Prelude.{Bool, true, false, not, if◌then◌else◌, Option, Some, None, is_some, unwrap_or}
 use Rattle.std.specs.List.{IsDistinct}
-use Rattle.std.specs.Map.{keys_of}
-use Rattle.std.proofs.lemmas.Bool.{true≢false, not-false, not-true}
+use Rattle.std.specs.Map.{keys_of, lookup}
+use Rattle.std.proofs.lemmas.Bool.{true≢false}
 use Rattle.term_core.specs.Datum.{Datum}
 use Rattle.term_operand.specs.Order.{is_same}
 use Rattle.part_core.specs.declared.settings.Settings.{Settings}
@@ -11,6 +11,9 @@ use Rattle.part_core.specs.Settings.{is_ordered, key_of}
 use Rattle.part_core.specs.Rows.{Row, is_empty, is_live, has_row, objects_at, objects_with, rows_at_key, with_object}
 use Rattle.part_core.proofs.KeyLemmas.{by_test, same_from}
 use Rattle.part_core.proofs.RowLemmas.{keys_new_distinct, no_objects}
+use Rattle.part_rows.specs.declared.put.Put.{Put}
+use Rattle.part_rows.specs.declared.put.Put.TheVariants.{Kept, Revived, Done}
+use Rattle.part_rows.specs.Puts.{is_put, put_at}
 use Rattle.part_plain.specs.Places.{IsPlace}
 use Rattle.part_engine.specs.Sets.{with_key}
 use Rattle.part_plain.proofs.PlaceLemmas.{lookup_past, place_objects, place_row, place_set, place_written, written_at}
@@ -64,10 +67,10 @@ put_there o t rows found place row new is p at made plain apart =
     ∙ ap (rows_at_key (key_of o t) (λ os. objects_with o.kind os t)) is
     ∙ put_at_key o t rows plain apart
 
--- ---- whether it is put in
+-- ---- what becomes of the row
 
 -- the row at the place is live where the key has an object
-pub live_there : (k : Datum) (rows found : List Row) (place : ℕ) (row : Row) → found ≡ with_key k rows → IsPlace k found place → row ≡ get_or found place row → is_live row ≡ not (is_empty (objects_at rows k))
+live_there : (k : Datum) (rows found : List Row) (place : ℕ) (row : Row) → found ≡ with_key k rows → IsPlace k found place → row ≡ get_or found place row → is_live row ≡ not (is_empty (objects_at rows k))
 live_there k rows found place row is p at =
     ap (λ (r : Row). is_live r) at
     ∙ ap (λ (os : List Datum). not (is_empty os)) (place_objects row p ∙ ap (λ rs. objects_at rs k) is ∙ objects_kept k rows)
@@ -82,18 +85,74 @@ live_stays k rows found is live =
     false_not_true : false ≡ true → ⊥
     false_not_true e = true≢false (sym e)
 
--- an object that replaces none stays out where its key has one
-pub stays_put : (k : Datum) (rows found : List Row) (place : ℕ) (row : Row) (replaces : Bool) → found ≡ with_key k rows → IsPlace k found place → row ≡ get_or found place row → replaces ≡ false → is_live row ≡ true → false ≡ (replaces || is_empty (objects_at rows k))
-stays_put k rows found place row replaces is p at none live =
-    rw none (sym (not-true (is_empty (objects_at rows k)) (sym (live_there k rows found place row is p at) ∙ live)))
+-- what a look-up finds of a key that has a row, by the row at its place
+found_there : (k : Datum) (rows found : List Row) (place : ℕ) (row : Row) → found ≡ with_key k rows → IsPlace k found place → row ≡ get_or found place row → has_row rows k ≡ true → lookup (is_same k) rows ≡ Some row.1
+found_there k rows found place row is p at there =
+    of (lookup (is_same k) rows) there
+    ∙ ap Some (sym (ap (λ (r : Row). r.1) at ∙ place_objects row p ∙ ap (λ rs. objects_at rs k) is ∙ objects_kept k rows))
+  where
+    of : (f : Option (List Datum)) → is_some f ≡ true → f ≡ Some (unwrap_or f [])
+    of None h = cc
+    of (Some os) h = refl
 
--- and is put in where it has none
-pub puts_free : (k : Datum) (rows found : List Row) (place : ℕ) (row : Row) (replaces : Bool) → found ≡ with_key k rows → IsPlace k found place → row ≡ get_or found place row → replaces ≡ false → is_live row ≡ false → true ≡ (replaces || is_empty (objects_at rows k))
-puts_free k rows found place row replaces is p at none dead =
-    rw none (sym (not-false (is_empty (objects_at rows k)) (sym (live_there k rows found place row is p at) ∙ dead)))
+-- a row was added where the key had none
+with_old : (k : Datum) (rows : List Row) → has_row rows k ≡ true → length (with_key k rows) ≡ length rows
+with_old k rows there = rw there refl
 
-pub puts_replacing : (b replaces : Bool) → replaces ≡ true → true ≡ (replaces || b)
-puts_replacing b replaces all = rw all refl
+with_new : (k : Datum) (rows : List Row) → has_row rows k ≡ false → length (with_key k rows) ≡ length rows + 1
+with_new k rows none = rw none (length-append rows ((k, []) ∷ []))
+
+not_added : (k : Datum) (rows found : List Row) (before : ℕ) → found ≡ with_key k rows → before ≡ length rows → length found ≤ before → has_row rows k ≡ true
+not_added k rows found before is count none =
+    by_test (has_row rows k) _
+    (λ there. there)
+    (λ no. let more : length found ≡ length rows + 1 = ap length is ∙ with_new k rows no in absurd (omega (arith, count, more, none)))
+
+added : (k : Datum) (rows found : List Row) (before : ℕ) → found ≡ with_key k rows → before ≡ length rows → before < length found → lookup (is_same k) rows ≡ None
+added k rows found before is count more =
+    by_test (has_row rows k) _
+    (λ there. let same : length found ≡ length rows = ap length is ∙ with_old k rows there in absurd (omega (arith, count, more, same)))
+    (λ no. of (lookup (is_same k) rows) no)
+  where
+    of : (f : Option (List Datum)) → is_some f ≡ false → f ≡ None
+    of None h = refl
+    of (Some os) h = cc
+
+pub put_new : (k : Datum) (rows found : List Row) (before : ℕ) (replaces : Bool) → found ≡ with_key k rows → before ≡ length rows → before < length found → Done ≡ put_at replaces (lookup (is_same k) rows)
+put_new k rows found before replaces is count more =
+    ap (put_at replaces) (sym (added k rows found before is count more))
+
+of_dead : (replaces : Bool) (os : List Datum) → not (is_empty os) ≡ false → Revived ≡ put_at replaces (Some os)
+of_dead replaces [] dead = refl
+of_dead replaces (t ∷ os) dead = cc
+
+of_live : (replaces : Bool) (os : List Datum) → not (is_empty os) ≡ true → (if replaces then Done else Kept) ≡ put_at replaces (Some os)
+of_live replaces [] live = cc
+of_live replaces (t ∷ os) live = refl
+
+pub put_dead : (k : Datum) (rows found : List Row) (place before : ℕ) (row : Row) (replaces : Bool) → found ≡ with_key k rows → IsPlace k found place → row ≡ get_or found place row → before ≡ length rows → length found ≤ before → is_live row ≡ false → Revived ≡ put_at replaces (lookup (is_same k) rows)
+put_dead k rows found place before row replaces is p at count none dead =
+    of_dead replaces row.1 dead
+    ∙ ap (put_at replaces) (sym (found_there k rows found place row is p at (not_added k rows found before is count none)))
+
+pub put_live : (k : Datum) (rows found : List Row) (place before : ℕ) (row : Row) (replaces : Bool) → found ≡ with_key k rows → IsPlace k found place → row ≡ get_or found place row → before ≡ length rows → length found ≤ before → is_live row ≡ true → (if replaces then Done else Kept) ≡ put_at replaces (lookup (is_same k) rows)
+put_live k rows found place before row replaces is p at count none live =
+    of_live replaces row.1 live
+    ∙ ap (put_at replaces) (sym (found_there k rows found place row is p at (not_added k rows found before is count none)))
+
+-- said of rows that were seen as a slice
+pub became : (k : Datum) (rows found slice : List Row) (place before : ℕ) (replaces : Bool) (put : Put) → ((key : Datum) (old : List Row) → slice ≡ with_key key old → IsPlace key slice place → before ≡ length old → put ≡ put_at replaces (lookup (is_same key) old)) → slice ≡ found → found ≡ with_key k rows → IsPlace k found place → before ≡ length rows → put ≡ put_at replaces (lookup (is_same k) rows)
+became k rows found slice place before replaces put said seen is p count =
+    said k rows (seen ∙ is) (subst (λ rs. IsPlace k rs place) (sym seen) p) count
+
+-- a key whose object stays has a row
+kept_some : (replaces : Bool) (found : Option (List Datum)) → is_put (put_at replaces found) ≡ false → is_some found ≡ true
+kept_some replaces None kept = cc
+kept_some replaces (Some os) kept = refl
+
+pub kept_rows : (k : Datum) (rows found : List Row) (replaces : Bool) → found ≡ with_key k rows → is_put (put_at replaces (lookup (is_same k) rows)) ≡ false → found ≡ rows
+kept_rows k rows found replaces is kept =
+    is ∙ sym (key_there k rows (kept_some replaces (lookup (is_same k) rows) kept))
 
 -- a live row that was written back as it was
 pub put_back : (k : Datum) (rows found : List Row) (place : ℕ) (row new : Row) → found ≡ with_key k rows → IsPlace k found place → row ≡ get_or found place row → new ≡ row → is_live row ≡ true → set found place new ≡ rows

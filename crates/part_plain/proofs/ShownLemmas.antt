@@ -1,5 +1,5 @@
 -- What rows in one list show.
-use Rattle.std.proofs.Common.{◌≡◌, ℕ, ◌≤◌, ◌+◌, List, ap, sym, subst, ◌∙◌, arith, length}
+use Rattle.std.proofs.Common.{◌≡◌, ℕ, ◌<◌, ◌≤◌, ◌+◌, List, ap, sym, subst, ◌∙◌, arith, length}
 use Rattle.std.specs.Prelude.{Bool, true, false, if◌then◌else◌}
 use Rattle.term_core.specs.Datum.{Datum}
 use Rattle.part_core.specs.declared.kind.TableKind.TheVariants.{Set}
@@ -10,10 +10,8 @@ use Rattle.part_core.specs.After.{slots_after}
 use Rattle.part_core.specs.States.{IsBase}
 use Rattle.part_core.proofs.AfterLemmas.{slots_same}
 use Rattle.part_core.proofs.StepLemmas.{slots_grow, put_length}
-use Rattle.part_engine.specs.Dead.{dead_rows}
 use Rattle.part_rows.specs.Shown.{Shown, rows_exchanged, shown_exchanged, shown_with}
 use Rattle.part_plain.specs.Served.{IsShown}
-use Rattle.part_engine.proofs.DeadLemmas.{dead_few}
 use Rattle.part_engine.proofs.SetLemmas.{plain_served, plain_slots}
 
 -- ---- slots
@@ -26,8 +24,8 @@ grown_base before now slots result is same =
 -- ---- an object that is put in, or is not
 
 -- rows to which an object was put show it
-pub shown_put : (o : Settings) (t : Datum) (rows new : List Row) (slots more dead left : ℕ) (w : Shown) → IsShown o rows slots dead w → (is_ordered o.kind ≡ false → new ≡ with_object o t rows) → (length new ≤ length rows + 1 → more ≡ slots_after Set (length rows) (length new) slots) → left ≡ dead_rows (with_object o t rows) → IsShown o new more left (shown_with o t w)
-shown_put o t rows new slots more dead left w shown put grown count = record {
+pub shown_put : (o : Settings) (t : Datum) (rows new : List Row) (slots more : ℕ) (w : Shown) → IsShown o rows slots w → (is_ordered o.kind ≡ false → new ≡ with_object o t rows) → (length new ≤ length rows + 1 → more ≡ slots_after Set (length rows) (length new) slots) → IsShown o new more (shown_with o t w)
+shown_put o t rows new slots more w shown put grown = record {
   served = shown.served;
   rows = ap (with_object o t) shown.rows ∙ sym is;
   slots = ap (λ (rs : List Row). slots_after o.kind (length rs) (length (with_object o t rs)) w.slots) shown.rows
@@ -35,7 +33,6 @@ shown_put o t rows new slots more dead left w shown put grown count = record {
       ∙ ap (λ (rs : List Row). slots_after o.kind (length rows) (length rs) slots) (sym is)
       ∙ plain_slots o.kind (length rows) (length new) slots plain
       ∙ sym (grown few);
-  count = count ∙ ap (λ (rs : List Row). dead_rows (with_object o t rs)) (sym shown.rows);
 }
   where
     plain : is_ordered o.kind ≡ false
@@ -48,12 +45,11 @@ shown_put o t rows new slots more dead left w shown put grown count = record {
     few = subst (λ (rs : List Row). length rs ≤ length rows + 1) (sym is) (put_length o t rows plain)
 
 -- rows that stay show what they showed
-pub shown_left : (o : Settings) (rows new : List Row) (slots more dead left : ℕ) (w : Shown) → IsShown o rows slots dead w → (is_ordered o.kind ≡ false → new ≡ rows) → (length new ≤ length rows + 1 → more ≡ slots_after Set (length rows) (length new) slots) → left ≡ dead_rows rows → IsShown o new more left w
-shown_left o rows new slots more dead left w shown stay grown count = record {
+pub shown_left : (o : Settings) (rows new : List Row) (slots more : ℕ) (w : Shown) → IsShown o rows slots w → (is_ordered o.kind ≡ false → new ≡ rows) → (length new ≤ length rows + 1 → more ≡ slots_after Set (length rows) (length new) slots) → IsShown o new more w
+shown_left o rows new slots more w shown stay grown = record {
   served = shown.served;
   rows = shown.rows ∙ sym is;
   slots = shown.slots ∙ sym (grown (omega (arith, same)) ∙ slots_same Set (length rows) (length new) slots (omega (arith, same)));
-  count = count ∙ ap dead_rows (sym shown.rows);
 }
   where
     is : new ≡ rows
@@ -63,9 +59,9 @@ shown_left o rows new slots more dead left w shown stay grown count = record {
     same = ap length is
 
 -- what is left where an object was put in or not
-pub shown_either : (o : Settings) (t : Datum) (rows new : List Row) (slots more dead left : ℕ) (w : Shown) (b : Bool) → IsShown o rows slots dead w → (is_ordered o.kind ≡ false → new ≡ (if b then with_object o t rows else rows)) → (length new ≤ length rows + 1 → more ≡ slots_after Set (length rows) (length new) slots) → left ≡ dead_rows (if b then with_object o t rows else rows) → IsShown o new more left (if b then shown_with o t w else w)
-shown_either o t rows new slots more dead left w true shown put grown count = shown_put o t rows new slots more dead left w shown put grown count
-shown_either o t rows new slots more dead left w false shown put grown count = shown_left o rows new slots more dead left w shown put grown count
+pub shown_either : (o : Settings) (t : Datum) (rows new : List Row) (slots more : ℕ) (w : Shown) (b : Bool) → IsShown o rows slots w → (is_ordered o.kind ≡ false → new ≡ (if b then with_object o t rows else rows)) → (length new ≤ length rows + 1 → more ≡ slots_after Set (length rows) (length new) slots) → IsShown o new more (if b then shown_with o t w else w)
+shown_either o t rows new slots more w true shown put grown = shown_put o t rows new slots more w shown put grown
+shown_either o t rows new slots more w false shown put grown = shown_left o rows new slots more w shown put grown
 
 -- the slots of rows that were seen as slices
 pub slots_of : (before after rows new : List Row) (slots more : ℕ) → before ≡ rows → after ≡ new → (length after ≤ length before + 1 → more ≡ slots_after Set (length before) (length after) slots) → length new ≤ length rows + 1 → more ≡ slots_after Set (length rows) (length new) slots
@@ -76,19 +72,18 @@ slots_of before after rows new slots more first last grown =
 -- ---- what is held of a key exchanged
 
 -- rows of which one takes what it holds, or which have none of the key, show it
-pub shown_exchange : (o : Settings) (k : Datum) (os held : List Datum) (keeps there : Bool) (rows new : List Row) (slots dead left : ℕ) (w : Shown) → IsShown o rows slots dead w → there ≡ has_row rows k → held ≡ (if there then objects_at rows k else os) → new ≡ rows_exchanged k os keeps rows → left ≡ dead_rows (rows_exchanged k os keeps rows) → (there ≡ has_row w.rows k) × (held ≡ (if there then objects_at w.rows k else os)) × IsShown o new slots left (shown_exchanged k os keeps w)
-shown_exchange o k os held keeps there rows new slots dead left w shown has was is count = (
+pub shown_exchange : (o : Settings) (k : Datum) (os held : List Datum) (keeps there : Bool) (rows new : List Row) (slots : ℕ) (w : Shown) → IsShown o rows slots w → there ≡ has_row rows k → held ≡ (if there then objects_at rows k else os) → new ≡ rows_exchanged k os keeps rows → (there ≡ has_row w.rows k) × (held ≡ (if there then objects_at w.rows k else os)) × IsShown o new slots (shown_exchanged k os keeps w)
+shown_exchange o k os held keeps there rows new slots w shown has was is = (
   has ∙ ap (λ (rs : List Row). has_row rs k) (sym shown.rows),
   was ∙ ap (λ (rs : List Row). if there then objects_at rs k else os) (sym shown.rows),
   record {
     served = shown.served;
     rows = ap (rows_exchanged k os keeps) shown.rows ∙ sym is;
     slots = shown.slots;
-    count = count ∙ ap (λ (rs : List Row). dead_rows (rows_exchanged k os keeps rs)) (sym shown.rows);
   },
 )
 
--- the dead are at most so many as the rows
-pub dead_within : (o : Settings) (rows : List Row) (slots dead : ℕ) (w : Shown) → IsShown o rows slots dead w → dead ≤ length rows
-dead_within o rows slots dead w shown =
-    omega (arith, shown.count, dead_few w.rows, ap length shown.rows)
+-- so few are shown as there are
+pub shown_few : (o : Settings) (rows : List Row) (slots most : ℕ) (w : Shown) → IsShown o rows slots w → length rows < most → length w.rows < most
+shown_few o rows slots most w shown few =
+    subst (λ (rs : List Row). length rs < most) (sym shown.rows) few

@@ -12,9 +12,6 @@ use part_engine::HashedRow;
 use std::alloc::Allocator;
 use term_core::Term;
 
-/// Lets a row go.
-fn let_go<A: Allocator>(_row: HashedRow<A>) {}
-
 /// Lets the row at a place go if it is dead.
 fn settle<A: Allocator>(rows: &mut Vec<HashedRow<A>, A>, place: usize)
     requires { place < vec_len rows.old }
@@ -23,7 +20,7 @@ fn settle<A: Allocator>(rows: &mut Vec<HashedRow<A>, A>, place: usize)
         → rows.new.items ≡ before ++ (if is_live row then row ∷ after else after) }
 {
     if !rows[place].is_live() {
-        let_go(rows.remove(place));
+        drop(rows.remove(place));
     }
 }
 

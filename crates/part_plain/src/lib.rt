@@ -1,17 +1,15 @@
 //! The rows of sets and bags in one list.
 //!
-//! The one contract: `PlainRows` keeps the trait `Rows` of `part_rows`, for all tables but ordered sets. What the rows show
-//! is their list and the number that is kept as that of their slots, with a count of the dead among them (`IsShown` of
-//! `specs/Served.antt`). That no key has two rows isn't kept: it is a premise of `Rows`.
+//! The one contract: `PlainRows` keeps the trait `Rows` of `part_rows`, for all tables but ordered sets. What the rows
+//! show is their list and the number that is kept as that of their slots (`IsShown` of `specs/Served.antt`). That no key
+//! has two rows isn't kept: it is a premise of `Rows`.
 //!
 //! - `rows`: the type. It hands each operation to a function whose contract is one over lists.
-//! - `places`: rows found by their keys (`specs/Places.antt`); `putting`, `exchanging`: what is written;
-//!   `dead`: how many dead rows a key has.
+//! - `places`: rows found by their keys (`specs/Places.antt`); `putting`, `exchanging`: what is written.
 //! - `walking`, `gathering`: the order of a walk, class by class; `looking`: what visits look at.
 //! - `laws`: parts may be sent to other threads (`proofs/SendLemmas.antt`).
 #![tactic(auto)]
 
-mod dead;
 mod exchanging;
 mod gathering;
 mod laws;

@@ -1,17 +1,20 @@
 //! Objects that are put in.
-ghost use Rattle.std.specs.Prelude.{vec_len, ◌≡◌, ◌<◌, ◌||◌, None, if◌then◌else◌, unwrap_or, IsTrue, IsFalse, IfOk, OnOk, OnErr};
+ghost use Rattle.std.specs.Prelude.{vec_len, ◌≡◌, ◌<◌, None, if◌then◌else◌, length, unwrap_or, IsTrue, IsFalse, IfOk, List, OnOk, OnErr};
 ghost use Rattle.std.specs.List.{IsDistinct};
-ghost use Rattle.std.specs.Map.{keys_of};
+ghost use Rattle.std.specs.Map.{keys_of, lookup};
+ghost use Rattle.term_core.specs.Datum.{Datum};
 ghost use Rattle.term_core.specs.Datum.Datum.{nil};
 ghost use Rattle.term_operand.specs.Order.{is_same};
 ghost use Rattle.part_core.specs.Settings.{is_object, is_ordered, key_of};
-ghost use Rattle.part_core.specs.Rows.{is_empty, objects_at, with_object};
+ghost use Rattle.part_core.specs.Rows.{Row as AnyRow, with_object};
+ghost use Rattle.part_rows.specs.Puts.{is_put, put_at};
 ghost use Rattle.part_plain.specs.Places.{IsPlace};
 ghost use Rattle.part_engine.specs.Sets.{with_key};
 
 use crate::places::place_of;
 use part_core::Settings;
 use part_engine::{HashedRow, key_of};
+use part_rows::Put;
 use std::alloc::{AllocError, Allocator};
 use term_core::Term;
 
@@ -53,33 +56,47 @@ fn place_of_object<A: Allocator + Copy>(
     place_for(rows, key_of(settings, object))
 }
 
-/// Lets an object go.
-fn let_go<A: Allocator>(_object: Option<Term<A>>) {}
+/// What becomes of the row of a key at its place, where there were so many rows before one was added for it.
+fn put_over<A: Allocator>(rows: &[HashedRow<A>], place: usize, before: usize, replaces: bool) -> Put
+    requires { place < length rows.now }
+    ensures { (key : Datum) (old : List AnyRow) → rows.now ≡ with_key key old → IsPlace key rows.now place
+        → before ≡ length old → result ≡ put_at replaces (lookup (is_same key) old) }
+{
+    if before < rows.len() {
+        return Put::Done;
+    }
+    if !rows[place].is_live() {
+        return Put::Revived;
+    }
+    if replaces { Put::Done } else { Put::Kept }
+}
 
-/// Puts an object in, as the kind of table has it: in any case if it `replaces`, else if its key has none. Says whether
-/// it did.
+/// Puts an object in, as the kind of table has it: in any case if it `replaces`, else if its key has none. Says what
+/// became of its key's row.
 pub(crate) fn put<A: Allocator + Copy>(
     settings: Settings,
     rows: &mut Vec<HashedRow<A>, A>,
     object: &mut Option<Term<A>>,
     replaces: bool,
-) -> Result<bool, AllocError>
+) -> Result<Put, AllocError>
     requires { IsTrue (is_object settings (unwrap_or object.old nil)) }
     ensures put { IfOk result (λ put. put
-        ≡ (replaces || is_empty (objects_at rows.old.items (key_of settings (unwrap_or object.old nil))))) }
+        ≡ put_at replaces (lookup (is_same (key_of settings (unwrap_or object.old nil))) rows.old.items)) }
     ensures rows { IfOk result (λ put. IsFalse (is_ordered settings.kind) → IsDistinct is_same (keys_of rows.old.items)
-        → rows.new.items ≡ (if put then with_object settings (unwrap_or object.old nil) rows.old.items
+        → rows.new.items ≡ (if is_put put then with_object settings (unwrap_or object.old nil) rows.old.items
         else rows.old.items)) }
     ensures spent { OnOk result (object.new ≡ None) }
     ensures back { OnErr result (object.new ≡ object.old) }
     ensures refused { OnErr result (rows.new.items ≡ rows.old.items) }
 {
+    let before = rows.as_slice().len();
     let place = place_of_object(settings, rows, object)?;
-    if !replaces && rows[place].is_live() {
-        let_go(object.take());
-        return Ok(false);
+    let became = put_over(rows, place, before, replaces);
+    if !became.is_done() {
+        drop(object.take());
+        return Ok(became);
     }
     let alloc = *rows.allocator();
     rows[place].put(alloc, settings.kind, object)?;
-    Ok(true)
+    Ok(became)
 }

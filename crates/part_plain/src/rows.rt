@@ -4,7 +4,6 @@ ghost use Rattle.part_core.specs.declared.kind.TableKind.TheVariants.{Set};
 ghost use Rattle.part_core.specs.After.{slots_after};
 ghost use Rattle.part_core.specs.States.{IsBase};
 
-use crate::dead::dead_at;
 use crate::exchanging::{exchange, keep_live};
 use crate::gathering::gather;
 use crate::looking::look;
@@ -12,8 +11,8 @@ use crate::places::held_of;
 use crate::putting::put;
 use crate::walking::{first_live, live_past};
 use part_core::{FIRST_SLOTS, Held, Scope, Settings, TableKind, slots_with_row};
-use part_engine::{HashedRow, dead_coming, dead_in};
-use part_rows::{Rows, SeenRow};
+use part_engine::HashedRow;
+use part_rows::{Place, Put, Rows, SeenRow};
 use std::alloc::{AllocError, Allocator, Global};
 use term_core::Term;
 
@@ -23,8 +22,6 @@ use term_core::Term;
 pub struct PlainRows<A: Allocator = Global> {
     rows: Vec<HashedRow<A>, A>,
     slots: u32,
-    // How many rows are dead.
-    dead: usize,
     ghost is_base: { IsBase slots },
 }
 
@@ -43,7 +40,7 @@ fn slots_after<A: Allocator>(rows: &[HashedRow<A>], before: usize, slots: u32) -
 }
 
 impl<A: Allocator + Copy> Rows<A> for PlainRows<A> {
-    ghost use Rattle.std.specs.Prelude.{◌≡◌, ◌<◌, ◌++◌, IsTrue, IfOk};
+    ghost use Rattle.std.specs.Prelude.{◌≡◌, ◌<◌, ◌++◌, None, IsTrue, IfOk};
     ghost use Rattle.part_core.specs.Ops.{scope_of};
     ghost use Rattle.part_rows.specs.Shown.{Shown, AreSound};
     ghost use Rattle.part_rows.specs.Looks.{is_placed, looked_at};
@@ -52,7 +49,9 @@ impl<A: Allocator + Copy> Rows<A> for PlainRows<A> {
 
     ghost serves = { serves };
 
-    ghost shows = { λ o p w. IsShown o p.rows.items p.slots p.dead w };
+    ghost shows = { λ o p w. IsShown o p.rows.items p.slots w };
+
+    ghost row_of = { λ p place. None };
 
     fn is_served(kind: TableKind) -> bool {
         !kind.is_ordered()
@@ -62,7 +61,6 @@ impl<A: Allocator + Copy> Rows<A> for PlainRows<A> {
         Ok(PlainRows {
             rows: Vec::new(alloc),
             slots: FIRST_SLOTS,
-            dead: 0,
         })
     }
 
@@ -79,12 +77,10 @@ impl<A: Allocator + Copy> Rows<A> for PlainRows<A> {
         settings: Settings,
         object: &mut Option<Term<A>>,
         replaces: bool,
-    ) -> Result<bool, AllocError> {
+    ) -> Result<Put, AllocError> {
         let before = self.rows.as_slice().len();
-        let going = dead_at(self.rows.as_slice(), settings, object, self.dead);
         let put = put(settings, &mut self.rows, object, replaces)?;
         self.slots = slots_after(self.rows.as_slice(), before, self.slots);
-        self.dead = self.dead.saturating_sub(going);
         Ok(put)
     }
 
@@ -96,21 +92,11 @@ impl<A: Allocator + Copy> Rows<A> for PlainRows<A> {
         keeps: bool,
     ) -> bool {
         prove!(self.rows.len() < usize::MAX);
-        let coming = dead_coming(held, keeps);
-        if !exchange(&mut self.rows, key, held, keeps) {
-            return false;
-        }
-        let going = dead_in(held);
-        self.dead = self.dead.saturating_add(coming).saturating_sub(going);
-        true
+        exchange(&mut self.rows, key, held, keeps)
     }
 
     fn keep_live(&mut self) {
-        if self.dead == 0 {
-            return;
-        }
         keep_live(&mut self.rows);
-        self.dead = 0;
     }
 
     fn look<'r>(
@@ -124,11 +110,19 @@ impl<A: Allocator + Copy> Rows<A> for PlainRows<A> {
         requires base { 0 < base }
         requires placed { IsTrue (is_placed settings (scope_of scope.now)) }
         ensures { IfOk result (λ _. (w : Shown)
-            → IsShown settings self.now.rows.items self.now.slots self.now.dead w
+            → IsShown settings self.now.rows.items self.now.slots w
             → AreSound settings w
             → into.new.items ≡ into.old.items ++ looked_at settings base (scope_of scope.now) w.rows) }
     {
         look(self.rows.as_slice(), settings, u64::from(base), scope, into)
+    }
+
+    fn listed(&self, _settings: Settings, _base: u32, _scope: &Scope<'_, A>) -> Option<&[Place]> {
+        None
+    }
+
+    fn row_at(&self, _place: Place) -> Option<SeenRow<'_, A>> {
+        None
     }
 
     fn first_key(&self, settings: Settings, base: u32) -> Option<&Term<A>> {

@@ -1,1 +1,3 @@
 pub mod ObjectLemmas
+pub mod DeadLemmas
+pub mod ListedLemmas

@@ -1,2 +1,4 @@
 pub mod Shown
 pub mod Looks
+pub mod Puts
+pub mod Dead

@@ -1,5 +1,5 @@
 //! What every sort of rows keeps.
-ghost use Rattle.std.specs.Prelude.{◌≡◌, ◌<◌, ◌||◌, ◌++◌, Bool, IsTrue, None, IfOk, OnOk, OnErr, if◌then◌else◌, unwrap_or, is_some, flat_map};
+ghost use Rattle.std.specs.Prelude.{◌≡◌, ◌<◌, ◌-◌, ◌^◌, ◌||◌, ◌++◌, Bool, IsTrue, Option, None, IfOk, IfSome, OnOk, OnErr, if◌then◌else◌, unwrap_or, filter_map, flat_map, length};
 ghost use Rattle.std.specs.Map.{lookup};
 ghost use Rattle.std.specs.Option.{option_copied};
 ghost use Rattle.term_core.specs.Datum.Datum.{nil};
@@ -7,13 +7,17 @@ ghost use Rattle.term_operand.specs.Order.{is_same};
 ghost use Rattle.part_core.specs.declared.kind.TableKind.{TableKind};
 ghost use Rattle.part_core.specs.declared.settings.Settings.{Settings as AnySettings};
 ghost use Rattle.part_core.specs.Settings.{is_object, is_ordered, key_of};
-ghost use Rattle.part_core.specs.Rows.{has_row, is_empty, objects_at};
+ghost use Rattle.part_core.specs.Rows.{Row, has_row, objects_at};
 ghost use Rattle.part_core.specs.Visits.{rows_behind, walk_order};
 ghost use Rattle.part_core.specs.Replies.{first_live, rows_past};
 ghost use Rattle.part_core.specs.Ops.{scope_of};
+ghost use Rattle.part_rows.specs.declared.place.Place.{Place as AnyPlace};
 ghost use Rattle.part_rows.specs.Shown.{Shown, AreSound, no_rows, shown_with, shown_exchanged, shown_live};
+ghost use Rattle.part_rows.specs.Puts.{put_at, is_put};
 ghost use Rattle.part_rows.specs.Looks.{is_placed, looked_at};
 
+use crate::place::Place;
+use crate::put::Put;
 use crate::seen::SeenRow;
 use part_core::{Held, Scope, Settings, TableKind};
 use std::alloc::{AllocError, Allocator};
@@ -27,6 +31,8 @@ pub trait Rows<A: Allocator>: Sized {
     ghost serves: { TableKind → Bool };
     /// What rows of a table show.
     ghost shows: { AnySettings → Self → Shown → Type 0 };
+    /// The row that stands at a place.
+    ghost row_of: { Self → AnyPlace → Option Row };
 
     /// Whether such rows are for a kind of table.
     fn is_served(kind: TableKind) -> bool
@@ -48,23 +54,24 @@ pub trait Rows<A: Allocator>: Sized {
             → option_copied result ≡ lookup (is_same key.now) w.rows };
 
     /// Puts an object in, unless its key has one and it doesn't replace that: the object is taken in either case, and
-    /// the answer says whether it was put in.
+    /// the answer says what became of the key's row.
     fn put(
         &mut self,
         settings: Settings,
         object: &mut Option<Term<A>>,
         replaces: bool,
-    ) -> Result<bool, AllocError>
+    ) -> Result<Put, AllocError>
         requires { IsTrue (is_object settings (unwrap_or object.old nil)) }
         ensures put { IfOk result (λ put. (w : Shown) → shows settings self.old w → AreSound settings w
-            → (put ≡ (replaces || is_empty (objects_at w.rows (key_of settings (unwrap_or object.old nil)))))
-            × shows settings self.new (if put then shown_with settings (unwrap_or object.old nil) w else w)) }
+            → (put ≡ put_at replaces (lookup (is_same (key_of settings (unwrap_or object.old nil))) w.rows))
+            × shows settings self.new (if is_put put then shown_with settings (unwrap_or object.old nil) w else w)) }
         ensures spent { OnOk result (object.new ≡ None) }
         ensures back { OnErr result (object.new ≡ object.old) }
         ensures refused { OnErr result ((w : Shown) → shows settings self.old w → shows settings self.new w) };
 
     /// What is held of a key and `held` change places, where the key has a row, and the answer says whether it has.
-    /// The row goes where none of its objects are left, unless `keeps`. No memory is taken.
+    /// The row goes where none of its objects are left, unless `keeps`. No memory is taken. There are always fewer than
+    /// 2^64 - 1 rows.
     fn exchange(
         &mut self,
         settings: Settings,
@@ -72,12 +79,13 @@ pub trait Rows<A: Allocator>: Sized {
         held: &mut Held<A>,
         keeps: bool,
     ) -> bool
-        ensures { (w : Shown) → shows settings self.old w → AreSound settings w
+        ensures exchanged { (w : Shown) → shows settings self.old w → AreSound settings w
             → (result ≡ has_row w.rows key.now)
             × (held.new ≡ (if result then objects_at w.rows key.now else held.old))
-            × shows settings self.new (shown_exchanged key.now held.old keeps w) };
+            × shows settings self.new (shown_exchanged key.now held.old keeps w) }
+        ensures few { (w : Shown) → shows settings self.old w → length w.rows < 2 ^ 64 - 1 };
 
-    /// Lets the rows go whose keys have no objects. No memory is taken, and no time where there are none.
+    /// Lets the rows go whose keys have no objects. No memory is taken.
     fn keep_live(&mut self)
         ensures { (o : AnySettings) (w : Shown) → shows o self.old w → shows o self.new (shown_live w) };
 
@@ -95,6 +103,19 @@ pub trait Rows<A: Allocator>: Sized {
         requires placed { IsTrue (is_placed settings (scope_of scope.now)) }
         ensures { IfOk result (λ _. (w : Shown) → shows settings self.now w → AreSound settings w
             → into.new.items ≡ into.old.items ++ looked_at settings base (scope_of scope.now) w.rows) };
+
+    /// The places of the rows that a visit may look at, where these stand in one list as they are to be looked at;
+    /// there may be places among them at which no row stands any more. No memory is taken.
+    fn listed(&self, settings: Settings, base: u32, scope: &Scope<'_, A>) -> Option<&[Place]>
+        requires parts { 0 < settings.parts }
+        requires base { 0 < base }
+        requires placed { IsTrue (is_placed settings (scope_of scope.now)) }
+        ensures { IfSome result (λ places. (w : Shown) → shows settings self.now w → AreSound settings w
+            → filter_map (row_of self.now) places.now ≡ looked_at settings base (scope_of scope.now) w.rows) };
+
+    /// The row that stands at a place.
+    fn row_at(&self, place: Place) -> Option<SeenRow<'_, A>>
+        ensures { result ≡ row_of self.now place };
 
     /// The first key in the order of a walk that has objects.
     fn first_key(&self, settings: Settings, base: u32) -> Option<&Term<A>>

@@ -1,8 +1,5 @@
-use Rattle.std.proofs.Common.{◌≡◌, ◌==◌, take}
-use Rattle.std.specs.Prelude.{filter}
-use Rattle.part_hash.specs.Places.{passes, slot_at}
+use Rattle.std.specs.Prelude.{◌≡◌, ◌%◌, ◌==◌, filter, take}
 use Rattle.part_hash.proofs.adding.part.Given as goal
 
 abbrev pub invariant-loop-place : goal.invariant-loop-place
-invariant-loop-place g l =
-    l.part ≡ filter (passes (λ k. slot_at l.settings l.count k == l.number) l.rows) (take l.place-index l.slot)
+invariant-loop-place g l = l.part.items ≡ filter (λ p. p.low % l.count == l.number) (take l.place-index l.places)

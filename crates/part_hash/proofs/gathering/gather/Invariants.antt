@@ -7,5 +7,5 @@ use Rattle.part_hash.proofs.gathering.gather.Given as goal
 
 abbrev pub invariant-loop-class : goal.invariant-loop-class
 invariant-loop-class g l =
-    (rows : List Row) → Stands l.settings l.store.rows l.store.index l.store.slots.items l.store.made rows
+    (rows : List Row) → Stands l.settings l.store rows
     → l.into.items ++ flat_map (λ (r : Row). r.1) (rows_from l.settings l.base l.class rows) ≡ l.initial.into.items ++ flat_map (λ (r : Row). r.1) (rows_from l.settings l.base 0 rows)

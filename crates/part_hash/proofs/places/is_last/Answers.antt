@@ -1,7 +1,7 @@
 use Rattle.std.proofs.Common.{rules, ◌≡◌, ◌-◌, length, get_or}
 use Rattle.std.proofs.lemmas.Bool.{ltb-true}
-use Rattle.part_hash.specs.declared.places.Place.{Place}
-use Rattle.part_hash.proofs.HoleLemmas.{after_last}
+use Rattle.part_rows.specs.declared.place.Place.{Place}
+use Rattle.part_hash.proofs.PlaceLemmas.{after_last}
 use Rattle.part_hash.proofs.places.is_last.Goals as goal
 
 pub returns-in-Some : goal.returns-in-Some

@@ -3,8 +3,8 @@ use Rattle.std.proofs.Math.Seq.{take-length}
 use Rattle.std.specs.Prelude.{◌&&◌, find, nat_le, nat_lt}
 use Rattle.std.proofs.lemmas.List.{length-drop}
 use Rattle.std.proofs.lemmas.Fn.{always_returns_same}
-use Rattle.part_hash.specs.declared.places.Place.{Place}
-use Rattle.part_hash.proofs.HoleLemmas.{parted, skipped}
+use Rattle.part_rows.specs.declared.place.Place.{Place}
+use Rattle.part_hash.proofs.PlaceLemmas.{parted, skipped}
 use Rattle.part_hash.proofs.places.later.Goals as goal
 
 pub returns : goal.returns

@@ -1,50 +1,51 @@
-use Rattle.std.proofs.Common.{◌≡◌, List, ap, sym, subst, length, ◌∙◌, arith}
-use Rattle.std.specs.Prelude.{Option, true, false, ◌||◌, unwrap_or}
-use Rattle.std.specs.Option.{option_map_or}
+use Rattle.std.proofs.Common.{◌≡◌, ◌+◌, List, [], ◌∷◌, ◌++◌, refl, ap, sym, subst, ◌∙◌, length, length-append}
+use Rattle.std.specs.Prelude.{Some, IsFalse, IsTrue, if◌then◌else◌, unwrap_or}
 use Rattle.std.proofs.lemmas.Result.{err_from_is_err_and}
 use Rattle.term_core.specs.Datum.{Datum}
 use Rattle.term_core.specs.Datum.Datum.{nil}
 use Rattle.part_core.specs.declared.kind.TableKind.TheVariants.{Set}
+use Rattle.part_core.specs.After.{slots_after}
+use Rattle.part_core.specs.Rows.{Row, has_row, objects_at, objects_with, rows_at_key, with_object}
 use Rattle.part_core.specs.Settings.{key_of}
-use Rattle.part_core.specs.Rows.{Row, is_empty, is_live, has_row, objects_at, objects_with}
-use Rattle.part_core.proofs.AfterLemmas.{slots_same}
+use Rattle.part_rows.specs.Puts.{is_put, put_at}
+use Rattle.part_hash.specs.Places.{row_in}
 use Rattle.part_hash.specs.Standing.{Stands}
-use Rattle.part_hash.proofs.WriteLemmas.{stands_written}
-use Rattle.part_hash.proofs.PutLemmas.{key_there, live_there, put_there, same_objects, stays_out, puts_free, puts_replacing, slots_kept, slots_written}
+use Rattle.part_hash.proofs.PutLemmas.{put_new, put_there, same_objects, slots_written}
+use Rattle.part_hash.proofs.StandLemmas.{held_none, held_there}
 use Rattle.part_hash.proofs.putting.put.Goals as goal
-use Rattle.part_hash.proofs.putting.put.Goals.{else-not-replaces-via-then-not-replaces+else-is_live_at, else-not-replaces-via-else-not-replaces}
 
-pub returns-then-is_live_at-clause-done : goal.returns-then-is_live_at-clause-done
-returns-then-is_live_at-clause-done g c = λ rows kind s.
-    let key : Datum = key_of c.args.settings (unwrap_or c.args.object.now nil) in
-    let found = c.in_ok-at.ensures.done rows s in
-    let live : is_live (key, objects_at rows key) ≡ true = ap (λ (r : Option Row). option_map_or is_live r false) (sym found.1) ∙ sym c.is_live_at.ensures ∙ c.if-is_live_at.true in
-    let there : has_row rows key ≡ true = live_there key rows live in
-    (stays_out (objects_at rows key) c.args.replaces c.if-not-replaces.true live, subst (λ (rs : List Row). Stands c.args.settings c.row_for_object.new.store.rows c.row_for_object.new.store.index c.row_for_object.new.store.slots.items c.row_for_object.new.store.made rs) (key_there key rows there) found.0, found.2 ∙ sym (slots_kept key rows (length c.args.store.now.slots.items) there) ∙ sym (slots_same Set (length rows) (length rows) (length c.args.store.now.slots.items) (omega arith)))
+pub returns-in_ok-put-in-Some-clause-done : goal.returns-in_ok-put-in-Some-clause-done
+returns-in_ok-put-in-Some-clause-done g c = λ rows plain s.
+    let o = c.args.settings in
+    let object : Datum = unwrap_or c.args.object.now nil in
+    let key : Datum = key_of o object in
+    let found = subst (λ (k : Datum). IsTrue (has_row rows k) × (row_in c.args.store.now.rows c.in-Some.at ≡ Some (k, objects_at rows k))) c.key_of-key.ensures (c.in-Some.ensures.found o rows s) in
+    let done = c.in_ok-put-in-Some.ensures.done rows key (objects_at rows key) s found.1 in
+    let all : rows_at_key key (λ _. objects_with o.kind (objects_at rows key) object) rows ≡ with_object o object rows = put_there o object rows found.0 s.apart in
+    let same : (if is_put c.in_ok-put-in-Some.put then rows_at_key key (λ _. objects_with o.kind (objects_at rows key) object) rows else rows) ≡ (if is_put c.in_ok-put-in-Some.put then with_object o object rows else rows) = ap (λ (rs : List Row). if is_put c.in_ok-put-in-Some.put then rs else rows) all in (
+      done.0 ∙ ap (put_at c.args.replaces) (held_there rows key found.0),
+      subst (λ (rs : List Row). Stands o c.put_into.new.store rs) same done.1,
+      ap length c.put_into.ensures.slots ∙ slots_written key (objects_with o.kind (objects_at rows key) object) (is_put c.in_ok-put-in-Some.put) rows (length c.args.store.now.slots.items) ∙ ap (λ (rs : List Row). slots_after Set (length rows) (length rs) (length c.args.store.now.slots.items)) same,
+    )
 
-pub returns-clause-done : goal.returns-clause-done
-returns-clause-done g c = λ rows plain s.
-    let key : Datum = key_of c.args.settings (unwrap_or c.args.object.now nil) in
-    let found = c.in_ok-at.ensures.done rows s in
-    let puts : true ≡ (c.args.replaces || is_empty (objects_at rows key)) = elim c.else-not-replaces.branch [
-      | else-not-replaces-via-then-not-replaces+else-is_live_at w ↦ puts_free (objects_at rows key) c.args.replaces w.if-not-replaces.true (ap (λ (r : Option Row). option_map_or is_live r false) (sym found.1) ∙ sym w.is_live_at.ensures ∙ w.if-is_live_at.false)
-      | else-not-replaces-via-else-not-replaces w ↦ puts_replacing _ c.args.replaces w.if-not-replaces.false
-    ] in
-    let written = stands_written c.put_at.new.rows c.in_ok-at.at (key, objects_at rows key) (objects_with c.args.settings.kind (objects_at rows key) (unwrap_or c.args.object.now nil)) found.0 found.1 (c.in_ok-put_at.ensures.done (key, objects_at rows key) found.1) in
-    (puts, subst (λ (rs : List Row). Stands c.args.settings c.put_at.new.rows c.row_for_object.new.store.index c.row_for_object.new.store.slots.items c.row_for_object.new.store.made rs) (put_there c.args.settings (unwrap_or c.args.object.now nil) rows plain found.0.apart) written, found.2 ∙ slots_written c.args.settings (unwrap_or c.args.object.now nil) rows (length c.args.store.now.slots.items) plain)
-
-pub returns-in_err-at-clause-refused : goal.returns-in_err-at-clause-refused
-returns-in_err-at-clause-refused g c =
+pub returns-in_err-put-in-Some-clause-refused : goal.returns-in_err-put-in-Some-clause-refused
+returns-in_err-put-in-Some-clause-refused g c =
     let back = err_from_is_err_and c.from_residual.result c.from_residual.ensures.1 in
-    rw back.1 (λ rows s. (c.in_err-at.ensures.refused rows s, c.in_err-at.ensures.slots))
-
-pub returns-in_err-put_at-clause-refused : goal.returns-in_err-put_at-clause-refused
-returns-in_err-put_at-clause-refused g c =
-    let back = err_from_is_err_and c.from_residual-in_err-put_at.result c.from_residual-in_err-put_at.ensures.1 in
     rw back.1 (λ rows s.
-    let key : Datum = key_of c.args.settings (unwrap_or c.args.object.now nil) in
-    let found = c.in_ok-at.ensures.done rows s in
-    let refused = c.in_err-put_at.ensures.refused (key, objects_at rows key) found.1 in
-    let there : has_row rows key ≡ true = live_there key rows refused.1 in
-    let written = stands_written c.put_at.new.rows c.in_ok-at.at (key, objects_at rows key) (objects_at rows key) found.0 found.1 refused.0 in
-    (subst (λ (rs : List Row). Stands c.args.settings c.put_at.new.rows c.row_for_object.new.store.index c.row_for_object.new.store.slots.items c.row_for_object.new.store.made rs) (same_objects key rows there found.0.apart) written, found.2 ∙ sym (slots_kept key rows (length c.args.store.now.slots.items) there)))
+    let o = c.args.settings in
+    let key : Datum = key_of o (unwrap_or c.args.object.now nil) in
+    let found = subst (λ (k : Datum). IsTrue (has_row rows k) × (row_in c.args.store.now.rows c.in-Some.at ≡ Some (k, objects_at rows k))) c.key_of-key.ensures (c.in-Some.ensures.found o rows s) in
+    subst (λ (rs : List Row). Stands o c.put_into.new.store rs) (same_objects key rows s.apart) (c.in_err-put-in-Some.ensures.refused rows key (objects_at rows key) s found.1))
+
+pub returns-in_ok-add-in-None-clause-done : goal.returns-in_ok-add-in-None-clause-done
+returns-in_ok-add-in-None-clause-done g c = λ rows plain s.
+    let o = c.args.settings in
+    let object : Datum = unwrap_or c.args.object.now nil in
+    let key : Datum = key_of o object in
+    let none : IsFalse (has_row rows key) = subst (λ (k : Datum). IsFalse (has_row rows k)) c.key_of-key.ensures (c.in-None.ensures.found o rows s) in
+    let added = c.in_ok-add-in-None.ensures.done rows none s in
+    let same : rows ++ (key, object ∷ []) ∷ [] ≡ with_object o object rows = put_new o object rows none plain in (
+      ap (put_at c.args.replaces) (held_none rows key none),
+      subst (λ (rs : List Row). Stands o c.add.new.store rs) same added.0,
+      added.1 ∙ ap (λ n. slots_after Set (length rows) n (length c.args.store.now.slots.items)) (sym (length-append rows ((key, object ∷ []) ∷ []))) ∙ ap (λ (rs : List Row). slots_after Set (length rows) (length rs) (length c.args.store.now.slots.items)) same,
+    )

@@ -7,5 +7,5 @@ use Rattle.part_hash.proofs.walking.live_from.Given as goal
 
 abbrev pub invariant-loop-class : goal.invariant-loop-class
 invariant-loop-class g l =
-    (rows : List Row) → Stands l.settings l.store.rows l.store.index l.store.slots.items l.store.made rows
+    (rows : List Row) → Stands l.settings l.store rows
     → first_live (rows_from l.settings l.base l.class rows) ≡ first_live (rows_from l.settings l.base l.first rows)

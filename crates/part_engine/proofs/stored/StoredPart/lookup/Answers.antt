@@ -2,6 +2,6 @@ use Rattle.part_engine.proofs.LeadLemmas.{lookup_says, sound}
 use Rattle.part_engine.proofs.stored.StoredPart.lookup.Goals as goal
 
 pub returns : goal.returns
-returns g c = λ n w there state.
-    let s = lookup_says c.args.self.now.settings w c.args.self.now.fixes.items c.args.self.now.base n c.args.key.now c.in_ok-objects.objects.items state (c.in_ok-objects.ensures w there (sound c.args.self.now.settings w c.args.self.now.fixes.items c.args.self.now.base state)) in
-    (s.0, (w, there, s.1))
+returns g c = λ n w keeps state.
+    let s = lookup_says c.args.self.now.settings w c.args.self.now.fixes.items c.args.self.now.base n c.args.key.now c.in_ok-objects.objects.items state (c.in_ok-objects.ensures w keeps.there (sound c.args.self.now.settings w c.args.self.now.fixes.items c.args.self.now.base state)) in
+    (s.0, (w, keeps, s.1))

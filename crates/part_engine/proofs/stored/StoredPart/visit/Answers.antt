@@ -1,30 +1,20 @@
-use Rattle.std.proofs.Common.{sym, ◌∙◌}
+use Rattle.std.proofs.Common.{◌∙◌}
+use Rattle.std.specs.Option.{option_map}
 use Rattle.part_core.specs.Acts.Purpose.{Answers}
 use Rattle.part_core.specs.Ops.{cursor_of, scope_of}
-use Rattle.part_core.specs.Visits.{answers_of}
-use Rattle.std.specs.Option.{option_map}
 use Rattle.part_rows.specs.Shown.{state_of}
 use Rattle.part_engine.proofs.LeadLemmas.{sound}
 use Rattle.part_engine.proofs.VisitLemmas.{visit_refused, visit_says}
 use Rattle.part_engine.proofs.stored.StoredPart.visit.Goals as goal
 
 pub returns-then-not-is_inside : goal.returns-then-not-is_inside
-returns-then-not-is_inside g c = λ n w there state.
+returns-then-not-is_inside g c = λ n w keeps state.
     let s = visit_refused c.args.self.now.settings (state_of w c.args.self.now.fixes.items c.args.self.now.base) n Answers c.args.look.now.code.now (scope_of c.args.look.now.scope) c.args.look.now.wanted (c.is_inside.ensures.inside w c.args.self.now.fixes.items ∙ c.if-not-is_inside.true) in
-    (s.0, (w, there, s.1))
+    (s.0, (w, keeps, s.1))
 
 pub returns : goal.returns
-returns g c = λ n w there state.
+returns g c = λ n w keeps state.
     let inside = c.is_inside.ensures.inside w c.args.self.now.fixes.items ∙ c.if-not-is_inside.false in
-    let slice = c.as_slice.ensures.value in
-    let again = c.as_slice-2.ensures.value in
-    let seen = c.in_ok-reach.ensures.rows in
-    let seen_is = rw (slice, c.stops-stops.ensures) at seen in
-    let found = c.in_ok-reach.ensures.found in
-    let found_is = rw (c.new-found.ensures.items, slice) at found in
-    let left = c.in_ok-reach.ensures.left in
-    let left_is = rw (slice ∙ sym again) at left in
-    let next = c.in_ok-next.ensures (answers_of Answers c.args.look.now.code.now) c.args.look.now.wanted left_is in
-    let next_is = rw again at next in
-    let s = visit_says c.args.self.now.settings w c.args.self.now.fixes.items c.args.self.now.base n c.args.look.now.code.now (scope_of c.args.look.now.scope) c.args.look.now.wanted c.in_ok-rows.rows.items c.in_ok-reach.reach.rows c.answers.new.found.items (option_map cursor_of c.in_ok-next.next) state inside (c.in_ok-rows.ensures w there (sound c.args.self.now.settings w c.args.self.now.fixes.items c.args.self.now.base state)) seen_is found_is next_is in
-    (s.0, (w, there, s.1))
+    let found = c.in_ok-answers.ensures w keeps.there (sound c.args.self.now.settings w c.args.self.now.fixes.items c.args.self.now.base state) in
+    let s = visit_says c.args.self.now.settings w c.args.self.now.fixes.items c.args.self.now.base n c.args.look.now.code.now (scope_of c.args.look.now.scope) c.args.look.now.wanted c.in_ok-answers.field-0.answers.items (option_map cursor_of c.in_ok-answers.field-0.next) state inside found in
+    (s.0, (w, keeps, s.1))

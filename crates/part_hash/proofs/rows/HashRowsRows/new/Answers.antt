@@ -1,4 +1,4 @@
-use Rattle.std.proofs.Common.{refl, sym}
+use Rattle.std.proofs.Common.{sym}
 use Rattle.part_hash.proofs.rows.HashRowsRows.new.Goals as goal
 
 pub returns : goal.returns
@@ -7,5 +7,4 @@ returns g c = record {
   rows = c.in_ok-empty.ensures.rows c.args.settings;
   spread = c.spread_of.ensures.value;
   slots = sym c.in_ok-empty.ensures.slots;
-  count = refl;
 }

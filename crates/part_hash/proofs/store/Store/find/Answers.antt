@@ -1,10 +1,20 @@
-use Rattle.std.proofs.Common.{subst, sym}
-use Rattle.std.specs.Prelude.{MatchOption, IsFalse, IsTrue, Some, ◌≡◌}
+use Rattle.std.proofs.Common.{rules, ◌≡◌, sym, subst}
+use Rattle.std.specs.Prelude.{true, false}
+use Rattle.std.specs.Option.{option_map_or}
 use Rattle.slab.specs.Slab.{get}
-use Rattle.part_core.specs.Rows.{has_row, objects_at}
-use Rattle.part_hash.proofs.StandLemmas.{found}
+use Rattle.term_operand.specs.Order.{is_same}
+use Rattle.hash_index.specs.Index.{Has}
+use Rattle.part_hash.specs.Places.{Kept}
+use Rattle.part_hash.proofs.StandLemmas.{none_found, row_found}
 use Rattle.part_hash.proofs.store.Store.find.Goals as goal
 
-pub returns : goal.returns
-returns g c = λ o rows stands.
-    subst (λ found. MatchOption found (IsFalse (has_row rows c.args.key.now)) (λ at. IsTrue (has_row rows c.args.key.now) × (get c.args.self.now.rows at ≡ Some (c.args.key.now, objects_at rows c.args.key.now)))) (sym c.find.ensures) (found c.args.key.now stands)
+pub returns-in-Some-clause-found : goal.returns-in-Some-clause-found
+returns-in-Some-clause-found g c = λ o rows s.
+    let post = c.in-Some.ensures.found.1 in
+    let holds : option_map_or (λ (r : Kept). is_same c.args.key.now r.0.0) (get c.args.self.now.rows c.in-Some.at) false ≡ true = search (rules, post) in
+    row_found c.args.self.now.rows c.args.self.now.index c.args.self.now.seed rows s.list c.args.key.now c.in-Some.at s.are s.placed.stands s.found holds
+
+pub returns-in-None-clause-found : goal.returns-in-None-clause-found
+returns-in-None-clause-found g c = λ o rows s.
+    none_found c.args.self.now.rows c.args.self.now.index c.args.self.now.seed rows s.list c.args.key.now s.are s.placed.stands s.found
+    (λ at there. let post = c.in-None.ensures.absent at (subst (λ m. Has c.args.self.now.index m at) (sym c.requires) there) in search (rules, post))

@@ -1,0 +1,8 @@
+use Rattle.std.proofs.Common.{refl, sym, ◌∙◌}
+use Rattle.std.proofs.lemmas.Bool.{true≢false}
+use Rattle.part_engine.proofs.stored.StoredPart.next_class.Goals as goal
+
+pub returns-in-Begin : goal.returns-in-Begin
+returns-in-Begin g c =
+    let whole = rw c.in-Begin.is at c.requires.whole in
+    rw c.in-Begin.is (λ answers wanted rows. rw whole c.class_behind.ensures)

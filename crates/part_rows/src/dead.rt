@@ -1,0 +1,74 @@
+//! Dead rows, which are counted beside the rows.
+ghost use Rattle.std.specs.Prelude.{◌≡◌, ◌||◌, None, IsTrue, IfOk, OnOk, OnErr, if◌then◌else◌, unwrap_or};
+ghost use Rattle.term_core.specs.Datum.Datum.{nil};
+ghost use Rattle.part_core.specs.Settings.{is_object, key_of};
+ghost use Rattle.part_core.specs.Rows.{has_row, is_empty, objects_at};
+ghost use Rattle.part_rows.specs.Dead.{Keeps, one_dead};
+ghost use Rattle.part_rows.specs.Shown.{Shown, AreSound, shown_with, shown_exchanged};
+
+use crate::rows::Rows;
+use part_core::{Held, Settings};
+use std::alloc::{AllocError, Allocator};
+use term_core::Term;
+
+/// How many dead rows a row is: one where nothing is held of its key.
+fn dead_in<A: Allocator>(held: &Held<A>) -> usize
+    ensures { result ≡ one_dead held.now }
+{
+    usize::from(held.is_empty())
+}
+
+/// How many dead rows come where a key's row takes what is held: none where it goes without objects.
+fn dead_coming<A: Allocator>(held: &Held<A>, keeps: bool) -> usize
+    ensures { result ≡ (if keeps then one_dead held.now else 0) }
+{
+    if keeps { dead_in(held) } else { 0 }
+}
+
+/// Puts an object in, unless its key has one and it doesn't replace that, and says whether it was put in. A dead row of
+/// its key is live then, and counted no more.
+pub fn put_counted<R: Rows<A>, A: Allocator>(
+    rows: &mut R,
+    dead: &mut usize,
+    settings: Settings,
+    object: &mut Option<Term<A>>,
+    replaces: bool,
+) -> Result<bool, AllocError>
+    requires { IsTrue (is_object settings (unwrap_or object.old nil)) }
+    ensures put { IfOk result (λ put. (w : Shown) → Keeps R.shows settings rows.old dead.old w → AreSound settings w
+        → (put ≡ (replaces || is_empty (objects_at w.rows (key_of settings (unwrap_or object.old nil)))))
+        × Keeps R.shows settings rows.new dead.new
+        (if put then shown_with settings (unwrap_or object.old nil) w else w)) }
+    ensures spent { OnOk result (object.new ≡ None) }
+    ensures back { OnErr result (object.new ≡ object.old) }
+    ensures refused { OnErr result ((w : Shown) → Keeps R.shows settings rows.old dead.old w
+        → Keeps R.shows settings rows.new dead.new w) }
+{
+    let put = rows.put(settings, object, replaces)?;
+    *dead = dead.saturating_sub(put.revived());
+    Ok(put.is_done())
+}
+
+/// What is held of a key and `held` change places, where the key has a row, and the answer says whether it has. The row
+/// goes where none of its objects are left, unless `keeps`; it is counted as what it is then.
+pub fn exchange_counted<R: Rows<A>, A: Allocator>(
+    rows: &mut R,
+    dead: &mut usize,
+    settings: Settings,
+    key: &Term<A>,
+    held: &mut Held<A>,
+    keeps: bool,
+) -> bool
+    ensures { (w : Shown) → Keeps R.shows settings rows.old dead.old w → AreSound settings w
+        → (result ≡ has_row w.rows key.now)
+        × (held.new ≡ (if result then objects_at w.rows key.now else held.old))
+        × Keeps R.shows settings rows.new dead.new (shown_exchanged key.now held.old keeps w) }
+{
+    let coming = dead_coming(held, keeps);
+    if !rows.exchange(settings, key, held, keeps) {
+        return false;
+    }
+    let going = dead_in(held);
+    *dead = dead.saturating_add(coming).saturating_sub(going);
+    true
+}

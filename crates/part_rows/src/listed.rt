@@ -1,0 +1,84 @@
+//! What code answers on the objects of rows that are listed by their places.
+ghost use Rattle.std.specs.Prelude.{◌≡◌, ◌++◌, [], ◌∷◌, IfOk, filter_map, length, min};
+ghost use Rattle.part_core.specs.Acts.Purpose.{Answers, Counts};
+ghost use Rattle.part_core.specs.Replies.{most_counted};
+ghost use Rattle.part_core.specs.Visits.{yield_of_rows};
+
+use crate::objects::{count_true, gather};
+use crate::place::Place;
+use crate::rows::Rows;
+use machine::Machine;
+use std::alloc::{AllocError, Allocator};
+use term_core::Term;
+
+/// Puts the answers on the row at a place behind others, where one stands there.
+fn gather_place<'r, R: Rows<A>, A: Allocator + Copy>(
+    machine: &mut Machine<'r, '_, A>,
+    rows: &'r R,
+    place: &Place,
+    found: &mut Vec<Term<A>, A>,
+) -> Result<(), AllocError>
+    ensures code { machine.new.code ≡ machine.old.code }
+    ensures found { IfOk result (λ _. found.new.items ≡ found.old.items
+        ++ yield_of_rows Answers machine.old.code (filter_map (R.row_of rows.now) (place.now ∷ []))) }
+{
+    match rows.row_at(*place) {
+        Some(row) => {
+            gather(machine, row.held(), found)?;
+            Ok(())
+        }
+        None => Ok(()),
+    }
+}
+
+/// Puts the answers on the rows at places behind others.
+pub fn gather_listed<'r, R: Rows<A>, A: Allocator + Copy>(
+    machine: &mut Machine<'r, '_, A>,
+    rows: &'r R,
+    places: &[Place],
+    found: &mut Vec<Term<A>, A>,
+) -> Result<(), AllocError>
+    ensures code { machine.new.code ≡ machine.old.code }
+    ensures found { IfOk result (λ _. found.new.items ≡ found.old.items
+        ++ yield_of_rows Answers machine.old.code (filter_map (R.row_of rows.now) places.now)) }
+{
+    for place in places {
+        gather_place(machine, rows, place, found)?;
+    }
+    Ok(())
+}
+
+/// How many objects of the row at a place answer true, none where no row stands there.
+fn count_place<'r, R: Rows<A>, A: Allocator + Copy>(
+    machine: &mut Machine<'r, '_, A>,
+    rows: &'r R,
+    place: &Place,
+) -> Result<u64, AllocError>
+    ensures code { machine.new.code ≡ machine.old.code }
+    ensures count { IfOk result (λ count.
+        count ≡ length (yield_of_rows Counts machine.old.code (filter_map (R.row_of rows.now) (place.now ∷ [])))) }
+{
+    match rows.row_at(*place) {
+        Some(row) => count_true(machine, row.held()),
+        None => Ok(0),
+    }
+}
+
+/// How many objects of the rows at places answer true, at most 2^64 - 1.
+pub fn count_listed<'r, R: Rows<A>, A: Allocator + Copy>(
+    machine: &mut Machine<'r, '_, A>,
+    rows: &'r R,
+    places: &[Place],
+) -> Result<u64, AllocError>
+    ensures code { machine.new.code ≡ machine.old.code }
+    ensures count { IfOk result (λ count. count
+        ≡ min (length (yield_of_rows Counts machine.old.code (filter_map (R.row_of rows.now) places.now)))
+        most_counted) }
+{
+    let mut total: u64 = 0;
+    for place in places {
+        let count = count_place(machine, rows, place)?;
+        total = total.saturating_add(count);
+    }
+    Ok(total)
+}
