@@ -32,9 +32,6 @@ fn at_hashed(kind: &str) -> &str {
     }
 }
 
-/// Lets a part go.
-fn let_go<P: Drop>(_part: P) {}
-
 /// The steps of a row with the replies that came, or the fault where the part isn't made.
 fn played<A: Allocator + Copy, P: Part<A> + Drop>(
     alloc: Global,
@@ -50,7 +47,7 @@ fn played<A: Allocator + Copy, P: Part<A> + Drop>(
     match made::<A, P>(heap, options, is_scarce) {
         Ok(mut part) => {
             let steps = steps_text(alloc, heap, &mut part, setting, steps);
-            let_go(part);
+            drop(part);
             steps
         }
         Err(fault) => open_fault_text(alloc, fault),
@@ -66,7 +63,7 @@ fn made_text<A: Allocator + Copy, P: Part<A> + Drop>(
 ) -> Option<Vec<u8>> {
     match made::<A, P>(heap, options, is_scarce) {
         Ok(part) => {
-            let_go(part);
+            drop(part);
             word(alloc, "done")
         }
         Err(fault) => open_fault_text(alloc, fault),

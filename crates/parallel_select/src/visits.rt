@@ -140,9 +140,6 @@ fn visit_all<A: Allocator, T: Turns<A>>(
     visit_rest(turns, query, asking, part, &mut cursor, gained)
 }
 
-/// Lets go of where a walk would go on.
-fn let_go<A: Allocator>(_next: Option<Cursor<A>>) {}
-
 /// Visits one key.
 fn visit_key<A: Allocator, T: Turns<A>>(
     turns: &mut T,
@@ -164,7 +161,7 @@ fn visit_key<A: Allocator, T: Turns<A>>(
         (Missed (T.home turns.old) part (purpose_of asking) query.now.code (Named key.now) fault gained.old gained.new)) }
 {
     let next = visit(turns, query, asking, part, Scope::Named(key), gained)?;
-    let_go(next);
+    drop(next);
     Ok(())
 }
 

@@ -11,7 +11,7 @@ ghost use Rattle.tables.specs.Options.{settings_of};
 ghost use Rattle.tables.specs.Turns.{TurnedByKey, Follows};
 ghost use Rattle.tables.specs.Calls.{TurnedByObject, RefusedByObject};
 
-use crate::replies::{done, flag, let_go, object_put, objects, reply_let_go};
+use crate::replies::{done, flag, object_put, objects};
 use crate::turns::{Turns, turn_at};
 use part_core::{Fault, PartOp, Reply, key_in};
 use std::alloc::{AllocError, Allocator};
@@ -84,8 +84,8 @@ pub fn insert<A: Allocator, T: Turns<A>>(
     let mut op = PartOp::Insert(Some(object));
     match turns.turn(part, &mut op) {
         Ok(reply) => {
-            let_go(op);
-            reply_let_go(reply);
+            drop(op);
+            drop(reply);
             Ok(())
         }
         // An object is refused for want of memory alone.
@@ -120,7 +120,7 @@ pub fn insert_new<A: Allocator, T: Turns<A>>(
     let mut op = PartOp::InsertNew(Some(object));
     match turns.turn(part, &mut op) {
         Ok(reply) => {
-            let_go(op);
+            drop(op);
             Ok(flag(reply))
         }
         Err(_) => Err(Refused {
@@ -187,7 +187,7 @@ pub fn delete<A: Allocator, T: Turns<A>>(turns: &mut T, key: &Term<A>)
     ensures done { Follows (T.sees turns.old) (T.sees turns.new)
         (TurnedByKey (T.home turns.old) key.now (Delete key.now) (Some (Replied Nothing))) }
 {
-    reply_let_go(done(turn_by_key(turns, key, PartOp::Delete(key))));
+    drop(done(turn_by_key(turns, key, PartOp::Delete(key))));
 }
 
 /// Deletes the objects that are equal to one (ets:delete_object/2). A term that is no tuple with an element at the
@@ -207,6 +207,6 @@ pub fn delete_object<A: Allocator, T: Turns<A>>(
     let Some(part) = part_of_object(turns, object) else {
         return Err(Fault::TooSmall);
     };
-    reply_let_go(done(turn_at(turns, part, PartOp::DeleteObject(object))));
+    drop(done(turn_at(turns, part, PartOp::DeleteObject(object))));
     Ok(())
 }

@@ -8,7 +8,7 @@ ghost use Rattle.tables.specs.Turns.{Views, Turned, TurnedEach, Follows};
 ghost use Rattle.tables.specs.Calls.{is_granted, IsGranted, IsNotGranted, RefusedEach};
 ghost use Rattle.tables.specs.Fixing.{act_of_change};
 
-use crate::replies::{done, reply_let_go};
+use crate::replies::done;
 use crate::turns::{Turns, turn_at};
 use part_core::{Fault, PartOp};
 use std::alloc::Allocator;
@@ -78,7 +78,7 @@ fn change_each<A: Allocator, T: Turns<A>>(turns: &mut T, change: Change)
         (TurnedEach (T.home turns.old) (act_of_change change) (Some (Replied Nothing))) }
 {
     for part in 0..turns.options().parts {
-        reply_let_go(done(turn_at(turns, part, change.op())));
+        drop(done(turn_at(turns, part, change.op())));
     }
 }
 
@@ -140,7 +140,7 @@ fn change_at<A: Allocator, T: Turns<A>>(turns: &mut T, part: u8, change: Change)
         (Turned (T.home turns.old) part (act_of_change change) (Some (Replied Nothing))) }
 {
     let outcome = turn_at(turns, part, change.op());
-    reply_let_go(done(outcome));
+    drop(done(outcome));
 }
 
 /// Fixes one part once more, where the session's count is below 65,535.

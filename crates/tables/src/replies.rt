@@ -55,9 +55,3 @@ pub(crate) fn objects<A: Allocator>(reply: Reply<A>) -> Vec<Term<A>, A>
             unreachable!(),
     }
 }
-
-/// Lets an operation go.
-pub(crate) fn let_go<A: Allocator>(_op: PartOp<'_, A>) {}
-
-/// Lets a reply go.
-pub(crate) fn reply_let_go<A: Allocator>(_reply: Reply<A>) {}

@@ -7,7 +7,6 @@ ghost use Rattle.tables.specs.Options.{settings_of};
 ghost use Rattle.tables.specs.Turns.{Home, Views, Turned, Follows};
 
 use crate::options::Options;
-use crate::replies::let_go;
 use part_core::{Fault, PartOp, Reply};
 use std::alloc::Allocator;
 
@@ -78,6 +77,6 @@ pub fn turn_at<'a, A: Allocator, T: Turns<A>>(
 {
     let mut op = op;
     let answered = turns.turn(part, &mut op);
-    let_go(op);
+    drop(op);
     answered
 }

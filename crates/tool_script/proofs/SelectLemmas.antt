@@ -22,7 +22,7 @@ use Rattle.walks.specs.Counting.{FinishesCount}
 use Rattle.walks.specs.declared.continuation.Continuation.{Continuation}
 use Rattle.walks.specs.declared.continuation.Step as step_type
 use Rattle.walks.specs.declared.continuation.Step.TheVariants as step
-use Rattle.walks.specs.Pieces.{IsWalkOf, Steps}
+use Rattle.walks.specs.Pieces.{IsOwn, IsWalkOf, Steps}
 use Rattle.walk_core.specs.Positions.{IsThere, position_of}
 use Rattle.walks.specs.Query.{IsWithin, kept_of, plan_of, walk_of}
 use Rattle.walks.specs.Sights.{Piece, first_position, piece_of, sights_from}
@@ -208,6 +208,13 @@ place_is o count c (Some held) is same = (is.own (sym same)).1
 own_held : (h : Home) {A : Type 0} (c : Continuation A) → c.table ≡ h.options.name → c.session ≡ h.number → held_of h.options c ≡ walk_held h c.query c.limit (position_of c.at) (kept_of c.kept)
 own_held h c table_is session_is =
     λ i. record { table = table_is i; session = session_is i; answer = answer_of c.query.code; plan = plan_of c.query h.options; limit = c.limit; at = position_of c.at; kept = kept_of c.kept }
+
+-- a session's own walk is one of its own
+pub own_walk : {A : Type 0} (h : Home) (old : List (Option (Continuation A))) (number : ℤ) (c : Continuation A) → own_at old h.options.name h.number number ≡ Some c → IsOwn h c
+own_walk h old (negsuc i) c own = absurd (none-some c own)
+own_walk h old (pos i) c own =
+    let is : Own h.options.name h.number (get_or old i None) c = own_there h.options.name h.number (get_or old i None) c own in
+    (is.table_is, is.session_is)
 
 pub gone_on : {A : Type 0} (law : StepsArePieces A) (h : Home) (before now : Views → Type 0) (old mid new : List (Option (Continuation A))) (number : ℤ) (c : Continuation A) (s : step_type.Step A) (reply : Datum)
     → IsTrue h.alone → 0 < h.options.parts → own_at old h.options.name h.number number ≡ Some c → mid ≡ spent_at old h.options.name h.number number

@@ -6,12 +6,12 @@
 //!
 //! - `command`: the commands that stand in memory (`specs/Commands.antt`), and how they are read from terms
 //!   (`specs/Reading.antt`); `command_laws`: terms tell commands (`command_term` of `specs/Command.antt`).
-//! - What a session asks goes this way: `script` interprets a term, obeys its command and forwards what is asked to the
-//!   table that is open; `open` admits the session; `table` has it attend; `session` performs the call.
-//!   `specs/Scripts.antt`, `Opened.antt` and `State.antt` say which state each is in.
-//! - What it asks by a specification goes the same way, with the walks that can go on, to `walk`
+//! - A command goes this way: `run` reads it from its term; `script` obeys it, and forwards what a session asks to the
+//!   table that is open; `open` admits the session; `session` performs the call. `specs/Scripts.antt`, `Opened.antt` and
+//!   `State.antt` say which state each is in.
+//! - What is asked by a specification goes the same way, with the walks that can go on, to `walk`
 //!   (`specs/Verdict.antt`, `Walks.antt`); these walks: `specs/Held.antt`, in memory `Continuations.antt`.
-//! - `reply`: replies and their lines, `specs/Replies.antt`; `run`: from a reader to a writer, `specs/Input.antt`.
+//! - `reply`: replies and their lines, `specs/Replies.antt`; `run`: from a reader to a writer, too, `specs/Input.antt`.
 //! - `laws`: replies are one, `specs/Laws.antt`.
 #![tactic(auto)]
 
@@ -23,7 +23,6 @@ mod reply;
 mod run;
 mod script;
 mod session;
-mod table;
 mod walk;
 
 pub use command::{Ask, Command, Selection, read_command};

@@ -1,13 +1,17 @@
 //! The table that is open in a script, and which sessions have left it.
-ghost use Rattle.std.specs.Prelude.{◌≡◌};
+ghost use Rattle.std.specs.Prelude.{◌≡◌, IfOk};
+ghost use Rattle.tables.specs.Local.{AreAfter};
+ghost use Rattle.tables.specs.OneThread.{opened};
+ghost use Rattle.tables.specs.Options.{IsOpenable};
 ghost use Rattle.tool_script.specs.Commands.{ask_of};
 ghost use Rattle.tool_script.specs.Opened.{IsNoted};
 ghost use Rattle.tool_script.specs.Script.{number_within, options_with, is_leaving};
+ghost use Rattle.tool_script.specs.State.{IsAt};
 
 use crate::command::{Ask, Selection};
 use crate::reply::CommandReply;
-use crate::table::{attend, attend_walk, open_at};
-use crate::walk::Walks;
+use crate::session::perform;
+use crate::walk::{Walks, walk};
 use part_core::{MAX_KEYPOS, MAX_PARTS, MAX_SESSIONS, Part, TableKind};
 use std::alloc::{AllocError, Allocator, Global};
 use tables::{LocalTable, Options};
@@ -89,6 +93,19 @@ fn note_leaving<A: Allocator>(left: &mut Vec<bool, A>, number: u8, leaves: bool)
     }
 }
 
+/// A table that is opened, with options that its parts serve.
+fn open_at<A: Allocator + Copy, P: Part<A> + Drop>(
+    alloc: A,
+    options: Options,
+) -> Result<LocalTable<P, A>, AllocError>
+    requires { IsOpenable P.serves options }
+    ensures options { IfOk result (λ table. table.options ≡ options) }
+    ensures state { IfOk result (λ table. IsAt table.options
+        (AreAfter P.is_after table.parts.items) (opened options)) }
+{
+    LocalTable::open(alloc, options).map_err(|fault| fault.alloc_error())
+}
+
 /// A table that is open, and of each session whether it has left.
 #[derive(Drop)]
 pub(crate) struct OpenTable<P: Part<A> + Drop, A: Allocator = Global> {
@@ -146,7 +163,8 @@ impl<P: Part<A> + Drop, A: Allocator + Copy> OpenTable<P, A> {
             return Ok(CommandReply::Error(STRANGER_SESSION));
         };
         let leaves = is_leaving(&ask);
-        let reply = attend(&mut self.table, number, ask)?;
+        let mut session = self.table.at(number);
+        let reply = perform(&mut session, ask)?;
         note_leaving(&mut self.left, number, leaves);
         Ok(reply)
     }
@@ -166,7 +184,8 @@ impl<P: Part<A> + Drop, A: Allocator + Copy> OpenTable<P, A> {
         let Some(number) = self.session(number) else {
             return Ok(CommandReply::Error(STRANGER_SESSION));
         };
-        attend_walk(alloc, &mut self.table, number, walks, selection)
+        let mut session = self.table.at(number);
+        walk(alloc, &mut session, walks, selection)
     }
 
     /// The objects, in the order of a walk; the table is given up.

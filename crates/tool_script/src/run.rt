@@ -3,17 +3,37 @@ ghost use Rattle.std.specs.Prelude.{◌≡◌, ◌≤◌, ◌<◌, ◌+◌, IfEr
 ghost use Rattle.part_core.specs.declared.kind.TableKind.TheVariants.{OrderedSet};
 ghost use Rattle.part_core.specs.Served.{ServesUnordered};
 ghost use Rattle.tool_script.specs.Script.{beginning};
-ghost use Rattle.tool_script.specs.Scripts.{HasState};
+ghost use Rattle.tool_script.specs.Replies.{reply_term};
+ghost use Rattle.tool_script.specs.Scripts.{HasState, IsTermStep};
 ghost use Rattle.tool_script.specs.Input.{OfScript, StopsScript};
 ghost use Rattle.tool_script.specs.Run.{IsPut, WritesReplies, StopsReplies};
 
-use crate::reply::put_reply;
+use crate::command::read_command;
+use crate::reply::{CommandReply, put_reply};
 use crate::script::Script;
 use part_core::Part;
 use std::alloc::{AllocError, Allocator};
 use std::io::{Read, Write};
 use term_core::Term;
-use tool_io::{ToolFault, out_of_memory, read_script, write_if_many, write_lines};
+use tool_io::{BAD_INPUT, ToolFault, out_of_memory, read_script, write_if_many, write_lines};
+
+/// The reply to a term: to the command that it says, else a refusal.
+fn reply_to_term<S: Part<A> + Drop, O: Part<A> + Drop, A: Allocator + Copy>(
+    script: &mut Script<S, O, A>,
+    term: &Term<A>,
+) -> Result<CommandReply<A>, AllocError>
+    requires unordered { ServesUnordered S.serves }
+    requires ordered { IsTrue (O.serves OrderedSet) }
+    requires count { script.old.count < 18446744073709551615 }
+    ensures count { script.new.count ≤ script.old.count + 1 }
+    ensures answered { IfOk result (λ reply.
+        IsTermStep script.old script.new term.now (reply_term reply)) }
+{
+    match read_command(term) {
+        Some(command) => script.obey(command),
+        None => Ok(CommandReply::Error(BAD_INPUT)),
+    }
+}
 
 /// Puts the line of the reply to a term at the end.
 fn put_next<S: Part<A> + Drop, O: Part<A> + Drop, A: Allocator + Copy>(
@@ -29,7 +49,7 @@ fn put_next<S: Part<A> + Drop, O: Part<A> + Drop, A: Allocator + Copy>(
         (IsPut script.old script.new term.now lines.old.items lines.new.items) }
     ensures err { OnErr result (lines.new.items ≡ lines.old.items) }
 {
-    let reply = script.interpret(term)?;
+    let reply = reply_to_term(script, term)?;
     put_reply(&reply, lines)
 }
 

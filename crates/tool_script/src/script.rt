@@ -1,5 +1,5 @@
 //! A script between two commands.
-use crate::command::{Ask, Command, Selection, read_command};
+use crate::command::{Ask, Command, Selection};
 use crate::open::{OpenTable, options_in};
 use crate::reply::CommandReply;
 use crate::walk::Walks;
@@ -7,7 +7,6 @@ use part_core::{OpenFault, Part, TableKind};
 use std::alloc::{AllocError, Allocator, Global};
 use std::mem;
 use tables::Options;
-use term_core::Term;
 use tool_io::BAD_INPUT;
 
 /// The table that is open, by its kind, if one is.
@@ -52,9 +51,6 @@ impl<S: Part<A> + Drop, O: Part<A> + Drop, A: Allocator + Copy> Current<S, O, A>
             Current::Ordered(_) => true,
         }
     }
-
-    /// Lets a table go.
-    fn let_go(self) {}
 }
 
 /// The table that is open, if one is; how many were opened so far; and the walks that can go on.
@@ -74,7 +70,7 @@ impl<S: Part<A> + Drop, O: Part<A> + Drop, A: Allocator + Copy> Script<S, O, A> 
     ghost use Rattle.tool_script.specs.Commands.{ask_of, command_of, selection_of};
     ghost use Rattle.tool_script.specs.Replies.{reply_term};
     ghost use Rattle.tool_script.specs.Script.{beginning};
-    ghost use Rattle.tool_script.specs.Scripts.{HasState, IsStep, IsTermStep};
+    ghost use Rattle.tool_script.specs.Scripts.{HasState, IsStep};
 
     /// A script at its beginning.
     pub(crate) fn new(alloc: A) -> Self
@@ -111,7 +107,7 @@ impl<S: Part<A> + Drop, O: Part<A> + Drop, A: Allocator + Copy> Script<S, O, A> 
             return Ok(CommandReply::Error(OpenFault::BadOptions.number()));
         };
         let table = Current::open(self.alloc, options)?;
-        mem::replace(&mut self.current, table).let_go();
+        drop(mem::replace(&mut self.current, table));
         self.count += 1;
         Ok(CommandReply::Flag(true))
     }
@@ -162,7 +158,7 @@ impl<S: Part<A> + Drop, O: Part<A> + Drop, A: Allocator + Copy> Script<S, O, A> 
     }
 
     /// Does what a command says.
-    fn obey(&mut self, command: Command<'_, A>) -> Result<CommandReply<A>, AllocError>
+    pub(crate) fn obey(&mut self, command: Command<'_, A>) -> Result<CommandReply<A>, AllocError>
         requires unordered { ServesUnordered S.serves }
         requires ordered { IsTrue (O.serves OrderedSet) }
         requires count { self.old.count < 18446744073709551615 }
@@ -177,21 +173,6 @@ impl<S: Part<A> + Drop, O: Part<A> + Drop, A: Allocator + Copy> Script<S, O, A> 
             Command::Session(number, ask) => self.forward(number, ask),
             Command::Walk(number, selection) => self.walk(number, selection),
             Command::Close => self.close(),
-        }
-    }
-
-    /// Obeys the command that a term says, and refuses a term that says none.
-    pub(crate) fn interpret(&mut self, term: &Term<A>) -> Result<CommandReply<A>, AllocError>
-        requires unordered { ServesUnordered S.serves }
-        requires ordered { IsTrue (O.serves OrderedSet) }
-        requires count { self.old.count < 18446744073709551615 }
-        ensures count { self.new.count ≤ self.old.count + 1 }
-        ensures answered { IfOk result (λ reply.
-            IsTermStep self.old self.new term.now (reply_term reply)) }
-    {
-        match read_command(term) {
-            Some(command) => self.obey(command),
-            None => Ok(CommandReply::Error(BAD_INPUT)),
         }
     }
 }

@@ -1,5 +1,5 @@
 //! What a session is replied that walks its table by a specification, or goes on with a walk that it began.
-ghost use Rattle.std.specs.Prelude.{◌≡◌, ◌≢◌, IsTrue, IfOk, IfErr, Option, None, List, is_some, get_or, set};
+ghost use Rattle.std.specs.Prelude.{◌≡◌, ◌≢◌, ◌<◌, IsTrue, IfOk, IfErr, IfSome, Option, None, List, is_some, get_or, set};
 ghost use Rattle.mcode.specs.Answer.{answer_of};
 ghost use Rattle.mspec_syntax.specs.Faults.{IsRefusal};
 ghost use Rattle.tables.specs.declared.options.Options.{Options};
@@ -22,7 +22,7 @@ use tables::Turns;
 use term_core::Term;
 use tool_io::{BAD_LIMIT, STRANGER_CONTINUATION};
 use walks::{
-    Continuation, Query, Step, select, select_count, select_delete, select_limit, select_more,
+    Continuation, Query, Step, select, select_count, select_delete, select_first, select_next,
     steps_are_pieces, whole_walks_count, whole_walks_remove, whole_walks_select,
 };
 
@@ -148,6 +148,7 @@ fn begin<A: Allocator + Copy, T: Turns<A>>(
 ) -> Result<CommandReply<A>, AllocError>
     requires ready { T.is_ready turns.old }
     requires alone { IsTrue (T.home turns.old).alone }
+    requires some { 0 < limit }
     ensures same { T.home turns.new ≡ T.home turns.old }
     ensures answered { IfOk result (λ reply. IsDone (T.home turns.old).options (T.sees turns.old)
         (T.sees turns.new) walks.old.items walks.new.items
@@ -155,7 +156,7 @@ fn begin<A: Allocator + Copy, T: Turns<A>>(
         (answer_of query.code) (plan_of query (T.home turns.old).options))) (reply_term reply)) }
 {
     steps_are_pieces::<A>();
-    match select_limit(alloc, turns, query, limit) {
+    match select_first(alloc, turns, query, limit) {
         Ok(step) => keep(walks, step),
         Err(_) => Err(AllocError),
     }
@@ -163,7 +164,8 @@ fn begin<A: Allocator + Copy, T: Turns<A>>(
 
 /// A limit from 1 on.
 fn limit_in(limit: i64) -> Option<u64>
-    ensures { result ≡ limit_in limit }
+    ensures limit { result ≡ limit_in limit }
+    ensures some { IfSome result (λ n. 0 < n) }
 {
     if limit < 1 {
         return None;
@@ -271,7 +273,7 @@ fn go_on<A: Allocator + Copy, T: Turns<A>>(
     let Some(walk) = take_walk(walks, number, turns.options().name, turns.number()) else {
         return Ok(CommandReply::Error(STRANGER_CONTINUATION));
     };
-    match select_more(alloc, turns, walk) {
+    match select_next(alloc, turns, walk) {
         Ok(step) => keep(walks, step),
         Err(_) => Err(AllocError),
     }

@@ -6,6 +6,7 @@ pub mod Pieces
 pub mod Own
 pub mod Whole
 pub mod Counting
+pub mod Asked
 pub mod Sights
 pub mod Laws
 pub mod Alone

@@ -6,14 +6,12 @@ ghost use Rattle.part_core.specs.Acts.Answer.{Replied, Refused};
 ghost use Rattle.part_core.specs.Acts.Said.{Counted};
 ghost use Rattle.part_core.specs.Ops.{cursor_of, refusal_of, said_of, scope_of};
 ghost use Rattle.part_core.specs.Replies.{most_counted};
-ghost use Rattle.tables.specs.Turns.{Turned, Views, Follows};
-ghost use Rattle.walk_core.specs.Goes.{way, whole, Visits};
-ghost use Rattle.walk_core.specs.Walk.{IsPosition, part_at, scope_at};
+ghost use Rattle.tables.specs.Turns.{Turned, Follows};
 ghost use Rattle.walk_core.specs.Walk.Position.{Over};
 ghost use Rattle.walk_core.specs.Counting.{purpose_of};
-ghost use Rattle.walks.specs.Counting.{CountsTo, StopsAtCount, CountsMore};
+ghost use Rattle.walks.specs.Asked.{IsForeign, IsRefusedThere, StopsTallying, TalliesOnce, TalliesTo};
 ghost use Rattle.walk_core.specs.Positions.{position_of};
-ghost use Rattle.walks.specs.Query.{IsWithin, walk_of};
+ghost use Rattle.walks.specs.Query.{IsWithin};
 ghost use Rattle.walks.specs.Visits.{is_counted};
 
 use crate::position::{move_on, next_visit};
@@ -75,13 +73,10 @@ fn count_next<A: Allocator, T: Turns<A>>(
     ensures same { T.home turns.new ≡ T.home turns.old }
     ensures within { IsWithin (T.home turns.old).options query.now at.new }
     ensures done { IfOk result (λ count. Follows (T.sees turns.old) (T.sees turns.new)
-        (CountsMore (T.home turns.old) (walk_of (T.home turns.old) (purpose_of counting) query.now)
+        (TalliesOnce (T.home turns.old) (purpose_of counting) query.now
         (position_of at.old) (position_of at.new) count)) }
     ensures refused { IfErr result (λ fault. Follows (T.sees turns.old) (T.sees turns.new)
-        (Turned (T.home turns.old) (part_at (walk_of (T.home turns.old) (purpose_of counting) query.now) (position_of at.old))
-        (Visit (purpose_of counting) query.now.code
-        (scope_at (walk_of (T.home turns.old) (purpose_of counting) query.now) (position_of at.old)) most_counted)
-        (option_map Refused (refusal_of fault)))) }
+        (IsRefusedThere (T.home turns.old) (purpose_of counting) query.now (position_of at.old) most_counted fault)) }
     ensures back { IfErr result (λ _. at.new ≡ at.old) }
 {
     let (part, scope) = next_visit(turns, query, at);
@@ -111,13 +106,13 @@ pub(crate) fn count_on<A: Allocator, T: Turns<A>>(
     ensures ready { T.is_ready turns.new }
     ensures same { T.home turns.new ≡ T.home turns.old }
     ensures done { IfOk result (λ _. (position_of at.new ≡ Over) × Follows (T.sees turns.old) (T.sees turns.new)
-        (CountsTo (T.home turns.old) (walk_of (T.home turns.old) (purpose_of counting) query.now)
+        (TalliesTo (T.home turns.old) (purpose_of counting) query.now
         (position_of at.old) (position_of at.new) total.new)) }
     ensures stopped { IsErrOf result Fault.Memory → Follows (T.sees turns.old) (T.sees turns.new)
-        (StopsAtCount (T.home turns.old) (walk_of (T.home turns.old) (purpose_of counting) query.now)
+        (StopsTallying (T.home turns.old) (purpose_of counting) query.now
         (position_of at.old) (position_of at.new) total.new) }
-    ensures foreign { IfErr result (λ fault. fault ≢ Fault.Memory → (v : Views) → T.sees turns.old v
-        → IsPosition (walk_of (T.home turns.old) (purpose_of counting) query.now) v (position_of at.old) → ⊥) }
+    ensures foreign { IfErr result (λ fault. fault ≢ Fault.Memory
+        → IsForeign (T.home turns.old) (purpose_of counting) query.now (T.sees turns.old) (position_of at.old)) }
 {
     for _visit in 0..u64::MAX {
         if at.is_over() {

@@ -9,8 +9,8 @@
 //! - `walk_query::Query`: what is asked, and of which keys alone; `walk_core::Position`, `position`: how far a walk has
 //!   come, and where it goes on; `kept`, `continuation`: what it keeps.
 //! - `visit`: visits up to a limit; `counting`: visits that count or delete.
-//! - `pieces`: `select_limit` and `select_more`; `whole`: `select`, `select_count` and `select_delete`; `own`: the
-//!   fixes that these make.
+//! - `pieces`: `select_limit` and `select_more`, and each for callers that have looked at what it refuses; `whole`:
+//!   `select`, `select_count` and `select_delete`; `own`: the fixes that these make.
 //! - `keys`: `first` and `next`.
 //! - `laws`: what walks come to where a session is alone (`specs/Alone.antt`), by what walks visit on one thread
 //!   (`specs/Sights.antt`).
@@ -36,7 +36,7 @@ pub use laws::{
     steps_are_pieces, whole_walks_count, whole_walks_go_in_order, whole_walks_remove,
     whole_walks_select,
 };
-pub use pieces::{select_limit, select_more};
+pub use pieces::{select_first, select_limit, select_more, select_next};
 pub use walk_core::Position;
 pub use walk_query::Query;
 pub use whole::{select, select_count, select_delete};

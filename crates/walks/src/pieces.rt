@@ -1,13 +1,11 @@
 //! Walks in pieces.
 ghost use Rattle.std.specs.Prelude.{ℕ, ◌≡◌, ◌≢◌, ◌<◌, ◌++◌, [], IfOk, IfErr, IsErrAnd, IsErrOf, IsTrue, MatchBool, length};
 ghost use Rattle.part_core.specs.Acts.Purpose.{Answers};
-ghost use Rattle.tables.specs.Turns.{Views, Follows};
-ghost use Rattle.walk_core.specs.Goes.{way, up_to, Goes, Stops};
-ghost use Rattle.walk_core.specs.Walk.{IsPosition};
+ghost use Rattle.tables.specs.Turns.{Follows};
 ghost use Rattle.walk_core.specs.Positions.{position_of};
-ghost use Rattle.walks.specs.Query.{IsWithin, kept_of, walk_of};
+ghost use Rattle.walks.specs.Asked.{GoesUpTo, IsForeign, StopsSelecting, StopsUpTo};
+ghost use Rattle.walks.specs.Query.{IsWithin, kept_of};
 ghost use Rattle.walks.specs.Pieces.{IsOwn, IsPiece, IsWalkOf, IsStepOf, Steps, Begins, Continues, Keeps};
-ghost use Rattle.walks.specs.Visits.{StopsAnywhere};
 
 use crate::continuation::{Continuation, Step};
 use crate::fault::WalkFault;
@@ -61,15 +59,14 @@ pub(crate) fn next_piece<A: Allocator + Copy, T: Turns<A>>(
     ensures ready { T.is_ready turns.new }
     ensures same { T.home turns.new ≡ T.home turns.old }
     ensures done { IfOk result (λ piece. Follows (T.sees turns.old) (T.sees turns.new)
-        (λ v w. Goes (T.home turns.old) (walk_of (T.home turns.old) Answers query.now) (up_to limit)
-        (way v (position_of at.old) (kept_of kept.old)) (way w (position_of at.new) (piece.items ++ kept_of kept.new)))) }
+        (GoesUpTo (T.home turns.old) query.now limit
+        (position_of at.old) (kept_of kept.old) (position_of at.new) (piece.items ++ kept_of kept.new))) }
     ensures piece { IfOk result (λ piece. IsPiece limit piece.items (position_of at.new) (kept_of kept.new)) }
     ensures stopped { IfErr result (λ fault. (fault ≡ WalkFault.Memory) → Follows (T.sees turns.old) (T.sees turns.new)
-        (λ v w. Stops (T.home turns.old) (walk_of (T.home turns.old) Answers query.now) (up_to limit)
-        (way v (position_of at.old) (kept_of kept.old)) (position_of at.new) (kept_of kept.new) w)) }
+        (StopsUpTo (T.home turns.old) query.now limit
+        (position_of at.old) (kept_of kept.old) (position_of at.new) (kept_of kept.new))) }
     ensures foreign { IfErr result (λ fault. (fault ≢ WalkFault.Memory) → (fault ≡ WalkFault.StrangerContinuation)
-        × ((v : Views) → T.sees turns.old v
-        → IsPosition (walk_of (T.home turns.old) Answers query.now) v (position_of at.old) → ⊥)) }
+        × IsForeign (T.home turns.old) Answers query.now (T.sees turns.old) (position_of at.old)) }
 {
     if let Err(fault) = visit_up_to(turns, query, limit, at, kept) {
         return Err(fault_of(fault));
@@ -94,11 +91,10 @@ fn go_on<A: Allocator + Copy, T: Turns<A>>(
     ensures done { IfOk result (λ step. Follows (T.sees turns.old) (T.sees turns.new)
         (Steps (T.home turns.old) walk.query walk.limit (position_of walk.at) (kept_of walk.kept) step)) }
     ensures stopped { IfErr result (λ refused. (refused.fault ≡ WalkFault.Memory) → Follows (T.sees turns.old) (T.sees turns.new)
-        (λ v w. Stops (T.home turns.old) (walk_of (T.home turns.old) Answers walk.query) (up_to walk.limit)
-        (way v (position_of walk.at) (kept_of walk.kept)) (position_of refused.value.at) (kept_of refused.value.kept) w)) }
+        (StopsUpTo (T.home turns.old) walk.query walk.limit (position_of walk.at) (kept_of walk.kept)
+        (position_of refused.value.at) (kept_of refused.value.kept))) }
     ensures foreign { IfErr result (λ refused. (refused.fault ≢ WalkFault.Memory) → (refused.fault ≡ WalkFault.StrangerContinuation)
-        × ((v : Views) → T.sees turns.old v
-        → IsPosition (walk_of (T.home turns.old) Answers walk.query) v (position_of walk.at) → ⊥)) }
+        × IsForeign (T.home turns.old) Answers walk.query (T.sees turns.old) (position_of walk.at)) }
     ensures back { IfErr result (λ refused. IsWalkOf (T.home turns.old) walk.query walk.limit refused.value) }
 {
     let Continuation {
@@ -145,6 +141,39 @@ fn is_own<A: Allocator>(walk: &Continuation<A>, table: u64, session: u8) -> bool
     walk.table == table && walk.session == session
 }
 
+/// Begins a walk in pieces of at most so many answers each, and at least one: `select_limit`, for callers that have
+/// looked at the limit. What is refused is handed back.
+pub fn select_first<A: Allocator + Copy, T: Turns<A>>(
+    alloc: A,
+    turns: &mut T,
+    query: Query<A>,
+    limit: u64,
+) -> Result<Step<A>, Refused<Query<A>, WalkFault>>
+    requires ready { T.is_ready turns.old }
+    requires some { 0 < limit }
+    ensures ready { T.is_ready turns.new }
+    ensures same { T.home turns.new ≡ T.home turns.old }
+    ensures done { IfOk result (λ step. Follows (T.sees turns.old) (T.sees turns.new)
+        (Begins (T.home turns.old) query limit step)) }
+    ensures refused { IfErr result (λ refused. (refused.fault ≡ WalkFault.Memory)
+        × Follows (T.sees turns.old) (T.sees turns.new) (StopsSelecting (T.home turns.old) query limit)) }
+    ensures back { IfErr result (λ refused. refused.value ≡ query) }
+{
+    let at = start(turns, &query);
+    let walk = Continuation {
+        query,
+        table: turns.options().name,
+        session: turns.number(),
+        limit,
+        at,
+        kept: Kept::new(alloc),
+    };
+    match go_on(alloc, turns, walk) {
+        Ok(step) => Ok(step),
+        Err(refused) => Err(query_refused(refused)),
+    }
+}
+
 /// Begins a walk in pieces of at most so many answers each (ets:select/3). A limit of 0 is refused before any turn;
 /// what is refused is handed back.
 pub fn select_limit<A: Allocator + Copy, T: Turns<A>>(
@@ -161,7 +190,7 @@ pub fn select_limit<A: Allocator + Copy, T: Turns<A>>(
     ensures limited { (limit ≡ 0) → IsErrAnd result (λ refused. refused.fault ≡ WalkFault.BadLimit)
         × Follows (T.sees turns.old) (T.sees turns.new) (λ v w. w ≡ v) }
     ensures refused { IfErr result (λ refused. (0 < limit) → (refused.fault ≡ WalkFault.Memory)
-        × Follows (T.sees turns.old) (T.sees turns.new) (StopsAnywhere (T.home turns.old) (walk_of (T.home turns.old) Answers query) (up_to limit))) }
+        × Follows (T.sees turns.old) (T.sees turns.new) (StopsSelecting (T.home turns.old) query limit)) }
     ensures back { IfErr result (λ refused. refused.value ≡ query) }
 {
     if limit == 0 {
@@ -170,19 +199,37 @@ pub fn select_limit<A: Allocator + Copy, T: Turns<A>>(
             fault: WalkFault::BadLimit,
         });
     }
-    let at = start(turns, &query);
-    let walk = Continuation {
-        query,
-        table: turns.options().name,
-        session: turns.number(),
-        limit,
-        at,
-        kept: Kept::new(alloc),
-    };
-    match go_on(alloc, turns, walk) {
-        Ok(step) => Ok(step),
-        Err(refused) => Err(query_refused(refused)),
+    select_first(alloc, turns, query, limit)
+}
+
+/// Carries a walk in pieces on that was begun by this session at this table: `select_more`, for callers that know whose
+/// it is. What is refused is handed back, with the visits that were made and what they found.
+pub fn select_next<A: Allocator + Copy, T: Turns<A>>(
+    alloc: A,
+    turns: &mut T,
+    walk: Continuation<A>,
+) -> Result<Step<A>, Refused<Continuation<A>, WalkFault>>
+    requires ready { T.is_ready turns.old }
+    requires own { IsOwn (T.home turns.old) walk }
+    ensures ready { T.is_ready turns.new }
+    ensures same { T.home turns.new ≡ T.home turns.old }
+    ensures done { IfOk result (λ step. Follows (T.sees turns.old) (T.sees turns.new)
+        (Continues (T.home turns.old) walk step)) }
+    ensures kept { IfErr result (λ refused. (refused.fault ≡ WalkFault.Memory)
+        → Follows (T.sees turns.old) (T.sees turns.new) (Keeps (T.home turns.old) walk refused.value)) }
+    ensures foreign { IfErr result (λ refused. (refused.fault ≢ WalkFault.Memory)
+        → (refused.fault ≡ WalkFault.StrangerContinuation)
+        × IsForeign (T.home turns.old) Answers walk.query (T.sees turns.old) (position_of walk.at)) }
+{
+    let options = turns.options();
+    let count = named_count(turns, &walk.query);
+    if !walk.at.is_there(options.parts, count) {
+        return Err(Refused {
+            value: walk,
+            fault: WalkFault::StrangerContinuation,
+        });
     }
+    go_on(alloc, turns, walk)
 }
 
 /// Carries a walk in pieces on (ets:select/1). A walk of another table or session is refused before any turn. What is
@@ -204,22 +251,14 @@ pub fn select_more<A: Allocator + Copy, T: Turns<A>>(
         → Follows (T.sees turns.old) (T.sees turns.new) (Keeps (T.home turns.old) walk refused.value)) }
     ensures foreign { IfErr result (λ refused. (refused.fault ≢ WalkFault.Memory)
         → (refused.fault ≡ WalkFault.StrangerContinuation)
-        × (IsOwn (T.home turns.old) walk → (v : Views) → T.sees turns.old v
-        → IsPosition (walk_of (T.home turns.old) Answers walk.query) v (position_of walk.at) → ⊥)) }
+        × (IsOwn (T.home turns.old) walk
+        → IsForeign (T.home turns.old) Answers walk.query (T.sees turns.old) (position_of walk.at))) }
 {
-    let options = turns.options();
-    if !is_own(&walk, options.name, turns.number()) {
+    if !is_own(&walk, turns.options().name, turns.number()) {
         return Err(Refused {
             value: walk,
             fault: WalkFault::StrangerContinuation,
         });
     }
-    let count = named_count(turns, &walk.query);
-    if !walk.at.is_there(options.parts, count) {
-        return Err(Refused {
-            value: walk,
-            fault: WalkFault::StrangerContinuation,
-        });
-    }
-    go_on(alloc, turns, walk)
+    select_next(alloc, turns, walk)
 }

@@ -5,11 +5,11 @@ ghost use Rattle.part_core.specs.Acts.Answer.{Replied, Refused};
 ghost use Rattle.part_core.specs.Acts.Purpose.{Answers};
 ghost use Rattle.part_core.specs.Acts.Said.{Found};
 ghost use Rattle.part_core.specs.Ops.{cursor_of, refusal_of, said_of, scope_of};
-ghost use Rattle.tables.specs.Turns.{Turned, Views, Follows};
-ghost use Rattle.walk_core.specs.Goes.{way, up_to, Visits, Goes, Stops};
-ghost use Rattle.walk_core.specs.Walk.{IsPosition, part_at, scope_at};
+ghost use Rattle.tables.specs.Turns.{Turned, Follows};
+ghost use Rattle.walk_core.specs.Goes.{way, Visits};
 ghost use Rattle.walk_core.specs.Walk.Position.{Over};
 ghost use Rattle.walk_core.specs.Positions.{position_of};
+ghost use Rattle.walks.specs.Asked.{GoesUpTo, IsForeign, IsRefusedThere, StopsUpTo};
 ghost use Rattle.walks.specs.Query.{IsWithin, kept_of, walk_of};
 ghost use Rattle.walks.specs.Visits.{is_found};
 
@@ -85,9 +85,7 @@ pub(crate) fn visit_next<A: Allocator, T: Turns<A>>(
         (λ v w. Visits (T.home turns.old) (walk_of (T.home turns.old) Answers query.now) by_count
         (way v (position_of at.old) (kept_of kept.old)) (way w (position_of at.new) (kept_of kept.new)))) }
     ensures refused { IfErr result (λ fault. Follows (T.sees turns.old) (T.sees turns.new)
-        (Turned (T.home turns.old) (part_at (walk_of (T.home turns.old) Answers query.now) (position_of at.old))
-        (Visit Answers query.now.code (scope_at (walk_of (T.home turns.old) Answers query.now) (position_of at.old)) wanted)
-        (option_map Refused (refusal_of fault)))) }
+        (IsRefusedThere (T.home turns.old) Answers query.now (position_of at.old) wanted fault)) }
     ensures back { IfErr result (λ _. (at.new ≡ at.old) × (kept.new ≡ kept.old)) }
 {
     let (part, scope) = next_visit(turns, query, at);
@@ -112,13 +110,13 @@ pub(crate) fn visit_up_to<A: Allocator, T: Turns<A>>(
     ensures enough { IfOk result (λ _. (kept.new.last.items ≡ [])
         × ((limit ≤ length (kept_of kept.new)) ⊎ (position_of at.new ≡ Over))) }
     ensures done { IfOk result (λ _. Follows (T.sees turns.old) (T.sees turns.new)
-        (λ v w. Goes (T.home turns.old) (walk_of (T.home turns.old) Answers query.now) (up_to limit)
-        (way v (position_of at.old) (kept_of kept.old)) (way w (position_of at.new) (kept_of kept.new)))) }
+        (GoesUpTo (T.home turns.old) query.now limit
+        (position_of at.old) (kept_of kept.old) (position_of at.new) (kept_of kept.new))) }
     ensures stopped { IsErrOf result Fault.Memory → Follows (T.sees turns.old) (T.sees turns.new)
-        (λ v w. Stops (T.home turns.old) (walk_of (T.home turns.old) Answers query.now) (up_to limit)
-        (way v (position_of at.old) (kept_of kept.old)) (position_of at.new) (kept_of kept.new) w) }
-    ensures foreign { IfErr result (λ fault. fault ≢ Fault.Memory → (v : Views) → T.sees turns.old v
-        → IsPosition (walk_of (T.home turns.old) Answers query.now) v (position_of at.old) → ⊥) }
+        (StopsUpTo (T.home turns.old) query.now limit
+        (position_of at.old) (kept_of kept.old) (position_of at.new) (kept_of kept.new)) }
+    ensures foreign { IfErr result (λ fault. fault ≢ Fault.Memory
+        → IsForeign (T.home turns.old) Answers query.now (T.sees turns.old) (position_of at.old)) }
 {
     for _visit in 0..u64::MAX {
         kept.settle()?;

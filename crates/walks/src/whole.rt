@@ -3,14 +3,12 @@ ghost use Rattle.std.specs.Prelude.{◌≡◌, [], IfOk, IfErr};
 ghost use Rattle.part_core.specs.Acts.Purpose.{Answers, Counts, Deletes};
 ghost use Rattle.part_core.specs.Replies.{most_counted};
 ghost use Rattle.tables.specs.Turns.{Follows};
-ghost use Rattle.walk_core.specs.Goes.{way, up_to, whole, Stops};
+ghost use Rattle.walk_core.specs.Goes.{up_to, whole};
 ghost use Rattle.walk_core.specs.Walk.{Position, start_of};
 ghost use Rattle.walk_core.specs.Walk.Position.{Over};
 ghost use Rattle.walk_core.specs.Counting.{purpose_of};
-ghost use Rattle.walks.specs.Counting.{StopsAtCount, FinishesCount, GivesUpCount};
+ghost use Rattle.walks.specs.Asked.{GivesUpOn, Selects, StopsSelecting, StopsTallying, StopsUpTo, Tallies, TalliesNoMore};
 ghost use Rattle.walks.specs.Query.{walk_of};
-ghost use Rattle.walks.specs.Visits.{StopsAnywhere};
-ghost use Rattle.walks.specs.Whole.{Finishes, GivesUp};
 
 use crate::counting::count_on;
 use crate::fault::WalkFault;
@@ -34,10 +32,10 @@ fn gather<A: Allocator + Copy, T: Turns<A>>(
     ensures ready { T.is_ready turns.new }
     ensures same { T.home turns.new ≡ T.home turns.old }
     ensures done { IfOk result (λ answers. Follows (T.sees turns.old) (T.sees turns.new)
-        (λ v w. Stops (T.home turns.old) (walk_of (T.home turns.old) Answers query.now) (up_to most_counted)
-        (way v (start_of (walk_of (T.home turns.old) Answers query.now)) []) Over answers.items w)) }
+        (StopsUpTo (T.home turns.old) query.now most_counted
+        (start_of (walk_of (T.home turns.old) Answers query.now)) [] Over answers.items)) }
     ensures stopped { IfErr result (λ _. Follows (T.sees turns.old) (T.sees turns.new)
-        (StopsAnywhere (T.home turns.old) (walk_of (T.home turns.old) Answers query.now) (up_to most_counted))) }
+        (StopsSelecting (T.home turns.old) query.now most_counted)) }
 {
     let mut at = start(turns, query);
     let mut kept = Kept::new(alloc);
@@ -55,9 +53,9 @@ pub fn select<A: Allocator + Copy, T: Turns<A>>(
     ensures ready { T.is_ready turns.new }
     ensures same { T.home turns.new ≡ T.home turns.old }
     ensures done { IfOk result (λ answers. Follows (T.sees turns.old) (T.sees turns.new)
-        (Finishes (T.home turns.old) (walk_of (T.home turns.old) Answers query.now) (up_to most_counted) answers.items)) }
+        (Selects (T.home turns.old) query.now answers.items)) }
     ensures refused { IfErr result (λ _. Follows (T.sees turns.old) (T.sees turns.new)
-        (GivesUp (T.home turns.old) (walk_of (T.home turns.old) Answers query.now) (up_to most_counted))) }
+        (GivesUpOn (T.home turns.old) Answers query.now (up_to most_counted))) }
 {
     let own = fix_own(turns);
     let answers = gather(alloc, turns, query);
@@ -78,10 +76,10 @@ fn tally<A: Allocator, T: Turns<A>>(
     ensures ready { T.is_ready turns.new }
     ensures same { T.home turns.new ≡ T.home turns.old }
     ensures done { IfOk result (λ count. Follows (T.sees turns.old) (T.sees turns.new)
-        (StopsAtCount (T.home turns.old) (walk_of (T.home turns.old) (purpose_of counting) query.now)
+        (StopsTallying (T.home turns.old) (purpose_of counting) query.now
         (start_of (walk_of (T.home turns.old) (purpose_of counting) query.now)) Over count)) }
     ensures stopped { IfErr result (λ refused. Follows (T.sees turns.old) (T.sees turns.new)
-        (λ v w. (at : Position) × StopsAtCount (T.home turns.old) (walk_of (T.home turns.old) (purpose_of counting) query.now)
+        (λ v w. (at : Position) × StopsTallying (T.home turns.old) (purpose_of counting) query.now
         (start_of (walk_of (T.home turns.old) (purpose_of counting) query.now)) at refused.value v w)) }
 {
     let mut at = start(turns, query);
@@ -105,9 +103,9 @@ fn count_table<A: Allocator, T: Turns<A>>(
     ensures ready { T.is_ready turns.new }
     ensures same { T.home turns.new ≡ T.home turns.old }
     ensures done { IfOk result (λ count. Follows (T.sees turns.old) (T.sees turns.new)
-        (FinishesCount (T.home turns.old) (walk_of (T.home turns.old) (purpose_of counting) query.now) count)) }
+        (Tallies (T.home turns.old) (purpose_of counting) query.now count)) }
     ensures refused { IfErr result (λ refused. Follows (T.sees turns.old) (T.sees turns.new)
-        (GivesUpCount (T.home turns.old) (walk_of (T.home turns.old) (purpose_of counting) query.now) refused.value)) }
+        (TalliesNoMore (T.home turns.old) (purpose_of counting) query.now refused.value)) }
 {
     let own = fix_own(turns);
     let counted = tally(turns, query, counting);
@@ -125,9 +123,9 @@ pub fn select_count<A: Allocator, T: Turns<A>>(
     ensures ready { T.is_ready turns.new }
     ensures same { T.home turns.new ≡ T.home turns.old }
     ensures done { IfOk result (λ count. Follows (T.sees turns.old) (T.sees turns.new)
-        (FinishesCount (T.home turns.old) (walk_of (T.home turns.old) Counts query.now) count)) }
+        (Tallies (T.home turns.old) Counts query.now count)) }
     ensures refused { IfErr result (λ _. Follows (T.sees turns.old) (T.sees turns.new)
-        (GivesUp (T.home turns.old) (walk_of (T.home turns.old) Counts query.now) whole)) }
+        (GivesUpOn (T.home turns.old) Counts query.now whole)) }
 {
     match count_table(turns, query, Counting::Count) {
         Ok(count) => Ok(count),
@@ -146,9 +144,9 @@ pub fn select_delete<A: Allocator, T: Turns<A>>(
     ensures ready { T.is_ready turns.new }
     ensures same { T.home turns.new ≡ T.home turns.old }
     ensures done { IfOk result (λ count. Follows (T.sees turns.old) (T.sees turns.new)
-        (FinishesCount (T.home turns.old) (walk_of (T.home turns.old) Deletes query.now) count)) }
+        (Tallies (T.home turns.old) Deletes query.now count)) }
     ensures refused { IfErr result (λ refused. Follows (T.sees turns.old) (T.sees turns.new)
-        (GivesUpCount (T.home turns.old) (walk_of (T.home turns.old) Deletes query.now) refused.value)) }
+        (TalliesNoMore (T.home turns.old) Deletes query.now refused.value)) }
 {
     count_table(turns, query, Counting::Delete)
 }

@@ -6,7 +6,7 @@ use Rattle.std.proofs.lemmas.Result.{IfOk-weaker}
 use Rattle.tables.specs.declared.options.Options.{Options}
 use Rattle.tool_script.specs.Continuations.{own_at, spent_at}
 use Rattle.tool_script.specs.Replies.{reply_term}
-use Rattle.tool_script.proofs.SelectLemmas.{gone_on, stranger}
+use Rattle.tool_script.proofs.SelectLemmas.{gone_on, own_walk, stranger}
 use Rattle.tool_script.proofs.walk.go_on.Goals as goal
 
 pub returns-in_default-clause-answered : goal.returns-in_default-clause-answered
@@ -21,6 +21,17 @@ returns-in_default-clause-answered g c =
     let spent = c.take_walk.ensures.spent ∙ ap (λ x. spent_at old x c.number.result (to_z w64 (of_z w64 c.args.number))) name ∙ ap (λ n. spent_at old h.options.name n (to_z w64 (of_z w64 c.args.number))) c.number.ensures ∙ ap (spent_at old h.options.name h.number) number in
     stranger h.options h.number (turns.sees c.args.turns.now) old c.take_walk.new.walks.items c.args.number none spent
 
+pub select_next-requires-clause-own : goal.select_next-requires-clause-own
+select_next-requires-clause-own g c =
+    let turns = g.T.Turns in
+    let h = turns.home c.args.turns.now in
+    let old = c.args.walks.now.items in
+    let fits : FitsSigned w64 c.args.number = search rules in
+    let number = to_z-of_z w64 c.args.number fits in
+    let name = ap (λ (x : Options). x.name) c.options.ensures in
+    let own = ap (own_at old h.options.name h.number) (sym number) ∙ sym (c.take_walk.ensures.found ∙ ap (λ x. own_at old x c.number.result (to_z w64 (of_z w64 c.args.number))) name ∙ ap (λ n. own_at old h.options.name n (to_z w64 (of_z w64 c.args.number))) c.number.ensures) ∙ c.in-Some.is in
+    own_walk h old c.args.number c.in-Some.walk own
+
 pub returns-in-Ok-clause-answered : goal.returns-in-Ok-clause-answered
 returns-in-Ok-clause-answered g c =
     let turns = g.T.Turns in
@@ -31,6 +42,6 @@ returns-in-Ok-clause-answered g c =
     let name = ap (λ (x : Options). x.name) c.options.ensures in
     let own = ap (own_at old h.options.name h.number) (sym number) ∙ sym (c.take_walk.ensures.found ∙ ap (λ x. own_at old x c.number.result (to_z w64 (of_z w64 c.args.number))) name ∙ ap (λ n. own_at old h.options.name n (to_z w64 (of_z w64 c.args.number))) c.number.ensures) ∙ c.in-Some.is in
     let spent = c.take_walk.ensures.spent ∙ ap (λ x. spent_at old x c.number.result (to_z w64 (of_z w64 c.args.number))) name ∙ ap (λ n. spent_at old h.options.name n (to_z w64 (of_z w64 c.args.number))) c.number.ensures ∙ ap (spent_at old h.options.name h.number) number in
-    IfOk-weaker c.keep.result _ _ (λ reply kept. gone_on c.steps_are_pieces.ensures h (turns.sees c.args.turns.now) (turns.sees c.select_more.new.turns) old c.take_walk.new.walks.items c.keep.new.walks.items c.args.number c.in-Some.walk c.in-Ok.step (reply_term reply) c.requires.alone (g.met.T.Turns.fits c.args.turns.now c.requires.ready).0 own spent
+    IfOk-weaker c.keep.result _ _ (λ reply kept. gone_on c.steps_are_pieces.ensures h (turns.sees c.args.turns.now) (turns.sees c.select_next.new.turns) old c.take_walk.new.walks.items c.keep.new.walks.items c.args.number c.in-Some.walk c.in-Ok.step (reply_term reply) c.requires.alone (g.met.T.Turns.fits c.args.turns.now c.requires.ready).0 own spent
     (λ v before. ((c.in-Ok.ensures.done v before).0, (c.in-Ok.ensures.done v before).1, (c.in-Ok.ensures.done v before).2.0)) kept)
     c.keep.ensures

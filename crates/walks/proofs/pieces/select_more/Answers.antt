@@ -1,57 +1,5 @@
-use Rattle.std.proofs.Common.{◌≡◌, ◌≢◌, ℕ, refl, subst, sym}
-use Rattle.std.proofs.lemmas.Result.{IfOk-weaker, IfErr-weaker}
-use Rattle.part_core.specs.Acts.Purpose.{Answers}
-use Rattle.tables.specs.declared.options.Options.{Options}
-use Rattle.tables.specs.Turns.{Views, Follows}
-use Rattle.walk_core.specs.Goes.{way, up_to, Stops}
-use Rattle.walk_core.specs.Walk.{IsPosition, named_count}
-use Rattle.walks.specs.declared.fault.WalkFault.TheVariants.{Memory, StrangerContinuation}
-use Rattle.walks.specs.Pieces.{Steps, Continues, Keeps, IsOwn, IsWalkOf}
-use Rattle.walk_core.specs.Positions.{IsThere, position_of}
-use Rattle.walks.specs.Query.{kept_of, plan_of, walk_of}
-use Rattle.walks.proofs.PieceLemmas.{continues_by, keeps_by, within_by, err_both}
+use Rattle.std.proofs.lemmas.Result.{IfErr-weaker}
 use Rattle.walks.proofs.pieces.select_more.Goals as goal
 
-pub returns-then-not-is_there-clause-foreign : goal.returns-then-not-is_there-clause-foreign
-returns-then-not-is_there-clause-foreign g c = λ other. (
-  refl,
-  λ own v b position.
-      let h = g.T.Turns.home c.args.turns.now in
-      let walk = c.args.walk in
-      let there = within_by h walk.query walk.at v position in
-      c.if-not-is_there.ensures (subst (λ (n : ℕ). IsThere c.options-options.result.parts n (position_of walk.at)) (sym c.named_count-count.ensures) (subst (λ (o : Options). IsThere o.parts (named_count (plan_of walk.query h.options)) (position_of walk.at)) (sym c.options-options.ensures) there)),
-)
-
-pub returns-clause-done : goal.returns-clause-done
-returns-clause-done g c =
-    let h = g.T.Turns.home c.args.turns.now in
-    let walk = c.args.walk in
-    let before = g.T.Turns.sees c.args.turns.now in
-    let now = g.T.Turns.sees c.go_on.new.turns in
-    IfOk-weaker c.go_on.result (λ step. Follows before now (Steps h walk.query walk.limit (position_of walk.at) (kept_of walk.kept) step)) (λ step. Follows before now (Continues h walk step))
-    (λ step steps. continues_by h walk step before now (g.met.T.Turns.fits c.args.turns.now c.requires) (λ v b part inside. g.met.T.Turns.legal c.args.turns.now v part c.requires b inside) steps)
-    c.go_on.ensures.done
-
-pub returns-clause-kept : goal.returns-clause-kept
-returns-clause-kept g c =
-    let h = g.T.Turns.home c.args.turns.now in
-    let walk = c.args.walk in
-    let before = g.T.Turns.sees c.args.turns.now in
-    let now = g.T.Turns.sees c.go_on.new.turns in
-    err_both c.go_on.result
-    (λ refused. (refused.fault ≡ Memory) → Follows before now (λ v w. Stops h (walk_of h Answers walk.query) (up_to walk.limit) (way v (position_of walk.at) (kept_of walk.kept)) (position_of refused.value.at) (kept_of refused.value.kept) w))
-    (λ refused. IsWalkOf h walk.query walk.limit refused.value)
-    (λ refused. (refused.fault ≡ Memory) → Follows before now (Keeps h walk refused.value))
-    (λ refused stops own scarce. keeps_by h walk refused.value before now (g.met.T.Turns.fits c.args.turns.now c.requires) (λ v b part inside. g.met.T.Turns.legal c.args.turns.now v part c.requires b inside) own (stops scarce))
-    c.go_on.ensures.stopped c.go_on.ensures.back
-
 pub returns-clause-foreign : goal.returns-clause-foreign
-returns-clause-foreign g c =
-    let h = g.T.Turns.home c.args.turns.now in
-    let walk = c.args.walk in
-    let before = g.T.Turns.sees c.args.turns.now in
-    IfErr-weaker c.go_on.result
-    (λ refused. refused.fault ≢ Memory → (refused.fault ≡ StrangerContinuation) × ((v : Views) → before v → IsPosition (walk_of h Answers walk.query) v (position_of walk.at) → ⊥))
-    (λ refused. refused.fault ≢ Memory → (refused.fault ≡ StrangerContinuation) × (IsOwn h walk → (v : Views) → before v → IsPosition (walk_of h Answers walk.query) v (position_of walk.at) → ⊥))
-    (λ refused foreign other. let f = foreign other in (f.0, λ own. f.1))
-    c.go_on.ensures.foreign
+returns-clause-foreign g c = IfErr-weaker c.select_next.result _ _ (λ refused foreign other. let f = foreign other in (f.0, λ own. f.1)) c.select_next.ensures.foreign

@@ -5,7 +5,7 @@ use Rattle.tool_script.specs.Replied.{course}
 use Rattle.tool_script.specs.Replies.{reply_term}
 use Rattle.tool_script.specs.Scripts.{HasState}
 use Rattle.tool_script.proofs.CourseLemmas.{told}
-use Rattle.tool_script.proofs.script.Script.interpret.Goals as goal
+use Rattle.tool_script.proofs.run.reply_to_term.Goals as goal
 
 pub returns-in-Some-clause-answered : goal.returns-in-Some-clause-answered
 returns-in-Some-clause-answered g c =

@@ -6,7 +6,7 @@ use Rattle.tables.specs.Local.{AreAfter}
 use Rattle.tables.specs.OneThread.{opened}
 use Rattle.tool_script.specs.State.{IsAt}
 use Rattle.tool_script.proofs.TableLemmas.{memory_alone, opened_is}
-use Rattle.tool_script.proofs.table.open_at.Goals as goal
+use Rattle.tool_script.proofs.open.open_at.Goals as goal
 
 pub map_err-requires : goal.map_err-requires
 map_err-requires g c =
