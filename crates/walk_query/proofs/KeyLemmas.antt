@@ -1,12 +1,18 @@
 -- The keys that heads name, one after the other.
-use Rattle.std.proofs.Common.{◌≡◌, ℕ, zero, suc, ◌-◌, ◌<◌, ◌≤◌, Option, Some, None, Bor, List, [], ◌∷◌, length, get_or, refl, sym, ap, subst, arith}
-use Rattle.std.specs.Prelude.{MatchOption}
-use Rattle.std.specs.List.{All, HoldsAt}
+use Rattle.std.proofs.Common.{◌≡◌, ◌∙◌, ◌++◌, ℕ, zero, suc, ◌-◌, ◌<◌, ◌≤◌, Option, Some, None, Bor, List, [], ◌∷◌, length, get_or, refl, sym, ap, subst, arith}
+use Rattle.std.specs.Prelude.{Bool, true, false, ◌||◌, cond, MatchOption}
+use Rattle.std.specs.HashSet.{HashSet, Updates, contains_by}
+use Rattle.std.specs.List.{All, HoldsAt, list_any}
+use Rattle.std.proofs.lemmas.Cmp.{eq_by_cmp_equiv}
+use Rattle.std.proofs.lemmas.List.Folds.{list_any-append}
 use Rattle.std.proofs.lemmas.List.Elements.{All-get_or}
+use Rattle.term_core.specs.Datum.{Datum}
+use Rattle.term_core.specs.OrderLaws.{datum_cmp_total}
+use Rattle.term_operand.specs.Order.{is_same}
 use Rattle.mspec_syntax.specs.Pattern.{Pattern, patterns_of, cells_of, own_term}
 use Rattle.mspec_syntax.specs.Sound.{IsSoundPattern, AreSoundPatterns, IsSoundClause}
 use Rattle.mspec_syntax.specs.Specification.{Clause}
-use Rattle.walk_query.specs.Named.{spelled_at, key_among, key_named}
+use Rattle.walk_query.specs.Named.{HasKeys, spelled_at, key_among, key_named}
 
 -- an element that is there, and one that isn't
 abbrev pub IsFound : Option (Bor Pattern) → List Pattern → ℕ → Type 0
@@ -48,3 +54,16 @@ pub sound-head : (cs : List Clause) (i : ℕ) (c : Clause) (p : Pattern) → i <
 sound-head cs i c p h is same all =
     let sound : IsSoundClause c = subst IsSoundClause (sym is) (All-get_or IsSoundClause cs i c h all) in
     subst IsSoundPattern (sym same) sound.head
+
+-- ---- a set of the keys so far
+
+or_behind : (b c : Bool) → cond b true c ≡ (c || (b || false))
+or_behind true true = refl
+or_behind true false = refl
+or_behind false true = refl
+or_behind false false = refl
+
+-- a set with one key more has those of the list with it behind
+pub key_put : {S : Type 0} (old new : HashSet Datum S) (ks more : List Datum) (k : Datum) → HasKeys old ks → Updates is_same old new k true → more ≡ ks ++ k ∷ [] → HasKeys new more
+key_put old new ks more k has updates is q =
+    updates.0 q ∙ ap (λ b. cond b true (contains_by (is_same q) old)) ((eq_by_cmp_equiv datum_cmp_total).symm k q) ∙ ap (cond (is_same q k) true) (has q) ∙ or_behind (is_same q k) (list_any (is_same q) ks) ∙ sym (list_any-append (is_same q) ks (k ∷ [])) ∙ sym (ap (list_any (is_same q)) is)

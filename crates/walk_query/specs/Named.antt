@@ -1,5 +1,6 @@
 -- The keys that a specification names. (`ets` looks only at the objects of these, where each head names one.)
-use Rattle.std.specs.Prelude.{ℕ, zero, suc, if◌then◌else◌, Option, Some, None, List, [], ◌∷◌, ◌++◌}
+use Rattle.std.specs.Prelude.{◌≡◌, ℕ, zero, suc, if◌then◌else◌, Option, Some, None, List, [], ◌∷◌, ◌++◌}
+use Rattle.std.specs.HashSet.{HashSet, contains_by}
 use Rattle.std.specs.List.{list_any}
 use Rattle.std.specs.Option.{option_and_then}
 use Rattle.term_core.specs.Datum.{Datum}
@@ -28,6 +29,10 @@ key_named keypos p = None
 -- a key behind the others, unless it is one of them
 abbrev pub with_key : List Datum → Datum → List Datum
 with_key ks k = if list_any (is_same k) ks then ks else ks ++ k ∷ []
+
+-- a set has these keys and no others
+abbrev pub HasKeys : {S : Type 0} → HashSet Datum S → List Datum → Type 0
+HasKeys set ks = (k : Datum) → contains_by (is_same k) set ≡ list_any (is_same k) ks
 
 -- the keys that clauses name behind those that were named before, where each names one
 abbrev pub named_from : ℕ → List Datum → Specification → Option (List Datum)

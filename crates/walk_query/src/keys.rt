@@ -1,14 +1,15 @@
 //! The keys that heads name.
 ghost use Rattle.std.specs.Prelude.{◌≡◌, [], IfOk, OnOk, option_map};
-ghost use Rattle.std.specs.List.{All, list_any};
+ghost use Rattle.std.specs.List.{All};
 ghost use Rattle.mspec_syntax.specs.Pattern.{patterns_of};
 ghost use Rattle.mspec_syntax.specs.Sound.{IsSoundClause, IsSoundPattern, AreSoundPatterns};
-ghost use Rattle.term_operand.specs.Order.{is_same};
-ghost use Rattle.walk_query.specs.Named.{key_among, key_named, with_key, named_from, named_by};
+ghost use Rattle.walk_query.specs.Named.{HasKeys, key_among, key_named, with_key, named_from, named_by};
 
 use compiler_patterns::spelled;
 use mspec_syntax::{Clause, Pattern, PatternKind, Spec};
 use std::alloc::{AllocError, Allocator};
+use std::collections::HashSet;
+use std::hash::{BuildHasherDefault, DefaultHasher};
 use term_core::Term;
 
 /// The key among the elements of a head, if one stands at this position, which is counted from 1.
@@ -48,24 +49,25 @@ fn key_named<A: Allocator + Copy>(
     }
 }
 
-/// Whether the key is one of these.
-fn is_among<A: Allocator>(keys: &[Term<A>], key: &Term<A>) -> bool
-    ensures { result ≡ list_any (is_same key.now) keys.now }
-{
-    keys.iter().any(|other| key.cmp(other).is_eq())
-}
+/// Keys that are looked for by their hashes.
+type KeySet<A> = HashSet<Term<A>, BuildHasherDefault<DefaultHasher>, A>;
 
-/// Puts a key behind the others, unless it is one of them.
-fn put_key<A: Allocator>(keys: &mut Vec<Term<A>, A>, key: Term<A>) -> Result<(), AllocError>
-    ensures { OnOk result (keys.new.items ≡ with_key keys.old.items key) }
+/// Puts a key behind the others, unless it is one of them, which a set has as well.
+fn put_key<A: Allocator + Copy>(
+    keys: &mut Vec<Term<A>, A>,
+    set: &mut KeySet<A>,
+    key: Term<A>,
+) -> Result<(), AllocError>
+    requires { HasKeys set.old keys.old.items }
+    ensures keys { OnOk result (keys.new.items ≡ with_key keys.old.items key) }
+    ensures set { OnOk result (HasKeys set.new keys.new.items) }
 {
-    if is_among(keys.as_slice(), &key) {
+    if set.contains(&key) {
         return Ok(());
     }
-    match keys.push(key) {
-        Ok(()) => Ok(()),
-        Err(_) => Err(AllocError),
-    }
+    set.insert(key.copy()?)?;
+    keys.push(key)?;
+    Ok(())
 }
 
 /// The keys that the heads of clauses name, if each names one.
@@ -79,11 +81,12 @@ fn keys_of<A: Allocator + Copy>(
         ≡ named_from keypos [] clauses.now) }
 {
     let mut keys = Vec::new(alloc);
+    let mut set = HashSet::with_hasher(alloc, BuildHasherDefault::new());
     for clause in clauses {
         let Some(key) = key_named(alloc, clause.head(), keypos)? else {
             return Ok(None);
         };
-        put_key(&mut keys, key)?;
+        put_key(&mut keys, &mut set, key)?;
     }
     Ok(Some(keys))
 }
