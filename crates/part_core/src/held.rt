@@ -45,14 +45,8 @@ impl<A: Allocator> Model for Held<A> {
     ghost view = { λ held. objects_of held.objects };
 }
 
-/// Lets an object go.
-fn let_go<A: Allocator>(_object: Option<Term<A>>) {}
-
-/// Lets objects go.
-fn let_all_go<A: Allocator>(_objects: Objects<A>) {}
-
 /// An object, taken from where it is.
-fn taken<A: Allocator>(object: &mut Option<Term<A>>) -> Term<A>
+pub fn taken<A: Allocator>(object: &mut Option<Term<A>>) -> Term<A>
     requires { IsSome object.old }
     ensures object { result ≡ unwrap_or object.old nil }
     ensures spent { object.new ≡ None }
@@ -211,7 +205,7 @@ impl<A: Allocator> Held<A> {
         ensures { self.new ≡ objects_without object.now self.old }
     {
         let objects = mem::replace(&mut self.objects, Objects::Empty);
-        let_all_go(mem::replace(&mut self.objects, without(objects, object)));
+        drop(mem::replace(&mut self.objects, without(objects, object)));
     }
 
     /// Puts an object in the place of those that are there.
@@ -220,7 +214,7 @@ impl<A: Allocator> Held<A> {
         ensures done { self.new ≡ unwrap_or object.old nil ∷ [] }
         ensures spent { object.new ≡ None }
     {
-        let_all_go(mem::replace(&mut self.objects, Objects::One(taken(object))));
+        drop(mem::replace(&mut self.objects, Objects::One(taken(object))));
     }
 
     /// Whether an object is equal to one that is there.
@@ -250,7 +244,7 @@ impl<A: Allocator + Copy> Held<A> {
         let list = room_for_few(alloc)?;
         let first = mem::replace(&mut self.objects, Objects::Empty);
         let both = with_second(first, list, taken(object));
-        let_all_go(mem::replace(&mut self.objects, both));
+        drop(mem::replace(&mut self.objects, both));
         Ok(())
     }
 
@@ -295,7 +289,7 @@ impl<A: Allocator + Copy> Held<A> {
             }
             TableKind::Bag => {
                 if self.has_put(object) {
-                    let_go(object.take());
+                    drop(object.take());
                     return Ok(());
                 }
                 self.put_behind(alloc, object)

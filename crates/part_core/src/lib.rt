@@ -29,7 +29,7 @@ mod slots;
 pub use entry::Entry;
 pub use fault::{Fault, OpenFault};
 pub use fixes::{fixes_at, is_fixed, no_fixes};
-pub use held::Held;
+pub use held::{Held, taken};
 pub use key::key_in;
 pub use kind::TableKind;
 pub use laws::{

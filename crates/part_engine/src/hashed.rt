@@ -120,9 +120,6 @@ impl<A: Allocator> HashedRow<A> {
     {
         mem::swap(&mut self.held, held);
     }
-
-    /// Lets the row go.
-    pub fn let_go(self) {}
 }
 
 impl<A: Allocator + Copy> HashedRow<A> {

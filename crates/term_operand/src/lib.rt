@@ -14,4 +14,4 @@ mod value;
 
 pub use operand::Operand;
 pub use order::compare;
-pub use value::Value;
+pub use value::{Value, drop_apart};

@@ -18,10 +18,9 @@ pub enum Value<'a, A: Allocator = Global> {
     Made(Term<A>),
 }
 
-/// Lets a term go that was made.
-// Apart from `go`, which is only a test where the value is borrowed.
+/// Lets a value go by a call: where that seldom happens, the caller is a test then.
 #[inline(never)]
-fn let_go<A: Allocator>(_term: Term<A>) {}
+pub fn drop_apart<T: Drop>(_value: T) {}
 
 impl<'a, A: Allocator> Default for Value<'a, A> {
     /// What a place holds before a value is put there.
@@ -56,7 +55,7 @@ impl<'a, A: Allocator> Value<'a, A> {
     #[inline(always)]
     pub fn go(self) {
         match self {
-            Value::Made(term) => let_go(term),
+            Value::Made(term) => drop_apart(term),
             Value::Term(_) | Value::Rest(_, _) | Value::Int(_) | Value::Bool(_) => {}
         }
     }
