@@ -31,7 +31,10 @@ use Rattle.part_core.proofs.KeyLemmas.{by_test}
 use Rattle.part_core.proofs.KeyedLemmas.{object_key, written_of, rewritten}
 use Rattle.part_core.proofs.RowLemmas.{unwritten}
 use Rattle.part_core.proofs.StateLemmas.{after_replied, after_refused}
+use Rattle.part_rows.specs.declared.put.PutFault.{PutFault}
+use Rattle.part_rows.specs.declared.put.PutFault.TheVariants.{Memory, NoObject}
 use Rattle.part_rows.specs.Dead.{Keeps, shown_settled}
+use Rattle.part_rows.specs.Puts.{fault_of}
 use Rattle.part_rows.specs.Shown.{Shown, AreSound, shown_exchanged, shown_with, state_of}
 use Rattle.part_engine.specs.Stored.{IsAfter, Leads}
 use Rattle.part_engine.specs.declared.stored.StoredPart.{StoredPart}
@@ -145,6 +148,9 @@ no_object_says o s n t none =
 
 -- ---- putting objects in
 
+as_before : (w : Shown) (old new : List ℕ) (base now : ℕ) → new ≡ old → now ≡ base → state_of w new now ≡ state_of w old base
+as_before w old new base now fixes is = ap (λ xs. state_of w xs now) fixes ∙ ap (state_of w old) is
+
 pub insert_says : (o : Settings) (w : Shown) (fixes : List ℕ) (base n : ℕ) (t : Datum) → IsState o (state_of w fixes base) → is_object o t ≡ true → Says o (state_of w fixes base) n (Insert t) (Replied Nothing) (state_of (shown_with o t w) fixes (if is_fixed fixes then base else (shown_with o t w).slots))
 unfolding reply_of
 insert_says o w fixes base n t state object =
@@ -183,6 +189,15 @@ unfolding reply_of
 insert_new_refused o s n t wrong =
     let refused : reply_of o s n (InsertNew t) ≡ Refused TooSmall = rw wrong refl in
     (sym refused, sym (after_refused o s n (InsertNew t) TooSmall refused))
+
+-- what the rows refuse to put in is refused so by the part, which is as it was
+pub put_refused : {R A B : Type 0} (shows : Settings → R → Shown → Type 0) (p q : StoredPart R A) (n : ℕ) (act : Act) (t : Datum) (why : PutFault) (result : Result (Reply B) Fault) → ((s : PartState) → is_object p.settings t ≡ false → Says p.settings s n act (Refused TooSmall) s) → (why ≡ NoObject → is_object p.settings t ≡ false) → ((w : Shown) → Keeps shows p.settings p.rows p.dead w → Keeps shows p.settings q.rows q.dead w) → q.fixes.items ≡ p.fixes.items → q.base ≡ p.base → result ≡ Err (fault_of why) → Leads shows p n act (answer_in result) q
+put_refused shows p q n act t Memory result says none kept fixes base is =
+    subst (λ r. Leads shows p n act (answer_in r) q) (sym is) (λ w keeps. (w, kept w keeps, as_before w p.fixes.items q.fixes.items p.base q.base fixes base))
+put_refused shows p q n act t NoObject result says none kept fixes base is =
+    subst (λ r. Leads shows p n act (answer_in r) q) (sym is) (λ w keeps state.
+    let s = says (state_of w p.fixes.items p.base) (none refl) in
+    (s.0, (w, kept w keeps, as_before w p.fixes.items q.fixes.items p.base q.base fixes base ∙ s.1)))
 
 -- ---- fixes
 

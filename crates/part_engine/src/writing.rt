@@ -1,7 +1,6 @@
 //! Operations that write at one key.
 ghost use Rattle.std.specs.Prelude.{ℕ, ◌≡◌, ◌<◌, Some, None, IfErr, OnOk, OnErr, unwrap_or, if◌then◌else◌};
 ghost use Rattle.term_core.specs.Datum.Datum.{nil};
-ghost use Rattle.part_core.specs.Settings.{is_object};
 ghost use Rattle.part_core.specs.Acts.Act.{Insert, InsertNew, Delete, DeleteObject, Take};
 ghost use Rattle.part_core.specs.Acts.Answer.{Replied};
 ghost use Rattle.part_core.specs.Ops.{answer_in, said_of};
@@ -10,20 +9,10 @@ ghost use Rattle.part_rows.specs.Shown.{Shown};
 ghost use Rattle.part_engine.specs.Stored.{Leads};
 
 use crate::stored::StoredPart;
-use part_core::{Fault, Held, Reply, Settings, is_fixed, key_in};
+use part_core::{Fault, Held, Reply, is_fixed, key_in};
 use part_rows::{Rows, exchange_counted, put_counted};
 use std::alloc::Allocator;
 use term_core::Term;
-
-/// Whether there is an object, which has an element at the key's place.
-fn is_object<A: Allocator>(settings: Settings, object: &Option<Term<A>>) -> bool
-    ensures { result ≡ is_object settings (unwrap_or object.now nil) }
-{
-    match object {
-        Some(object) => key_in(settings.keypos, object).is_some(),
-        None => false,
-    }
-}
 
 impl<R: Rows<A> + Drop, A: Allocator> StoredPart<R, A> {
     /// The base of walks that begin: the number of slots, but the one that it was while some session fixes the part.
@@ -47,9 +36,6 @@ impl<R: Rows<A> + Drop, A: Allocator> StoredPart<R, A> {
         ensures spent { OnOk result (object.new ≡ None) }
         ensures back { OnErr result (object.new ≡ object.old) }
     {
-        if !is_object(self.settings, object) {
-            return Err(Fault::TooSmall);
-        }
         put_counted(&mut self.rows, &mut self.dead, self.settings, object, true)?;
         self.base = self.base_now();
         Ok(Reply::Done)
@@ -63,9 +49,6 @@ impl<R: Rows<A> + Drop, A: Allocator> StoredPart<R, A> {
         ensures spent { OnOk result (object.new ≡ None) }
         ensures back { OnErr result (object.new ≡ object.old) }
     {
-        if !is_object(self.settings, object) {
-            return Err(Fault::TooSmall);
-        }
         let fresh = put_counted(&mut self.rows, &mut self.dead, self.settings, object, false)?;
         self.base = self.base_now();
         Ok(Reply::Flag(fresh))

@@ -1,8 +1,6 @@
 -- Rows that are added.
-use Rattle.std.proofs.Common.{◌≡◌, ◌≢◌, ℕ, ◌<◌, ◌+◌, ◌-◌, zero, suc, List, [], ◌∷◌, ◌++◌, refl, ap, sym, subst, ◌∙◌, length, length-append, arith, ◌⊎◌, inl, inr, eq-eqb}
-use Rattle.std.specs.Prelude.{Bool, true, false, if◌then◌else◌, ◌==◌, ◌*◌, nat_lt, not, ◌&&◌, Option, Some, None, All, IsTrue, is_some, unwrap_or}
-use Rattle.std.specs.List.{IsDistinct}
-use Rattle.std.specs.Map.{keys_of}
+use Rattle.std.proofs.Common.{◌≡◌, ◌≢◌, ℕ, ◌<◌, ◌+◌, ◌-◌, zero, suc, List, [], ◌∷◌, ◌++◌, refl, ap, sym, subst, ◌∙◌, length-append, arith, ◌⊎◌, inl, inr, eq-eqb}
+use Rattle.std.specs.Prelude.{true, false, if◌then◌else◌, ◌==◌, ◌*◌, nat_lt, not, ◌&&◌, Option, Some, None, All, IsTrue, is_some, unwrap_or}
 use Rattle.std.specs.Option.{option_map_or}
 use Rattle.std.proofs.lemmas.Bool.{true≢false, eqb-true, ltb-true, lt-ltb}
 use Rattle.std.proofs.lemmas.List.{map-append}
@@ -26,9 +24,9 @@ use Rattle.part_core.proofs.StepLemmas.{slots_grow}
 use Rattle.part_rows.specs.declared.place.Place.{Place}
 use Rattle.part_hash.specs.declared.store.Store.{Store}
 use Rattle.part_hash.specs.Mixed.{mixed}
-use Rattle.part_hash.specs.Places.{Kept, Standing, if_made, low_of, row_of}
+use Rattle.part_hash.specs.Places.{Kept, Standing, if_made, low_of}
 use Rattle.part_hash.specs.Slots.{AreListed, IsAdded, Listing}
-use Rattle.part_hash.specs.Standing.{AreFound, ArePlaced, IsRising, Stands, is_noted}
+use Rattle.part_hash.specs.Standing.{ArePlaced, IsRising, Stands, is_noted}
 use Rattle.part_hash.specs.Swept.{is_dead_at}
 use Rattle.part_hash.proofs.StandLemmas.{None≢Some, some_is}
 use Rattle.part_hash.proofs.WriteLemmas.{listed_same}

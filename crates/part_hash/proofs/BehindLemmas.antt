@@ -1,22 +1,19 @@
 -- The rows behind that of a key.
-use Rattle.std.proofs.Common.{◌≡◌, ℕ, ◌<◌, ◌+◌, ◌/◌, ◌%◌, List, [], ◌∷◌, ◌++◌, refl, ap, sym, subst, ◌∙◌, length, get_or, arith, eq-eqb}
-use Rattle.std.specs.Prelude.{Bool, true, false, ◌==◌, nat_le, Some, All, find}
+use Rattle.std.proofs.Common.{◌≡◌, ℕ, ◌<◌, ◌+◌, List, [], ◌∷◌, ◌++◌, refl, ap, sym, subst, ◌∙◌, arith}
+use Rattle.std.specs.Prelude.{true, false, nat_le, Some, All}
 use Rattle.std.specs.Map.{values_of}
 use Rattle.std.proofs.lemmas.Bool.{true≢false, le-leb, leb-true}
 use Rattle.std.proofs.lemmas.List.{map-append}
 use Rattle.std.proofs.lemmas.List.Elements.{All-head, All-tail}
-use Rattle.std.proofs.Math.Nat.{mod-lt}
-use Rattle.slab.specs.Slab.{Slab, get}
+use Rattle.slab.specs.Slab.{get}
 use Rattle.term_core.specs.Datum.{Datum}
-use Rattle.term_core.specs.KeyHash.{key_hash}
 use Rattle.term_operand.specs.Order.{is_same}
 use Rattle.part_core.specs.declared.settings.Settings.{Settings}
 use Rattle.part_core.specs.Settings.{class_at, is_ordered}
 use Rattle.part_core.specs.Replies.{rows_past}
 use Rattle.part_core.specs.Rows.{Row, has_row}
 use Rattle.part_core.specs.Visits.{in_class, walk_order}
-use Rattle.part_core.proofs.KeyLemmas.{by_test, alike}
-use Rattle.part_rows.specs.declared.place.Place.{Place}
+use Rattle.part_core.proofs.KeyLemmas.{by_test}
 use Rattle.part_hash.specs.declared.store.Store.{Store}
 use Rattle.part_hash.specs.Places.{Kept, Standing}
 use Rattle.part_hash.specs.Standing.{IsRising, Stands}

@@ -1,6 +1,6 @@
 -- No rows.
-use Rattle.std.proofs.Common.{◌≡◌, ℕ, ◌<◌, ◌≤◌, List, [], refl, ap, sym, subst, ◌∙◌, length, get_or, arith}
-use Rattle.std.specs.Prelude.{Bool, true, false, not, Option, Some, None, is_some, replicate}
+use Rattle.std.proofs.Common.{◌≡◌, ℕ, ◌<◌, List, [], refl, ap, sym, subst, ◌∙◌, length, get_or, arith}
+use Rattle.std.specs.Prelude.{true, false, not, Option, Some, None, is_some, replicate}
 use Rattle.std.specs.List.{IsDistinct, count_by}
 use Rattle.std.specs.Option.{option_map_or}
 use Rattle.std.proofs.lemmas.Bool.{true≢false}

@@ -1,7 +1,7 @@
 -- What slots list.
-use Rattle.std.proofs.Common.{◌≡◌, ℕ, ◌<◌, ◌≤◌, ◌+◌, ◌*◌, ◌/◌, ◌%◌, ◌^◌, List, [], ◌∷◌, ◌++◌, refl, ap, sym, subst, ◌∙◌, length, get_or, set, length-set, get_or-set_same, get_or-set_other, arith, eq-eqb}
-use Rattle.std.specs.Prelude.{Bool, true, false, not, ◌==◌, if◌then◌else◌, Some, None, All, filter, map, nat_eq}
-use Rattle.std.specs.List.{AllWithin, list_all, list_any, range_with_len}
+use Rattle.std.proofs.Common.{◌≡◌, ℕ, ◌<◌, ◌+◌, ◌*◌, ◌/◌, ◌%◌, ◌^◌, List, [], ◌∷◌, ◌++◌, refl, ap, sym, subst, ◌∙◌, length, get_or, set, length-set, get_or-set_same, get_or-set_other, arith, eq-eqb}
+use Rattle.std.specs.Prelude.{Bool, true, false, not, ◌==◌, if◌then◌else◌, None, All, filter, map, nat_eq}
+use Rattle.std.specs.List.{list_all, list_any, range_with_len}
 use Rattle.std.specs.Map.{values_of}
 use Rattle.std.proofs.lemmas.Bool.{true≢false, and_parts, eqb-true}
 use Rattle.std.proofs.lemmas.List.{append-nil, map-append, get_or_read}
@@ -9,7 +9,7 @@ use Rattle.std.proofs.lemmas.List.Elements.{All-filter, All-head, All-tail, filt
 use Rattle.std.proofs.lemmas.List.FromFn.{get_or-map-range_with_len, length-map-range_with_len}
 use Rattle.std.proofs.Math.Nat.{mod-mod_of_dvd, mul-mod_left, mod-lt}
 use Rattle.std.proofs.lemmas.Nat.Gcd.{dvd_of_mod-eq-zero}
-use Rattle.slab.specs.Slab.{Slab, Updates, get}
+use Rattle.slab.specs.Slab.{Slab, Updates}
 use Rattle.term_core.specs.Datum.{Datum}
 use Rattle.term_core.specs.KeyHash.{key_hash}
 use Rattle.term_operand.specs.Order.{is_same}
@@ -19,8 +19,8 @@ use Rattle.part_core.specs.States.{IsBase}
 use Rattle.part_core.specs.Visits.{bases}
 use Rattle.part_core.proofs.KeyLemmas.{by_test, same_is}
 use Rattle.part_rows.specs.declared.place.Place.{Place}
-use Rattle.part_hash.specs.Places.{Kept, Standing, is_standing, low_of, slot_at, spread, standing, places_where, places_in}
-use Rattle.part_hash.specs.Slots.{Adds, AreListed, AreListedWithGone, AreRising, IsAdded, IsListed, Listing, Relists, half_at, listing_at, no_listing, with_gone}
+use Rattle.part_hash.specs.Places.{Kept, Standing, is_standing, low_of, slot_at, spread, places_where, places_in}
+use Rattle.part_hash.specs.Slots.{Adds, AreListed, AreListedWithGone, IsAdded, IsListed, Listing, Relists, half_at, listing_at, no_listing, with_gone}
 use Rattle.part_hash.specs.Standing.{AreLow}
 use Rattle.part_hash.proofs.StandLemmas.{IsOwn}
 use Rattle.part_hash.proofs.SlotLemmas.{listed_behind, listed_less, listed_lost, listed_on}

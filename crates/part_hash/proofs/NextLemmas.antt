@@ -1,5 +1,5 @@
 -- The next row of a class, found in several slots.
-use Rattle.std.proofs.Common.{◌≡◌, ℕ, ◌<◌, ◌/◌, zero, suc, List, [], ◌∷◌, refl, ap, sym, ◌∙◌, length, get_or, arith, eq-eqb}
+use Rattle.std.proofs.Common.{◌≡◌, ℕ, ◌<◌, ◌/◌, zero, suc, List, [], ◌∷◌, refl, ap, sym, ◌∙◌, length, arith, eq-eqb}
 use Rattle.std.specs.Prelude.{Bool, true, false, ◌==◌, ◌&&◌, ◌||◌, nat_le, Option, Some, None, MatchOption, IfSome, All, find, option_map}
 use Rattle.std.proofs.lemmas.Bool.{true≢false, eqb-true, le-leb, leb-true}
 use Rattle.std.proofs.lemmas.List.Elements.{All-head, All-tail}

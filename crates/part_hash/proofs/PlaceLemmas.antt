@@ -1,6 +1,6 @@
 -- Places at which rows stand, and the order of places.
-use Rattle.std.proofs.Common.{◌≡◌, ℕ, ◌<◌, ◌≤◌, zero, suc, List, [], ◌∷◌, refl, ap, sym, ◌∙◌, length, get_or, arith, eq-eqb, drop, subst, ◌++◌, ◌-◌}
-use Rattle.std.specs.Prelude.{Bool, true, false, not, ◌==◌, ◌&&◌, Option, Some, None, filter, filter_map, find, is_some, nat_le, nat_lt, All}
+use Rattle.std.proofs.Common.{◌≡◌, ℕ, ◌<◌, zero, suc, List, [], ◌∷◌, refl, ap, sym, ◌∙◌, length, get_or, arith, eq-eqb, drop, subst, ◌++◌, ◌-◌}
+use Rattle.std.specs.Prelude.{Bool, true, false, ◌==◌, ◌&&◌, Option, Some, None, filter, find, is_some, nat_le, nat_lt, All}
 use Rattle.std.specs.List.{AllWithin}
 use Rattle.std.specs.List.Sorted.{IsPartitionedBy}
 use Rattle.std.specs.Option.{option_map_or}

@@ -1,6 +1,6 @@
 -- An object put in.
-use Rattle.std.proofs.Common.{◌≡◌, ℕ, List, [], ◌∷◌, ◌++◌, refl, ap, sym, ◌∙◌, length, length-append, arith}
-use Rattle.std.specs.Prelude.{Bool, true, false, not, Some, if◌then◌else◌}
+use Rattle.std.proofs.Common.{◌≡◌, ℕ, List, [], ◌∷◌, ◌++◌, refl, ap, sym, ◌∙◌, length, arith}
+use Rattle.std.specs.Prelude.{Bool, true, false, Some, if◌then◌else◌}
 use Rattle.std.specs.List.{IsDistinct}
 use Rattle.std.specs.Map.{keys_of}
 use Rattle.std.proofs.lemmas.Bool.{true≢false}
@@ -16,7 +16,6 @@ use Rattle.part_core.specs.After.{slots_after}
 use Rattle.part_core.proofs.AfterLemmas.{slots_same}
 use Rattle.part_core.proofs.KeyLemmas.{by_test}
 use Rattle.part_core.proofs.KeyedLemmas.{written_of}
-use Rattle.part_rows.specs.declared.put.Put.{Put}
 use Rattle.part_rows.specs.declared.put.Put.TheVariants.{Kept, Revived, Done}
 use Rattle.part_rows.specs.Puts.{put_at}
 

@@ -1,6 +1,6 @@
 -- Rows that are taken out.
 use Rattle.std.proofs.Common.{◌≡◌, ◌≢◌, ℕ, ◌<◌, ◌+◌, List, [], ◌∷◌, refl, ap, sym, subst, ◌∙◌, length, arith, eq-eqb}
-use Rattle.std.specs.Prelude.{Bool, true, false, not, ◌==◌, Option, Some, None, All, filter, is_some}
+use Rattle.std.specs.Prelude.{true, false, not, ◌==◌, Option, Some, None, All, filter, is_some}
 use Rattle.std.specs.List.{IsDistinct}
 use Rattle.std.specs.Map.{keys_of, values_of}
 use Rattle.std.specs.Option.{option_map_or}
@@ -12,19 +12,17 @@ use Rattle.std.proofs.lemmas.Map.Made.{IsDistinct-keys_filter}
 use Rattle.slab.specs.Slab.{Slab, Updates, get, slab_len}
 use Rattle.term_core.specs.Datum.{Datum}
 use Rattle.term_operand.specs.Order.{is_same}
-use Rattle.hash_index.specs.declared.cell.Cell.{Cell}
 use Rattle.hash_index.specs.Index.{HasIn, Takes, cells}
 use Rattle.part_core.specs.declared.settings.Settings.{Settings}
 use Rattle.part_core.specs.Rows.{Row, has_row, is_live}
-use Rattle.part_core.proofs.KeyLemmas.{by_test, same_is, alike, same_from}
+use Rattle.part_core.proofs.KeyLemmas.{by_test, alike}
 use Rattle.part_core.proofs.KeyedLemmas.{no_other}
 use Rattle.part_hash.specs.declared.store.Store.{Store}
 use Rattle.part_hash.specs.Mixed.{mixed}
 use Rattle.part_hash.specs.Places.{Kept, Standing, low_of, slot_at}
 use Rattle.part_hash.specs.Slots.{AreListed, AreListedWithGone}
 use Rattle.part_hash.specs.Standing.{AreAt, IsRising, Stands, is_noted}
-use Rattle.part_hash.specs.Swept.{is_dead_at}
-use Rattle.part_hash.proofs.StandLemmas.{IsOwn, None≢Some, all_none, all_own, some_is}
+use Rattle.part_hash.proofs.StandLemmas.{IsOwn, None≢Some, all_none, all_own}
 use Rattle.part_hash.proofs.ListedLemmas.{is_other, listed_gone, others}
 
 other_rows : (key : Datum) (list : List Standing) → filter (λ (r : Row). not (is_same key r.0)) (values_of list) ≡ values_of (others key list)

@@ -1,6 +1,6 @@
 -- What one slot lists.
-use Rattle.std.proofs.Common.{◌≡◌, ◌≢◌, ℕ, ◌<◌, ◌≤◌, ◌+◌, zero, suc, List, [], ◌∷◌, ◌++◌, refl, ap, sym, subst, ◌∙◌, length, length-append, get_or, arith, eq-eqb}
-use Rattle.std.specs.Prelude.{Bool, true, false, not, ◌==◌, ◌&&◌, Option, Some, None, All, filter, if◌then◌else◌, is_some, nat_lt}
+use Rattle.std.proofs.Common.{◌≡◌, ◌≢◌, ℕ, ◌<◌, ◌≤◌, ◌+◌, suc, List, [], ◌∷◌, ◌++◌, refl, ap, sym, subst, ◌∙◌, length, length-append, get_or, arith, eq-eqb}
+use Rattle.std.specs.Prelude.{Bool, true, false, not, ◌==◌, ◌&&◌, Option, None, All, filter, is_some, nat_lt}
 use Rattle.std.specs.List.{AllWithin}
 use Rattle.std.proofs.lemmas.Bool.{true≢false, eqb-true, ltb-true, ltb-false}
 use Rattle.std.proofs.lemmas.List.{get_or_append_left}
@@ -10,7 +10,7 @@ use Rattle.part_core.specs.Rows.{Row}
 use Rattle.part_core.proofs.KeyLemmas.{by_test}
 use Rattle.part_rows.specs.declared.place.Place.{Place}
 use Rattle.part_hash.specs.Places.{Kept, if_made, is_standing, row_of, standing}
-use Rattle.part_hash.specs.Slots.{Adds, IsAdded, IsListed, Listing, Relists, is_gone, with_gone}
+use Rattle.part_hash.specs.Slots.{IsAdded, IsListed, Listing, Relists, is_gone, with_gone}
 
 -- ---- a slot by itself
 

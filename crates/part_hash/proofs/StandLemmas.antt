@@ -1,6 +1,6 @@
 -- Rows that stand, and what the index and the slab find of them.
-use Rattle.std.proofs.Common.{◌≡◌, ℕ, List, [], ◌∷◌, refl, ap, sym, subst, ◌∙◌, arith, eq-eqb}
-use Rattle.std.specs.Prelude.{true, false, ◌==◌, Option, Some, None, MatchOption, IsTrue, IsFalse, All, is_some, unwrap_or}
+use Rattle.std.proofs.Common.{◌≡◌, ℕ, List, [], ◌∷◌, refl, ap, sym, ◌∙◌, arith, eq-eqb}
+use Rattle.std.specs.Prelude.{true, false, ◌==◌, Option, Some, None, IsTrue, All, is_some, unwrap_or}
 use Rattle.std.specs.Map.{lookup, values_of}
 use Rattle.std.specs.Option.{option_map, option_map_or}
 use Rattle.std.proofs.lemmas.Bool.{true≢false, eqb-true}

@@ -1,13 +1,12 @@
 -- Dead rows that are let go.
 use Rattle.std.proofs.Common.{◌≡◌, ◌≢◌, ℕ, ◌<◌, ◌≤◌, ◌+◌, zero, suc, List, [], ◌∷◌, refl, ap, sym, ◌∙◌, length, drop, get_or, arith, eq-eqb}
-use Rattle.std.specs.Prelude.{Bool, true, false, not, ◌==◌, ◌||◌, Option, Some, None, All, filter, nat_lt}
+use Rattle.std.specs.Prelude.{Bool, true, false, not, ◌==◌, Option, Some, None, All, filter, nat_lt}
 use Rattle.std.specs.List.{list_any}
 use Rattle.std.specs.Option.{option_map_or}
 use Rattle.std.specs.Map.{values_of}
-use Rattle.std.proofs.lemmas.Bool.{true≢false, eqb-true, ltb-true, ltb-false, not-true}
+use Rattle.std.proofs.lemmas.Bool.{true≢false, eqb-true, ltb-true, ltb-false}
 use Rattle.std.proofs.lemmas.List.Elements.{All-head, All-tail}
 use Rattle.slab.specs.Slab.{Slab, Updates, get}
-use Rattle.term_core.specs.Datum.{Datum}
 use Rattle.term_operand.specs.Order.{is_same}
 use Rattle.part_core.specs.declared.settings.Settings.{Settings}
 use Rattle.part_core.specs.Rows.{Row, is_live}

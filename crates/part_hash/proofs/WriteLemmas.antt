@@ -1,8 +1,8 @@
 -- Rows that are written, and dead ones that are noted.
-use Rattle.std.proofs.Common.{◌≡◌, ◌≢◌, ℕ, ◌<◌, ◌≤◌, ◌+◌, zero, suc, List, [], ◌∷◌, ◌++◌, refl, ap, sym, subst, ◌∙◌, length, get_or, set, get_or-set_same, get_or-set_other, arith, eq-eqb}
+use Rattle.std.proofs.Common.{◌≡◌, ◌≢◌, ℕ, ◌<◌, ◌≤◌, ◌+◌, zero, suc, List, [], ◌∷◌, ◌++◌, refl, ap, sym, subst, ◌∙◌, length, get_or, get_or-set_same, get_or-set_other, arith, eq-eqb}
 use Rattle.std.specs.Prelude.{Bool, true, false, not, ◌==◌, ◌||◌, cond, if◌then◌else◌, Option, Some, None, All, filter, is_some, map, nat_lt, slice_index_or}
-use Rattle.std.specs.List.{IsDistinct, count_by, list_any}
-use Rattle.std.specs.Map.{keys_of, lookup, values_of}
+use Rattle.std.specs.List.{IsDistinct, list_any}
+use Rattle.std.specs.Map.{lookup, values_of}
 use Rattle.std.specs.Option.{option_map, option_map_or}
 use Rattle.std.proofs.lemmas.Bool.{true≢false, eqb-true, ltb-true, ltb-false, not-true}
 use Rattle.std.proofs.lemmas.List.{length-map}
@@ -20,11 +20,10 @@ use Rattle.part_core.proofs.RowLemmas.{lookup_by, keys_by}
 use Rattle.part_rows.specs.declared.place.Place.{Place}
 use Rattle.part_hash.specs.declared.store.Store.{Store}
 use Rattle.part_hash.specs.Mixed.{mixed}
-use Rattle.part_hash.specs.Places.{Kept, Standing, is_standing, low_of, places_in, places_where, row_of, if_made, standing}
-use Rattle.part_hash.specs.Slots.{AreListed, IsListed, Listing, is_gone, listing_at}
-use Rattle.part_hash.specs.Standing.{AreAt, AreFound, AreNoted, ArePlaced, IsRising, Stands, is_noted}
-use Rattle.part_hash.specs.Swept.{is_dead_at}
-use Rattle.part_hash.proofs.StandLemmas.{IsOwn, None≢Some, all_none, all_own, own_objects, some_is}
+use Rattle.part_hash.specs.Places.{Kept, Standing, is_standing, low_of, places_in, places_where, if_made, standing}
+use Rattle.part_hash.specs.Slots.{AreListed, Listing, is_gone, listing_at}
+use Rattle.part_hash.specs.Standing.{AreAt, IsRising, Stands, is_noted}
+use Rattle.part_hash.proofs.StandLemmas.{IsOwn, None≢Some, all_none, all_own, some_is}
 
 -- ---- a slab with another value at a key
 

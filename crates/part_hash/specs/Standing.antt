@@ -1,5 +1,5 @@
 -- The rows that stand in a slab, found by an index and listed in slots.
-use Rattle.std.specs.Prelude.{ℕ, ◌≡◌, ◌<◌, ◌||◌, ◌==◌, ⊤, Bool, true, false, All, Some, List, [], ◌∷◌, length}
+use Rattle.std.specs.Prelude.{ℕ, ◌≡◌, ◌<◌, ◌||◌, ◌==◌, ⊤, Bool, true, All, Some, List, [], ◌∷◌, length}
 use Rattle.std.specs.List.{IsDistinct, list_any}
 use Rattle.std.specs.Map.{keys_of, values_of}
 use Rattle.slab.specs.Slab.{Slab, get, slab_len}

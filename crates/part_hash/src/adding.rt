@@ -1,5 +1,5 @@
 //! Rows that are added.
-ghost use Rattle.std.specs.Prelude.{ℕ, ◌≡◌, ◌<◌, ◌≤◌, ◌+◌, ◌-◌, ◌*◌, ◌%◌, ◌^◌, ◌==◌, ◌∷◌, ◌++◌, [], List, if◌then◌else◌, IsTrue, None, Some, OnOk, OnErr, IfOk, IsFalse, filter, is_some, length, map, unwrap_or};
+ghost use Rattle.std.specs.Prelude.{ℕ, ◌≡◌, ◌<◌, ◌≤◌, ◌+◌, ◌-◌, ◌*◌, ◌%◌, ◌^◌, ◌==◌, ◌∷◌, ◌++◌, [], List, if◌then◌else◌, None, Some, OnOk, OnErr, IfOk, IsFalse, IsSome, filter, length, map, unwrap_or};
 ghost use Rattle.std.specs.List.{range_with_len};
 ghost use Rattle.slab.specs.Slab.{Slab as AnySlab, HasRoomFor, Updates, get, slab_len};
 ghost use Rattle.term_core.specs.Datum.{Datum};
@@ -10,7 +10,6 @@ ghost use Rattle.part_core.specs.declared.kind.TableKind.TheVariants.{Set};
 ghost use Rattle.part_core.specs.declared.settings.Settings.{Settings as AnySettings};
 ghost use Rattle.part_core.specs.After.{slots_after};
 ghost use Rattle.part_core.specs.Rows.{Row as AnyRow, has_row};
-ghost use Rattle.part_core.specs.Settings.{is_object, key_of};
 ghost use Rattle.part_core.specs.States.{IsBase};
 ghost use Rattle.part_rows.specs.declared.place.Place.{Place as AnyPlace};
 ghost use Rattle.part_hash.specs.Mixed.{mixed as mixed_of};
@@ -23,8 +22,7 @@ use crate::places::{Slot, low_of, slot_of, spread_of};
 use crate::row::Row;
 use crate::store::Store;
 use hash_index::HashIndex;
-use part_core::{Settings, slots_with_row};
-use part_engine::key_of;
+use part_core::{Settings, slots_with_row, taken};
 use part_rows::Place;
 use slab::Slab;
 use std::alloc::{AllocError, Allocator};
@@ -65,13 +63,9 @@ fn half<A: Allocator>(alloc: A, slots: &[Slot<A>], number: usize) -> Result<Slot
     ensures { IfOk result (λ half. half ≡ half_at slots.now number) }
 {
     let count = slots.len();
-    let places = part(
-        alloc,
-        slots[number % count].places(),
-        2 * count as u64,
-        number as u64,
-    )?;
-    Ok(Slot::of(places))
+    let slot = &slots[number % count];
+    let places = part(alloc, slot.places(), 2 * count as u64, number as u64)?;
+    Ok(Slot::of(places, slot.has_gone()))
 }
 
 /// Twice as many slots. No row is looked at.
@@ -293,32 +287,19 @@ fn with_one<A: Allocator>(rows: &Slab<Row<A>, A>) -> usize
     rows.len() + 1
 }
 
-/// An object, taken from where it is.
-fn taken<A: Allocator>(object: &mut Option<Term<A>>) -> Term<A>
-    requires { IsTrue (is_some object.old) }
-    ensures object { result ≡ unwrap_or object.old nil }
-    ensures spent { object.new ≡ None }
-{
-    match object.take() {
-        Some(object) => object,
-        None => unreachable!(),
-    }
-}
-
-/// Adds a row for an object whose key has none; the key's mixed hash is known.
+/// Adds a row with an object for a key that has none; the key's mixed hash is known.
 pub(crate) fn add<A: Allocator + Copy>(
     store: &mut Store<A>,
     settings: Settings,
     mixed: u32,
+    key: Term<A>,
     object: &mut Option<Term<A>>,
 ) -> Result<(), AllocError>
-    requires object { IsTrue (is_object settings (unwrap_or object.old nil)) }
-    requires mixed { mixed ≡ mixed_of store.old.seed (key_of settings (unwrap_or object.old nil)) }
-    ensures done { OnOk result ((rows : List AnyRow)
-        → IsFalse (has_row rows (key_of settings (unwrap_or object.old nil)))
+    requires object { IsSome object.old }
+    requires mixed { mixed ≡ mixed_of store.old.seed key }
+    ensures done { OnOk result ((rows : List AnyRow) → IsFalse (has_row rows key)
         → Stands settings store.old rows
-        → Stands settings store.new
-        (rows ++ (key_of settings (unwrap_or object.old nil), unwrap_or object.old nil ∷ []) ∷ [])
+        → Stands settings store.new (rows ++ (key, unwrap_or object.old nil ∷ []) ∷ [])
         × (length store.new.slots.items ≡ slots_after Set (length rows) (length rows + 1)
         (length store.old.slots.items))) }
     ensures spent { OnOk result (object.new ≡ None) }
@@ -329,7 +310,6 @@ pub(crate) fn add<A: Allocator + Copy>(
 {
     reserve(store)?;
     let at = vacant(&store.rows)?;
-    let key = key_of(settings, object).copy()?;
     let hash = key.key_hash();
     let Some(made) = store.made.checked_add(1) else {
         return Err(AllocError);

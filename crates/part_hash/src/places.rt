@@ -23,6 +23,8 @@ pub struct Slot<A: Allocator> {
     gone: u32,
     // How many places at the front are known to be of rows that have gone.
     front: u32,
+    // Whether there may be places of rows that have gone beside those that are counted.
+    uncounted: bool,
 }
 
 impl<A: Allocator> Model for Slot<A> {
@@ -93,18 +95,24 @@ fn is_standing<A: Allocator>(rows: &Slab<Row<A>, A>, place: Place) -> bool
     row_at(rows, place).is_some()
 }
 
-/// The first place from one on at which a row stands, or how many places there are.
-fn first_standing<A: Allocator>(rows: &Slab<Row<A>, A>, places: &[Place], from: usize) -> usize
-    requires { from ≤ length places.now }
-    ensures within { result ≤ length places.now }
+/// The first place from one on at which a row stands, or the end up to which is looked.
+fn first_standing<A: Allocator>(
+    rows: &Slab<Row<A>, A>,
+    places: &[Place],
+    from: usize,
+    end: usize,
+) -> usize
+    requires from { from ≤ end }
+    requires end { end ≤ length places.now }
+    ensures within { result ≤ end }
     ensures gone { AllWithin (λ p. is_standing rows.now p ≡ false) places.now from result }
 {
-    for number in from..places.len() {
+    for number in from..end {
         if is_standing(rows, places[number]) {
             return number;
         }
     }
-    places.len()
+    end
 }
 
 /// A number, or the greatest of 32 bits where it is greater.
@@ -146,11 +154,12 @@ impl<A: Allocator> Slot<A> {
             places: Vec::new(alloc),
             gone: 0,
             front: 0,
+            uncounted: false,
         }
     }
 
-    /// A slot with these places.
-    pub fn of(places: Vec<Place, A>) -> Self
+    /// A slot with these places. None is counted as gone; `uncounted` says whether some may have.
+    pub fn of(places: Vec<Place, A>, uncounted: bool) -> Self
         requires { AreRising places.items }
         ensures { result ≡ (places.items, 0, 0) }
     {
@@ -158,6 +167,7 @@ impl<A: Allocator> Slot<A> {
             places,
             gone: 0,
             front: 0,
+            uncounted,
         }
     }
 
@@ -167,6 +177,11 @@ impl<A: Allocator> Slot<A> {
         ensures rising { AreRising result.now }
     {
         self.places.as_slice()
+    }
+
+    /// Whether some of the places may be of rows that have gone.
+    pub fn has_gone(&self) -> bool {
+        0 < self.gone || self.uncounted
     }
 
     /// The places from the first on that isn't known to be of a row that has gone.
@@ -236,6 +251,7 @@ impl<A: Allocator> Slot<A> {
         self.places.clear();
         self.gone = 0;
         self.front = 0;
+        self.uncounted = false;
     }
 
     /// Lets the places go at which no row stands.
@@ -245,6 +261,7 @@ impl<A: Allocator> Slot<A> {
         self.places.retain(|place| is_standing(rows, *place));
         self.gone = 0;
         self.front = 0;
+        self.uncounted = false;
     }
 
     /// Where the row of the place at the front has gone, before which so many were made, that place and those behind it
@@ -254,7 +271,22 @@ impl<A: Allocator> Slot<A> {
     {
         let front = self.front as usize;
         if self.is_front(made) {
-            self.front = capped(first_standing(rows, self.places.as_slice(), front));
+            let end = self.end_of_gone();
+            self.front = capped(first_standing(rows, self.places.as_slice(), front, end));
+        }
+    }
+
+    /// How far places of rows that have gone may reach, where that at the front is of one: no further than that where all
+    /// that have gone are counted and stand at the front.
+    fn end_of_gone(&self) -> usize
+        ensures front { self.now.2 ≤ result }
+        ensures within { result ≤ length self.now.0 }
+    {
+        let behind = self.front as usize + 1;
+        if self.uncounted || behind < self.gone as usize {
+            self.places.len()
+        } else {
+            behind.min(self.places.len())
         }
     }
 

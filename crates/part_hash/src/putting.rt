@@ -1,5 +1,5 @@
 //! Objects that are put in.
-ghost use Rattle.std.specs.Prelude.{◌≡◌, ◌<◌, ℕ, List, Some, None, [], IfOk, IsFalse, IsSome, IsTrue, OnOk, OnErr, false, if◌then◌else◌, is_some, length, unwrap_or};
+ghost use Rattle.std.specs.Prelude.{◌≡◌, ◌<◌, ℕ, List, Some, None, [], IfOk, IsErrOf, IsFalse, IsSome, IsTrue, OnOk, OnErr, false, if◌then◌else◌, is_some, length, unwrap_or};
 ghost use Rattle.std.specs.Map.{lookup};
 ghost use Rattle.std.specs.Option.{option_map_or};
 ghost use Rattle.slab.specs.Slab.{get, with_value};
@@ -20,7 +20,7 @@ use crate::row::Row;
 use crate::store::Store;
 use part_core::{Settings, TableKind};
 use part_engine::key_of;
-use part_rows::Put;
+use part_rows::{Put, PutFault};
 use slab::Slab;
 use std::alloc::{AllocError, Allocator};
 use term_core::Term;
@@ -93,14 +93,16 @@ fn put_into<A: Allocator + Copy>(
 }
 
 /// Puts an object in, as the kind of table has it: in any case if it `replaces`, else if its key has none. Says what
-/// became of the key's row.
+/// became of the key's row; what is no object is refused.
 pub(crate) fn put<A: Allocator + Copy>(
     store: &mut Store<A>,
     settings: Settings,
     object: &mut Option<Term<A>>,
     replaces: bool,
-) -> Result<Put, AllocError>
-    requires { IsTrue (is_object settings (unwrap_or object.old nil)) }
+) -> Result<Put, PutFault>
+    ensures object { IfOk result (λ _. IsTrue (is_object settings (unwrap_or object.old nil))) }
+    ensures no_object { IsErrOf result PutFault.NoObject → IsFalse (is_object settings (unwrap_or object.old nil)) }
+    ensures scarce { IsErrOf result PutFault.Memory → IsTrue (is_object settings (unwrap_or object.old nil)) }
     ensures done { IfOk result (λ put. (rows : List AnyRow) → IsFalse (is_ordered settings.kind)
         → Stands settings store.old rows
         → (put ≡ put_at replaces (lookup (is_same (key_of settings (unwrap_or object.old nil))) rows))
@@ -114,7 +116,9 @@ pub(crate) fn put<A: Allocator + Copy>(
         → Stands settings store.old rows → Stands settings store.new rows) }
     ensures slots { OnErr result (length store.new.slots.items ≡ length store.old.slots.items) }
 {
-    let key = key_of(settings, object);
+    let Some(key) = key_of(settings, object) else {
+        return Err(PutFault::NoObject);
+    };
     let mixed = mixed(store.seed, key);
     match store.find(mixed, key) {
         Some(at) => {
@@ -122,7 +126,8 @@ pub(crate) fn put<A: Allocator + Copy>(
             Ok(put)
         }
         None => {
-            add(store, settings, mixed, object)?;
+            let key = key.copy()?;
+            add(store, settings, mixed, key, object)?;
             Ok(Put::Done)
         }
     }

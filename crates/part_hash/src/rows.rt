@@ -10,7 +10,7 @@ use crate::removing::{exchange, keep_live};
 use crate::store::Store;
 use crate::walking::{first_live, live_past};
 use part_core::{Held, Scope, Settings, TableKind};
-use part_rows::{Place, Put, Rows, SeenRow};
+use part_rows::{Place, Put, PutFault, Rows, SeenRow};
 use std::alloc::{AllocError, Allocator, Global};
 use term_core::Term;
 
@@ -63,7 +63,7 @@ impl<A: Allocator + Copy> Rows<A> for HashRows<A> {
         settings: Settings,
         object: &mut Option<Term<A>>,
         replaces: bool,
-    ) -> Result<Put, AllocError> {
+    ) -> Result<Put, PutFault> {
         let put = put(&mut self.store, settings, object, replaces)?;
         Ok(put)
     }

@@ -1,6 +1,6 @@
 -- What writing in a tree leaves of its rows.
 use Rattle.std.proofs.Common.{◌≡◌, List, [], ◌∷◌, refl, ap, sym, ◌∙◌}
-use Rattle.std.specs.Prelude.{true, false}
+use Rattle.std.specs.Prelude.{Bool, true, false, not, Option, Some, None}
 use Rattle.std.specs.List.{IsDistinct, AllByRecursion}
 use Rattle.std.specs.List.Sorted.{IsStrictlySortedBy}
 use Rattle.std.specs.Map.{keys_of, set_value}
@@ -22,6 +22,8 @@ use Rattle.part_core.specs.Rows.{Row, has_row, rows_at_key, with_object}
 use Rattle.part_core.proofs.KeyLemmas.{by_test}
 use Rattle.part_core.proofs.RowLemmas.{unwritten}
 use Rattle.part_core.proofs.KeyedLemmas.{no_other}
+use Rattle.part_rows.specs.declared.put.Put.TheVariants.{Kept}
+use Rattle.part_rows.specs.Puts.{is_put, put_at}
 
 -- ---- what is written at a key
 
@@ -73,3 +75,28 @@ put_in o t rows kind s =
     by_test (has_row rows (key_of o t)) _
     (λ there. put_over (key_of o t) (t ∷ []) rows s (IsDistinct-from_sorted datum_cmp (keys_of rows) s) there ∙ sym (with_there o t rows kind there))
     (λ none. sym (with_new o t rows kind none))
+
+-- ---- what becomes of a row
+
+-- what replaces is put in, whatever there is
+pub always_put : (found : Option (List Datum)) → is_put (put_at true found) ≡ true
+always_put None = refl
+always_put (Some []) = refl
+always_put (Some (t ∷ os)) = refl
+
+pub none_stays : (replaces : Bool) (found : Option (List Datum)) → replaces ≡ true → false ≡ not (is_put (put_at replaces found))
+none_stays replaces found all = rw all (ap not (sym (always_put found)))
+
+-- what stays is kept
+pub stays_there : (replaces : Bool) (found : Option (List Datum)) → not (is_put (put_at replaces found)) ≡ true → Kept ≡ put_at replaces found
+stays_there replaces None stays = absurd (true≢false (sym stays))
+stays_there replaces (Some []) stays = absurd (true≢false (sym stays))
+stays_there true (Some (t ∷ os)) stays = absurd (true≢false (sym stays))
+stays_there false (Some (t ∷ os)) stays = refl
+
+-- where nothing stays, all becomes of the row that becomes of one which is replaced
+pub goes_over : (replaces : Bool) (found : Option (List Datum)) → not (is_put (put_at replaces found)) ≡ false → put_at true found ≡ put_at replaces found
+goes_over replaces None goes = refl
+goes_over replaces (Some []) goes = refl
+goes_over true (Some (t ∷ os)) goes = refl
+goes_over false (Some (t ∷ os)) goes = absurd (true≢false goes)

@@ -1,9 +1,9 @@
 //! Rows in a tree.
 use crate::looking::{first_key, gather, key_behind, look};
-use crate::tree::{Tree, goes, keep_live, put_back, put_down, swap_held};
+use crate::tree::{Tree, goes, keep_live, put_back, put_down, put_over, swap_held};
 use part_core::{FIRST_SLOTS, Held, Scope, Settings, TableKind};
 use part_engine::key_of;
-use part_rows::{Place, Put, Rows, SeenRow};
+use part_rows::{Place, Put, PutFault, Rows, SeenRow};
 use std::alloc::{AllocError, Allocator, Global};
 use std::marker::Model;
 use term_core::Term;
@@ -28,7 +28,7 @@ impl<A: Allocator> Model for OrderRows<A> {
 }
 
 impl<A: Allocator> OrderRows<A> {
-    ghost use Rattle.std.specs.Prelude.{◌≡◌, [], ◌∷◌, None, IfOk, OnOk, OnErr, IsSome, IsTrue, if◌then◌else◌, unwrap_or};
+    ghost use Rattle.std.specs.Prelude.{◌≡◌, [], ◌∷◌, None, true, not, IfOk, IsErrOf, OnOk, OnErr, IsSome, IsTrue, IsFalse, if◌then◌else◌, unwrap_or};
     ghost use Rattle.std.specs.BTreeMap.{insert_entry};
     ghost use Rattle.std.specs.List.Sorted.{IsStrictlySortedBy};
     ghost use Rattle.std.specs.Map.{keys_of, lookup, remove_entry, set_value};
@@ -62,11 +62,23 @@ impl<A: Allocator> OrderRows<A> {
         true
     }
 
-    /// Puts an object in at a key, in the place of what is held of that. For want of memory the object goes back.
-    fn put_row(&mut self, key: Term<A>, object: &mut Option<Term<A>>) -> Result<(), AllocError>
+    /// Whether what is held of a key stays where an object is put in: it has one, and that isn't replaced.
+    fn stays(&self, key: &Term<A>, replaces: bool) -> bool
+        ensures { result ≡ not (is_put (put_at replaces (lookup (is_same key.now) self.now))) }
+    {
+        if replaces {
+            return false;
+        }
+        !Put::over(self.tree.get(key), replaces).is_done()
+    }
+
+    /// Puts an object in at a key, in the place of what is held of that, and says what became of the key's row. For
+    /// want of memory the object goes back.
+    fn put_row(&mut self, key: Term<A>, object: &mut Option<Term<A>>) -> Result<Put, AllocError>
     where
         A: Copy,
         requires { IsSome object.old }
+        ensures put { IfOk result (λ put. put ≡ put_at true (lookup (is_same key) self.old)) }
         ensures ordered { IsStrictlySortedBy datum_cmp (keys_of self.old) }
         ensures rows { OnOk result (self.new ≡ insert_entry datum_cmp self.old key (unwrap_or object.old nil ∷ [])) }
         ensures spent { OnOk result (object.new ≡ None) }
@@ -77,10 +89,7 @@ impl<A: Allocator> OrderRows<A> {
             unreachable!();
         };
         match self.tree.insert(key, Held::one(taken)) {
-            Ok(replaced) => {
-                drop(replaced);
-                Ok(())
-            }
+            Ok(replaced) => Ok(put_over(replaced)),
             Err(failed) => {
                 put_back(object, failed.value);
                 Err(AllocError)
@@ -89,16 +98,18 @@ impl<A: Allocator> OrderRows<A> {
     }
 
     /// Puts an object in, unless its key has one that it doesn't replace, and says what became of its key's row. It is
-    /// taken either way, but for want of memory.
+    /// taken either way, but for want of memory; what is no object is refused.
     fn put_object(
         &mut self,
         settings: Settings,
         object: &mut Option<Term<A>>,
         replaces: bool,
-    ) -> Result<Put, AllocError>
+    ) -> Result<Put, PutFault>
     where
         A: Copy,
-        requires { IsTrue (is_object settings (unwrap_or object.old nil)) }
+        ensures object { IfOk result (λ _. IsTrue (is_object settings (unwrap_or object.old nil))) }
+        ensures no_object { IsErrOf result PutFault.NoObject → IsFalse (is_object settings (unwrap_or object.old nil)) }
+        ensures scarce { IsErrOf result PutFault.Memory → IsTrue (is_object settings (unwrap_or object.old nil)) }
         ensures put { IfOk result (λ put. put
             ≡ put_at replaces (lookup (is_same (key_of settings (unwrap_or object.old nil))) self.old)) }
         ensures rows { IfOk result (λ put. settings.kind ≡ OrderedSet
@@ -107,14 +118,15 @@ impl<A: Allocator> OrderRows<A> {
         ensures back { OnErr result (object.new ≡ object.old) }
         ensures refused { OnErr result (self.new ≡ self.old) }
     {
-        let key = key_of(settings, object);
-        let put = Put::over(self.tree.get(key), replaces);
-        if !put.is_done() {
+        let Some(key) = key_of(settings, object) else {
+            return Err(PutFault::NoObject);
+        };
+        if self.stays(key, replaces) {
             drop(object.take());
-            return Ok(put);
+            return Ok(Put::Kept);
         }
         let key = key.copy()?;
-        self.put_row(key, object)?;
+        let put = self.put_row(key, object)?;
         Ok(put)
     }
 }
@@ -155,7 +167,7 @@ impl<A: Allocator + Copy> Rows<A> for OrderRows<A> {
         settings: Settings,
         object: &mut Option<Term<A>>,
         replaces: bool,
-    ) -> Result<Put, AllocError> {
+    ) -> Result<Put, PutFault> {
         let put = self.put_object(settings, object, replaces)?;
         Ok(put)
     }

@@ -1,11 +1,13 @@
 //! A tree of rows, found by their keys.
-ghost use Rattle.std.specs.Prelude.{◌≡◌, ◌&&◌, [], ◌∷◌, Some, filter, not, if◌then◌else◌};
+ghost use Rattle.std.specs.Prelude.{◌≡◌, ◌&&◌, [], ◌∷◌, Some, true, filter, not, if◌then◌else◌};
 ghost use Rattle.std.specs.Map.{set_value};
 ghost use Rattle.term_core.specs.Datum.{Datum};
 ghost use Rattle.term_operand.specs.Order.{is_same};
 ghost use Rattle.part_core.specs.Rows.{has_row, is_empty, objects_at};
+ghost use Rattle.part_rows.specs.Puts.{put_at};
 
 use part_core::Held;
+use part_rows::Put;
 use std::alloc::Allocator;
 use std::collections::BTreeMap;
 use std::mem;
@@ -19,6 +21,13 @@ pub(crate) fn put_down<A: Allocator>(place: &mut Held<A>, held: Held<A>)
     ensures { place.new ≡ held }
 {
     drop(mem::replace(place, held));
+}
+
+/// What became of the row of a key at which an object took the place of what was held, none where it had no row.
+pub(crate) fn put_over<A: Allocator>(replaced: Option<Held<A>>) -> Put
+    ensures { result ≡ put_at true replaced }
+{
+    Put::over(replaced.as_ref(), true)
 }
 
 /// Puts the object of a row that was made and not put in back where it was taken from.

@@ -1,5 +1,5 @@
 //! Objects that are put in.
-ghost use Rattle.std.specs.Prelude.{vec_len, ◌≡◌, ◌<◌, None, if◌then◌else◌, length, unwrap_or, IsTrue, IsFalse, IfOk, List, OnOk, OnErr};
+ghost use Rattle.std.specs.Prelude.{vec_len, ◌≡◌, ◌<◌, None, if◌then◌else◌, length, unwrap_or, IsTrue, IsFalse, IfOk, IsErrOf, List, OnOk, OnErr};
 ghost use Rattle.std.specs.List.{IsDistinct};
 ghost use Rattle.std.specs.Map.{keys_of, lookup};
 ghost use Rattle.term_core.specs.Datum.{Datum};
@@ -14,7 +14,7 @@ ghost use Rattle.part_engine.specs.Sets.{with_key};
 use crate::places::place_of;
 use part_core::Settings;
 use part_engine::{HashedRow, key_of};
-use part_rows::Put;
+use part_rows::{Put, PutFault};
 use std::alloc::{AllocError, Allocator};
 use term_core::Term;
 
@@ -39,13 +39,15 @@ fn place_for<A: Allocator + Copy>(
     }
 }
 
-/// The place of the row of an object's key.
+/// The place of the row of an object's key. What is no object is refused.
 fn place_of_object<A: Allocator + Copy>(
     settings: Settings,
     rows: &mut Vec<HashedRow<A>, A>,
     object: &Option<Term<A>>,
-) -> Result<usize, AllocError>
-    requires { IsTrue (is_object settings (unwrap_or object.now nil)) }
+) -> Result<usize, PutFault>
+    ensures object { IfOk result (λ _. IsTrue (is_object settings (unwrap_or object.now nil))) }
+    ensures no_object { IsErrOf result PutFault.NoObject → IsFalse (is_object settings (unwrap_or object.now nil)) }
+    ensures scarce { IsErrOf result PutFault.Memory → IsTrue (is_object settings (unwrap_or object.now nil)) }
     ensures rows { OnOk result (rows.new.items
         ≡ with_key (key_of settings (unwrap_or object.now nil)) rows.old.items) }
     ensures place { IfOk result (λ place.
@@ -53,7 +55,11 @@ fn place_of_object<A: Allocator + Copy>(
     ensures within { IfOk result (λ place. place < vec_len rows.new) }
     ensures refused { OnErr result (rows.new.items ≡ rows.old.items) }
 {
-    place_for(rows, key_of(settings, object))
+    let Some(key) = key_of(settings, object) else {
+        return Err(PutFault::NoObject);
+    };
+    let place = place_for(rows, key)?;
+    Ok(place)
 }
 
 /// What becomes of the row of a key at its place, where there were so many rows before one was added for it.
@@ -72,14 +78,16 @@ fn put_over<A: Allocator>(rows: &[HashedRow<A>], place: usize, before: usize, re
 }
 
 /// Puts an object in, as the kind of table has it: in any case if it `replaces`, else if its key has none. Says what
-/// became of its key's row.
+/// became of its key's row; what is no object is refused.
 pub(crate) fn put<A: Allocator + Copy>(
     settings: Settings,
     rows: &mut Vec<HashedRow<A>, A>,
     object: &mut Option<Term<A>>,
     replaces: bool,
-) -> Result<Put, AllocError>
-    requires { IsTrue (is_object settings (unwrap_or object.old nil)) }
+) -> Result<Put, PutFault>
+    ensures object { IfOk result (λ _. IsTrue (is_object settings (unwrap_or object.old nil))) }
+    ensures no_object { IsErrOf result PutFault.NoObject → IsFalse (is_object settings (unwrap_or object.old nil)) }
+    ensures scarce { IsErrOf result PutFault.Memory → IsTrue (is_object settings (unwrap_or object.old nil)) }
     ensures put { IfOk result (λ put. put
         ≡ put_at replaces (lookup (is_same (key_of settings (unwrap_or object.old nil))) rows.old.items)) }
     ensures rows { IfOk result (λ put. IsFalse (is_ordered settings.kind) → IsDistinct is_same (keys_of rows.old.items)

@@ -12,7 +12,7 @@ use crate::putting::put;
 use crate::walking::{first_live, live_past};
 use part_core::{FIRST_SLOTS, Held, Scope, Settings, TableKind, slots_with_row};
 use part_engine::HashedRow;
-use part_rows::{Place, Put, Rows, SeenRow};
+use part_rows::{Place, Put, PutFault, Rows, SeenRow};
 use std::alloc::{AllocError, Allocator, Global};
 use term_core::Term;
 
@@ -77,7 +77,7 @@ impl<A: Allocator + Copy> Rows<A> for PlainRows<A> {
         settings: Settings,
         object: &mut Option<Term<A>>,
         replaces: bool,
-    ) -> Result<Put, AllocError> {
+    ) -> Result<Put, PutFault> {
         let before = self.rows.as_slice().len();
         let put = put(settings, &mut self.rows, object, replaces)?;
         self.slots = slots_after(self.rows.as_slice(), before, self.slots);

@@ -1,6 +1,6 @@
 -- How many rows are dead, by what is written.
 use Rattle.std.proofs.Common.{◌≡◌, ℕ, ◌+◌, ◌-◌, ◌≤◌, ◌<◌, List, [], ◌∷◌, ◌++◌, refl, ap, sym, subst, ◌∙◌, length, arith}
-use Rattle.std.specs.Prelude.{Bool, true, false, not, ◌||◌, ◌^◌, if◌then◌else◌, min, Option, Some, None, unwrap_or, option_map, is_some, filter, IsTrue}
+use Rattle.std.specs.Prelude.{Bool, true, false, not, ◌||◌, ◌^◌, if◌then◌else◌, min, Option, Some, None, unwrap_or, option_map, is_some, filter}
 use Rattle.std.specs.BTreeMap.{insert_entry}
 use Rattle.std.specs.List.{IsDistinct}
 use Rattle.std.specs.List.Sorted.{IsStrictlySortedBy}

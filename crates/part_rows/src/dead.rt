@@ -1,14 +1,15 @@
 //! Dead rows, which are counted beside the rows.
-ghost use Rattle.std.specs.Prelude.{◌≡◌, ◌||◌, None, IsTrue, IfOk, OnOk, OnErr, if◌then◌else◌, unwrap_or};
+ghost use Rattle.std.specs.Prelude.{◌≡◌, ◌||◌, None, IsTrue, IsFalse, IfOk, IsErrOf, OnOk, OnErr, if◌then◌else◌, unwrap_or};
 ghost use Rattle.term_core.specs.Datum.Datum.{nil};
 ghost use Rattle.part_core.specs.Settings.{is_object, key_of};
 ghost use Rattle.part_core.specs.Rows.{has_row, is_empty, objects_at};
 ghost use Rattle.part_rows.specs.Dead.{Keeps, one_dead};
 ghost use Rattle.part_rows.specs.Shown.{Shown, AreSound, shown_with, shown_exchanged};
 
+use crate::put::PutFault;
 use crate::rows::Rows;
 use part_core::{Held, Settings};
-use std::alloc::{AllocError, Allocator};
+use std::alloc::Allocator;
 use term_core::Term;
 
 /// How many dead rows a row is: one where nothing is held of its key.
@@ -26,15 +27,17 @@ fn dead_coming<A: Allocator>(held: &Held<A>, keeps: bool) -> usize
 }
 
 /// Puts an object in, unless its key has one and it doesn't replace that, and says whether it was put in. A dead row of
-/// its key is live then, and counted no more.
+/// its key is live then, and counted no more. What is no object is refused.
 pub fn put_counted<R: Rows<A>, A: Allocator>(
     rows: &mut R,
     dead: &mut usize,
     settings: Settings,
     object: &mut Option<Term<A>>,
     replaces: bool,
-) -> Result<bool, AllocError>
-    requires { IsTrue (is_object settings (unwrap_or object.old nil)) }
+) -> Result<bool, PutFault>
+    ensures object { IfOk result (λ _. IsTrue (is_object settings (unwrap_or object.old nil))) }
+    ensures no_object { IsErrOf result PutFault.NoObject → IsFalse (is_object settings (unwrap_or object.old nil)) }
+    ensures scarce { IsErrOf result PutFault.Memory → IsTrue (is_object settings (unwrap_or object.old nil)) }
     ensures put { IfOk result (λ put. (w : Shown) → Keeps R.shows settings rows.old dead.old w → AreSound settings w
         → (put ≡ (replaces || is_empty (objects_at w.rows (key_of settings (unwrap_or object.old nil)))))
         × Keeps R.shows settings rows.new dead.new

@@ -1,10 +1,11 @@
-//! What putting an object in makes of the row of its key.
+//! What putting an object in makes of the row of its key, and why one isn't put in.
 ghost use Rattle.std.specs.Prelude.{◌≡◌, Some};
 ghost use Rattle.std.specs.Option.{option_copied};
 ghost use Rattle.part_rows.specs.Puts.{is_put, put_at, revived};
 
-use part_core::Held;
-use std::alloc::Allocator;
+use part_core::{Fault, Held};
+use std::alloc::{AllocError, Allocator};
+use thiserror::Error;
 
 /// What became of the row of a key when an object was put in.
 #[derive(Clone, Copy)]
@@ -15,6 +16,42 @@ pub enum Put {
     Revived,
     /// The object was put into a live row of its key, or into a row that was added.
     Done,
+}
+
+/// Why nothing was put in.
+#[derive(Clone, Copy, Debug, PartialEq, Eq, Error)]
+pub enum PutFault {
+    /// No memory was given.
+    #[error("out of memory")]
+    Memory,
+    /// It is no object: no tuple with an element at the key's place.
+    #[error("the term is no object")]
+    NoObject,
+}
+
+impl From<AllocError> for PutFault {
+    ghost use Rattle.std.specs.Prelude.{◌≡◌};
+    ghost use Rattle.part_rows.specs.declared.put.PutFault.TheVariants.{Memory};
+
+    ghost from_gives = { λ _ fault. fault ≡ Memory };
+
+    fn from(_: AllocError) -> Self {
+        PutFault::Memory
+    }
+}
+
+impl From<PutFault> for Fault {
+    ghost use Rattle.std.specs.Prelude.{◌≡◌};
+    ghost use Rattle.part_rows.specs.Puts.{fault_of};
+
+    ghost from_gives = { λ given fault. fault ≡ fault_of given };
+
+    fn from(fault: PutFault) -> Self {
+        match fault {
+            PutFault::Memory => Fault::Memory,
+            PutFault::NoObject => Fault::TooSmall,
+        }
+    }
 }
 
 /// What becomes of a row of which this is held.

@@ -1,5 +1,5 @@
 //! What every sort of rows keeps.
-ghost use Rattle.std.specs.Prelude.{◌≡◌, ◌<◌, ◌-◌, ◌^◌, ◌||◌, ◌++◌, Bool, IsTrue, Option, None, IfOk, IfSome, OnOk, OnErr, if◌then◌else◌, unwrap_or, filter_map, flat_map, length};
+ghost use Rattle.std.specs.Prelude.{◌≡◌, ◌<◌, ◌-◌, ◌^◌, ◌||◌, ◌++◌, Bool, IsTrue, IsFalse, Option, None, IfOk, IfSome, IsErrOf, OnOk, OnErr, if◌then◌else◌, unwrap_or, filter_map, flat_map, length};
 ghost use Rattle.std.specs.Map.{lookup};
 ghost use Rattle.std.specs.Option.{option_copied};
 ghost use Rattle.term_core.specs.Datum.Datum.{nil};
@@ -17,7 +17,7 @@ ghost use Rattle.part_rows.specs.Puts.{put_at, is_put};
 ghost use Rattle.part_rows.specs.Looks.{is_placed, looked_at};
 
 use crate::place::Place;
-use crate::put::Put;
+use crate::put::{Put, PutFault};
 use crate::seen::SeenRow;
 use part_core::{Held, Scope, Settings, TableKind};
 use std::alloc::{AllocError, Allocator};
@@ -54,14 +54,16 @@ pub trait Rows<A: Allocator>: Sized {
             → option_copied result ≡ lookup (is_same key.now) w.rows };
 
     /// Puts an object in, unless its key has one and it doesn't replace that: the object is taken in either case, and
-    /// the answer says what became of the key's row.
+    /// the answer says what became of the key's row. What is no object is refused, and nothing is taken then.
     fn put(
         &mut self,
         settings: Settings,
         object: &mut Option<Term<A>>,
         replaces: bool,
-    ) -> Result<Put, AllocError>
-        requires { IsTrue (is_object settings (unwrap_or object.old nil)) }
+    ) -> Result<Put, PutFault>
+        ensures object { IfOk result (λ _. IsTrue (is_object settings (unwrap_or object.old nil))) }
+        ensures no_object { IsErrOf result PutFault.NoObject → IsFalse (is_object settings (unwrap_or object.old nil)) }
+        ensures scarce { IsErrOf result PutFault.Memory → IsTrue (is_object settings (unwrap_or object.old nil)) }
         ensures put { IfOk result (λ put. (w : Shown) → shows settings self.old w → AreSound settings w
             → (put ≡ put_at replaces (lookup (is_same (key_of settings (unwrap_or object.old nil))) w.rows))
             × shows settings self.new (if is_put put then shown_with settings (unwrap_or object.old nil) w else w)) }

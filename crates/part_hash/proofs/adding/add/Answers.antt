@@ -1,7 +1,7 @@
-use Rattle.std.proofs.Common.{rules, arith, ◌≡◌, ◌<◌, ◌-◌, ◌+◌, ◌%◌, ◌^◌, ◌++◌, List, [], ◌∷◌, refl, ap, sym, subst, ◌∙◌, length}
+use Rattle.std.proofs.Common.{rules, arith, ◌≡◌, ◌<◌, ◌-◌, ◌+◌, ◌^◌, ◌++◌, List, [], ◌∷◌, refl, ap, sym, subst, ◌∙◌, length}
 use Rattle.std.specs.Prelude.{Some, None, unwrap_or}
 use Rattle.std.proofs.lemmas.Result.{err_from_is_err_and}
-use Rattle.slab.specs.Slab.{Slab, Updates, get, slab_len}
+use Rattle.slab.specs.Slab.{Updates, get, slab_len}
 use Rattle.term_core.specs.Datum.{Datum}
 use Rattle.term_core.specs.Datum.Datum.{nil}
 use Rattle.term_core.specs.KeyHash.{key_hash}
@@ -9,27 +9,25 @@ use Rattle.hash_index.specs.Index.{Puts, cells}
 use Rattle.part_core.specs.declared.kind.TableKind.TheVariants.{Set}
 use Rattle.part_core.specs.After.{slots_after}
 use Rattle.part_core.specs.Rows.{Row}
-use Rattle.part_core.specs.Settings.{key_of}
 use Rattle.part_rows.specs.declared.place.Place.{Place}
 use Rattle.part_hash.specs.Mixed.{mixed}
 use Rattle.part_hash.specs.Places.{Kept, low_of}
 use Rattle.part_hash.specs.Slots.{AreListed, Listing}
-use Rattle.part_hash.proofs.AddLemmas.{grown_by_one, is_added, some_object, stands_more}
+use Rattle.part_hash.proofs.AddLemmas.{grown_by_one, is_added, stands_more}
 use Rattle.part_hash.proofs.adding.add.Goals as goal
 
 pub returns-clause-done : goal.returns-clause-done
 returns-clause-done g c = λ rows none stands.
     let o = c.args.settings in
     let object : Datum = unwrap_or c.args.object.now nil in
-    let key : Datum = key_of o object in
+    let key : Datum = c.args.key in
     let row : Row = (key, object ∷ []) in
     let s = c.reserve.ensures.kept o rows stands in
     let store = c.reserve.new.store in
     let t = c.enter-passed.new.store in
     let p : Place = record { made = store.made; at = c.in_ok-at.at; low = c.low_of.result } in
-    let own : c.in_ok-key.key ≡ key = c.in_ok-key.ensures ∙ c.key_of.ensures in
-    let hash : c.key_hash-hash.result ≡ key_hash key = c.key_hash-hash.ensures ∙ ap key_hash own in
-    let row_is : c.new-row.result ≡ (row, store.made) = c.new-row.ensures ∙ ap (λ (k : Datum). ((k, c.taken.result ∷ []), store.made)) own ∙ ap (λ (d : Datum). ((key, d ∷ []), store.made)) c.taken.ensures.object in
+    let hash : c.key_hash-hash.result ≡ key_hash key = c.key_hash-hash.ensures in
+    let row_is : c.new-row.result ≡ (row, store.made) = c.new-row.ensures ∙ ap (λ (d : Datum). ((key, d ∷ []), store.made)) c.taken.ensures.object in
     let vacant : get store.rows p.at ≡ None = c.in_ok-at.ensures.none in
     let updates : Updates store.rows t.rows p.at (Some (row, p.made)) = subst (λ i. Updates store.rows t.rows i (Some (row, p.made))) (sym c.in_ok-at.ensures.at) (subst (λ (r : Kept). Updates store.rows t.rows store.rows.vacant_key (Some r)) row_is c.enter-passed.ensures.rows) in
     let low : p.low ≡ low_of o key = search rules in
@@ -40,9 +38,6 @@ returns-clause-done g c = λ rows none stands.
       c.keep_short.ensures.kept o (rows ++ row ∷ []) entered,
       c.keep_short.ensures.slots ∙ ap length c.enter-passed.ensures.slots ∙ c.in_ok-enlist.ensures.slots ∙ ap (λ n. slots_after Set (n - 1) n (length store.slots.items)) c.with_one-count.ensures ∙ grown_by_one (slab_len store.rows) (length rows) (length store.slots.items) (length c.args.store.now.slots.items) s.count c.reserve.ensures.slots,
     )
-
-pub same-key : goal.same-key
-same-key g c = refl
 
 pub low_of-requires : goal.low_of-requires
 low_of-requires g c = c.spread_of.ensures.some
@@ -61,9 +56,6 @@ invariant_of-store g c = record {
   is_base = c.enlist.ensures.base;
   only = λ mixed at has. c.reserve.new.store.only mixed at has;
 }
-
-pub taken-requires : goal.taken-requires
-taken-requires g c = some_object c.args.settings c.args.object.now c.requires.object
 
 pub enter-passed-requires-clause-rows : goal.enter-passed-requires-clause-rows
 enter-passed-requires-clause-rows g c = c.in_ok-reserve.ensures.rows
@@ -89,3 +81,9 @@ returns-in_err-enlist-clause-refused g c =
       count = s.count;
       noted = s.noted;
     })
+
+pub same-key : goal.same-key
+same-key g c = refl
+
+pub taken-requires : goal.taken-requires
+taken-requires g c = c.requires.object

@@ -1,6 +1,5 @@
-use Rattle.std.proofs.Common.{◌++◌, ◌∷◌, [], List, ap, sym, ◌∙◌, arith}
+use Rattle.std.proofs.Common.{◌++◌, ◌∷◌, [], ap, sym, ◌∙◌, arith}
 use Rattle.std.proofs.lemmas.List.FromFn.{map-range_with_len_more}
-use Rattle.part_rows.specs.declared.place.Place.{Place}
 use Rattle.part_hash.specs.Slots.{half_at}
 use Rattle.part_hash.proofs.adding.doubled.Goals as goal
 

@@ -1,4 +1,4 @@
-use Rattle.std.proofs.Common.{rules, ◌≡◌, ◌+◌, ◌++◌, List, [], ◌∷◌, ap, sym, subst}
+use Rattle.std.proofs.Common.{rules, ◌≡◌, ◌+◌, ◌++◌, List, [], ◌∷◌, sym, subst}
 use Rattle.part_hash.specs.Slots.{AreListed, Listing}
 use Rattle.part_hash.proofs.adding.enlist.Goals as goal
 

@@ -1,4 +1,4 @@
-use Rattle.std.proofs.Common.{◌==◌, ◌%◌, sym, subst}
+use Rattle.std.proofs.Common.{sym, subst}
 use Rattle.part_hash.specs.Slots.{AreRising}
 use Rattle.part_hash.proofs.PlaceLemmas.{rising_filtered}
 use Rattle.part_hash.proofs.adding.half.Goals as goal

@@ -1,6 +1,4 @@
 use Rattle.std.proofs.Common.{arith, ◌≡◌, ◌*◌, ap, sym, subst, ◌∙◌, length}
-use Rattle.std.specs.Prelude.{map}
-use Rattle.std.specs.List.{range_with_len}
 use Rattle.std.proofs.lemmas.List.FromFn.{length-map-range_with_len}
 use Rattle.part_hash.specs.Slots.{AreListed, half_at}
 use Rattle.part_hash.proofs.AddLemmas.{base_some}

@@ -1,4 +1,4 @@
-use Rattle.std.proofs.Common.{refl, ap, sym, subst}
+use Rattle.std.proofs.Common.{refl, subst}
 use Rattle.hash_index.specs.Index.{Has}
 use Rattle.part_hash.proofs.AddLemmas.{stands_mixed}
 use Rattle.part_hash.proofs.adding.mix.Goals as goal

@@ -1,7 +1,4 @@
-use Rattle.std.proofs.Common.{rules, ap}
-use Rattle.std.specs.Prelude.{length}
-use Rattle.std.proofs.lemmas.List.{length-replicate}
-use Rattle.part_hash.specs.Slots.{Listing, no_listing}
+use Rattle.std.proofs.Common.{rules}
 use Rattle.part_hash.proofs.EmptyLemmas.{stands_none}
 use Rattle.part_hash.proofs.finding.empty.Goals as goal
 

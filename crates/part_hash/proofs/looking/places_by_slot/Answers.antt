@@ -1,5 +1,5 @@
-use Rattle.std.proofs.Common.{◌≡◌, ◌++◌, ◌==◌, List, ap, sym, ◌∙◌, length, []}
-use Rattle.std.specs.Prelude.{filter, flat_map, get_or}
+use Rattle.std.proofs.Common.{◌≡◌, ◌++◌, ◌==◌, List, ap, sym, ◌∙◌, length}
+use Rattle.std.specs.Prelude.{filter, flat_map}
 use Rattle.std.specs.List.{range_with_len}
 use Rattle.part_core.specs.Settings.{class_at}
 use Rattle.part_rows.specs.declared.place.Place.{Place}

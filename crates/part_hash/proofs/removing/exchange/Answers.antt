@@ -1,4 +1,4 @@
-use Rattle.std.proofs.Common.{rules, ◌≡◌, List, refl, ap, sym, subst, ◌∙◌}
+use Rattle.std.proofs.Common.{◌≡◌, List, refl, sym, subst, ◌∙◌}
 use Rattle.std.specs.Prelude.{true, false}
 use Rattle.slab.specs.Slab.{get}
 use Rattle.part_core.specs.Rows.{Row, is_empty, objects_at}

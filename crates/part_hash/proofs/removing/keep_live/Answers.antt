@@ -1,4 +1,4 @@
-use Rattle.std.proofs.Common.{◌≡◌, List, sym, subst, ◌∙◌, ap}
+use Rattle.std.proofs.Common.{List, sym, subst, ◌∙◌}
 use Rattle.part_core.specs.Rows.{Row}
 use Rattle.part_hash.specs.Standing.{Stands}
 use Rattle.part_hash.proofs.SweepLemmas.{all_stay}

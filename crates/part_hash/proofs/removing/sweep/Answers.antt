@@ -1,4 +1,4 @@
-use Rattle.std.proofs.Common.{rules, ◌≡◌, ◌==◌, List, refl, ap, sym, subst, ◌∙◌, eq-eqb}
+use Rattle.std.proofs.Common.{rules, ◌≡◌, ◌==◌, refl, ap, sym, subst, ◌∙◌, eq-eqb}
 use Rattle.std.specs.Prelude.{true, false, not, filter}
 use Rattle.std.proofs.lemmas.Bool.{true≢false, eqb-true}
 use Rattle.slab.specs.Slab.{get}

@@ -1,6 +1,4 @@
-use Rattle.std.proofs.Common.{rules, ℕ, ◌≡◌, ◌≤◌, ◌<◌, refl, arith, ap, sym, ◌∙◌, length}
-use Rattle.std.specs.Prelude.{true}
-use Rattle.part_hash.specs.Swept.{is_dead_at}
+use Rattle.std.proofs.Common.{rules, refl, arith, ◌∙◌}
 use Rattle.part_hash.proofs.SweepLemmas.{dead_next, dead_none, dead_within}
 use Rattle.part_hash.proofs.removing.sweep_all.Goals as goal
 

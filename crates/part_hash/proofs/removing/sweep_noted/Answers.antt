@@ -1,4 +1,4 @@
-use Rattle.std.proofs.Common.{rules, ℕ, ◌≡◌, ◌≤◌, ◌<◌, List, refl, ap, sym, ◌∙◌, length, get_or}
+use Rattle.std.proofs.Common.{rules, ℕ, ◌≡◌, ◌≤◌, ◌<◌, List, refl, ap, ◌∙◌, length, get_or}
 use Rattle.part_hash.proofs.SweepLemmas.{noted_first, noted_next, noted_none}
 use Rattle.part_hash.proofs.removing.sweep_noted.Goals as goal
 

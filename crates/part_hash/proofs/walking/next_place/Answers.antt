@@ -1,12 +1,11 @@
-use Rattle.std.proofs.Common.{rules, arith, ℕ, ◌≡◌, ◌==◌, ◌<◌, ◌/◌, ◌+◌, suc, List, length, ap, sym, subst, ◌∙◌, drop}
+use Rattle.std.proofs.Common.{rules, arith, ℕ, ◌≡◌, ◌==◌, ◌<◌, ◌/◌, ◌+◌, suc, List, length, ap, ◌∙◌, drop}
 use Rattle.std.specs.Prelude.{Bool, ◌&&◌, false, find, Option}
-use Rattle.std.specs.List.{AllWithin}
 use Rattle.std.specs.Option.{option_map_or}
 use Rattle.part_core.specs.Rows.{Row, is_live}
 use Rattle.part_core.specs.Settings.{class_at}
 use Rattle.part_rows.specs.declared.place.Place.{Place}
 use Rattle.part_hash.specs.Classes.{earlier, earliest, is_next, slot_of_class, step_of}
-use Rattle.part_hash.specs.Places.{is_standing, row_of}
+use Rattle.part_hash.specs.Places.{row_of}
 use Rattle.part_hash.specs.Slots.{Listing, listing_at}
 use Rattle.part_hash.proofs.PlaceLemmas.{next_past}
 use Rattle.part_hash.proofs.TurnLemmas.{slot_there}

@@ -1,5 +1,3 @@
-use Rattle.std.proofs.Common.{refl, sym, ◌∙◌}
-use Rattle.std.proofs.lemmas.Bool.{true≢false}
 use Rattle.part_engine.proofs.stored.StoredPart.next_class.Goals as goal
 
 pub returns-in-Begin : goal.returns-in-Begin

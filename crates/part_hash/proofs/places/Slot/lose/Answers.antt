@@ -1,4 +1,4 @@
-use Rattle.std.proofs.Common.{rules, ◌≡◌, ◌≤◌, ◌+◌, ℕ, arith, ap, sym, subst, length}
+use Rattle.std.proofs.Common.{rules, ◌≡◌, ◌≤◌, ◌+◌, arith, ap, sym, subst, length}
 use Rattle.part_hash.specs.Slots.{Listing, Relists, with_gone}
 use Rattle.part_hash.proofs.SlotLemmas.{cleared, fewer_gone, packed, relists_both}
 use Rattle.part_hash.proofs.places.Slot.lose.Goals as goal

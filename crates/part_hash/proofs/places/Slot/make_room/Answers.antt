@@ -1,10 +1,10 @@
-use Rattle.std.proofs.Common.{rules, ◌≡◌, ap, sym, subst}
+use Rattle.std.proofs.Common.{sym, subst}
 use Rattle.std.specs.Prelude.{◌<◌, All}
 use Rattle.std.proofs.lemmas.List.Elements.{All-filter}
 use Rattle.part_rows.specs.declared.place.Place.{Place}
 use Rattle.part_hash.specs.Places.{is_standing}
 use Rattle.part_hash.specs.Slots.{Relists}
-use Rattle.part_hash.proofs.SlotLemmas.{packed, relists_same}
+use Rattle.part_hash.proofs.SlotLemmas.{packed}
 use Rattle.part_hash.proofs.places.Slot.make_room.Goals as goal
 
 pub returns-then-count-self-clause-kept : goal.returns-then-count-self-clause-kept

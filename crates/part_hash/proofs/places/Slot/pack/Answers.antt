@@ -1,7 +1,5 @@
 use Rattle.std.proofs.Common.{rules, ◌≡◌, arith, ap, sym, ◌∙◌, subst}
-use Rattle.std.specs.Prelude.{List, filter}
 use Rattle.std.proofs.lemmas.Fn.{filter_same}
-use Rattle.part_rows.specs.declared.place.Place.{Place}
 use Rattle.part_hash.specs.Places.{is_standing, standing}
 use Rattle.part_hash.specs.Slots.{AreRising}
 use Rattle.part_hash.proofs.PlaceLemmas.{rising_filtered}

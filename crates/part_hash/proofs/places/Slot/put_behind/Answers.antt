@@ -1,4 +1,4 @@
-use Rattle.std.proofs.Common.{rules, ◌≡◌, arith, ap, sym, length, length-append, ◌∷◌, []}
+use Rattle.std.proofs.Common.{rules, arith, length-append, ◌∷◌, []}
 use Rattle.std.specs.Prelude.{◌<◌, All}
 use Rattle.part_rows.specs.declared.place.Place.{Place}
 use Rattle.part_hash.proofs.PlaceLemmas.{rising_more}

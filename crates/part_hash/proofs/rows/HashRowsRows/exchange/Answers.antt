@@ -1,4 +1,4 @@
-use Rattle.std.proofs.Common.{◌≡◌, refl, sym, ◌∙◌}
+use Rattle.std.proofs.Common.{refl}
 use Rattle.part_rows.specs.Shown.{shown_exchanged}
 use Rattle.part_hash.proofs.ShownLemmas.{few_rows, shown_still}
 use Rattle.part_hash.proofs.rows.HashRowsRows.exchange.Goals as goal
