@@ -1,2 +1,4 @@
 pub mod PathLemmas
 pub mod PassLemmas
+pub mod BodyLemmas
+pub mod ForwardLemmas

@@ -1,39 +1,37 @@
--- Paths in code whose jumps go forward, and what is left of a limit along them.
-use Rattle.std.proofs.Common.{ℕ, ◌+◌, ◌-◌, ◌<◌, ◌≤◌, List, [], ◌∷◌, length, arith, inl, inr}
+-- Paths in code whose jumps go forward, what they count, and what is left of a limit along them.
+use Rattle.std.proofs.Common.{◌≡◌, ℕ, ◌+◌, ◌<◌, ◌≤◌, List, [], ◌∷◌, length, slice_get, arith, ap, ap₂, refl, inl, inr}
 use Rattle.mcode.specs.Program.{Program}
-use Rattle.budget.specs.Paths.{HasEdge, IsPathFrom, IsLimitFrom, IsBudget, AllForward}
+use Rattle.mcode.specs.declared.instr.Instr.{Instr}
+use Rattle.mcode.specs.declared.instr.Instr.TheVariants as instr
+use Rattle.budget.specs.Paths.{IsAt, HasEdge, IsPathFrom, AreJumpsForward, weight, weight_of, counted}
 use Rattle.budget.specs.Paths.IsPathFrom.{alone, onward}
 
 -- an edge leads to a later instruction
-pub edge_rises : {p : Program} {a b : ℕ} → AllForward p → HasEdge p a b → a < b
+pub edge_rises : {p : Program} {a b : ℕ} → AreJumpsForward p → HasEdge p a b → a < b
 edge_rises {p} {a} {b} forward edge = elim edge.leads [
   | inl next ↦ omega (arith, next.1)
   | inr jumps ↦ (forward a b edge.instr edge.here jumps).0
 ]
 
 -- a path has no more instructions than there are from its first on
-pub path_fits : {p : Program} {a : ℕ} {path : List ℕ} → AllForward p → IsPathFrom p a path → a + length path ≤ length p.instructions
+pub path_fits : {p : Program} {a : ℕ} {path : List ℕ} → AreJumpsForward p → IsPathFrom p a path → a + length path ≤ length p.instructions
 path_fits forward (alone inside) = omega arith
 path_fits forward (onward edge rest) =
     let later = edge_rises forward edge in
     let fits = path_fits forward rest in
     omega arith
 
--- the budget is no more than there are instructions
-pub budget_fits : {p : Program} {n : ℕ} → AllForward p → IsBudget p n → n ≤ length p.instructions
-budget_fits forward budget = elim budget.reached [
-  | inl some ↦
-      let fits = path_fits forward some.1 in
-      omega (arith, some.2)
-  | inr none ↦ omega (arith, none.1)
-]
+-- an instruction counts itself
+pub weight_some : (budgets : List ℕ) (i : Instr) → 0 < weight budgets i
+weight_some budgets (instr.Invoke r l) = omega arith
+weight_some budgets i = omega arith
 
--- where an instruction is left, the limit of paths from it is not used up
-pub limit_left : {p : Program} {a n : ℕ} → a < length p.instructions → IsLimitFrom p a n → 0 < n
-limit_left {p} {a} {n} inside limit = limit (a ∷ []) (alone inside)
+-- a path along an edge counts the instruction and the rest
+pub counted_at : (p : Program) (budgets : List ℕ) (a : ℕ) (i : Instr) (path : List ℕ) → IsAt p a i → counted p budgets (a ∷ path) ≡ weight budgets i + counted p budgets path
+counted_at p budgets a i path here = ap (λ o. weight_of budgets o + counted p budgets path) here
 
--- along an edge one less is left
-pub limit_onward : {p : Program} {a b n : ℕ} → HasEdge p a b → IsLimitFrom p a n → IsLimitFrom p b (n - 1)
-limit_onward {p} {a} {b} {n} edge limit path is_path =
-    let whole = limit (a ∷ path) (onward edge is_path) in
-    omega arith
+-- code of the same instructions counts the same
+pub counted_moves : (p q : Program) (budgets : List ℕ) (path : List ℕ) → p.instructions ≡ q.instructions → counted p budgets path ≡ counted q budgets path
+counted_moves p q budgets [] same = refl
+counted_moves p q budgets (a ∷ path) same =
+    ap₂ (λ is n. weight_of budgets (slice_get is a) + n) same (counted_moves p q budgets path same)

@@ -1,25 +1,40 @@
 -- What the pass from the last instruction to the first says of its numbers.
-use Rattle.std.specs.Prelude.{ℕ, ◌+◌, ◌≡◌, ◌<◌, ◌≤◌, max, if◌then◌else◌, List, [], length, slice_index}
+use Rattle.std.specs.Prelude.{ℕ, ◌+◌, ◌*◌, ◌≡◌, ◌<◌, ◌≤◌, max, if◌then◌else◌, IfSome, List, [], length, slice_index}
 use Rattle.std.specs.Option.{option_map_or}
-use Rattle.mcode.specs.Program.{Program}
+use Rattle.mcode.specs.Program.{Program, alone}
 use Rattle.mcode.specs.Instr.{target_of, goes_on}
 use Rattle.mcode.specs.declared.instr.Instr.{Instr}
-use Rattle.budget.specs.Paths.{HasPath, IsLimitFrom}
+use Rattle.budget.specs.Paths.{IsAt, HasPath, IsLimitFrom, IsCallForward}
 
 -- code of these instructions, with neither slots, constants nor frames
 abbrev pub code_of : List Instr → Program
-code_of is = record { slots = 0; constants = []; instructions = is; frames = [] }
+code_of is =
+    record { slots = 0; constants = []; instructions = is; frames = []; around = alone }
 
--- n is the greatest number of instructions on a path from a
-pub record IsLongestFrom (p : Program) (a n : ℕ) : Type 0 where
-  pub reached : HasPath p a n
-  pub greatest : IsLimitFrom p a n
+-- the instruction at a jumps forward and invokes forward, if at all
+abbrev pub IsStepForward : Program → ℕ → Type 0
+IsStepForward p a =
+    (i : Instr) → IsAt p a i → IfSome (target_of i) (λ b. (a < b) × (b < length p.instructions))
+    × IsCallForward p i
 
--- from a place on, the number at each is the greatest number of instructions on a path from there
-pub record AreLongest (p : Program) (numbers : List ℕ) (from : ℕ) : Type 0 where
+-- n is the most that a path from a counts
+pub record IsLongestFrom (p : Program) (budgets : List ℕ) (a n : ℕ) : Type 0 where
+  pub reached : HasPath p budgets a n
+  pub greatest : IsLimitFrom p budgets a n
+
+-- from a place on, the number at each is the most that a path from there counts
+pub record AreLongest (p : Program) (budgets numbers : List ℕ) (from : ℕ) : Type 0 where
   pub count : length numbers ≡ length p.instructions
   pub each : (a : ℕ) → from ≤ a → a < length p.instructions
-      → IsLongestFrom p a (slice_index numbers a)
+      → IsLongestFrom p budgets a (slice_index numbers a)
+
+-- more than an instruction counts
+abbrev pub most_weight : ℕ
+most_weight = 4294967296
+
+-- no number is greater than what so many instructions may count
+abbrev pub AreSmall : List ℕ → ℕ → Type 0
+AreSmall numbers count = (a : ℕ) → slice_index numbers a ≤ most_weight * count
 
 -- the number at the place after a where instruction i goes on, else 0
 abbrev pub next_number : Instr → ℕ → List ℕ → ℕ

@@ -1,8 +1,11 @@
 -- Paths through code, and its budget.
-use Rattle.std.specs.Prelude.{ℕ, ◌+◌, ◌≡◌, ◌<◌, ◌≤◌, ◌⊎◌, IsTrue, Some, List, [], ◌∷◌, length, slice_get}
-use Rattle.mcode.specs.Program.{Program}
+use Rattle.std.specs.Prelude.{ℕ, suc, ◌+◌, ◌≡◌, ◌<◌, ◌≤◌, ◌⊎◌, IsTrue, IsSome, Option, Some, None, List, [], ◌∷◌, length, slice_get, slice_index}
+use Rattle.mcode.specs.Program.{Program, body_of, routine_at}
 use Rattle.mcode.specs.Instr.{target_of, goes_on}
 use Rattle.mcode.specs.declared.instr.Instr.{Instr}
+use Rattle.mcode.specs.declared.instr.Instr.TheVariants as instr
+
+-- ---- paths of one body
 
 -- instruction i stands at a
 abbrev pub IsAt : Program → ℕ → Instr → Type 0
@@ -26,21 +29,89 @@ pub data IsPathFrom (p : Program) : ℕ → List ℕ → Type 0 where
   onward : {a b : ℕ} {path : List ℕ} → HasEdge p a b → IsPathFrom p b path
       → IsPathFrom p a (a ∷ path)
 
--- some path from a has n instructions
-abbrev pub HasPath : Program → ℕ → ℕ → Type 0
-HasPath p a n = (path : List ℕ) × IsPathFrom p a path × (length path ≡ n)
+-- ---- what paths count
 
--- no path from a has more than n instructions
-abbrev pub IsLimitFrom : Program → ℕ → ℕ → Type 0
-IsLimitFrom p a n = (path : List ℕ) → IsPathFrom p a path → length path ≤ n
+-- how many instructions an instruction counts, where these are the budgets of all bodies: INVOKE counts itself and its
+-- routine
+abbrev pub weight : List ℕ → Instr → ℕ
+weight budgets (instr.Invoke r l) = suc (slice_index budgets r)
+weight budgets i = 1
 
--- n is the greatest number of instructions on a path from instruction 0, or 0 where there is no instruction
-pub record IsBudget (p : Program) (n : ℕ) : Type 0 where
-  pub reached : HasPath p 0 n ⊎ ((p.instructions ≡ []) × (n ≡ 0))
-  pub greatest : IsLimitFrom p 0 n
+-- that of the instruction at a place, 0 where there is none
+abbrev pub weight_of : List ℕ → Option Instr → ℕ
+weight_of budgets None = 0
+weight_of budgets (Some i) = weight budgets i
 
--- wherever the instruction at a may jump is after a and inside the code
-abbrev pub AllForward : Program → Type 0
-AllForward p =
+-- how many instructions a path counts
+abbrev pub counted : Program → List ℕ → List ℕ → ℕ
+counted p budgets [] = 0
+counted p budgets (a ∷ path) =
+    weight_of budgets (slice_get p.instructions a) + counted p budgets path
+
+-- some path from a counts n
+abbrev pub HasPath : Program → List ℕ → ℕ → ℕ → Type 0
+HasPath p budgets a n =
+    (path : List ℕ) × IsPathFrom p a path × (counted p budgets path ≡ n)
+
+-- no path from a counts more than n
+abbrev pub IsLimitFrom : Program → List ℕ → ℕ → ℕ → Type 0
+IsLimitFrom p budgets a n =
+    (path : List ℕ) → IsPathFrom p a path → counted p budgets path ≤ n
+
+-- ---- budgets
+
+-- n is the most that a path of the body from instruction 0 counts, or 0 where there is no instruction
+pub record IsBodyBudget (p : Program) (budgets : List ℕ) (n : ℕ) : Type 0 where
+  pub reached : HasPath p budgets 0 n ⊎ ((p.instructions ≡ []) × (n ≡ 0))
+  pub greatest : IsLimitFrom p budgets 0 n
+
+-- from a body on, these are the budgets of all bodies
+pub record AreBudgets (p : Program) (from : ℕ) (budgets : List ℕ) : Type 0 where
+  pub count : length budgets ≡ suc (length p.around.routines)
+  pub each : (b : ℕ) → from ≤ b → b ≤ length p.around.routines
+      → IsBodyBudget (body_of p b) budgets (slice_index budgets b)
+
+-- n is the greatest number of instructions on a path from instruction 0 of the main body, where each INVOKE counts that
+-- of its routine too
+abbrev pub IsBudget : Program → ℕ → Type 0
+IsBudget p n = (budgets : List ℕ) × AreBudgets p 0 budgets × (n ≡ slice_index budgets 0)
+
+-- the greatest budget that code may have
+abbrev pub most_budget : ℕ
+most_budget = 2147483648
+
+-- the budget of a body is above that limit, and that of none behind it is
+pub record IsOver (p : Program) (b : ℕ) : Type 0 where
+  pub budgets : List ℕ
+  pub inside : b ≤ length p.around.routines
+  pub are : AreBudgets p b budgets
+  pub over : most_budget < slice_index budgets b
+  pub behind : (c : ℕ) → b < c → slice_index budgets c ≤ most_budget
+
+-- the budget of no body is above that limit
+pub record IsNowhereOver (p : Program) : Type 0 where
+  pub budgets : List ℕ
+  pub are : AreBudgets p 0 budgets
+  pub few : (b : ℕ) → slice_index budgets b ≤ most_budget
+
+-- ---- forward
+
+-- wherever the instruction at a may jump is after a and inside the body
+abbrev pub AreJumpsForward : Program → Type 0
+AreJumpsForward p =
     (a b : ℕ) (i : Instr) → IsAt p a i → target_of i ≡ Some b → (a < b)
     × (b < length p.instructions)
+
+-- INVOKE names a routine that is there and behind the body; other instructions name none
+abbrev pub IsCallForward : Program → Instr → Type 0
+IsCallForward p (instr.Invoke r l) = (p.around.number < r) × IsSome (routine_at p r)
+IsCallForward p i = Unit {0}
+
+-- each jump of the body goes forward, and so does each INVOKE
+pub record IsForward (p : Program) : Type 0 where
+  pub jumps : AreJumpsForward p
+  pub calls : (a : ℕ) (i : Instr) → IsAt p a i → IsCallForward p i
+
+-- so it is in each body
+abbrev pub AllForward : Program → Type 0
+AllForward p = (b : ℕ) → b ≤ length p.around.routines → IsForward (body_of p b)

@@ -1,33 +1,67 @@
-//! Whether every jump goes forward.
-ghost use Rattle.std.specs.Prelude.{◌<◌, ◌↔◌, IsTrue, IfSome, length};
+//! Whether every jump and every invocation goes forward.
+ghost use Rattle.std.specs.Prelude.{◌<◌, ◌≤◌, ◌↔◌, IsTrue, IsSome, IfSome, length};
 ghost use Rattle.mcode.specs.Instr.{target_of};
-ghost use Rattle.budget.specs.Paths.{AllForward};
-ghost use Rattle.budget.specs.Pass.{code_of};
+ghost use Rattle.mcode.specs.Program.{body_of, routine_at};
+ghost use Rattle.budget.specs.Paths.{AllForward, IsForward, IsCallForward, IsAt};
+ghost use Rattle.budget.specs.Pass.{IsStepForward};
 
-use mcode::{Code, Instr};
+use mcode::{Body, Code, Instr};
 use std::alloc::Allocator;
 
-/// Whether every jump goes to a later instruction of the code.
+/// Whether every jump goes to a later instruction of its body, and each body invokes only routines that are there and
+/// behind it.
 pub fn all_forward<A: Allocator>(code: &Code<A>) -> bool
     ensures { IsTrue result ↔ AllForward code.now }
 {
-    are_forward(code.instructions())
-}
-
-/// Whether every jump of the instructions goes to a later one of them.
-pub(crate) fn are_forward(instructions: &[Instr]) -> bool
-    ensures { IsTrue result ↔ AllForward (code_of instructions.now) }
-{
-    for (pc, &instr) in instructions.iter().enumerate() {
-        if !is_forward(instr, pc, instructions.len()) {
+    let count = code.routines().len();
+    for number in 0..count + 1 {
+        if !is_forward_at(code, number as u16) {
             return false;
         }
     }
     true
 }
 
-/// Whether the instruction, which stands at `pc` among `count`, jumps to a later one, if at all.
-fn is_forward(instr: Instr, pc: usize, count: usize) -> bool
+/// The same of one body.
+fn is_forward_at<A: Allocator>(code: &Code<A>, number: u16) -> bool
+    requires { number ≤ length code.now.around.routines }
+    ensures { IsTrue result ↔ IsForward (body_of code.now number) }
+{
+    is_body_forward(&Body::of(code, number))
+}
+
+/// The same of a body.
+fn is_body_forward<A: Allocator>(body: &Body<'_, A>) -> bool
+    ensures { IsTrue result ↔ IsForward body.now }
+{
+    for pc in 0..body.instructions().len() {
+        if !is_forward(body, pc) {
+            return false;
+        }
+    }
+    true
+}
+
+/// Whether the instruction at `pc` jumps to a later one, if at all, and invokes a routine that is there and behind its
+/// body, if any.
+fn is_forward<A: Allocator>(body: &Body<'_, A>, pc: usize) -> bool
+    requires { pc < length body.now.instructions }
+    ensures { IsTrue result ↔ IsStepForward body.now pc }
+{
+    let instr = instr_at(body, pc);
+    is_jump_forward(instr, pc, body.instructions().len()) && is_call_forward(body, instr)
+}
+
+/// The instruction of a number.
+fn instr_at<A: Allocator>(body: &Body<'_, A>, pc: usize) -> Instr
+    requires { pc < length body.now.instructions }
+    ensures { IsAt body.now pc result }
+{
+    body.instructions()[pc]
+}
+
+/// Whether an instruction, which stands at `pc` among `count`, jumps to a later one, if at all.
+fn is_jump_forward(instr: Instr, pc: usize, count: usize) -> bool
     ensures { IsTrue result ↔ IfSome (target_of instr)
         (λ target. (pc < target) × (target < count)) }
 {
@@ -35,6 +69,23 @@ fn is_forward(instr: Instr, pc: usize, count: usize) -> bool
         Some(target) => is_between(usize::from(target), pc, count),
         None => true,
     }
+}
+
+/// Whether an instruction invokes a routine that is there and behind its body, if any.
+fn is_call_forward<A: Allocator>(body: &Body<'_, A>, instr: Instr) -> bool
+    ensures { IsTrue result ↔ IsCallForward body.now instr }
+{
+    match instr {
+        Instr::Invoke { routine, .. } => is_behind(body, routine),
+        _ => true,
+    }
+}
+
+/// Whether a routine is there and behind a body.
+fn is_behind<A: Allocator>(body: &Body<'_, A>, routine: u16) -> bool
+    ensures { IsTrue result ↔ ((body.now.around.number < routine) × IsSome (routine_at body.now routine)) }
+{
+    body.number() < routine && body.routine(routine).is_some()
 }
 
 /// Whether the target is greater than `pc` and less than `count`.

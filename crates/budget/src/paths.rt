@@ -1,52 +1,137 @@
 //! The longest path through code.
-ghost use Rattle.std.specs.Prelude.{◌≡◌, ◌+◌, ◌≤◌, ◌<◌, IfOk, length, slice_index};
+ghost use Rattle.std.specs.Prelude.{ℕ, ◌≡◌, ◌+◌, ◌-◌, ◌*◌, ◌≤◌, ◌<◌, IfOk, length, slice_index};
+ghost use Rattle.std.specs.Option.{MatchOption};
+ghost use Rattle.mcode.specs.Program.{body_of};
 ghost use Rattle.mcode.specs.declared.TheConstants.{MAX_COUNT};
-ghost use Rattle.budget.specs.Paths.{AllForward, IsBudget};
-ghost use Rattle.budget.specs.Pass.{IsLongestFrom, AreLongest, code_of, next_number, target_number, onward_number};
+ghost use Rattle.budget.specs.Paths.{AllForward, IsForward, AreJumpsForward, weight, IsBudget, IsBodyBudget, IsOver, IsNowhereOver, most_budget};
+ghost use Rattle.budget.specs.Pass.{IsLongestFrom, AreLongest, AreSmall, most_weight, code_of, next_number, target_number, onward_number};
 
-use mcode::{Code, Instr};
+use crate::MAX_BUDGET;
+use mcode::{Body, Code, Instr};
 use std::alloc::{AllocError, Allocator};
 
-/// The budget of code in which every jump goes forward: the greatest number of instructions on a path
-/// from instruction 0, at most `mcode::MAX_COUNT`, and 0 where there is no instruction. Its time and
-/// memory, which is 4 bytes for each instruction until it returns, grow with how many there are.
-/// Refuses where memory does.
-pub fn longest<A: Allocator + Copy>(alloc: A, code: &Code<A>) -> Result<u32, AllocError>
+/// The budget of code in which every jump and every invocation goes forward: the greatest number of instructions on a
+/// path from instruction 0 of the main body, where an invocation counts its routine's too, and 0 where there is no
+/// instruction. None where the budget of some body is above `MAX_BUDGET`. Its time and memory, which is 8 bytes for
+/// each instruction of a body until it returns, grow with how many instructions there are. Refuses where memory does.
+pub fn longest<A: Allocator + Copy>(alloc: A, code: &Code<A>) -> Result<Option<u32>, AllocError>
     requires { AllForward code.now }
-    ensures { IfOk result (λ n. IsBudget code.now n) }
+    ensures { IfOk result (λ found. MatchOption found ((b : ℕ) × IsOver code.now b)
+        (λ n. IsBudget code.now n × IsNowhereOver code.now)) }
 {
-    longest_of(alloc, code.instructions())
+    let mut budgets: Vec<u32, A> = vec![in alloc; 0; code.routines().len() + 1]?;
+    for number in (0..budgets.len()).rev() {
+        match budget_at(alloc, code, number as u16, budgets.as_slice())? {
+            Some(budget) => budgets[number] = budget,
+            None => return Ok(None),
+        }
+    }
+    Ok(Some(main_budget(budgets.as_slice())))
 }
 
-/// The budget of code of these instructions.
-pub(crate) fn longest_of<A: Allocator + Copy>(
+/// The budget of the main body among those of all bodies.
+fn main_budget(budgets: &[u32]) -> u32
+    requires { 0 < length budgets.now }
+    ensures { result ≡ slice_index budgets.now 0 }
+{
+    budgets[0]
+}
+
+/// The budget of one body of code.
+fn budget_at<A: Allocator + Copy>(
+    alloc: A,
+    code: &Code<A>,
+    number: u16,
+    budgets: &[u32],
+) -> Result<Option<u32>, AllocError>
+    requires inside { number ≤ length code.now.around.routines }
+    requires forward { IsForward (body_of code.now number) }
+    ensures { IfOk result (λ found. MatchOption found
+        ((n : ℕ) × IsBodyBudget (body_of code.now number) budgets.now n × (most_budget < n))
+        (λ n. IsBodyBudget (body_of code.now number) budgets.now n × (n ≤ most_budget))) }
+{
+    budget_of(alloc, &Body::of(code, number), budgets)
+}
+
+/// The budget of a body, by those of the routines that it invokes; none where it is above `MAX_BUDGET`.
+pub fn budget_of<A: Allocator + Copy>(
+    alloc: A,
+    body: &Body<'_, A>,
+    budgets: &[u32],
+) -> Result<Option<u32>, AllocError>
+    requires { IsForward body.now }
+    ensures { IfOk result (λ found. MatchOption found
+        ((n : ℕ) × IsBodyBudget body.now budgets.now n × (most_budget < n))
+        (λ n. IsBodyBudget body.now budgets.now n × (n ≤ most_budget))) }
+{
+    let budget = longest_of(alloc, body.instructions(), budgets)?;
+    Ok(within_limit(budget))
+}
+
+/// A budget, where it isn't above `MAX_BUDGET`.
+fn within_limit(budget: u64) -> Option<u32>
+    ensures { MatchOption result (most_budget < budget) (λ n. (n ≡ budget) × (n ≤ most_budget)) }
+{
+    if budget > u64::from(MAX_BUDGET) {
+        return None;
+    }
+    Some(budget as u32)
+}
+
+/// The budget of a body of these instructions.
+fn longest_of<A: Allocator + Copy>(
     alloc: A,
     instructions: &[Instr],
-) -> Result<u32, AllocError>
+    budgets: &[u32],
+) -> Result<u64, AllocError>
     requires count { length instructions.now ≤ MAX_COUNT }
-    requires forward { AllForward (code_of instructions.now) }
-    ensures { IfOk result (λ n. IsBudget (code_of instructions.now) n) }
+    requires jumps { AreJumpsForward (code_of instructions.now) }
+    ensures { IfOk result (λ n. IsBodyBudget (code_of instructions.now) budgets.now n) }
 {
-    let mut numbers: Vec<u32, A> = vec![in alloc; 0; instructions.len()]?;
+    let mut numbers: Vec<u64, A> = vec![in alloc; 0; instructions.len()]?;
     for pc in (0..instructions.len()).rev() {
-        numbers[pc] = longest_from(instructions, pc, numbers.as_slice());
+        numbers[pc] = longest_from(instructions, pc, budgets, numbers.as_slice());
     }
     Ok(number_at(numbers.as_slice(), 0))
 }
 
-/// The greatest number of instructions on a path from `pc`, by the numbers of all later places.
-fn longest_from(instructions: &[Instr], pc: usize, numbers: &[u32]) -> u32
+/// The most that a path from `pc` counts, by the numbers of all later places.
+fn longest_from(instructions: &[Instr], pc: usize, budgets: &[u32], numbers: &[u64]) -> u64
     requires count { length instructions.now ≤ MAX_COUNT }
     requires inside { pc < length instructions.now }
-    requires forward { AllForward (code_of instructions.now) }
-    requires later { AreLongest (code_of instructions.now) numbers.now (pc + 1) }
-    ensures { IsLongestFrom (code_of instructions.now) pc result }
+    requires jumps { AreJumpsForward (code_of instructions.now) }
+    requires later { AreLongest (code_of instructions.now) budgets.now numbers.now (pc + 1) }
+    requires small { AreSmall numbers.now (length instructions.now - (pc + 1)) }
+    ensures longest { IsLongestFrom (code_of instructions.now) budgets.now pc result }
+    ensures small { result ≤ most_weight * (length instructions.now - pc) }
 {
-    1 + onward_number(instructions[pc], pc, numbers)
+    weight(instructions[pc], budgets) + onward_number(instructions[pc], pc, numbers)
+}
+
+/// How many instructions an instruction counts: those of its routine too, where it invokes one.
+fn weight(instr: Instr, budgets: &[u32]) -> u64
+    ensures value { result ≡ weight budgets.now instr }
+    ensures small { result ≤ most_weight }
+{
+    match instr {
+        Instr::Invoke { routine, .. } => 1 + budget_in(budgets, routine),
+        _ => 1,
+    }
+}
+
+/// The budget of a body, 0 where the body isn't there.
+fn budget_in(budgets: &[u32], number: u16) -> u64
+    ensures value { result ≡ slice_index budgets.now number }
+    ensures small { result < most_weight }
+{
+    match budgets.get(usize::from(number)) {
+        Some(budget) => u64::from(*budget),
+        None => 0,
+    }
 }
 
 /// The greater of the numbers at the two places where the instruction at `pc` leads, 0 where it leads nowhere.
-fn onward_number(instr: Instr, pc: usize, numbers: &[u32]) -> u32
+fn onward_number(instr: Instr, pc: usize, numbers: &[u64]) -> u64
     requires { pc < length numbers.now }
     ensures { result ≡ onward_number instr pc numbers.now }
 {
@@ -54,7 +139,7 @@ fn onward_number(instr: Instr, pc: usize, numbers: &[u32]) -> u32
 }
 
 /// The number at the next place, where the instruction at `pc` goes on and there is one, else 0.
-fn next_number(instr: Instr, pc: usize, numbers: &[u32]) -> u32
+fn next_number(instr: Instr, pc: usize, numbers: &[u64]) -> u64
     requires { pc < length numbers.now }
     ensures { result ≡ next_number instr pc numbers.now }
 {
@@ -66,7 +151,7 @@ fn next_number(instr: Instr, pc: usize, numbers: &[u32]) -> u32
 }
 
 /// The number at the place where the instruction may jump, where it may, else 0.
-fn target_number(instr: Instr, numbers: &[u32]) -> u32
+fn target_number(instr: Instr, numbers: &[u64]) -> u64
     ensures { result ≡ target_number instr numbers.now }
 {
     match instr.target() {
@@ -76,7 +161,7 @@ fn target_number(instr: Instr, numbers: &[u32]) -> u32
 }
 
 /// The number at the place, 0 past the end.
-fn number_at(numbers: &[u32], place: usize) -> u32
+fn number_at(numbers: &[u64], place: usize) -> u64
     ensures { result ≡ slice_index numbers.now place }
 {
     numbers.get(place).copied().unwrap_or(0)

@@ -7,11 +7,13 @@ use Rattle.term_core.specs.Datum.{Datum}
 use Rattle.term_core.specs.Limits.{IsTerm}
 use Rattle.term_core.specs.Sizes.{depth_limit}
 use Rattle.mcode.specs.Program.{Program, Frame, IsFrame, IsTelling, most_slots}
+use Rattle.mcode.specs.declared.instr.Instr.{Instr}
+use Rattle.mcode.proofs.BodyLemmas.{whole_alone}
 use Rattle.mcode.specs.declared.kind.Kind.{Kind}
 use Rattle.code_writer.specs.Spelling.{u16_bytes}
-use Rattle.code_writer.specs.File.{IsU8, HoldsArguments, HoldsPlace, HoldsFrame, Spells, magic, version, file_bytes}
+use Rattle.code_writer.specs.File.{IsU8, HoldsArguments, HoldsPlace, HoldsFrame, IsPlain, Spells, magic, version, file_bytes}
 use Rattle.code_writer.specs.Format.{Begins}
-use Rattle.code_writer.specs.Formats.{u16_format, constant_format, place_format, frame_format, body_format, body_of}
+use Rattle.code_writer.specs.Formats.{u16_format, constant_format, instruction_format, place_format, frame_format, body_format, body_of}
 use Rattle.code_writer.proofs.FormatLemmas.{both_rest}
 use Rattle.code_writer.proofs.NumberLemmas.{u16_free}
 use Rattle.code_writer.proofs.FileLemmas.{body_free, rest_begins}
@@ -69,17 +71,26 @@ frames_are : (fs : List Frame) → AllByRecursion frame_format.Fits fs → AllBy
 frames_are [] h = tt
 frames_are (f ∷ fs) h = (frame_is f h.0, frames_are fs h.1)
 
+instructions_hold : (is : List Instr) → AllByRecursion instruction_format.Fits is → AllByRecursion HoldsArguments is
+instructions_hold [] h = tt
+instructions_hold (i ∷ is) h = (h.0.0, instructions_hold is h.1)
+
+instructions_plain : (is : List Instr) → AllByRecursion instruction_format.Fits is → AllByRecursion IsPlain is
+instructions_plain [] h = tt
+instructions_plain (i ∷ is) h = (h.0.1, instructions_plain is h.1)
+
 pub spells_read : (bytes : List ℕ) (p : Program) → IsRead bytes p [] → Spells bytes p
 spells_read bytes p h = record {
-  program = record {
+  program = whole_alone p (record {
     slots = h.few;
     constants = omega (arith, h.begins.fits.0.0);
     instructions = omega (arith, h.begins.fits.1.0.0);
     frame_count = omega (arith, h.begins.fits.1.1.0.0);
     frames = record { each = All-from_recursion IsFrame p.frames (frames_are p.frames h.begins.fits.1.1.0.1); rise = h.begins.fits.1.1.1 };
-  };
+  }) h.around;
+  file = λ none. All-from_recursion IsPlain p.instructions (instructions_plain p.instructions h.begins.fits.1.0.1);
   constants = All-from_recursion IsTerm p.constants (terms_read p.constants h.begins.fits.0.1);
-  instructions = All-from_recursion HoldsArguments p.instructions h.begins.fits.1.0.1;
+  instructions = All-from_recursion HoldsArguments p.instructions (instructions_hold p.instructions h.begins.fits.1.0.1);
   frames = All-from_recursion HoldsFrame p.frames (frames_hold p.frames h.begins.fits.1.1.0.1);
   spelling = h.header.parts ∙ ap (λ (t : List ℕ). magic ++ (u16_bytes version ++ (u16_bytes p.slots ++ t))) (h.begins.parts ∙ append-nil (body_format.spell (body_of p)));
 }
@@ -99,7 +110,7 @@ slots_due bytes slots rest h = Due.behind_version (Due.behind_magic h.parts) (re
 
 pub too_many_slots : (bytes : List ℕ) (slots : ℕ) (rest : List ℕ) → IsHeader bytes slots rest → most_slots < slots → IsNoFile bytes faults.Limit
 too_many_slots bytes slots rest h many = record {
-  none = λ p s. omega (arith, (body_behind bytes slots rest p h s).0, s.program.slots, many);
+  none = λ p s. omega (arith, (body_behind bytes slots rest p h s).0, s.program.seen.slots, many);
   why = (
     length (magic ++ u16_bytes version),
     record {
@@ -138,6 +149,7 @@ goes_on bytes p more h some =
           header = record { fits = h.header.fits; parts = refl };
           begins = record { fits = h.begins.fits; parts = sym (append-nil body) };
           few = h.few;
+          around = h.around;
         });
         some = some;
       };

@@ -1,5 +1,5 @@
 -- What is read behind an opcode, and what refuses it.
-use Rattle.std.specs.Prelude.{◌↔◌}
+use Rattle.std.specs.Prelude.{◌↔◌, ◌≤◌}
 use Rattle.std.proofs.Common.{◌≡◌, ◌≢◌, ℕ, ◌<◌, ◌^◌, List, [], ◌∷◌, ◌++◌, length, refl, sym, ap, subst, ◌∙◌, arith, Some, None}
 use Rattle.prims_table.specs.Numbers.{function_number, arithmetic_number}
 use Rattle.prims_table.specs.declared.prim.Function.{Function}
@@ -27,9 +27,10 @@ use Rattle.code_writer.specs.declared.opcode.Single.TheVariants as single
 use Rattle.code_writer.specs.declared.opcode.Double.{Double}
 use Rattle.code_writer.specs.declared.opcode.Double.TheVariants as double
 use Rattle.code_writer.specs.Opcodes.{bare_instr, slotted_instr, single_instr, double_instr, opcode_number}
+use Rattle.code_writer.specs.File.{most_opcode}
 use Rattle.code_writer.specs.Format.{Format, Begins, BeginsNone, both}
 use Rattle.code_writer.specs.Formats.{u8_format, u16_format, opcode_format, function_format, arithmetic_format, instruction_format}
-use Rattle.code_writer.proofs.InstructionLemmas.{arith_in, arithmetic_free, call_in, function_free, head_is, one_in, opcode_of, opened, parts_of, rest_bytes, self_opened, slot_in, spelled, two_in}
+use Rattle.code_writer.proofs.InstructionLemmas.{arith_in, arithmetic_free, call_in, function_free, head_is, number_is, one_in, opcode_of, opened, parts_of, rest_bytes, self_opened, slot_in, spelled, two_in}
 use Rattle.code_writer.proofs.FormatLemmas.{both_first, both_rest}
 use Rattle.code_file.specs.declared.stop.FileCause.TheVariants.{BadOpcode}
 use Rattle.code_file.specs.declared.stop.FileStop.{FileStop}
@@ -42,40 +43,40 @@ use Rattle.code_file.proofs.StopLemmas.{stop_none, stop_due, stop_cut}
 -- ---- what is read behind an opcode
 
 pub bare_begins : (bytes : List ℕ) (o : Bare) (r : List ℕ) → Begins opcode_format bytes (opcode.Bare o) r → Begins instruction_format bytes (bare_instr o) r
-bare_begins bytes bare.Load r h = record { fits = tt; parts = h.parts }
-bare_begins bytes o r h = record { fits = tt; parts = h.parts }
+bare_begins bytes bare.Load r h = record { fits = (tt, h.fits); parts = h.parts }
+bare_begins bytes o r h = record { fits = (tt, h.fits); parts = h.parts }
 
 pub slotted_begins : (bytes : List ℕ) (o : Slotted) (r : List ℕ) (v : ℕ) (s : List ℕ) → Begins opcode_format bytes (opcode.Slotted o) r → Begins u8_format r v s → Begins instruction_format bytes (slotted_instr o v) s
-slotted_begins bytes slotted.Get r v s h k = record { fits = k.fits; parts = h.parts ∙ ap (λ bs. 3 ∷ bs) k.parts }
-slotted_begins bytes slotted.Bind r v s h k = record { fits = k.fits; parts = h.parts ∙ ap (λ bs. 4 ∷ bs) k.parts }
+slotted_begins bytes slotted.Get r v s h k = record { fits = (k.fits, h.fits); parts = h.parts ∙ ap (λ bs. 3 ∷ bs) k.parts }
+slotted_begins bytes slotted.Bind r v s h k = record { fits = (k.fits, h.fits); parts = h.parts ∙ ap (λ bs. 4 ∷ bs) k.parts }
 
 pub single_begins : (bytes : List ℕ) (o : Single) (r : List ℕ) (n : ℕ) (s : List ℕ) → Begins opcode_format bytes (opcode.Single o) r → Begins u16_format r n s → Begins instruction_format bytes (single_instr o n) s
-single_begins bytes single.Const r n s h k = record { fits = k.fits; parts = h.parts ∙ ap (λ bs. opcode_number (opcode.Single single.Const) ∷ bs) k.parts }
-single_begins bytes o r n s h k = record { fits = k.fits; parts = h.parts ∙ ap (λ bs. opcode_number (opcode.Single o) ∷ bs) k.parts }
+single_begins bytes single.Const r n s h k = record { fits = (k.fits, h.fits); parts = h.parts ∙ ap (λ bs. opcode_number (opcode.Single single.Const) ∷ bs) k.parts }
+single_begins bytes o r n s h k = record { fits = (k.fits, h.fits); parts = h.parts ∙ ap (λ bs. opcode_number (opcode.Single o) ∷ bs) k.parts }
 
 pub double_begins : (bytes : List ℕ) (o : Double) (r : List ℕ) (p : ℕ × ℕ) (s : List ℕ) → Begins opcode_format bytes (opcode.Double o) r → Begins (both u16_format u16_format) r p s → Begins instruction_format bytes (double_instr o p.0 p.1) s
-double_begins bytes double.Tuple r p s h k = record { fits = k.fits; parts = h.parts ∙ ap (λ bs. opcode_number (opcode.Double double.Tuple) ∷ bs) k.parts }
-double_begins bytes o r p s h k = record { fits = k.fits; parts = h.parts ∙ ap (λ bs. opcode_number (opcode.Double o) ∷ bs) k.parts }
+double_begins bytes double.Tuple r p s h k = record { fits = (k.fits, h.fits); parts = h.parts ∙ ap (λ bs. opcode_number (opcode.Double double.Tuple) ∷ bs) k.parts }
+double_begins bytes o r p s h k = record { fits = (k.fits, h.fits); parts = h.parts ∙ ap (λ bs. opcode_number (opcode.Double o) ∷ bs) k.parts }
 
 pub call_begins : (bytes : List ℕ) (r : List ℕ) (p : Function × (ℕ × ℕ)) (s : List ℕ) → Begins opcode_format bytes opcode.Call r → Begins (both function_format (both u16_format u16_format)) r p s → Begins instruction_format bytes (instr.Call p.0 p.1.0 p.1.1) s
-call_begins bytes r p s h k = record { fits = k.fits.1; parts = h.parts ∙ ap (λ bs. 16 ∷ bs) k.parts }
+call_begins bytes r p s h k = record { fits = (k.fits.1, h.fits); parts = h.parts ∙ ap (λ bs. 16 ∷ bs) k.parts }
 
 pub arith_begins : (bytes : List ℕ) (r : List ℕ) (p : Arithmetic × ℕ) (s : List ℕ) → Begins opcode_format bytes opcode.Arith r → Begins (both arithmetic_format u16_format) r p s → Begins instruction_format bytes (instr.Arith p.0 p.1) s
-arith_begins bytes r p s h k = record { fits = k.fits.1; parts = h.parts ∙ ap (λ bs. 18 ∷ bs) k.parts }
+arith_begins bytes r p s h k = record { fits = (k.fits.1, h.fits); parts = h.parts ∙ ap (λ bs. 18 ∷ bs) k.parts }
 
 -- ---- refusals
 
 -- no byte where the number of one is due
-numbered_stop : {X : Type 0} (number : X → ℕ) (i : Item) → width i ≡ 1 → ((x : X) → number x < 2 ^ 8) → (bytes : List ℕ) (stop : FileStop)
-    → IsStop u8_format bytes (IsCut 1 bytes) stop → IsStop (record { spell = λ (x : X). number x ∷ []; Fits = λ _. Unit {0} }) bytes (Blames i bytes) stop
-numbered_stop {X} number i is small bytes stop h =
-    stop_cut u8_format (record { spell = λ (x : X). number x ∷ []; Fits = λ _. Unit {0} }) 1 i i bytes bytes stop is
+numbered_stop : {X : Type 0} (number : X → ℕ) (Fits : X → Type 0) (i : Item) → width i ≡ 1 → ((x : X) → number x < 2 ^ 8) → (bytes : List ℕ) (stop : FileStop)
+    → IsStop u8_format bytes (IsCut 1 bytes) stop → IsStop (record { spell = λ (x : X). number x ∷ []; Fits = Fits }) bytes (Blames i bytes) stop
+numbered_stop {X} number Fits i is small bytes stop h =
+    stop_cut u8_format (record { spell = λ (x : X). number x ∷ []; Fits = Fits }) 1 i i bytes bytes stop is
     (λ none x s k. none (number x) s (record { fits = small x; parts = k.parts })) (λ file due. due) h
 
 -- a byte that isn't the number of any
-pub numberless : {X : Type 0} (number : X → ℕ) (bytes : List ℕ) (b : ℕ) (rest : List ℕ)
-    → bytes ≡ b ∷ rest → ((x : X) → number x ≢ b) → BeginsNone (record { spell = λ (x : X). number x ∷ []; Fits = λ _. Unit {0} }) bytes
-numberless number bytes b rest is differs x s h = differs x (head_is (number x) b s rest (sym h.parts ∙ is))
+pub numberless : {X : Type 0} (number : X → ℕ) (Fits : X → Type 0) (bytes : List ℕ) (b : ℕ) (rest : List ℕ)
+    → bytes ≡ b ∷ rest → ((x : X) → Fits x → number x ≢ b) → BeginsNone (record { spell = λ (x : X). number x ∷ []; Fits = Fits }) bytes
+numberless number Fits bytes b rest is differs x s h = differs x h.fits (head_is (number x) b s rest (sym h.parts ∙ is))
 
 none_is_none : {X : Type 0} (x : X) → None ≡ Some x → ⊥
 none_is_none x is = cc
@@ -104,24 +105,24 @@ arithmetic_small arithmetic.Add = omega arith
 arithmetic_small a = omega arith
 
 pub opcode_short : (bytes : List ℕ) (stop : FileStop) → IsStop u8_format bytes (IsCut 1 bytes) stop → IsStop opcode_format bytes (Blames an_instruction bytes) stop
-opcode_short bytes stop h = numbered_stop opcode_number an_instruction refl opcode_small bytes stop h
+opcode_short bytes stop h = numbered_stop opcode_number (λ o. opcode_number o ≤ most_opcode) an_instruction refl opcode_small bytes stop h
 
 pub function_short : (bytes : List ℕ) (stop : FileStop) → IsStop u8_format bytes (IsCut 1 bytes) stop → IsStop function_format bytes (Blames a_function bytes) stop
-function_short bytes stop h = numbered_stop function_number a_function refl function_small bytes stop h
+function_short bytes stop h = numbered_stop function_number (λ _. Unit {0}) a_function refl function_small bytes stop h
 
 pub arithmetic_short : (bytes : List ℕ) (stop : FileStop) → IsStop u8_format bytes (IsCut 1 bytes) stop → IsStop arithmetic_format bytes (Blames an_arithmetic bytes) stop
-arithmetic_short bytes stop h = numbered_stop arithmetic_number an_arithmetic refl arithmetic_small bytes stop h
+arithmetic_short bytes stop h = numbered_stop arithmetic_number (λ _. Unit {0}) an_arithmetic refl arithmetic_small bytes stop h
 
-pub opcode_unnamed : (bytes : List ℕ) (b : ℕ) (rest : List ℕ) → Begins u8_format bytes b rest → ((o : Opcode) → (None ≡ Some o) ↔ (opcode_number o ≡ b)) → IsRefuted opcode_format bytes (Blames an_instruction bytes BadOpcode (length bytes))
+pub opcode_unnamed : (bytes : List ℕ) (b : ℕ) (rest : List ℕ) → Begins u8_format bytes b rest → ((o : Opcode) → (None ≡ Some o) ↔ ((opcode_number o ≡ b) × (opcode_number o ≤ most_opcode))) → IsRefuted opcode_format bytes (Blames an_instruction bytes BadOpcode (length bytes))
 opcode_unnamed bytes b rest h unnamed =
-    let differs : (o : Opcode) → opcode_number o ≢ b = λ o is. none_is_none o ((unnamed o).1 is) in
+    let differs : (o : Opcode) → opcode_number o ≤ most_opcode → opcode_number o ≢ b = λ o few is. none_is_none o ((unnamed o).1 (is, few)) in
     record {
-      none = numberless opcode_number bytes b rest h.parts differs;
+      none = numberless opcode_number (λ o. opcode_number o ≤ most_opcode) bytes b rest h.parts differs;
       blame = λ file due. (
         b ∷ rest,
         ap length h.parts,
         IsWrong.no_opcode (subst (Due file an_instruction) h.parts due)
-            (λ i w. differs (opcode_of (parts_of i)) (head_is (opcode_number (opcode_of (parts_of i))) b (rest_bytes (parts_of i)) w.0 (sym (spelled i) ∙ w.1))),
+            (λ i plain w. differs (opcode_of (parts_of i)) (subst (λ n. n ≤ most_opcode) (number_is i) plain) (head_is (opcode_number (opcode_of (parts_of i))) b (rest_bytes (parts_of i)) w.0 (sym (spelled i) ∙ w.1))),
       );
     }
 
@@ -129,7 +130,7 @@ pub function_unnamed : (bytes : List ℕ) (b : ℕ) (rest : List ℕ) → Begins
 function_unnamed bytes b rest h unnamed =
     let differs : (f : Function) → function_number f ≢ b = λ f is. none_is_none f ((unnamed f).1 is) in
     record {
-      none = numberless function_number bytes b rest h.parts differs;
+      none = numberless function_number (λ _. Unit {0}) bytes b rest h.parts (λ f any. differs f);
       blame = λ file due. (b ∷ rest, ap length h.parts, IsWrong.no_function (subst (Due file a_function) h.parts due) differs);
     }
 
@@ -137,7 +138,7 @@ pub arithmetic_unnamed : (bytes : List ℕ) (b : ℕ) (rest : List ℕ) → Begi
 arithmetic_unnamed bytes b rest h unnamed =
     let differs : (a : Arithmetic) → arithmetic_number a ≢ b = λ a is. none_is_none a ((unnamed a).1 is) in
     record {
-      none = numberless arithmetic_number bytes b rest h.parts differs;
+      none = numberless arithmetic_number (λ _. Unit {0}) bytes b rest h.parts (λ a any. differs a);
       blame = λ file due. (b ∷ rest, ap length h.parts, IsWrong.no_arithmetic (subst (Due file an_arithmetic) h.parts due) differs);
     }
 

@@ -12,6 +12,7 @@ use Rattle.mcode.specs.Program.{Frame, place_number, frame_number, most_slots}
 use Rattle.mcode.specs.declared.kind.Kind.{Kind}
 use Rattle.mcode.specs.declared.instr.Instr.{Instr}
 use Rattle.code_writer.specs.Spelling.{constant_bytes, instruction_bytes, kind_bytes}
+use Rattle.code_writer.specs.File.{IsPlain}
 use Rattle.code_writer.specs.Format.{Begins}
 use Rattle.code_writer.specs.Formats.{u8_format, u16_format, u32_format, bytes_format, constant_format}
 use Rattle.code_file.specs.Due.{BeginsWith, IsAbove, Item, Due}
@@ -53,7 +54,7 @@ pub data IsWrong (file : List ℕ) : FileCause → List ℕ → Type 0 where
       → ((d : Datum) → ¬ BeginsWith (b ∷ []) (constant_bytes d))
       → IsWrong file causes.BadOpcode (b ∷ t)
   no_opcode : {b : ℕ} {t : List ℕ} → Due file an_instruction (b ∷ t)
-      → ((i : Instr) → ¬ BeginsWith (b ∷ []) (instruction_bytes i))
+      → ((i : Instr) → IsPlain i → ¬ BeginsWith (b ∷ []) (instruction_bytes i))
       → IsWrong file causes.BadOpcode (b ∷ t)
   no_function : {b : ℕ} {t : List ℕ} → Due file a_function (b ∷ t)
       → ((f : Function) → function_number f ≢ b) → IsWrong file causes.BadOpcode (b ∷ t)

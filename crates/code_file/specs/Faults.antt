@@ -1,6 +1,6 @@
 -- What the faults of a file say, and that there is no code in it.
 use Rattle.std.specs.Prelude.{ℕ, ◌≡◌, ◌≢◌, ◌<◌, ◌≤◌, ◌-◌, List, ◌++◌, length, take}
-use Rattle.mcode.specs.Program.{Program, most_slots}
+use Rattle.mcode.specs.Program.{Program, most_slots, alone}
 use Rattle.code_writer.specs.Spelling.{u16_bytes}
 use Rattle.code_writer.specs.File.{Spells, IsU16, magic, version}
 use Rattle.code_writer.specs.Format.{Begins}
@@ -76,3 +76,4 @@ pub record IsRead (bytes : List ℕ) (p : Program) (rest : List ℕ) : Type 0 wh
   pub header : IsHeader bytes p.slots body
   pub begins : Begins body_format body (body_of p) rest
   pub few : p.slots ≤ most_slots
+  pub around : p.around ≡ alone

@@ -1,5 +1,9 @@
 //! Instructions at the front of a file's rest.
+ghost use Rattle.std.specs.Prelude.{◌≡◌, ◌≤◌, ◌↔◌, Some};
+ghost use Rattle.code_writer.specs.declared.opcode.Opcode.{Opcode as AnyOpcode};
 ghost use Rattle.code_writer.specs.declared.opcode.Opcode.TheVariants as Opcode;
+ghost use Rattle.code_writer.specs.File.{most_opcode};
+ghost use Rattle.code_writer.specs.Opcodes.{opcode_number};
 ghost use Rattle.code_writer.specs.Format.{Begins, both};
 ghost use Rattle.code_writer.specs.Formats.{u16_format, opcode_format, function_format, arithmetic_format, instruction_format};
 ghost use Rattle.code_file.specs.Due.Item.{an_instruction, a_function, an_arithmetic};
@@ -7,16 +11,26 @@ ghost use Rattle.code_file.specs.Reads.{Reads, Blames, IsCut};
 
 use crate::number::{read_u8, read_u16};
 use crate::stop::{FileCause, FileStop};
-use code_writer::Opcode;
+use code_writer::{MAX_OPCODE, Opcode};
 use mcode::Instr;
 use prims_table::{Arithmetic, Function};
+
+/// The opcode of a number in code without routines.
+fn opcode_of(number: u8) -> Option<Opcode>
+    ensures { (o : AnyOpcode) → (result ≡ Some o) ↔ ((opcode_number o ≡ number) × (opcode_number o ≤ most_opcode)) }
+{
+    if number > MAX_OPCODE {
+        return None;
+    }
+    Opcode::numbered(number)
+}
 
 /// An opcode.
 fn read_opcode(bytes: &[u8]) -> Result<(Opcode, &[u8]), FileStop>
     ensures { Reads opcode_format (Blames an_instruction bytes.now) (λ r. (r.0, r.1.now)) bytes.now result }
 {
     let (byte, rest) = read_u8(bytes)?;
-    match Opcode::numbered(byte) {
+    match opcode_of(byte) {
         Some(opcode) => Ok((opcode, rest)),
         None => Err(FileStop::At(FileCause::BadOpcode, bytes.len())),
     }

@@ -1,6 +1,7 @@
 //! Whole code files, read.
 ghost use Rattle.std.specs.Prelude.{◌≡◌, ◌≢◌, IfOk, IfErr};
 ghost use Rattle.mcode.specs.Building.{empty_program};
+ghost use Rattle.mcode.specs.Program.{alone};
 ghost use Rattle.code_writer.specs.Formats.{body_format};
 ghost use Rattle.code_writer.specs.File.{Spells};
 ghost use Rattle.code_file.specs.Due.Item.{a_count};
@@ -28,6 +29,7 @@ fn read_body<A: Allocator + Copy>(
     ensures body { Reads body_format (Blames (a_count constants) bytes.now) (λ r. (body_of r.0, r.1.now)) bytes.now
         result }
     ensures slots { IfOk result (λ r. r.0.slots ≡ slots) }
+    ensures around { IfOk result (λ r. r.0.around ≡ alone) }
 {
     let rest = read_constants(alloc, &mut builder, bytes)?;
     let rest = read_instrs(&mut builder, rest)?;

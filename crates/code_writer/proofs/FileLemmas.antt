@@ -6,11 +6,12 @@ use Rattle.std.proofs.lemmas.List.Elements.{All-from_recursion, recursion_from_A
 use Rattle.term_core.specs.Datum.{Datum}
 use Rattle.term_core.specs.Limits.{IsTerm}
 use Rattle.term_core.specs.Sizes.{depth_limit}
-use Rattle.mcode.specs.Program.{Program, IsProgram, Frame, IsFrame, IsTelling, Rise, frame_number}
+use Rattle.mcode.specs.Program.{Program, IsWhole, Frame, IsFrame, IsTelling, Rise, frame_number, alone}
+use Rattle.mcode.proofs.BodyLemmas.{alone_is}
 use Rattle.mcode.specs.declared.kind.Kind.{Kind}
 use Rattle.mcode.specs.declared.instr.Instr.{Instr}
 use Rattle.code_writer.specs.Spelling.{u16_bytes, constant_bytes, instruction_bytes, frame_bytes}
-use Rattle.code_writer.specs.File.{IsU8, HoldsArguments, HoldsPlace, HoldsFrame, Spells, magic, version, file_bytes}
+use Rattle.code_writer.specs.File.{IsU8, HoldsArguments, HoldsPlace, HoldsFrame, HasFile, IsPlain, Spells, magic, version, file_bytes}
 use Rattle.code_writer.specs.Format.{Format, Begins, both, counted}
 use Rattle.code_writer.specs.Formats.{u16_format, constant_format, instruction_format, place_format, frame_format, constants_format, instructions_format, frames_format, body_format, body_of}
 use Rattle.code_writer.specs.Laws.{OneCode, ReadBack}
@@ -83,12 +84,16 @@ frames_fit : (fs : List Frame) → AllByRecursion HoldsFrame fs → AllByRecursi
 frames_fit [] h k = tt
 frames_fit (f ∷ fs) h k = (frame_fits f h.0 k.0, frames_fit fs h.1 k.1)
 
+instructions_fit : (is : List Instr) → AllByRecursion HoldsArguments is → AllByRecursion IsPlain is → AllByRecursion instruction_format.Fits is
+instructions_fit [] h k = tt
+instructions_fit (i ∷ is) h k = ((h.0, k.0), instructions_fit is h.1 k.1)
+
 pub body_fits : (bytes : List ℕ) (p : Program) → Spells bytes p → body_format.Fits (body_of p)
 body_fits bytes p h = (
-  (omega (arith, h.program.constants), terms_fit p.constants (recursion_from_All IsTerm p.constants h.constants)),
+  (omega (arith, h.program.seen.constants), terms_fit p.constants (recursion_from_All IsTerm p.constants h.constants)),
   (
-    (omega (arith, h.program.instructions), recursion_from_All HoldsArguments p.instructions h.instructions),
-    ((omega (arith, h.program.frame_count), frames_fit p.frames (recursion_from_All HoldsFrame p.frames h.frames) (recursion_from_All IsFrame p.frames h.program.frames.each)), h.program.frames.rise),
+    (omega (arith, h.program.seen.instructions), instructions_fit p.instructions (recursion_from_All HoldsArguments p.instructions h.instructions) (recursion_from_All IsPlain p.instructions (h.file h.program.none))),
+    ((omega (arith, h.program.seen.frame_count), frames_fit p.frames (recursion_from_All HoldsFrame p.frames h.frames) (recursion_from_All IsFrame p.frames h.program.seen.frames.each)), h.program.seen.frames.rise),
   ),
 )
 
@@ -102,7 +107,7 @@ rest_free = both_prefix_free u16_format (both u16_format body_format) u16_free (
 -- a file behind its magic
 pub rest_begins : (rest : List ℕ) (bytes : List ℕ) (p : Program) → bytes ≡ magic ++ rest → Spells bytes p → Begins rest_format rest (version, (p.slots, body_of p)) []
 rest_begins rest bytes p is h = record {
-  fits = (omega arith, (omega (arith, h.program.slots), body_fits bytes p h));
+  fits = (omega arith, (omega (arith, h.program.seen.slots), body_fits bytes p h));
   parts = ap (λ (bs : List ℕ). drop_four bs) (sym is ∙ h.spelling) ∙ sym (append-nil _);
 }
   where
@@ -118,24 +123,28 @@ pub one_code : OneCode
 one_code bytes p q h k =
     let same = rest_free.one (behind_magic p) (version, (p.slots, body_of p)) (version, (q.slots, body_of q)) [] []
     (rest_begins (behind_magic p) bytes p h.spelling h) (rest_begins (behind_magic p) bytes q h.spelling k) in
-    ap (λ (x : ℕ × (ℕ × (List Datum × (List Instr × List Frame)))). record { slots = x.1.0; constants = x.1.1.0; instructions = x.1.1.1.0; frames = x.1.1.1.1 }) same.0
+    let as_alone : (r : Program) → IsWhole r → Prim.Path Program r (record { slots = r.slots; constants = r.constants; instructions = r.instructions; frames = r.frames; around = alone }) = λ r whole i. record { slots = r.slots; constants = r.constants; instructions = r.instructions; frames = r.frames; around = alone_is r whole i } in
+    as_alone p h.program
+    ∙ ap (λ (x : ℕ × (ℕ × (List Datum × (List Instr × List Frame)))). record { slots = x.1.0; constants = x.1.1.0; instructions = x.1.1.1.0; frames = x.1.1.1.1; around = alone }) same.0
+    ∙ sym (as_alone q k.program)
 
 pub read_back : ReadBack
-read_back p program constants instructions frames =
-    let spells : Spells (file_bytes p) p = record { program = program; constants = constants; instructions = instructions; frames = frames; spelling = refl } in
+read_back p program file constants instructions frames =
+    let spells : Spells (file_bytes p) p = record { program = program; file = file; constants = constants; instructions = instructions; frames = frames; spelling = refl } in
     (spells, λ q s. one_code (file_bytes p) q p s spells)
 
 -- what was written of the parts of code is its file
 pub written_spells : (p : Program) (bytes : List ℕ) (slots : ℕ) (ds : List Datum) (is : List Instr) (fs : List Frame) → slots ≡ p.slots → ds ≡ p.constants → is ≡ p.instructions → fs ≡ p.frames
-    → IsProgram p → All IsTerm ds → All HoldsArguments is → All HoldsFrame fs
+    → IsWhole p → HasFile p → All IsTerm ds → All HoldsArguments is → All HoldsFrame fs
     → bytes ≡ (magic ++ (u16_bytes version ++ u16_bytes slots)) ++ ((u16_bytes (length ds) ++ flat_map constant_bytes ds) ++ ((u16_bytes (length is) ++ flat_map instruction_bytes is) ++ (u16_bytes (length fs) ++ flat_map frame_bytes fs)))
     → Spells bytes p
-written_spells p bytes slots ds is fs slots_are ds_are is_are fs_are program constants instructions frames parts = record {
+written_spells p bytes slots ds is fs slots_are ds_are is_are fs_are program file constants instructions frames parts = record {
   program = program;
+  file = file;
   constants = subst (All IsTerm) ds_are constants;
   instructions = subst (All HoldsArguments) is_are instructions;
   frames = subst (All HoldsFrame) fs_are frames;
   spelling =
       parts ∙ ap (λ (t : List ℕ). magic ++ t) (append_assoc (u16_bytes version) (u16_bytes slots) _)
-      ∙ (λ i. file_bytes (record { slots = slots_are i; constants = ds_are i; instructions = is_are i; frames = fs_are i }));
+      ∙ (λ i. file_bytes (record { slots = slots_are i; constants = ds_are i; instructions = is_are i; frames = fs_are i; around = p.around }));
 }

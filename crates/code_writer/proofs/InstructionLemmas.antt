@@ -1,5 +1,6 @@
 -- No instruction begins another.
-use Rattle.std.proofs.Common.{◌≡◌, ℕ, suc, ◌-◌, List, [], ◌∷◌, ◌++◌, get_or, drop, refl, sym, ap, ◌∙◌}
+use Rattle.std.specs.Prelude.{◌≤◌, slice_index_or}
+use Rattle.std.proofs.Common.{◌≡◌, ℕ, suc, ◌-◌, List, [], ◌∷◌, ◌++◌, get_or, drop, refl, sym, ap, subst, ◌∙◌}
 use Rattle.std.proofs.lemmas.Option.{same_Some}
 use Rattle.prims_table.specs.Numbers.{function_number, arithmetic_number}
 use Rattle.prims_table.proofs.NumberLemmas.{function_at, arithmetic_at}
@@ -30,7 +31,7 @@ use Rattle.code_writer.specs.declared.opcode.Double.{Double}
 use Rattle.code_writer.specs.declared.opcode.Double.TheVariants as double
 use Rattle.code_writer.specs.Opcodes.{bare_instr, slotted_instr, single_instr, double_instr, opcode_number}
 use Rattle.code_writer.specs.Spelling.{u16_bytes, instruction_bytes}
-use Rattle.code_writer.specs.File.{IsU8, IsU16, HoldsArguments}
+use Rattle.code_writer.specs.File.{IsU8, IsU16, HoldsArguments, instruction_number, most_opcode}
 use Rattle.code_writer.specs.Format.{Begins, both}
 use Rattle.code_writer.specs.Formats.{u8_format, u16_format, opcode_format, function_format, arithmetic_format, instruction_format}
 use Rattle.code_writer.proofs.FormatLemmas.{IsPrefixFree, both_prefix_free}
@@ -72,21 +73,21 @@ pub tail_is : (a b : ℕ) (xs ys : List ℕ) → a ∷ xs ≡ b ∷ ys → xs �
 tail_is a b xs ys same = ap (drop 1) same
 
 -- values of one byte each
-by_number : {X : Type 0} (number : X → ℕ) → ((x y : X) → number x ≡ number y → x ≡ y) → IsPrefixFree (record { spell = λ x. number x ∷ []; Fits = λ _. Unit {0} })
-by_number number one = record {
+by_number : {X : Type 0} (number : X → ℕ) (Fits : X → Type 0) → ((x y : X) → number x ≡ number y → x ≡ y) → IsPrefixFree (record { spell = λ x. number x ∷ []; Fits = Fits })
+by_number number Fits one = record {
   one = λ bytes x y r s h k.
       let same = sym h.parts ∙ k.parts in
       (one x y (head_is (number x) (number y) r s same), tail_is (number x) (number y) r s same);
 }
 
 pub function_free : IsPrefixFree function_format
-function_free = by_number function_number one_function
+function_free = by_number function_number (λ _. Unit {0}) one_function
 
 pub arithmetic_free : IsPrefixFree arithmetic_format
-arithmetic_free = by_number arithmetic_number one_arithmetic
+arithmetic_free = by_number arithmetic_number (λ _. Unit {0}) one_arithmetic
 
 pub opcode_free : IsPrefixFree opcode_format
-opcode_free = by_number opcode_number one_opcode
+opcode_free = by_number opcode_number (λ o. opcode_number o ≤ most_opcode) one_opcode
 
 -- ---- the parts of an instruction
 
@@ -124,6 +125,9 @@ parts_of (instr.MakeCons l) = of_one single.MakeCons l
 parts_of (instr.MakeMap n l) = of_two double.MakeMap n l
 parts_of instr.Answer = of_bare bare.Answer
 parts_of instr.NoAnswer = of_bare bare.NoAnswer
+parts_of (instr.Invoke n l) = of_two double.Invoke n l
+parts_of instr.Return = of_bare bare.Return
+parts_of instr.Fail = of_bare bare.Fail
 
 abbrev whole : Parts → Instr
 whole (of_bare o) = bare_instr o
@@ -165,6 +169,10 @@ pub spelled : (i : Instr) → instruction_bytes i ≡ opcode_number (opcode_of (
 spelled instr.Load = refl
 spelled i = refl
 
+-- the number of an instruction is that of its opcode
+pub number_is : (i : Instr) → instruction_number i ≡ opcode_number (opcode_of (parts_of i))
+number_is i = ap (λ bs. slice_index_or bs 0 0) (spelled i)
+
 held : (i : Instr) → HoldsArguments i → HoldsParts (parts_of i)
 held instr.Load h = h
 held i h = h
@@ -181,12 +189,12 @@ opened bytes o r i s h k =
     record {
       opcode_is = sym (one_opcode o (opcode_of (parts_of i)) (head_is (opcode_number o) (opcode_number (opcode_of (parts_of i))) r (rest_bytes (parts_of i) ++ s) same));
       rest_is = tail_is (opcode_number o) (opcode_number (opcode_of (parts_of i))) r (rest_bytes (parts_of i) ++ s) same;
-      fits = held i k.fits;
+      fits = held i k.fits.0;
     }
 
 -- the same from any opcode
 pub self_opened : (bytes : List ℕ) (i : Instr) (s : List ℕ) → Begins instruction_format bytes i s → Begins opcode_format bytes (opcode_of (parts_of i)) (rest_bytes (parts_of i) ++ s)
-self_opened bytes i s h = record { fits = tt; parts = h.parts ∙ ap (λ bs. bs ++ s) (spelled i) }
+self_opened bytes i s h = record { fits = subst (λ n. n ≤ most_opcode) (number_is i) h.fits.1; parts = h.parts ∙ ap (λ bs. bs ++ s) (spelled i) }
 
 -- ---- the parts behind an opcode, as values of a format
 

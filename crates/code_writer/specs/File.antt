@@ -1,8 +1,8 @@
 -- What a code file is.
-use Rattle.std.specs.Prelude.{ℕ, ◌≡◌, ◌<◌, ◌^◌, List, [], ◌∷◌, ◌++◌, length, All}
+use Rattle.std.specs.Prelude.{ℕ, ◌≡◌, ◌<◌, ◌^◌, List, [], ◌∷◌, ◌++◌, length, slice_index_or, ◌≤◌, All}
 use Rattle.std.specs.List.{flat_map}
 use Rattle.term_core.specs.Limits.{IsTerm}
-use Rattle.mcode.specs.Program.{Program, Frame, IsProgram}
+use Rattle.mcode.specs.Program.{Program, Frame, IsWhole}
 use Rattle.mcode.specs.declared.kind.Kind.{Kind}
 use Rattle.mcode.specs.declared.kind.Kind.TheVariants as kind
 use Rattle.mcode.specs.declared.instr.Instr.{Instr}
@@ -27,6 +27,18 @@ file_bytes p =
     ++ ((u16_bytes (length p.constants) ++ flat_map constant_bytes p.constants)
     ++ ((u16_bytes (length p.instructions) ++ flat_map instruction_bytes p.instructions)
     ++ (u16_bytes (length p.frames) ++ flat_map frame_bytes p.frames)))))
+
+-- the greatest number of an instruction; those above it are of code with routines
+abbrev pub most_opcode : ℕ
+most_opcode = 25
+
+-- the number of an instruction, with which its bytes begin
+abbrev pub instruction_number : Instr → ℕ
+instruction_number i = slice_index_or (instruction_bytes i) 0 0
+
+-- an instruction of code without routines
+abbrev pub IsPlain : Instr → Type 0
+IsPlain i = instruction_number i ≤ most_opcode
 
 -- a number that two bytes hold
 abbrev pub IsU16 : ℕ → Type 0
@@ -56,6 +68,7 @@ HoldsArguments (instr.Branch l) = IsU16 l
 HoldsArguments (instr.MakeTuple n l) = IsU16 n × IsU16 l
 HoldsArguments (instr.MakeCons l) = IsU16 l
 HoldsArguments (instr.MakeMap c l) = IsU16 c × IsU16 l
+HoldsArguments (instr.Invoke r l) = IsU16 r × IsU16 l
 HoldsArguments i = Unit {0}
 
 -- the size that a kind names
@@ -74,9 +87,15 @@ pub record HoldsFrame (f : Frame) : Type 0 where
   pub places : All HoldsPlace f.places
   pub slots : All IsU8 f.slots
 
--- The bytes are the code file of this code: it is code, its constants are terms, and the bytes spell it.
+-- Code that has a file: where it has no routines, none of its instructions is one of those that code with routines alone
+-- has.
+abbrev pub HasFile : Program → Type 0
+HasFile p = p.around.routines ≡ [] → All IsPlain p.instructions
+
+-- The bytes are the code file of this code: it is code that has one, its constants are terms, and the bytes spell it.
 pub record Spells (bytes : List ℕ) (p : Program) : Type 0 where
-  pub program : IsProgram p
+  pub program : IsWhole p
+  pub file : HasFile p
   pub constants : All IsTerm p.constants
   pub instructions : All HoldsArguments p.instructions
   pub frames : All HoldsFrame p.frames

@@ -18,7 +18,7 @@ use Rattle.mcode.specs.declared.instr.Instr.{Instr}
 use Rattle.code_writer.specs.Opcodes.{opcode_number}
 use Rattle.code_writer.specs.declared.opcode.Opcode.{Opcode}
 use Rattle.code_writer.specs.Spelling.{u16_bytes, u32_bytes, i64_bytes, constant_bytes, instruction_bytes, kind_bytes, frame_bytes}
-use Rattle.code_writer.specs.File.{IsU8, IsU16, HoldsArguments, HoldsSize}
+use Rattle.code_writer.specs.File.{IsU8, IsU16, HoldsArguments, HoldsSize, IsPlain, most_opcode}
 use Rattle.code_writer.specs.Format.{Format, both, counted, such}
 
 abbrev pub u8_format : Format ℕ
@@ -39,7 +39,8 @@ bytes_format n = record { spell = λ bs. bs; Fits = λ bs. length bs ≡ n }
 
 -- an instruction
 abbrev pub instruction_format : Format Instr
-instruction_format = record { spell = instruction_bytes; Fits = HoldsArguments }
+instruction_format =
+    record { spell = instruction_bytes; Fits = λ i. HoldsArguments i × IsPlain i }
 
 -- a term at most so deep
 abbrev pub constant_format : ℕ → Format Datum
@@ -50,7 +51,8 @@ constant_format room =
     }
 
 abbrev pub opcode_format : Format Opcode
-opcode_format = record { spell = λ o. opcode_number o ∷ []; Fits = λ _. Unit {0} }
+opcode_format =
+    record { spell = λ o. opcode_number o ∷ []; Fits = λ o. opcode_number o ≤ most_opcode }
 
 -- a function of the table of calls
 abbrev pub function_format : Format Function

@@ -1,17 +1,17 @@
 -- Laws of code files.
 use Rattle.std.specs.Prelude.{ℕ, ◌≡◌, List, All}
 use Rattle.term_core.specs.Limits.{IsTerm}
-use Rattle.mcode.specs.Program.{Program, IsProgram}
-use Rattle.code_writer.specs.File.{Spells, HoldsArguments, HoldsFrame, file_bytes}
+use Rattle.mcode.specs.Program.{Program, IsWhole}
+use Rattle.code_writer.specs.File.{Spells, HasFile, HoldsArguments, HoldsFrame, file_bytes}
 
 -- bytes that spell two programs spell one
 abbrev pub OneCode : Type 0
 OneCode = (bytes : List ℕ) (p q : Program) → Spells bytes p → Spells bytes q → p ≡ q
 
--- the file of a program spells it, and no other program: of one that is code, its constants terms, and each number held
--- by its bytes
+-- the file of a program spells it, and no other program: of one that is code and has a file, its constants terms, and
+-- each number held by its bytes
 abbrev pub ReadBack : Type 0
 ReadBack =
-    (p : Program) → IsProgram p → All IsTerm p.constants → All HoldsArguments p.instructions
-    → All HoldsFrame p.frames
+    (p : Program) → IsWhole p → HasFile p → All IsTerm p.constants
+    → All HoldsArguments p.instructions → All HoldsFrame p.frames
     → Spells (file_bytes p) p × ((q : Program) → Spells (file_bytes p) q → q ≡ p)

@@ -22,6 +22,8 @@ bare_instr bare.Head = instr.Head
 bare_instr bare.Tail = instr.Tail
 bare_instr bare.Answer = instr.Answer
 bare_instr bare.NoAnswer = instr.NoAnswer
+bare_instr bare.Return = instr.Return
+bare_instr bare.Fail = instr.Fail
 
 -- the instruction of a slot
 abbrev pub slotted_instr : Slotted → ℕ → Instr
@@ -47,6 +49,7 @@ double_instr double.Tuple n l = instr.Tuple n l
 double_instr double.Value n l = instr.Value n l
 double_instr double.MakeTuple n l = instr.MakeTuple n l
 double_instr double.MakeMap n l = instr.MakeMap n l
+double_instr double.Invoke n l = instr.Invoke n l
 
 -- the number of an opcode
 abbrev pub opcode_number : Opcode → ℕ
@@ -75,3 +78,6 @@ opcode_number (opcode.Single single.MakeCons) = 22
 opcode_number (opcode.Double double.MakeMap) = 23
 opcode_number (opcode.Bare bare.Answer) = 24
 opcode_number (opcode.Bare bare.NoAnswer) = 25
+opcode_number (opcode.Double double.Invoke) = 26
+opcode_number (opcode.Bare bare.Return) = 27
+opcode_number (opcode.Bare bare.Fail) = 28

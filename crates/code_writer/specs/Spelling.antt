@@ -94,6 +94,9 @@ instruction_bytes (instr.MakeCons l) = 22 ∷ u16_bytes l
 instruction_bytes (instr.MakeMap c l) = 23 ∷ u16_bytes c ++ u16_bytes l
 instruction_bytes instr.Answer = 24 ∷ []
 instruction_bytes instr.NoAnswer = 25 ∷ []
+instruction_bytes (instr.Invoke r l) = 26 ∷ u16_bytes r ++ u16_bytes l
+instruction_bytes instr.Return = 27 ∷ []
+instruction_bytes instr.Fail = 28 ∷ []
 
 -- the kind of a place that is listed, which is never Any
 abbrev pub kind_bytes : Kind → List ℕ

@@ -83,6 +83,9 @@ fn put_instr<A: Allocator>(instr: Instr, out: &mut Vec<u8, A>) -> Result<(), All
         Instr::MakeMap { keys, otherwise } => put_two(23, keys, otherwise, out),
         Instr::Answer => put_u8(24, out),
         Instr::NoAnswer => put_u8(25, out),
+        Instr::Invoke { routine, otherwise } => put_two(26, routine, otherwise, out),
+        Instr::Return => put_u8(27, out),
+        Instr::Fail => put_u8(28, out),
     }
 }
 

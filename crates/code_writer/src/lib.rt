@@ -21,4 +21,4 @@ mod opcode;
 
 pub use encoding::encode;
 pub use laws::{one_code, read_back};
-pub use opcode::{Bare, Double, Opcode, Single, Slotted};
+pub use opcode::{Bare, Double, MAX_OPCODE, Opcode, Single, Slotted};

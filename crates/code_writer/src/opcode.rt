@@ -15,6 +15,8 @@ pub enum Bare {
     Tail,
     Answer,
     NoAnswer,
+    Return,
+    Fail,
 }
 
 /// Instructions of a slot.
@@ -46,6 +48,7 @@ pub enum Double {
     Value,
     MakeTuple,
     MakeMap,
+    Invoke,
 }
 
 /// An opcode.
@@ -62,7 +65,7 @@ pub enum Opcode {
 }
 
 /// The opcodes in the order of their numbers, from 1.
-const ALL: [Opcode; 25] = [
+const ALL: [Opcode; 28] = [
     Opcode::Bare(Bare::Load),
     Opcode::Single(Single::Const),
     Opcode::Slotted(Slotted::Get),
@@ -88,6 +91,9 @@ const ALL: [Opcode; 25] = [
     Opcode::Double(Double::MakeMap),
     Opcode::Bare(Bare::Answer),
     Opcode::Bare(Bare::NoAnswer),
+    Opcode::Double(Double::Invoke),
+    Opcode::Bare(Bare::Return),
+    Opcode::Bare(Bare::Fail),
 ];
 
 /// The opcode at a place of the table, where there is one.
@@ -96,6 +102,9 @@ fn at(table: &[Opcode], place: usize) -> Option<Opcode>
 {
     table.get(place).copied()
 }
+
+/// The greatest number of an opcode in code without routines.
+pub const MAX_OPCODE: u8 = 25;
 
 impl Opcode {
     /// The opcode of this number, none where there is none.
@@ -120,6 +129,8 @@ impl Bare {
             Bare::Tail => Instr::Tail,
             Bare::Answer => Instr::Answer,
             Bare::NoAnswer => Instr::NoAnswer,
+            Bare::Return => Instr::Return,
+            Bare::Fail => Instr::Fail,
         }
     }
 }
@@ -176,6 +187,10 @@ impl Double {
             },
             Double::MakeMap => Instr::MakeMap {
                 keys: number,
+                otherwise,
+            },
+            Double::Invoke => Instr::Invoke {
+                routine: number,
                 otherwise,
             },
         }

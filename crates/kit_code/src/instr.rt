@@ -18,6 +18,8 @@ fn bare(name: &str) -> Option<Instr> {
         "tail" => Some(Instr::Tail),
         "answer" => Some(Instr::Answer),
         "no_answer" => Some(Instr::NoAnswer),
+        "return" => Some(Instr::Return),
+        "fail" => Some(Instr::Fail),
         _ => None,
     }
 }
@@ -62,6 +64,10 @@ fn with_two(name: &str, operand: u16, otherwise: u16) -> Option<Instr> {
         }),
         "make_map" => Some(Instr::MakeMap {
             keys: operand,
+            otherwise,
+        }),
+        "invoke" => Some(Instr::Invoke {
+            routine: operand,
             otherwise,
         }),
         _ => None,

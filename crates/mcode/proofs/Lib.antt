@@ -1,2 +1,3 @@
 pub mod RiseLemmas
 pub mod KindLemmas
+pub mod BodyLemmas

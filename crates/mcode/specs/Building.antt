@@ -1,14 +1,15 @@
 -- What adding a part to code comes to.
 use Rattle.std.specs.Prelude.{ℕ, ◌<◌, ◌≤◌, ◌⊎◌, List, [], ◌∷◌, ◌++◌, length}
 use Rattle.term_core.specs.Datum.{Datum}
-use Rattle.mcode.specs.Program.{Program, Frame, most_parts, IsOrdered, Rise, frame_number}
+use Rattle.mcode.specs.Program.{Program, Frame, most_parts, IsOrdered, Rise, frame_number, alone}
 use Rattle.mcode.specs.declared.fault.Fault.{Fault}
 use Rattle.mcode.specs.declared.fault.Fault.TheVariants.{Memory, Limit, FrameOrder}
 use Rattle.mcode.specs.declared.instr.Instr.{Instr}
 
 -- code without parts
 abbrev pub empty_program : ℕ → Program
-empty_program slots = record { slots = slots; constants = []; instructions = []; frames = [] }
+empty_program slots =
+    record { slots = slots; constants = []; instructions = []; frames = []; around = alone }
 
 -- the code with one more constant
 abbrev pub with_constant : Program → Datum → Program
@@ -20,6 +21,7 @@ with_constant p d =
       instructions = p.instructions;
       frames =
           p.frames;
+      around = p.around;
     }
 
 -- the code with one more instruction
@@ -32,6 +34,7 @@ with_instruction p i =
       instructions = p.instructions
           ++ i ∷ [];
       frames = p.frames;
+      around = p.around;
     }
 
 -- the code with one more frame
@@ -44,6 +47,7 @@ with_frame p f =
       instructions = p.instructions;
       frames = p.frames
           ++ f ∷ [];
+      around = p.around;
     }
 
 -- what a refusal says where there were so many of the parts: memory only where one more would do

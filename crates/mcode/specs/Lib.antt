@@ -4,5 +4,6 @@ pub mod Program
 pub mod Frame
 pub mod FaultNumbers
 pub mod Machine
+pub mod Run
 pub mod Answer
 pub mod Building

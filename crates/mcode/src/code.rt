@@ -7,12 +7,13 @@ ghost use Rattle.mcode.specs.Building.{IsFrameTooMany, IsNextFrame};
 
 use crate::frame::Frame;
 use crate::instr::Instr;
+use crate::routine::Routine;
 use std::alloc::{AllocError, AllocFailed, Allocator, Global};
 use std::marker::Model;
 use term_core::Term;
 
 /// The frame of a number among these, whose numbers rise.
-fn frame_with<A: Allocator>(frames: &[Frame<A>], pc: u16) -> Option<&Frame<A>>
+pub(crate) fn frame_with<A: Allocator>(frames: &[Frame<A>], pc: u16) -> Option<&Frame<A>>
     requires { Rise frame_number (map frame_of frames.now) }
     ensures { option_map frame_of (option_copied result) ≡ frame_at (map frame_of frames.now) pc }
 {
@@ -48,13 +49,14 @@ pub struct Code<A: Allocator = Global> {
     constants: Vec<Term<A>, A>,
     instructions: Vec<Instr, A>,
     frames: Vec<Frame<A>, A>,
+    routines: Vec<Routine<A>, A>,
 }
 
 impl<A: Allocator> Model for Code<A> {
     ghost use Rattle.std.specs.Prelude.{map};
     ghost use Rattle.std.specs.Coded.{codes};
     ghost use Rattle.term_core.specs.DatumCode.{datum_code};
-    ghost use Rattle.mcode.specs.Program.{Program, IsProgram};
+    ghost use Rattle.mcode.specs.Program.{Program, IsWhole};
 
     ghost Value = { Program };
 
@@ -62,16 +64,17 @@ impl<A: Allocator> Model for Code<A> {
 
     ghost use Rattle.mcode.specs.Frame.{program_of};
 
-    ghost view = { λ c. program_of c.slots c.constants.items c.instructions.items c.frames.items };
+    ghost view = { λ c. program_of c.slots c.constants.items c.instructions.items c.frames.items c.routines.items };
 
-    ghost invariant = { λ c. IsProgram (program_of c.slots c.constants.items c.instructions.items c.frames.items) };
+    ghost invariant = { λ c. IsWhole (program_of c.slots c.constants.items c.instructions.items c.frames.items
+        c.routines.items) };
 }
 
 impl<A: Allocator> Code<A> {
     ghost use Rattle.std.specs.Prelude.{◌≡◌, ◌<◌, ◌≤◌, length, map, OnOk, OnErr, IfErr};
     ghost use Rattle.std.specs.Option.{option_map, option_copied};
     ghost use Rattle.mcode.specs.Frame.{frame_of};
-    ghost use Rattle.mcode.specs.Program.{IsProgram, most_slots, most_parts, frame_at};
+    ghost use Rattle.mcode.specs.Program.{IsProgram, IsWhole, most_slots, most_parts, frame_at};
     ghost use Rattle.mcode.specs.Building.{empty_program, with_constant, with_instruction, with_frame, IsFrameTooMany, IsNextFrame};
 
     /// Code without parts over this many slots.
@@ -86,6 +89,7 @@ impl<A: Allocator> Code<A> {
             constants: Vec::new(alloc),
             instructions: Vec::new(alloc),
             frames: Vec::new(alloc),
+            routines: Vec::new(alloc),
         }
     }
 
@@ -127,6 +131,7 @@ impl<A: Allocator> Code<A> {
     pub fn slots(&self) -> u16
         ensures value { result ≡ self.now.slots }
         ensures within { IsProgram self.now }
+        ensures whole { IsWhole self.now }
     {
         self.slots
     }
@@ -153,6 +158,14 @@ impl<A: Allocator> Code<A> {
         ensures within { IsProgram self.now }
     {
         self.frames.as_slice()
+    }
+
+    /// The routines, numbered from 1, at most `MAX_ROUTINES`.
+    pub fn routines(&self) -> &[Routine<A>]
+        ensures value { result.now ≡ self.now.around.routines }
+        ensures within { IsWhole self.now }
+    {
+        self.routines.as_slice()
     }
 
     /// The frame at an instruction, where there is one.

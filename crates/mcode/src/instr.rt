@@ -5,7 +5,7 @@ use prims_table::{Arithmetic, Function};
 
 /// An instruction. The top is the last place of the operand stack; arguments and elements are pushed from the left. A
 /// jump goes to the instruction of that number and cuts the stack to the depth of the frame there. After an instruction
-/// that isn't `Jump`, `Answer` or `NoAnswer`, execution goes on at the next.
+/// that isn't `Jump`, `Answer`, `NoAnswer`, `Return` or `Fail`, execution goes on at the next.
 #[derive(Clone, Copy, Debug, PartialEq, Eq)]
 pub enum Instr {
     /// Pushes the object.
@@ -126,6 +126,17 @@ pub enum Instr {
     Answer,
     /// Ends without an answer.
     NoAnswer,
+    /// Pops the arguments of a routine and pushes what it gives, or jumps where it fails.
+    Invoke {
+        /// The routine's number, from 1.
+        routine: u16,
+        /// Where to go otherwise.
+        otherwise: u16,
+    },
+    /// Ends the routine with the top.
+    Return,
+    /// Ends the routine, failed.
+    Fail,
 }
 
 impl Instr {
@@ -149,7 +160,8 @@ impl Instr {
             | Instr::Branch { otherwise }
             | Instr::MakeTuple { otherwise, .. }
             | Instr::MakeCons { otherwise }
-            | Instr::MakeMap { otherwise, .. } => Some(otherwise),
+            | Instr::MakeMap { otherwise, .. }
+            | Instr::Invoke { otherwise, .. } => Some(otherwise),
             Instr::Jump { target } => Some(target),
             Instr::Load
             | Instr::Const { .. }
@@ -161,7 +173,9 @@ impl Instr {
             | Instr::Head
             | Instr::Tail
             | Instr::Answer
-            | Instr::NoAnswer => None,
+            | Instr::NoAnswer
+            | Instr::Return
+            | Instr::Fail => None,
         }
     }
 
@@ -169,6 +183,9 @@ impl Instr {
     pub const fn goes_on(self) -> bool
         ensures { result ≡ goes_on self }
     {
-        !matches!(self, Instr::Jump { .. } | Instr::Answer | Instr::NoAnswer)
+        !matches!(
+            self,
+            Instr::Jump { .. } | Instr::Answer | Instr::NoAnswer | Instr::Return | Instr::Fail
+        )
     }
 }

@@ -1,31 +1,32 @@
 -- What a fault of code says, and that nothing stands before it.
-use Rattle.std.specs.Prelude.{ℕ, ◌≡◌, ◌⊎◌, Option, Some, length, slice_get, All, take}
-use Rattle.mcode.specs.Program.{Program, Frame, frame_at}
+use Rattle.std.specs.Prelude.{ℕ, suc, ◌≡◌, ◌<◌, ◌≤◌, ◌⊎◌, Option, Some, List, length, slice_get, All, take}
+use Rattle.budget.specs.Paths.{IsBodyBudget, most_budget}
+use Rattle.mcode.specs.Program.{Program, Frame, frame_at, body_of}
 use Rattle.mcode.specs.declared.instr.Instr.{Instr}
 use Rattle.verifier_types.specs.Shape.{Shape}
 use Rattle.verifier_types.specs.Fit.{IsFrameFit}
 use Rattle.verifier_types.specs.Faults.{IsFaultIn}
 use Rattle.verifier_types.specs.declared.fault.Fault.{Fault}
 use Rattle.verifier_types.specs.declared.fault.Fault.TheVariants as fault
-use Rattle.verifier.specs.Typing.{Begins, falling_into, AreTypedBelow}
+use Rattle.verifier.specs.Typing.{Begins, falling_into, AreTypedBelow, HasShapes, AreTypedFrom}
 
 -- no state is one in which the instruction can begin: neither does one fall into it nor has it a frame, or
 -- the one that falls into it isn't at or below its frame
 abbrev pub HasNoBeginning : Program → Option Shape → Option Frame → Type 0
 HasNoBeginning p falling frame = (s : Shape) → ¬ Begins p falling frame s
 
--- the instruction is the first that isn't typed, and the fault says why
-pub record IsFirstUntyped (p : Program) (told : Fault) : Type 0 where
+-- the instruction is the first that isn't typed, where these are the depths of all bodies, and the fault says why
+pub record IsFirstUntyped (p : Program) (ds : List ℕ) (told : Fault) : Type 0 where
   pub pc : ℕ
   pub instr : Instr
   pub shapes : ℕ → Shape
   pub frames : All (IsFrameFit p) p.frames
   pub here : slice_get p.instructions pc ≡ Some instr
-  pub before : AreTypedBelow p shapes pc
+  pub before : AreTypedBelow p ds shapes pc
   pub why :
       ((told ≡ fault.Frame pc) × HasNoBeginning p (falling_into p shapes pc) (frame_at p.frames pc))
       ⊎ (Begins p (falling_into p shapes pc) (frame_at p.frames pc) (shapes pc)
-      × IsFaultIn p pc instr (shapes pc) told)
+      × IsFaultIn p ds pc instr (shapes pc) told)
 
 -- the frame is the first that isn't fit
 pub record IsFirstUnfit (p : Program) (told : Fault) : Type 0 where
@@ -42,6 +43,24 @@ pub record IsEmpty (p : Program) (told : Fault) : Type 0 where
   pub none : length p.instructions ≡ 0
   pub is : told ≡ fault.FallsOff 0
 
--- Why code is no typed code: the first of a frame that isn't fit, no instruction, an instruction that isn't typed.
-abbrev pub IsFirstFault : Program → Fault → Type 0
-IsFirstFault p told = IsFirstUnfit p told ⊎ (IsEmpty p told ⊎ IsFirstUntyped p told)
+-- why a body is not typed: the first of a frame that isn't fit, no instruction, an instruction that isn't typed
+abbrev pub IsBodyFault : Program → List ℕ → Fault → Type 0
+IsBodyFault p ds told = IsFirstUnfit p told ⊎ (IsEmpty p told ⊎ IsFirstUntyped p ds told)
+
+-- the body is typed, and its budget is above the limit
+pub record IsBodyOver (p : Program) (ds budgets : List ℕ) (told : Fault) : Type 0 where
+  pub shapes : ℕ → Shape
+  pub typing : HasShapes p ds shapes
+  pub budget : ℕ
+  pub limit : IsBodyBudget p budgets budget
+  pub over : most_budget < budget
+  pub is : told ≡ fault.Budget
+
+-- Why code is no typed code: the bodies behind this one are typed, and it isn't, or its budget is above the limit.
+pub record IsFirstFault (p : Program) (b : ℕ) (told : Fault) : Type 0 where
+  pub depths : List ℕ
+  pub budgets : List ℕ
+  pub inside : b ≤ length p.around.routines
+  pub behind : AreTypedFrom p (suc b) depths budgets
+  pub why :
+      IsBodyFault (body_of p b) depths told ⊎ IsBodyOver (body_of p b) depths budgets told

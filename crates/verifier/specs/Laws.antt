@@ -2,18 +2,24 @@
 use Rattle.std.specs.Prelude.{ℕ, ◌≡◌}
 use Rattle.mcode.specs.Program.{Program}
 use Rattle.verifier.specs.Faults.{IsFirstFault}
-use Rattle.verifier.specs.Typing.{IsTyped, IsDepth}
+use Rattle.verifier.specs.Typing.{IsTyped, IsDepth, IsPlain}
+use Rattle.verifier_types.specs.Shape.{Shape}
 use Rattle.verifier_types.specs.declared.fault.Fault.{Fault}
 
 -- code of which a fault tells is not typed
 abbrev pub FaultyCodeIsUntyped : Type 0
-FaultyCodeIsUntyped = (p : Program) (told : Fault) → IsFirstFault p told → ¬ IsTyped p
+FaultyCodeIsUntyped = (p : Program) (b : ℕ) (told : Fault) → IsFirstFault p b told → ¬ IsTyped p
 
 -- at most one fault is the first
 abbrev pub FirstFaultIsOne : Type 0
 FirstFaultIsOne =
-    (p : Program) (told again : Fault) → IsFirstFault p told → IsFirstFault p again → told ≡ again
+    (p : Program) (b c : ℕ) (told again : Fault) → IsFirstFault p b told → IsFirstFault p c again
+    → (b ≡ c) × (told ≡ again)
 
 -- code has at most one greatest depth
 abbrev pub DepthIsOne : Type 0
 DepthIsOne = (p : Program) (n m : ℕ) → IsDepth p n → IsDepth p m → n ≡ m
+
+-- code without routines is typed where its body is
+abbrev pub PlainCodeIsTyped : Type 0
+PlainCodeIsTyped = (p : Program) (shapes : ℕ → Shape) → IsPlain p shapes → IsTyped p

@@ -1,19 +1,19 @@
 //! The pass from the first instruction to the last, which knows the one state in which each can begin.
-ghost use Rattle.std.specs.Prelude.{◌≡◌, ◌<◌, ◌+◌, ◌⊎◌, ◌↔◌, ◌++◌, ◌∷◌, [], IsTrue, IfSome, IfOk, IfErr, OnOk, All, Some, length, max, slice_get};
+ghost use Rattle.std.specs.Prelude.{◌≡◌, ◌<◌, ◌+◌, ◌⊎◌, ◌↔◌, ◌++◌, ◌≤◌, ◌∷◌, [], IsTrue, IfSome, IfOk, IfErr, OnOk, All, Some, length, max, reverse, slice_get};
 ghost use Rattle.mcode.specs.Frame.{frame_of};
-ghost use Rattle.mcode.specs.Program.{frame_at};
+ghost use Rattle.mcode.specs.Program.{frame_at, most_arguments};
 ghost use Rattle.verifier.specs.Faults.{HasNoBeginning, IsFirstUntyped};
 ghost use Rattle.verifier_types.specs.Kept.{AreKept};
 ghost use Rattle.verifier_types.specs.Needed.{AreCounts};
 ghost use Rattle.verifier.specs.Pass.{fallen, IsWalked};
 ghost use Rattle.verifier_types.specs.Shape.{IsAtOrBelow};
-ghost use Rattle.verifier_types.specs.Fit.{IsFrameFit};
-ghost use Rattle.verifier.specs.Typing.{Begins};
+ghost use Rattle.verifier_types.specs.Fit.{IsFrameFit, most_places};
+ghost use Rattle.verifier.specs.Typing.{Begins, entry_shape};
 ghost use Rattle.verifier_types.specs.declared.fault.Fault.TheVariants.{Memory, Frame as FrameFault};
 
-use mcode::{Code, Frame, Instr};
+use mcode::{Body, Frame, Instr, Kind};
 use std::alloc::{AllocError, Allocator};
-use verifier_types::{Fault, Shape, check, leave};
+use verifier_types::{Fault, Shape, check, inner_depth, leave};
 
 /// What the pass knows before an instruction.
 #[derive(Drop)]
@@ -24,8 +24,10 @@ pub(crate) struct Walk<A: Allocator> {
     falls: bool,
     /// The depths of the states so far, by the number of the instruction.
     pub(crate) depths: Vec<u16, A>,
-    /// The greatest depth so far.
-    pub(crate) depth: u16,
+    /// The greatest depth of a state so far.
+    pub(crate) own: u16,
+    /// The most places so far that an instruction takes while its routine runs.
+    pub(crate) inner: u16,
 }
 
 /// Whether the state that falls into an instruction with a frame, where one does, is at or below it.
@@ -42,20 +44,20 @@ fn falls_below<A: Allocator>(falls: bool, shape: &Shape<A>, frame: &Frame<A>) ->
 
 /// Turns the state that falls into an instruction, where one does, into the one in which it begins.
 fn begin<A: Allocator>(
-    code: &Code<A>,
+    body: &Body<'_, A>,
     pc: u16,
     falls: bool,
     shape: &mut Shape<A>,
 ) -> Result<(), Fault>
-    requires frames { All (IsFrameFit code.now) code.now.frames }
-    requires slots { length shape.old.bound ≡ code.now.slots }
-    ensures begins { OnOk result (Begins code.now (fallen falls shape.old)
-        (frame_at code.now.frames pc) shape.new) }
+    requires frames { All (IsFrameFit body.now) body.now.frames }
+    requires slots { length shape.old.bound ≡ body.now.slots }
+    ensures begins { OnOk result (Begins body.now (fallen falls shape.old)
+        (frame_at body.now.frames pc) shape.new) }
     ensures fault { IfErr result (λ fault. (fault ≡ Memory)
-        ⊎ ((fault ≡ FrameFault pc) × HasNoBeginning code.now (fallen falls shape.old)
-        (frame_at code.now.frames pc))) }
+        ⊎ ((fault ≡ FrameFault pc) × HasNoBeginning body.now (fallen falls shape.old)
+        (frame_at body.now.frames pc))) }
 {
-    let Some(frame) = code.frame_at(pc) else {
+    let Some(frame) = body.frame_at(pc) else {
         return if falls { Ok(()) } else { Err(Fault::Frame(pc)) };
     };
     if !falls_below(falls, shape, frame) {
@@ -67,21 +69,47 @@ fn begin<A: Allocator>(
     }
 }
 
+/// Pushes these kinds, the lowest first, on an empty stack.
+fn push_all<A: Allocator>(shape: &mut Shape<A>, kinds: &[Kind]) -> Result<(), AllocError>
+    requires few { length kinds.now ≤ most_arguments }
+    requires empty { shape.old.kinds ≡ [] }
+    ensures { OnOk result (shape.new ≡ record
+        { kinds = reverse kinds.now; bound = shape.old.bound }) }
+{
+    for place in 0..kinds.len() {
+        shape.push(kinds[place])?;
+    }
+    Ok(())
+}
+
+/// The state in which a body begins.
+fn entry<A: Allocator + Copy>(alloc: A, body: &Body<'_, A>) -> Result<Shape<A>, AllocError>
+    ensures { IfOk result (λ s. s ≡ entry_shape body.now) }
+{
+    let mut shape = Shape::start(alloc, body.slots())?;
+    if let Some(routine) = body.own_routine() {
+        push_all(&mut shape, routine.arguments())?;
+    }
+    Ok(shape)
+}
+
 impl<A: Allocator + Copy> Walk<A> {
-    ghost use Rattle.std.specs.Prelude.{IfOk};
+    ghost use Rattle.std.specs.Prelude.{IfOk, List, ℕ};
     ghost use Rattle.verifier.specs.Pass.{IsWalked};
 
-    /// Before the first instruction of code.
-    pub(crate) fn start(alloc: A, code: &Code<A>) -> Result<Self, AllocError>
-        ensures { IfOk result (λ w. IsWalked code.now 0 w.falls w.shape w.depths.items w.depth) }
+    /// Before the first instruction of a body.
+    pub(crate) fn start(alloc: A, body: &Body<'_, A>) -> Result<Self, AllocError>
+        ensures { IfOk result (λ w. (ds : List ℕ)
+            → IsWalked body.now ds 0 w.falls w.shape w.depths.items w.own w.inner) }
     {
-        let shape = Shape::start(alloc, code.slots())?;
-        let depths = Vec::with_capacity(alloc, code.instructions().len())?;
+        let shape = entry(alloc, body)?;
+        let depths = Vec::with_capacity(alloc, body.instructions().len())?;
         Ok(Walk {
             shape,
             falls: true,
             depths,
-            depth: 0,
+            own: 0,
+            inner: 0,
         })
     }
 }
@@ -93,12 +121,20 @@ fn greatest(depth: u16, before: u16, after: u16) -> u16
     depth.max(before).max(after)
 }
 
-/// The instruction of a number.
-fn instr_at<A: Allocator>(code: &Code<A>, pc: u16) -> Instr
-    requires { pc < length code.now.instructions }
-    ensures { slice_get code.now.instructions pc ≡ Some result }
+/// The greater of two depths.
+fn deeper(depth: u16, inner: usize) -> u16
+    requires { inner ≤ most_places }
+    ensures { result ≡ max depth inner }
 {
-    code.instructions()[usize::from(pc)]
+    depth.max(inner as u16)
+}
+
+/// The instruction of a number.
+fn instr_at<A: Allocator>(body: &Body<'_, A>, pc: u16) -> Instr
+    requires { pc < length body.now.instructions }
+    ensures { slice_get body.now.instructions pc ≡ Some result }
+{
+    body.instructions()[usize::from(pc)]
 }
 
 /// Notes the depth of one more state.
@@ -109,29 +145,31 @@ fn note<A: Allocator>(depths: &mut Vec<u16, A>, depth: u16) -> Result<(), AllocE
     Ok(())
 }
 
-/// What the pass knows after one more instruction.
+/// What the pass knows after one more instruction, where these are the depths of all bodies behind this one.
 pub(crate) fn step<A: Allocator>(
-    code: &Code<A>,
+    body: &Body<'_, A>,
     counts: &[Option<usize>],
+    behind: &[u16],
     pc: u16,
     walk: &mut Walk<A>,
 ) -> Result<(), Fault>
-    requires counts { AreCounts code.now counts.now }
-    requires frames { All (IsFrameFit code.now) code.now.frames }
-    requires inside { pc < length code.now.instructions }
-    requires walked { IsWalked code.now pc walk.old.falls walk.old.shape walk.old.depths.items
-        walk.old.depth }
-    ensures typed { OnOk result (IsWalked code.now (pc + 1) walk.new.falls walk.new.shape
-        walk.new.depths.items walk.new.depth) }
-    ensures fault { IfErr result (λ fault. (fault ≡ Memory) ⊎ IsFirstUntyped code.now fault) }
+    requires counts { AreCounts body.now counts.now }
+    requires frames { All (IsFrameFit body.now) body.now.frames }
+    requires inside { pc < length body.now.instructions }
+    requires walked { IsWalked body.now behind.now pc walk.old.falls walk.old.shape
+        walk.old.depths.items walk.old.own walk.old.inner }
+    ensures typed { OnOk result (IsWalked body.now behind.now (pc + 1) walk.new.falls walk.new.shape
+        walk.new.depths.items walk.new.own walk.new.inner) }
+    ensures fault { IfErr result (λ fault. (fault ≡ Memory) ⊎ IsFirstUntyped body.now behind.now fault) }
 {
-    begin(code, pc, walk.falls, &mut walk.shape)?;
-    let instr = instr_at(code, pc);
-    check(code, counts, pc, instr, &walk.shape)?;
+    begin(body, pc, walk.falls, &mut walk.shape)?;
+    let instr = instr_at(body, pc);
+    check(body, counts, behind, pc, instr, &walk.shape)?;
+    walk.inner = deeper(walk.inner, inner_depth(body, behind, instr, &walk.shape));
     let before = walk.shape.depth();
     note(&mut walk.depths, before)?;
-    leave(code, counts, pc, instr, &mut walk.shape)?;
-    walk.depth = greatest(walk.depth, before, walk.shape.depth());
+    leave(body, counts, pc, instr, &mut walk.shape)?;
+    walk.own = greatest(walk.own, before, walk.shape.depth());
     walk.falls = instr.goes_on();
     Ok(())
 }

@@ -1,22 +1,22 @@
 //! The verifier.
-ghost use Rattle.std.specs.Prelude.{◌≡◌, ◌<◌, ◌⊎◌, ◌↔◌, IsTrue, IfOk, IfErr, OnOk, All, length, map};
-ghost use Rattle.budget.specs.Paths.{AllForward};
+ghost use Rattle.std.specs.Prelude.{ℕ, suc, ◌≡◌, ◌<◌, ◌≤◌, ◌+◌, ◌⊎◌, ◌++◌, ◌∷◌, [], ◌↔◌, IsTrue, IfOk, IfErr, OnOk, OnErr, All, List, length, map, max};
 ghost use Rattle.mcode.specs.Frame.{frame_of};
-ghost use Rattle.mcode.specs.Program.{place_number};
-ghost use Rattle.verifier.specs.Faults.{IsFirstUnfit, IsFirstUntyped, IsFirstFault};
+ghost use Rattle.mcode.specs.Program.{place_number, body_of};
+ghost use Rattle.verifier.specs.Faults.{IsFirstUnfit, IsFirstUntyped, IsBodyFault, IsBodyOver, IsFirstFault};
 ghost use Rattle.verifier.specs.Pass.{IsWalked};
 ghost use Rattle.verifier_types.specs.Fit.{IsFrameFit};
 ghost use Rattle.verifier.specs.Typing.{IsTyped};
-ghost use Rattle.verifier.specs.Verified.{IsVerified};
+ghost use Rattle.verifier.specs.Verified.{IsTable, AreTables, IsFound, IsStart, IsKnown, IsVerified};
 ghost use Rattle.mcode_fused.specs.Ops.{AreOps};
 ghost use Rattle.verifier_types.specs.declared.fault.Fault.TheVariants.{Memory};
 
+use crate::fault::BodyFault;
 use crate::pass::{Walk, step};
-use crate::verified::Verified;
-use budget::longest;
-use mcode::{Code, Frame};
+use crate::verified::{Table, Verified};
+use budget::budget_of;
+use mcode::{Body, Code, Frame};
 use mcode_fused::{Op, prepared};
-use std::alloc::Allocator;
+use std::alloc::{AllocError, Allocator};
 use term_core::Refused;
 use verifier_types::{Fault, MAX_DEPTH, key_counts};
 
@@ -35,88 +35,233 @@ fn are_slots(slots: &[u8], count: u16) -> bool
 }
 
 /// Whether a frame is at an instruction other than the first, and within the limits.
-fn is_frame_fit<A: Allocator>(code: &Code<A>, frame: &Frame<A>) -> bool
-    ensures { IsTrue result ↔ IsFrameFit code.now (frame_of frame.now) }
+fn is_frame_fit<A: Allocator>(body: &Body<'_, A>, frame: &Frame<A>) -> bool
+    ensures { IsTrue result ↔ IsFrameFit body.now (frame_of frame.now) }
 {
     0 < frame.pc
-        && usize::from(frame.pc) < code.instructions().len()
+        && usize::from(frame.pc) < body.instructions().len()
         && frame.depth <= MAX_DEPTH
         && are_within(frame.places.as_slice(), frame.depth)
-        && are_slots(frame.slots.as_slice(), code.slots())
+        && are_slots(frame.slots.as_slice(), body.slots())
 }
 
 /// Refuses the first frame that isn't fit.
-fn check_frames<A: Allocator>(code: &Code<A>, frames: &[Frame<A>]) -> Result<(), Fault>
-    requires { map frame_of frames.now ≡ code.now.frames }
-    ensures fit { OnOk result (All (IsFrameFit code.now) code.now.frames) }
-    ensures fault { IfErr result (λ fault. IsFirstUnfit code.now fault) }
+fn check_frames<A: Allocator>(body: &Body<'_, A>, frames: &[Frame<A>]) -> Result<(), Fault>
+    requires { map frame_of frames.now ≡ body.now.frames }
+    ensures fit { OnOk result (All (IsFrameFit body.now) body.now.frames) }
+    ensures fault { IfErr result (λ fault. IsFirstUnfit body.now fault) }
 {
     for frame in frames {
-        if !is_frame_fit(code, frame) {
+        if !is_frame_fit(body, frame) {
             return Err(Fault::Frame(frame.pc));
         }
     }
     Ok(())
 }
 
-/// Types each instruction in turn.
-fn walk_through<A: Allocator + Copy>(alloc: A, code: &Code<A>) -> Result<Walk<A>, Fault>
-    requires { All (IsFrameFit code.now) code.now.frames }
-    ensures typed { IfOk result (λ w. IsWalked code.now (length code.now.instructions) w.falls
-        w.shape w.depths.items w.depth) }
-    ensures fault { IfErr result (λ fault. (fault ≡ Memory) ⊎ IsFirstUntyped code.now fault) }
+/// Types each instruction in turn, where these are the depths of the bodies behind this one.
+fn walk_through<A: Allocator + Copy>(
+    alloc: A,
+    body: &Body<'_, A>,
+    behind: &[u16],
+) -> Result<Walk<A>, Fault>
+    requires { All (IsFrameFit body.now) body.now.frames }
+    ensures typed { IfOk result (λ w. IsWalked body.now behind.now (length body.now.instructions) w.falls
+        w.shape w.depths.items w.own w.inner) }
+    ensures fault { IfErr result (λ fault. (fault ≡ Memory) ⊎ IsFirstUntyped body.now behind.now fault) }
 {
-    let counts = key_counts(alloc, code.constants())?;
-    let mut walk = Walk::start(alloc, code)?;
-    for pc in 0..code.instructions().len() {
-        step(code, counts.as_slice(), pc as u16, &mut walk)?;
+    let counts = key_counts(alloc, body.constants())?;
+    let mut walk = Walk::start(alloc, body)?;
+    for pc in 0..body.instructions().len() {
+        step(body, counts.as_slice(), behind, pc as u16, &mut walk)?;
     }
     Ok(walk)
+}
+
+/// What is found out of a body.
+#[derive(Drop)]
+struct Found<A: Allocator> {
+    table: Table<A>,
+    depth: u16,
+    budget: u32,
+}
+
+/// What is to be known of a body that is typed, by the depths and the budgets of those behind it.
+fn find_out<A: Allocator + Copy>(
+    alloc: A,
+    body: &Body<'_, A>,
+    depths: &[u16],
+    budgets: &[u32],
+) -> Result<Found<A>, Fault>
+    ensures typed { IfOk result (λ f. IsFound body.now depths.now budgets.now f.table f.depth f.budget) }
+    ensures fault { IfErr result (λ fault. (fault ≡ Memory) ⊎ (IsBodyFault body.now depths.now fault
+        ⊎ IsBodyOver body.now depths.now budgets.now fault)) }
+{
+    check_frames(body, body.frames())?;
+    if body.instructions().is_empty() {
+        return Err(Fault::FallsOff(0));
+    }
+    let walk = walk_through(alloc, body, depths)?;
+    let Some(budget) = budget_of(alloc, body, budgets)? else {
+        return Err(Fault::Budget);
+    };
+    Ok(Found {
+        depth: walk.own.max(walk.inner),
+        table: Table::new(walk.depths, walk.own),
+        budget,
+    })
+}
+
+/// What is known of the bodies so far, which are looked at from the last.
+#[derive(Drop)]
+struct Known<A: Allocator> {
+    /// By the number of a body, the greatest depth with the routines that it invokes.
+    depths: Vec<u16, A>,
+    /// By the number of a body.
+    budgets: Vec<u32, A>,
+    /// Of the routines, the last first.
+    tables: Vec<Table<A>, A>,
+}
+
+/// Before the last body, of so many.
+fn start<A: Allocator + Copy>(alloc: A, count: usize) -> Result<Known<A>, AllocError>
+    ensures { IfOk result (λ k. IsStart count k.depths.items k.budgets.items k.tables.items) }
+{
+    Ok(Known {
+        depths: vec![in alloc; 0; count]?,
+        budgets: vec![in alloc; 0; count]?,
+        tables: Vec::new(alloc),
+    })
+}
+
+/// Notes the table of one more body.
+fn note_table<A: Allocator>(
+    tables: &mut Vec<Table<A>, A>,
+    table: Table<A>,
+) -> Result<(), AllocError>
+    ensures { OnOk result (tables.new.items ≡ tables.old.items ++ table ∷ []) }
+{
+    match tables.push(table) {
+        Ok(()) => Ok(()),
+        Err(_) => Err(AllocError),
+    }
+}
+
+/// Looks at one more body, and gives what is kept of it.
+fn learn<A: Allocator + Copy>(
+    alloc: A,
+    code: &Code<A>,
+    number: u16,
+    known: &mut Known<A>,
+) -> Result<Table<A>, Fault>
+    requires inside { number ≤ length code.now.around.routines }
+    requires known { IsKnown code.now (number + 1) known.old.depths.items known.old.budgets.items }
+    ensures known { OnOk result (IsKnown code.now number known.new.depths.items known.new.budgets.items) }
+    ensures table { IfOk result (λ t. IsTable (body_of code.now number) t) }
+    ensures same { known.new.tables.items ≡ known.old.tables.items }
+    ensures fault { IfErr result (λ fault. (fault ≡ Memory) ⊎ IsFirstFault code.now number fault) }
+{
+    let found = find_out(
+        alloc,
+        &Body::of(code, number),
+        known.depths.as_slice(),
+        known.budgets.as_slice(),
+    )?;
+    known.depths[usize::from(number)] = found.depth;
+    known.budgets[usize::from(number)] = found.budget;
+    Ok(found.table)
+}
+
+/// Looks at one more routine.
+fn learn_routine<A: Allocator + Copy>(
+    alloc: A,
+    code: &Code<A>,
+    number: u16,
+    known: &mut Known<A>,
+) -> Result<(), Fault>
+    requires inside { number ≤ length code.now.around.routines }
+    requires known { IsKnown code.now (number + 1) known.old.depths.items known.old.budgets.items }
+    requires tables { AreTables code.now (number + 1) known.old.tables.items }
+    ensures known { OnOk result (IsKnown code.now number known.new.depths.items known.new.budgets.items) }
+    ensures tables { OnOk result (AreTables code.now number known.new.tables.items) }
+    ensures fault { IfErr result (λ fault. (fault ≡ Memory) ⊎ IsFirstFault code.now number fault) }
+{
+    let table = learn(alloc, code, number, known)?;
+    note_table(&mut known.tables, table)?;
+    Ok(())
+}
+
+/// Looks at all routines, the last first.
+fn learn_routines<A: Allocator + Copy>(alloc: A, code: &Code<A>) -> Result<Known<A>, BodyFault>
+    ensures known { IfOk result (λ k. IsKnown code.now 1 k.depths.items k.budgets.items) }
+    ensures tables { IfOk result (λ k. AreTables code.now 1 k.tables.items) }
+    ensures fault { IfErr result (λ told. (told.fault ≡ Memory) ⊎ IsFirstFault code.now told.body told.fault) }
+{
+    let count = code.routines().len();
+    let mut known = start(alloc, count + 1)?;
+    for number in (1..count + 1).rev() {
+        if let Err(fault) = learn_routine(alloc, code, number as u16, &mut known) {
+            return Err(BodyFault {
+                fault,
+                body: number as u16,
+            });
+        }
+    }
+    Ok(known)
 }
 
 /// What `verify` finds out of code.
 #[derive(Drop)]
 struct Findings<A: Allocator> {
-    depths: Vec<u16, A>,
+    main: Table<A>,
+    tables: Vec<Table<A>, A>,
     ops: Vec<Op, A>,
     budget: u32,
     depth: u16,
 }
 
 /// What is to be known of code that is typed.
-fn find_out<A: Allocator + Copy>(alloc: A, code: &Code<A>) -> Result<Findings<A>, Fault>
-    ensures typed { IfOk result (λ f. IsVerified code.now f.depths.items f.budget f.depth) }
+fn find_all<A: Allocator + Copy>(alloc: A, code: &Code<A>) -> Result<Findings<A>, BodyFault>
+    ensures typed { IfOk result (λ f. IsVerified code.now f.main f.tables.items f.budget f.depth) }
     ensures ops { IfOk result (λ f. AreOps code.now.instructions f.ops.items) }
-    ensures fault { IfErr result (λ fault. (fault ≡ Memory) ⊎ IsFirstFault code.now fault) }
+    ensures fault { IfErr result (λ told. (told.fault ≡ Memory) ⊎ IsFirstFault code.now told.body told.fault) }
 {
-    check_frames(code, code.frames())?;
-    if code.instructions().is_empty() {
-        return Err(Fault::FallsOff(0));
-    }
-    let walk = walk_through(alloc, code)?;
-    let budget = longest(alloc, code)?;
+    let mut known = learn_routines(alloc, code)?;
+    let main = match learn(alloc, code, 0, &mut known) {
+        Ok(table) => table,
+        Err(fault) => return Err(BodyFault { fault, body: 0 }),
+    };
     let ops = prepared(alloc, code)?;
     Ok(Findings {
-        depths: walk.depths,
+        main,
+        budget: known.budgets[0],
+        depth: known.depths[0],
+        tables: known.tables,
         ops,
-        budget,
-        depth: walk.depth,
     })
 }
 
-/// Verifies code. It is accepted exactly where there is a state for each instruction such that each finds what it needs
-/// and leaves what the next begins with; else the first fault is answered, and the code comes back. Frames come first,
-/// by rising number, then that there is an instruction, then each instruction in turn.
+/// Verifies code. It is accepted exactly where in each body there is a state for each instruction such that each finds
+/// what it needs and leaves what the next begins with, and no body's budget is above `budget::MAX_BUDGET`; else the
+/// first fault is answered, and the code comes back. Bodies are looked at from the last to the main one. In each, frames
+/// come first, by rising number, then that there is an instruction, then each instruction in turn, then the budget.
 pub fn verify<A: Allocator + Copy>(
     alloc: A,
     code: Code<A>,
-) -> Result<Verified<A>, Refused<Code<A>, Fault>>
+) -> Result<Verified<A>, Refused<Code<A>, BodyFault>>
     ensures ok { IfOk result (λ v. (v ≡ code) × IsTyped code) }
     ensures refused { IfErr result (λ r. (r.value ≡ code)
-        × ((r.fault ≡ Memory) ⊎ IsFirstFault code r.fault)) }
+        × ((r.fault.fault ≡ Memory) ⊎ IsFirstFault code r.fault.body r.fault.fault)) }
 {
-    match find_out(alloc, &code) {
-        Ok(found) => Ok(Verified::new(code, found.depths, found.ops, found.budget, found.depth)),
+    match find_all(alloc, &code) {
+        Ok(found) => Ok(Verified::new(
+            code,
+            found.main,
+            found.tables,
+            found.ops,
+            found.budget,
+            found.depth,
+        )),
         Err(fault) => Err(Refused { value: code, fault }),
     }
 }

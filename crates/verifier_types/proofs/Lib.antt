@@ -3,3 +3,4 @@ pub mod KeyLemmas
 pub mod FrameLemmas
 pub mod LeavingLemmas
 pub mod FaultLemmas
+pub mod PassedLemmas

@@ -1,5 +1,5 @@
 -- What an instruction needs, and what it leaves.
-use Rattle.std.specs.Prelude.{ℕ, ◌<◌, nat_lt, nat_le, Bool, true, false, ◌&&◌, IsSome, if◌then◌else◌, Option, Some, None, option_map, List, [], ◌∷◌, ◌++◌, length, drop, set, slice_get, unwrap_or}
+use Rattle.std.specs.Prelude.{ℕ, ◌<◌, nat_lt, nat_le, Bool, true, false, ◌&&◌, IsSome, if◌then◌else◌, Option, Some, None, option_map, List, [], ◌∷◌, ◌++◌, length, drop, reverse, set, slice_get, unwrap_or}
 use Rattle.std.specs.Option.{option_map_or, option_and_then}
 use Rattle.prims_table.specs.Gives.{gives_of}
 use Rattle.prims_table.specs.Names.{takes}
@@ -7,9 +7,9 @@ use Rattle.prims_table.specs.declared.gives.Gives.{Gives}
 use Rattle.prims_table.specs.declared.gives.Gives.TheVariants as gives
 use Rattle.prims_table.specs.declared.prim.Primitive.TheVariants as prim
 use Rattle.mcode.specs.Instr.{goes_on}
-use Rattle.mcode.specs.Kind.{kind_of}
+use Rattle.mcode.specs.Kind.{kind_of, is_below}
 use Rattle.mcode.specs.Machine.{map_keys}
-use Rattle.mcode.specs.Program.{Program}
+use Rattle.mcode.specs.Program.{Program, Routine, routine_at, own_routine}
 use Rattle.mcode.specs.declared.instr.Instr.{Instr}
 use Rattle.mcode.specs.declared.instr.Instr.TheVariants as instr
 use Rattle.mcode.specs.declared.kind.Kind.{Kind}
@@ -19,6 +19,16 @@ use Rattle.verifier_types.specs.Shape.{Shape, is_bound}
 -- how many keys a constant has that is a proper list of terms of which no two are the same
 abbrev pub key_count : Program → ℕ → Option ℕ
 key_count p constant = option_map length (option_and_then map_keys (slice_get p.constants constant))
+
+-- the kinds of a routine's arguments, the lowest first
+abbrev pub arguments_of : Option Routine → List Kind
+arguments_of None = []
+arguments_of (Some t) = t.arguments
+
+-- the kind of what a routine gives
+abbrev pub result_of : Option Routine → Kind
+result_of None = kind.Any
+result_of (Some t) = t.result
 
 -- how many operands an instruction needs
 abbrev pub needs : Program → Instr → ℕ
@@ -47,6 +57,9 @@ needs p (instr.MakeCons l) = 2
 needs p (instr.MakeMap c l) = unwrap_or (key_count p c) 0
 needs p instr.Answer = 1
 needs p instr.NoAnswer = 0
+needs p (instr.Invoke r l) = length (arguments_of (routine_at p r))
+needs p instr.Return = 1
+needs p instr.Fail = 0
 
 -- the constant that an instruction names is there, and has the form that it needs
 abbrev pub IsConstantFit : Program → Instr → Type 0
@@ -72,6 +85,23 @@ kinds_fit (instr.Arith f l) ks = false
 kinds_fit (instr.Branch l) (kind.Bool ∷ ks) = true
 kinds_fit (instr.Branch l) ks = false
 kinds_fit i ks = true
+
+-- kinds from the top that are at or below these, one each
+abbrev pub are_below : List Kind → List Kind → Bool
+are_below ks [] = true
+are_below [] (l ∷ ls) = false
+are_below (k ∷ ks) (l ∷ ls) = if is_below k l then are_below ks ls else false
+
+-- a kind at the top that is at or below this one
+abbrev pub is_top_below : Option Kind → Kind → Bool
+is_top_below None l = false
+is_top_below (Some k) l = is_below k l
+
+-- the arguments of INVOKE are of its routine's kinds, and what RETURN ends its routine with is of that routine's kind
+abbrev pub passes : Program → Instr → List Kind → Bool
+passes p (instr.Invoke r l) ks = are_below ks (reverse (arguments_of (routine_at p r)))
+passes p instr.Return ks = is_top_below (slice_get ks 0) (result_of (own_routine p))
+passes p i ks = true
 
 -- the slot is there, and where it is read it is bound
 abbrev pub slot_fits : Program → Instr → List Bool → Bool
@@ -117,6 +147,9 @@ pushed_kinds p (instr.MakeCons l) ks = kind.Cons ∷ []
 pushed_kinds p (instr.MakeMap c l) ks = kind.Map ∷ []
 pushed_kinds p instr.Answer ks = []
 pushed_kinds p instr.NoAnswer ks = []
+pushed_kinds p (instr.Invoke r l) ks = result_of (routine_at p r) ∷ []
+pushed_kinds p instr.Return ks = []
+pushed_kinds p instr.Fail ks = []
 
 -- the slots that are bound once an instruction went on
 abbrev pub left_bound : Instr → List Bool → List Bool

@@ -1,7 +1,7 @@
 -- The numbers that faults have in what programs print, and the instruction that they name.
 use Rattle.std.specs.Prelude.{ℕ, Option, Some, None}
 use Rattle.verifier_types.specs.declared.fault.Fault.{Fault}
-use Rattle.verifier_types.specs.declared.fault.Fault.TheVariants.{Memory, Underflow, Kind, Unbound, JumpOutside, JumpBack, Frame, FallsOff, Constant, Depth}
+use Rattle.verifier_types.specs.declared.fault.Fault.TheVariants.{Memory, Underflow, Kind, Unbound, JumpOutside, JumpBack, Frame, FallsOff, Constant, Depth, Routine, Budget}
 
 -- the number that programs print
 abbrev pub number_of : Fault → ℕ
@@ -15,6 +15,8 @@ number_of (Frame pc) = 45
 number_of (FallsOff pc) = 46
 number_of (Constant pc) = 47
 number_of (Depth pc) = 48
+number_of (Routine pc) = 49
+number_of Budget = 39
 
 -- the instruction at fault
 abbrev pub pc_of : Fault → Option ℕ
@@ -28,3 +30,5 @@ pc_of (Frame pc) = Some pc
 pc_of (FallsOff pc) = Some pc
 pc_of (Constant pc) = Some pc
 pc_of (Depth pc) = Some pc
+pc_of (Routine pc) = Some pc
+pc_of Budget = None

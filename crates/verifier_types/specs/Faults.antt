@@ -1,11 +1,12 @@
 -- What a fault says of an instruction in its state: the first of its checks that fails.
-use Rattle.std.specs.Prelude.{ℕ, suc, ◌≡◌, ◌<◌, ◌≤◌, ◌⊎◌, IsTrue, Some, None, length, false}
+use Rattle.std.specs.Prelude.{ℕ, suc, ◌≡◌, ◌<◌, ◌≤◌, ◌⊎◌, IsTrue, Some, None, List, length, false}
 use Rattle.mcode.specs.Instr.{target_of, goes_on}
 use Rattle.mcode.specs.Program.{Program, frame_at}
 use Rattle.mcode.specs.declared.instr.Instr.{Instr}
 use Rattle.verifier_types.specs.Shape.{Shape}
-use Rattle.verifier_types.specs.Effect.{needs, IsConstantFit, kinds_fit, slot_fits, left_shape}
-use Rattle.verifier_types.specs.Fit.{most_places, IsTargetFit, IsJumpFit}
+use Rattle.verifier_types.specs.Effect.{needs, IsConstantFit, kinds_fit, passes, slot_fits, left_shape}
+use Rattle.verifier_types.specs.Inner.{inner_depth}
+use Rattle.verifier_types.specs.Fit.{most_places, IsTargetFit, IsPlaced, IsJumpFit}
 use Rattle.verifier_types.specs.declared.fault.Fault.{Fault}
 use Rattle.verifier_types.specs.declared.fault.Fault.TheVariants as fault
 
@@ -21,9 +22,10 @@ pub record IsUnframed (p : Program) (pc : ℕ) (i : Instr) : Type 0 where
   pub ahead : pc < target
   pub bare : frame_at p.frames target ≡ None
 
--- the target and the constant are what they have to be
+-- the target is what it has to be, the instruction may stand in its body, and the constant is what it has to be
 pub record IsNamingFit (p : Program) (pc : ℕ) (i : Instr) : Type 0 where
   pub target : IsTargetFit p pc i
+  pub placed : IsPlaced p i
   pub constant : IsConstantFit p i
 
 -- and there are as many operands as are needed
@@ -31,45 +33,52 @@ pub record AreOperandsFit (p : Program) (pc : ℕ) (i : Instr) (s : Shape) : Typ
   pub naming : IsNamingFit p pc i
   pub operands : needs p i ≤ length s.kinds
 
--- and they are of the kinds that are needed
+-- and they are of the kinds that are needed, and of those that are passed
 pub record AreKindsFit (p : Program) (pc : ℕ) (i : Instr) (s : Shape) : Type 0 where
   pub operands : AreOperandsFit p pc i s
   pub kinds : IsTrue (kinds_fit i s.kinds)
+  pub passed : IsTrue (passes p i s.kinds)
 
 -- and the slot is what it has to be
 pub record IsSlotFit (p : Program) (pc : ℕ) (i : Instr) (s : Shape) : Type 0 where
   pub kinds : AreKindsFit p pc i s
   pub slot : IsTrue (slot_fits p i s.bound)
 
--- and what is left isn't too deep
-pub record IsDepthFit (p : Program) (pc : ℕ) (i : Instr) (s : Shape) : Type 0 where
+-- and neither what is left nor what a routine takes is too deep
+pub record IsDepthFit (p : Program) (ds : List ℕ) (pc : ℕ) (i : Instr) (s : Shape) : Type 0 where
   pub slot : IsSlotFit p pc i s
   pub depth : length (left_shape p i s).kinds ≤ most_places
+  pub inner : inner_depth p ds i s ≤ most_places
 
 -- and the jump's state is at or below the frame
-pub record IsLeavingFit (p : Program) (pc : ℕ) (i : Instr) (s : Shape) : Type 0 where
-  pub depth : IsDepthFit p pc i s
+pub record IsLeavingFit (p : Program) (ds : List ℕ) (pc : ℕ) (i : Instr) (s : Shape) : Type 0 where
+  pub depth : IsDepthFit p ds pc i s
   pub jump : IsJumpFit p i s
 
--- What a fault says of the instruction at pc in its state: the first in this order that isn't what it has to
--- be is its target, constant, number of operands, their kinds, slot, depth, jump, or that it goes on though
--- it is the last.
-abbrev pub IsFaultIn : Program → ℕ → Instr → Shape → Fault → Type 0
-IsFaultIn p pc i s fault.Memory = ⊥
-IsFaultIn p pc i s (fault.JumpOutside at) =
+-- What a fault says of the instruction at pc in its state, where these are the depths of all bodies: the first in this
+-- order that isn't what it has to be is its target, place, constant, number of operands, their kinds, slot, depth,
+-- jump, or that it goes on though it is the last.
+abbrev pub IsFaultIn : Program → List ℕ → ℕ → Instr → Shape → Fault → Type 0
+IsFaultIn p ds pc i s fault.Memory = ⊥
+IsFaultIn p ds pc i s fault.Budget = ⊥
+IsFaultIn p ds pc i s (fault.JumpOutside at) =
     (at ≡ pc) × ((target : ℕ) × JumpsTo i target × (length p.instructions ≤ target))
-IsFaultIn p pc i s (fault.JumpBack at) =
+IsFaultIn p ds pc i s (fault.JumpBack at) =
     (at ≡ pc) × ((target : ℕ) × JumpsTo i target × (target < length p.instructions) × (target ≤ pc))
-IsFaultIn p pc i s (fault.Frame at) =
-    (at ≡ pc) × (IsUnframed p pc i ⊎ (IsDepthFit p pc i s × ¬ IsJumpFit p i s))
-IsFaultIn p pc i s (fault.Constant at) = (at ≡ pc) × IsTargetFit p pc i × ¬ IsConstantFit p i
-IsFaultIn p pc i s (fault.Underflow at) =
+IsFaultIn p ds pc i s (fault.Frame at) =
+    (at ≡ pc) × (IsUnframed p pc i ⊎ (IsDepthFit p ds pc i s × ¬ IsJumpFit p i s))
+IsFaultIn p ds pc i s (fault.Routine at) = (at ≡ pc) × IsTargetFit p pc i × ¬ IsPlaced p i
+IsFaultIn p ds pc i s (fault.Constant at) =
+    (at ≡ pc) × IsTargetFit p pc i × IsPlaced p i × ¬ IsConstantFit p i
+IsFaultIn p ds pc i s (fault.Underflow at) =
     (at ≡ pc) × IsNamingFit p pc i × (length s.kinds < needs p i)
-IsFaultIn p pc i s (fault.Kind at) =
-    (at ≡ pc) × AreOperandsFit p pc i s × (kinds_fit i s.kinds ≡ false)
-IsFaultIn p pc i s (fault.Unbound at) =
+IsFaultIn p ds pc i s (fault.Kind at) =
+    (at ≡ pc) × AreOperandsFit p pc i s
+    × ((kinds_fit i s.kinds ≡ false) ⊎ (passes p i s.kinds ≡ false))
+IsFaultIn p ds pc i s (fault.Unbound at) =
     (at ≡ pc) × AreKindsFit p pc i s × (slot_fits p i s.bound ≡ false)
-IsFaultIn p pc i s (fault.Depth at) =
-    (at ≡ pc) × IsSlotFit p pc i s × (most_places < length (left_shape p i s).kinds)
-IsFaultIn p pc i s (fault.FallsOff at) =
-    (at ≡ pc) × IsLeavingFit p pc i s × IsTrue (goes_on i) × (length p.instructions ≤ suc pc)
+IsFaultIn p ds pc i s (fault.Depth at) =
+    (at ≡ pc) × IsSlotFit p pc i s
+    × ((most_places < length (left_shape p i s).kinds) ⊎ (most_places < inner_depth p ds i s))
+IsFaultIn p ds pc i s (fault.FallsOff at) =
+    (at ≡ pc) × IsLeavingFit p ds pc i s × IsTrue (goes_on i) × (length p.instructions ≤ suc pc)

@@ -1,11 +1,12 @@
 -- When a frame is fit, and when an instruction is typed in a state: it finds what it needs, and leaves what may be
 -- left.
-use Rattle.std.specs.Prelude.{ℕ, suc, ◌<◌, ◌≤◌, IsTrue, IsSome, IfSome, length, All}
+use Rattle.std.specs.Prelude.{ℕ, suc, ◌≡◌, ◌<◌, ◌≤◌, IsTrue, IsSome, IfSome, length, All}
 use Rattle.mcode.specs.Instr.{target_of, goes_on}
-use Rattle.mcode.specs.Program.{Program, Frame, frame_at, place_number}
+use Rattle.mcode.specs.Program.{Program, Frame, frame_at, place_number, routine_at}
 use Rattle.mcode.specs.declared.instr.Instr.{Instr}
+use Rattle.mcode.specs.declared.instr.Instr.TheVariants as instr
 use Rattle.verifier_types.specs.Shape.{Shape, IsCutBelow}
-use Rattle.verifier_types.specs.Effect.{needs, IsConstantFit, kinds_fit, slot_fits, left_shape, jump_shape}
+use Rattle.verifier_types.specs.Effect.{needs, IsConstantFit, kinds_fit, passes, slot_fits, left_shape, jump_shape}
 
 -- places of the stack
 abbrev pub most_places : ℕ
@@ -29,6 +30,16 @@ pub record IsTarget (p : Program) (pc target : ℕ) : Type 0 where
 abbrev pub IsTargetFit : Program → ℕ → Instr → Type 0
 IsTargetFit p pc i = IfSome (target_of i) (λ target. IsTarget p pc target)
 
+-- the instruction may stand in the body that is seen: ANSWER and NONE in the main body, RETURN and FAIL in a routine,
+-- and INVOKE where its routine is there and behind the body
+abbrev pub IsPlaced : Program → Instr → Type 0
+IsPlaced p (instr.Invoke r l) = (p.around.number < r) × IsSome (routine_at p r)
+IsPlaced p instr.Answer = p.around.number ≡ 0
+IsPlaced p instr.NoAnswer = p.around.number ≡ 0
+IsPlaced p instr.Return = 0 < p.around.number
+IsPlaced p instr.Fail = 0 < p.around.number
+IsPlaced p i = Unit {0}
+
 -- where the instruction may jump to a frame, the state of that jump is at or below it once it is cut
 abbrev pub IsJumpFit : Program → Instr → Shape → Type 0
 IsJumpFit p i s =
@@ -38,9 +49,11 @@ IsJumpFit p i s =
 -- the instruction at pc finds in this state what it needs, and leaves what may be left
 pub record IsTypedAt (p : Program) (pc : ℕ) (i : Instr) (s : Shape) : Type 0 where
   pub target : IsTargetFit p pc i
+  pub placed : IsPlaced p i
   pub constant : IsConstantFit p i
   pub operands : needs p i ≤ length s.kinds
   pub kinds : IsTrue (kinds_fit i s.kinds)
+  pub passed : IsTrue (passes p i s.kinds)
   pub slot : IsTrue (slot_fits p i s.bound)
   pub depth : length (left_shape p i s).kinds ≤ most_places
   pub jump : IsJumpFit p i s

@@ -1,6 +1,7 @@
 pub mod Shape
 pub mod Kept
 pub mod Effect
+pub mod Inner
 pub mod Needed
 pub mod Fit
 pub mod Faults

@@ -45,4 +45,6 @@ pushed_count (instr.Jump l) = 0
 pushed_count (instr.Branch l) = 0
 pushed_count instr.Answer = 0
 pushed_count instr.NoAnswer = 0
+pushed_count instr.Return = 0
+pushed_count instr.Fail = 0
 pushed_count i = 1

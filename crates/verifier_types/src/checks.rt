@@ -1,88 +1,95 @@
 //! The checks of one instruction, in their order.
-ghost use Rattle.std.specs.Prelude.{◌≡◌, ◌≤◌, ◌↔◌, IsTrue, IfSome, OnOk, IfErr, All, length};
+ghost use Rattle.std.specs.Prelude.{ℕ, ◌≡◌, ◌≤◌, ◌↔◌, IsTrue, IfSome, OnOk, IfErr, All, List, length};
 ghost use Rattle.mcode.specs.Program.{IsProgram};
 ghost use Rattle.verifier_types.specs.Shape as shapes;
 ghost use Rattle.verifier_types.specs.Effect.{needs, jump_shape};
 ghost use Rattle.verifier_types.specs.Kept.{popped_shape};
 ghost use Rattle.verifier_types.specs.Needed.{AreCounts};
-ghost use Rattle.verifier_types.specs.Fit.{IsFrameFit, IsTargetFit, IsJumpFit, IsTypedAt};
+ghost use Rattle.verifier_types.specs.Fit.{IsFrameFit, IsTargetFit, IsJumpFit, IsTypedAt, most_places};
+ghost use Rattle.verifier_types.specs.Inner.{inner_depth};
 ghost use Rattle.verifier_types.specs.Faults.{IsFaultIn, IsLeavingFit, IsDepthFit, IsNamingFit, AreKindsFit};
 
 use crate::MAX_DEPTH;
-use crate::effect::{are_kinds_fit, is_constant_fit, is_slot_fit, left_depth, needed, top_stays};
+use crate::effect::{
+    are_kinds_fit, are_passed, inner_depth, is_constant_fit, is_placed, is_slot_fit, left_depth,
+    needed, top_stays,
+};
 use crate::fault::Fault;
 use crate::shape::Shape;
-use mcode::{Code, Instr};
+use mcode::{Body, Instr};
 use std::alloc::Allocator;
 
 /// Whether an instruction may jump only to a frame that is after it and inside the code.
-fn check_target<A: Allocator>(code: &Code<A>, pc: u16, instr: Instr) -> Result<(), Fault>
-    ensures fit { OnOk result (IsTargetFit code.now pc instr) }
-    ensures fault { IfErr result (λ fault. (s : shapes.Shape)
-        → IsFaultIn code.now pc instr s fault) }
+fn check_target<A: Allocator>(body: &Body<'_, A>, pc: u16, instr: Instr) -> Result<(), Fault>
+    ensures fit { OnOk result (IsTargetFit body.now pc instr) }
+    ensures fault { IfErr result (λ fault. (ds : List ℕ) (s : shapes.Shape)
+        → IsFaultIn body.now ds pc instr s fault) }
 {
     let Some(target) = instr.target() else {
         return Ok(());
     };
-    if usize::from(target) >= code.instructions().len() {
+    if usize::from(target) >= body.instructions().len() {
         return Err(Fault::JumpOutside(pc));
     }
     if target <= pc {
         return Err(Fault::JumpBack(pc));
     }
-    match code.frame_at(target) {
+    match body.frame_at(target) {
         Some(_) => Ok(()),
         None => Err(Fault::Frame(pc)),
     }
 }
 
 /// How many places an instruction takes from the top where it jumps.
-fn jump_pops<A: Allocator>(code: &Code<A>, counts: &[Option<usize>], instr: Instr) -> usize
-    requires { AreCounts code.now counts.now }
-    ensures within { result ≤ needs code.now instr }
-    ensures shape { (s : shapes.Shape) → popped_shape s result ≡ jump_shape code.now instr s }
+fn jump_pops<A: Allocator>(body: &Body<'_, A>, counts: &[Option<usize>], instr: Instr) -> usize
+    requires { AreCounts body.now counts.now }
+    ensures within { result ≤ needs body.now instr }
+    ensures shape { (s : shapes.Shape) → popped_shape s result ≡ jump_shape body.now instr s }
 {
     if top_stays(instr) {
         return 0;
     }
-    needed(code, counts, instr)
+    needed(body, counts, instr)
 }
 
 /// Whether the state with which an instruction jumps is at or below the frame where it jumps.
 fn is_jump_fit<A: Allocator>(
-    code: &Code<A>,
+    body: &Body<'_, A>,
     counts: &[Option<usize>],
     instr: Instr,
     shape: &Shape<A>,
 ) -> bool
-    requires counts { AreCounts code.now counts.now }
-    requires frames { All (IsFrameFit code.now) code.now.frames }
-    requires operands { needs code.now instr ≤ length shape.now.kinds }
-    ensures { IsTrue result ↔ IsJumpFit code.now instr shape.now }
+    requires counts { AreCounts body.now counts.now }
+    requires frames { All (IsFrameFit body.now) body.now.frames }
+    requires operands { needs body.now instr ≤ length shape.now.kinds }
+    ensures { IsTrue result ↔ IsJumpFit body.now instr shape.now }
 {
     let Some(target) = instr.target() else {
         return true;
     };
-    let Some(frame) = code.frame_at(target) else {
+    let Some(frame) = body.frame_at(target) else {
         return true;
     };
-    shape.is_cut_below(jump_pops(code, counts, instr), frame)
+    shape.is_cut_below(jump_pops(body, counts, instr), frame)
 }
 
 /// Whether an instruction finds what it names.
 fn check_naming<A: Allocator>(
-    code: &Code<A>,
+    body: &Body<'_, A>,
     counts: &[Option<usize>],
     pc: u16,
     instr: Instr,
 ) -> Result<(), Fault>
-    requires { AreCounts code.now counts.now }
-    ensures fit { OnOk result (IsNamingFit code.now pc instr) }
-    ensures fault { IfErr result (λ fault. (s : shapes.Shape)
-        → IsFaultIn code.now pc instr s fault) }
+    requires { AreCounts body.now counts.now }
+    ensures fit { OnOk result (IsNamingFit body.now pc instr) }
+    ensures fault { IfErr result (λ fault. (ds : List ℕ) (s : shapes.Shape)
+        → IsFaultIn body.now ds pc instr s fault) }
 {
-    check_target(code, pc, instr)?;
-    if is_constant_fit(code, counts, instr) {
+    check_target(body, pc, instr)?;
+    if !is_placed(body, instr) {
+        return Err(Fault::Routine(pc));
+    }
+    if is_constant_fit(body, counts, instr) {
         Ok(())
     } else {
         Err(Fault::Constant(pc))
@@ -91,71 +98,84 @@ fn check_naming<A: Allocator>(
 
 /// Whether an instruction finds the operands that it needs.
 fn check_operands<A: Allocator>(
-    code: &Code<A>,
+    body: &Body<'_, A>,
     counts: &[Option<usize>],
     pc: u16,
     instr: Instr,
     shape: &Shape<A>,
 ) -> Result<(), Fault>
-    requires { AreCounts code.now counts.now }
-    ensures fit { OnOk result (AreKindsFit code.now pc instr shape.now) }
-    ensures fault { IfErr result (λ fault. IsFaultIn code.now pc instr shape.now fault) }
+    requires { AreCounts body.now counts.now }
+    ensures fit { OnOk result (AreKindsFit body.now pc instr shape.now) }
+    ensures fault { IfErr result (λ fault. (ds : List ℕ)
+        → IsFaultIn body.now ds pc instr shape.now fault) }
 {
-    if let Err(fault) = check_naming(code, counts, pc, instr) {
+    if let Err(fault) = check_naming(body, counts, pc, instr) {
         return Err(fault);
     }
-    if usize::from(shape.depth()) < needed(code, counts, instr) {
+    if usize::from(shape.depth()) < needed(body, counts, instr) {
         return Err(Fault::Underflow(pc));
     }
-    if are_kinds_fit(instr, shape) {
+    if !are_kinds_fit(instr, shape) {
+        return Err(Fault::Kind(pc));
+    }
+    if are_passed(body, instr, shape) {
         Ok(())
     } else {
         Err(Fault::Kind(pc))
     }
 }
 
-/// Whether an instruction finds its slot, and doesn't leave too deep a stack.
+/// Whether an instruction finds its slot, and neither it nor its routine needs too deep a stack.
 fn check_depth<A: Allocator>(
-    code: &Code<A>,
+    body: &Body<'_, A>,
     counts: &[Option<usize>],
+    depths: &[u16],
     pc: u16,
     instr: Instr,
     shape: &Shape<A>,
 ) -> Result<(), Fault>
-    requires { AreCounts code.now counts.now }
-    ensures fit { OnOk result (IsDepthFit code.now pc instr shape.now) }
-    ensures fault { IfErr result (λ fault. IsFaultIn code.now pc instr shape.now fault) }
+    requires { AreCounts body.now counts.now }
+    ensures fit { OnOk result (IsDepthFit body.now depths.now pc instr shape.now) }
+    ensures fault { IfErr result (λ fault. IsFaultIn body.now depths.now pc instr shape.now fault) }
 {
-    check_operands(code, counts, pc, instr, shape)?;
-    if !is_slot_fit(code, instr, shape) {
+    if let Err(fault) = check_operands(body, counts, pc, instr, shape) {
+        return Err(fault);
+    }
+    if !is_slot_fit(body, instr, shape) {
         return Err(Fault::Unbound(pc));
     }
-    if left_depth(code, counts, instr, shape) > usize::from(MAX_DEPTH) {
+    if left_depth(body, counts, instr, shape) > usize::from(MAX_DEPTH) {
+        return Err(Fault::Depth(pc));
+    }
+    if inner_depth(body, depths, instr, shape) > usize::from(MAX_DEPTH) {
         return Err(Fault::Depth(pc));
     }
     Ok(())
 }
 
-/// Whether an instruction is typed in a state. Its target is looked at first, then its constant, the number of its
-/// operands, their kinds, its slot, the depth that it leaves, the state with which it jumps, and that it isn't the last
-/// where it goes on; the first of these that fails is the fault.
+/// Whether an instruction is typed in a state, where these are the depths of all bodies behind its own. Its target is
+/// looked at first, then whether it may stand in its body, its constant, the number of its operands, their kinds, its
+/// slot, the depth that it or its routine needs, the state with which it jumps, and that it isn't the last where it goes
+/// on; the first of these that fails is the fault.
 pub fn check<A: Allocator>(
-    code: &Code<A>,
+    body: &Body<'_, A>,
     counts: &[Option<usize>],
+    depths: &[u16],
     pc: u16,
     instr: Instr,
     shape: &Shape<A>,
 ) -> Result<(), Fault>
-    requires counts { AreCounts code.now counts.now }
-    requires frames { All (IsFrameFit code.now) code.now.frames }
-    ensures fit { OnOk result (IsTypedAt code.now pc instr shape.now) }
-    ensures fault { IfErr result (λ fault. IsFaultIn code.now pc instr shape.now fault) }
+    requires counts { AreCounts body.now counts.now }
+    requires frames { All (IsFrameFit body.now) body.now.frames }
+    ensures fit { OnOk result (IsTypedAt body.now pc instr shape.now) }
+    ensures inner { OnOk result (inner_depth body.now depths.now instr shape.now ≤ most_places) }
+    ensures fault { IfErr result (λ fault. IsFaultIn body.now depths.now pc instr shape.now fault) }
 {
-    check_depth(code, counts, pc, instr, shape)?;
-    if !is_jump_fit(code, counts, instr, shape) {
+    check_depth(body, counts, depths, pc, instr, shape)?;
+    if !is_jump_fit(body, counts, instr, shape) {
         return Err(Fault::Frame(pc));
     }
-    if instr.goes_on() && usize::from(pc) + 1 >= code.instructions().len() {
+    if instr.goes_on() && usize::from(pc) + 1 >= body.instructions().len() {
         return Err(Fault::FallsOff(pc));
     }
     Ok(())

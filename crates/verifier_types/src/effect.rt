@@ -1,45 +1,93 @@
 //! What an instruction needs, and how deep a stack it leaves.
-ghost use Rattle.std.specs.Prelude.{◌≡◌, ◌<◌, ◌≤◌, ◌↔◌, IsTrue, OnOk, length, slice_get};
+ghost use Rattle.std.specs.Prelude.{◌≡◌, ◌<◌, ◌≤◌, ◌↔◌, IsTrue, IsSome, OnOk, length, reverse, slice_get, slice_index};
 ghost use Rattle.std.specs.Option.{option_map_or};
 ghost use Rattle.prims_table.specs.Gives.{gives_of};
 ghost use Rattle.mcode.specs.Kind.{kind_of as exact_kind};
-ghost use Rattle.verifier_types.specs.Effect.{needs, IsConstantFit, kinds_fit, slot_fits, left_shape, top_stays as top_is_kept, given_kind as kind_given};
+ghost use Rattle.verifier_types.specs.Effect.{needs, arguments_of, result_of, IsConstantFit, kinds_fit, are_below, is_top_below as is_kind_at_top_below, passes, slot_fits, left_shape, top_stays as top_is_kept, given_kind as kind_given};
+ghost use Rattle.verifier_types.specs.Fit.{IsPlaced};
+ghost use Rattle.verifier_types.specs.Inner.{inner_depth as depth_inside};
+ghost use Rattle.mcode.specs.Program.{routine_at, most_arguments};
 ghost use Rattle.verifier_types.specs.Needed.{AreCounts, tops_fit as tops_are_fit, pushed_count as count_pushed};
 
 use crate::keys::key_count;
-use crate::shape::Shape;
-use mcode::{Code, Instr, Kind};
+use crate::shape::{Shape, is_below};
+use mcode::{Body, Instr, Kind};
 use std::alloc::{AllocError, Allocator};
 
+/// How many arguments a routine has, 0 where it isn't there.
+pub fn argument_count<A: Allocator>(body: &Body<'_, A>, routine: u16) -> usize
+    ensures { result ≡ length (arguments_of (routine_at body.now routine)) }
+{
+    match body.routine(routine) {
+        Some(routine) => routine.arguments().len(),
+        None => 0,
+    }
+}
+
+/// The kind of what a routine gives, any where it isn't there.
+pub fn result_kind<A: Allocator>(body: &Body<'_, A>, routine: u16) -> Kind
+    ensures { result ≡ result_of (routine_at body.now routine) }
+{
+    match body.routine(routine) {
+        Some(routine) => routine.gives(),
+        None => Kind::Any,
+    }
+}
+
 /// How many operands an instruction needs.
-pub fn needed<A: Allocator>(code: &Code<A>, counts: &[Option<usize>], instr: Instr) -> usize
-    requires { AreCounts code.now counts.now }
-    ensures { result ≡ needs code.now instr }
+pub fn needed<A: Allocator>(body: &Body<'_, A>, counts: &[Option<usize>], instr: Instr) -> usize
+    requires { AreCounts body.now counts.now }
+    ensures { result ≡ needs body.now instr }
 {
     match instr {
         Instr::Load | Instr::Const { .. } | Instr::Get { .. } => 0,
-        Instr::Jump { .. } | Instr::NoAnswer => 0,
+        Instr::Jump { .. } | Instr::NoAnswer | Instr::Fail => 0,
         Instr::Bind { .. } | Instr::Dup | Instr::Drop => 1,
         Instr::Tuple { .. } | Instr::Field { .. } => 1,
         Instr::Cons { .. } | Instr::Head | Instr::Tail => 1,
         Instr::Map { .. } | Instr::Value { .. } => 1,
-        Instr::Int { .. } | Instr::Bool { .. } | Instr::Branch { .. } | Instr::Answer => 1,
+        Instr::Int { .. } | Instr::Bool { .. } | Instr::Branch { .. } => 1,
+        Instr::Answer | Instr::Return => 1,
         Instr::Equal { .. } | Instr::Arith { .. } | Instr::MakeCons { .. } => 2,
         Instr::Call { arguments, .. } => usize::from(arguments),
         Instr::MakeTuple { size, .. } => usize::from(size),
-        Instr::MakeMap { keys, .. } => key_count(code, counts, keys).unwrap_or(0),
+        Instr::MakeMap { keys, .. } => key_count(body, counts, keys).unwrap_or(0),
+        Instr::Invoke { routine, .. } => argument_count(body, routine),
     }
 }
 
 /// Whether the constant that an instruction names is there, and has the form that it needs.
-pub fn is_constant_fit<A: Allocator>(code: &Code<A>, counts: &[Option<usize>], instr: Instr) -> bool
-    requires { AreCounts code.now counts.now }
-    ensures { IsTrue result ↔ IsConstantFit code.now instr }
+pub fn is_constant_fit<A: Allocator>(
+    body: &Body<'_, A>,
+    counts: &[Option<usize>],
+    instr: Instr,
+) -> bool
+    requires { AreCounts body.now counts.now }
+    ensures { IsTrue result ↔ IsConstantFit body.now instr }
 {
     match instr {
-        Instr::Const { constant } => usize::from(constant) < code.constants().len(),
-        Instr::Value { key, .. } => usize::from(key) < code.constants().len(),
-        Instr::MakeMap { keys, .. } => key_count(code, counts, keys).is_some(),
+        Instr::Const { constant } => usize::from(constant) < body.constants().len(),
+        Instr::Value { key, .. } => usize::from(key) < body.constants().len(),
+        Instr::MakeMap { keys, .. } => key_count(body, counts, keys).is_some(),
+        _ => true,
+    }
+}
+
+/// Whether a routine is there and behind a body.
+fn is_behind<A: Allocator>(body: &Body<'_, A>, routine: u16) -> bool
+    ensures { IsTrue result ↔ ((body.now.around.number < routine) × IsSome (routine_at body.now routine)) }
+{
+    body.number() < routine && body.routine(routine).is_some()
+}
+
+/// Whether an instruction may stand in a body.
+pub fn is_placed<A: Allocator>(body: &Body<'_, A>, instr: Instr) -> bool
+    ensures { IsTrue result ↔ IsPlaced body.now instr }
+{
+    match instr {
+        Instr::Invoke { routine, .. } => is_behind(body, routine),
+        Instr::Answer | Instr::NoAnswer => body.number() == 0,
+        Instr::Return | Instr::Fail => 0 < body.number(),
         _ => true,
     }
 }
@@ -76,13 +124,55 @@ pub fn are_kinds_fit<A: Allocator>(instr: Instr, shape: &Shape<A>) -> bool
     tops_fit(instr, shape.kind(0), shape.kind(1))
 }
 
+/// Whether a kind is there and is another or below it.
+fn is_top_below(top: Option<Kind>, other: Kind) -> bool
+    ensures { result ≡ is_kind_at_top_below top other }
+{
+    match top {
+        Some(kind) => is_below(kind, other),
+        None => false,
+    }
+}
+
+/// Whether the kinds at the top, one each, are those of arguments or below them, the lowest first.
+fn are_tops_below<A: Allocator>(shape: &Shape<A>, arguments: &[Kind]) -> bool
+    requires { length arguments.now ≤ most_arguments }
+    ensures { result ≡ are_below shape.now.kinds (reverse arguments.now) }
+{
+    for above in 0..arguments.len() {
+        let argument = arguments[arguments.len() - 1 - above];
+        if !is_top_below(shape.kind(above as u16), argument) {
+            return false;
+        }
+    }
+    true
+}
+
+/// Whether the arguments of INVOKE are of its routine's kinds, and what RETURN ends its routine with is of that
+/// routine's kind.
+pub fn are_passed<A: Allocator>(body: &Body<'_, A>, instr: Instr, shape: &Shape<A>) -> bool
+    ensures { result ≡ passes body.now instr shape.now.kinds }
+{
+    match instr {
+        Instr::Invoke { routine, .. } => match body.routine(routine) {
+            Some(routine) => are_tops_below(shape, routine.arguments()),
+            None => true,
+        },
+        Instr::Return => match body.own_routine() {
+            Some(routine) => is_top_below(shape.kind(0), routine.gives()),
+            None => is_top_below(shape.kind(0), Kind::Any),
+        },
+        _ => true,
+    }
+}
+
 /// Whether the slot that an instruction names is there, and bound where it is read.
-pub fn is_slot_fit<A: Allocator>(code: &Code<A>, instr: Instr, shape: &Shape<A>) -> bool
-    ensures { result ≡ slot_fits code.now instr shape.now.bound }
+pub fn is_slot_fit<A: Allocator>(body: &Body<'_, A>, instr: Instr, shape: &Shape<A>) -> bool
+    ensures { result ≡ slot_fits body.now instr shape.now.bound }
 {
     match instr {
         Instr::Get { slot } => shape.is_bound(slot),
-        Instr::Bind { slot } => u16::from(slot) < code.slots(),
+        Instr::Bind { slot } => u16::from(slot) < body.slots(),
         _ => true,
     }
 }
@@ -95,22 +185,51 @@ fn pushed_count(instr: Instr) -> usize
         Instr::Dup => 2,
         Instr::Bind { .. } | Instr::Drop | Instr::Equal { .. } | Instr::Jump { .. } => 0,
         Instr::Branch { .. } | Instr::Answer | Instr::NoAnswer => 0,
+        Instr::Return | Instr::Fail => 0,
         _ => 1,
     }
 }
 
 /// How many places an instruction leaves where it goes on.
 pub fn left_depth<A: Allocator>(
-    code: &Code<A>,
+    body: &Body<'_, A>,
     counts: &[Option<usize>],
     instr: Instr,
     shape: &Shape<A>,
 ) -> usize
-    requires counts { AreCounts code.now counts.now }
-    requires operands { needs code.now instr ≤ length shape.now.kinds }
-    ensures { result ≡ length (left_shape code.now instr shape.now).kinds }
+    requires counts { AreCounts body.now counts.now }
+    requires operands { needs body.now instr ≤ length shape.now.kinds }
+    ensures { result ≡ length (left_shape body.now instr shape.now).kinds }
 {
-    usize::from(shape.depth()) - needed(code, counts, instr) + pushed_count(instr)
+    usize::from(shape.depth()) - needed(body, counts, instr) + pushed_count(instr)
+}
+
+/// The depth of a body's operand stack, 0 where the body isn't there.
+fn depth_at(depths: &[u16], number: u16) -> usize
+    ensures { result ≡ slice_index depths.now number }
+{
+    match depths.get(usize::from(number)) {
+        Some(depth) => usize::from(*depth),
+        None => 0,
+    }
+}
+
+/// How many places INVOKE takes at most while its routine runs, by the depths of all bodies; 0 of other instructions.
+pub fn inner_depth<A: Allocator>(
+    body: &Body<'_, A>,
+    depths: &[u16],
+    instr: Instr,
+    shape: &Shape<A>,
+) -> usize
+    requires { needs body.now instr ≤ length shape.now.kinds }
+    ensures { result ≡ depth_inside body.now depths.now instr shape.now }
+{
+    match instr {
+        Instr::Invoke { routine, .. } => {
+            usize::from(shape.depth()) - argument_count(body, routine) + depth_at(depths, routine)
+        }
+        _ => 0,
+    }
 }
 
 /// Whether the top stays where an instruction jumps.

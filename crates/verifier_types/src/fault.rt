@@ -2,7 +2,7 @@
 use std::alloc::AllocError;
 use thiserror::Error;
 
-/// Why code is refused. Each fault but the first names the number of an instruction.
+/// Why code is refused. Each fault but `Memory` and `Budget` names the number of an instruction.
 #[derive(Clone, Copy, Debug, PartialEq, Eq, Error)]
 pub enum Fault {
     /// No memory was given.
@@ -11,8 +11,8 @@ pub enum Fault {
     /// Fewer operands than the instruction needs.
     #[error("instruction {0} finds too few operands")]
     Underflow(u16),
-    /// An operand of another kind than the instruction needs, a place that the tuple doesn't have, or a function that
-    /// takes another number of arguments.
+    /// An operand of another kind than the instruction or its routine needs, a place that the tuple doesn't have, or a
+    /// function that takes another number of arguments.
     #[error("instruction {0} finds an operand of the wrong kind")]
     Kind(u16),
     /// A slot that the code doesn't have, or one that is read where it isn't bound.
@@ -34,9 +34,16 @@ pub enum Fault {
     /// A constant that isn't there, or is no list of keys where one is needed.
     #[error("instruction {0} names a constant that isn't what it needs")]
     Constant(u16),
-    /// An operand stack deeper than `MAX_DEPTH`.
+    /// An operand stack deeper than `MAX_DEPTH`, that of an invoked routine counted in.
     #[error("instruction {0} leaves a stack that is too deep")]
     Depth(u16),
+    /// A routine that isn't there or isn't behind the body that invokes it, or an instruction that may not stand in its
+    /// body.
+    #[error("instruction {0} invokes no later routine, or may not stand in its body")]
+    Routine(u16),
+    /// A body with runs of more instructions than `budget::MAX_BUDGET`.
+    #[error("the body may take too many instructions")]
+    Budget,
 }
 
 impl From<AllocError> for Fault {
@@ -69,6 +76,8 @@ impl Fault {
             Fault::FallsOff(_) => 46,
             Fault::Constant(_) => 47,
             Fault::Depth(_) => 48,
+            Fault::Routine(_) => 49,
+            Fault::Budget => 39,
         }
     }
 
@@ -77,7 +86,7 @@ impl Fault {
         ensures { result ≡ pc_of self }
     {
         match self {
-            Fault::Memory => None,
+            Fault::Memory | Fault::Budget => None,
             Fault::Underflow(pc)
             | Fault::Kind(pc)
             | Fault::Unbound(pc)
@@ -86,7 +95,8 @@ impl Fault {
             | Fault::Frame(pc)
             | Fault::FallsOff(pc)
             | Fault::Constant(pc)
-            | Fault::Depth(pc) => Some(pc),
+            | Fault::Depth(pc)
+            | Fault::Routine(pc) => Some(pc),
         }
     }
 }

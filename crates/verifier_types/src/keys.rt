@@ -5,7 +5,7 @@ ghost use Rattle.mcode.specs.Program.{Program};
 ghost use Rattle.verifier_types.specs.Effect.{key_count};
 ghost use Rattle.verifier_types.specs.Needed.{keys_counted, AreCounts};
 
-use mcode::Code;
+use mcode::Body;
 use std::alloc::{AllocError, Allocator};
 use term_build::are_apart;
 use term_core::Term;
@@ -40,12 +40,12 @@ pub fn key_counts<A: Allocator + Copy>(
 
 /// The same for the constant of a number, where it is there.
 pub(crate) fn key_count<A: Allocator>(
-    code: &Code<A>,
+    body: &Body<'_, A>,
     counts: &[Option<usize>],
     constant: u16,
 ) -> Option<usize>
-    requires { AreCounts code.now counts.now }
-    ensures { result ≡ key_count code.now constant }
+    requires { AreCounts body.now counts.now }
+    ensures { result ≡ key_count body.now constant }
 {
     match counts.get(usize::from(constant)) {
         Some(count) => *count,

@@ -9,9 +9,9 @@ ghost use Rattle.term_core.specs.declared.TheConstants.{MAX_TUPLE};
 ghost use Rattle.verifier_types.specs.Needed.{AreCounts};
 ghost use Rattle.verifier_types.specs.Fit.{IsTypedAt};
 
-use crate::effect::needed;
+use crate::effect::{needed, result_kind};
 use crate::shape::Shape;
-use mcode::{Code, Instr, Kind};
+use mcode::{Body, Instr, Kind};
 use prims_table::Gives;
 use std::alloc::{AllocError, Allocator};
 use term_core::{Term, View};
@@ -61,10 +61,10 @@ fn kind_of<A: Allocator>(term: &Term<A>) -> Kind
 }
 
 /// The kind of a constant.
-fn constant_kind<A: Allocator>(code: &Code<A>, constant: u16) -> Kind
-    ensures { result ≡ option_map_or exact_kind (slice_get code.now.constants constant) kind.Any }
+fn constant_kind<A: Allocator>(body: &Body<'_, A>, constant: u16) -> Kind
+    ensures { result ≡ option_map_or exact_kind (slice_get body.now.constants constant) kind.Any }
 {
-    match code.constants().get(usize::from(constant)) {
+    match body.constants().get(usize::from(constant)) {
         Some(term) => kind_of(term),
         None => Kind::Any,
     }
@@ -82,13 +82,13 @@ fn given_kind(gives: Gives) -> Kind
 }
 
 /// The kinds that an instruction pushes, where this one was at the top.
-fn kinds_pushed<A: Allocator>(code: &Code<A>, instr: Instr, top: Option<Kind>) -> Pushed
-    ensures { pushed_list result ≡ pushed_for code.now instr top }
+fn kinds_pushed<A: Allocator>(body: &Body<'_, A>, instr: Instr, top: Option<Kind>) -> Pushed
+    ensures { pushed_list result ≡ pushed_for body.now instr top }
 {
     match instr {
         Instr::Load | Instr::Get { .. } | Instr::Field { .. } => Pushed::One(Kind::Any),
         Instr::Head | Instr::Tail | Instr::Value { .. } => Pushed::One(Kind::Any),
-        Instr::Const { constant } => Pushed::One(constant_kind(code, constant)),
+        Instr::Const { constant } => Pushed::One(constant_kind(body, constant)),
         Instr::Dup => Pushed::Twice(top.unwrap_or(Kind::Any)),
         Instr::Tuple { size, .. } => Pushed::One(Kind::Tuple(size)),
         Instr::MakeTuple { size, .. } => Pushed::One(Kind::Tuple(size)),
@@ -100,6 +100,8 @@ fn kinds_pushed<A: Allocator>(code: &Code<A>, instr: Instr, top: Option<Kind>) -
         Instr::Bind { .. } | Instr::Drop | Instr::Equal { .. } => Pushed::Nothing,
         Instr::Jump { .. } | Instr::Branch { .. } => Pushed::Nothing,
         Instr::Answer | Instr::NoAnswer => Pushed::Nothing,
+        Instr::Return | Instr::Fail => Pushed::Nothing,
+        Instr::Invoke { routine, .. } => Pushed::One(result_kind(body, routine)),
     }
 }
 
@@ -136,20 +138,20 @@ fn bind<A: Allocator>(shape: &mut Shape<A>, instr: Instr)
 
 /// Turns the state in which an instruction began into the one that it leaves.
 pub fn leave<A: Allocator>(
-    code: &Code<A>,
+    body: &Body<'_, A>,
     counts: &[Option<usize>],
     pc: u16,
     instr: Instr,
     shape: &mut Shape<A>,
 ) -> Result<(), AllocError>
-    requires counts { AreCounts code.now counts.now }
-    requires slots { length shape.old.bound ≡ code.now.slots }
-    requires typed { IsTypedAt code.now pc instr shape.old }
-    ensures { OnOk result (shape.new ≡ left_shape code.now instr shape.old) }
+    requires counts { AreCounts body.now counts.now }
+    requires slots { length shape.old.bound ≡ body.now.slots }
+    requires typed { IsTypedAt body.now pc instr shape.old }
+    ensures { OnOk result (shape.new ≡ left_shape body.now instr shape.old) }
 {
     let top = shape.kind(0);
-    shape.pop(needed(code, counts, instr));
-    push(shape, kinds_pushed(code, instr, top))?;
+    shape.pop(needed(body, counts, instr));
+    push(shape, kinds_pushed(body, instr, top))?;
     bind(shape, instr);
     Ok(())
 }

@@ -20,6 +20,7 @@ mod leaving;
 mod shape;
 
 pub use checks::check;
+pub use effect::{argument_count, inner_depth};
 pub use fault::Fault;
 pub use keys::key_counts;
 pub use leaving::leave;

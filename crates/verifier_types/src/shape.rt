@@ -11,7 +11,7 @@ use std::alloc::{AllocError, Allocator};
 use std::marker::Model;
 
 /// Whether a kind is another or below it.
-fn is_below(kind: Kind, other: Kind) -> bool
+pub(crate) fn is_below(kind: Kind, other: Kind) -> bool
     ensures { result ≡ is_kind_below kind other }
 {
     match other {

@@ -1,4 +1,4 @@
-use Rattle.verifier.proofs.OnceLemmas.{depth_once}
+use Rattle.verifier.proofs.BodyLemmas.{depth_once}
 use Rattle.verifier.proofs.laws.depth_is_one.Goals as goal
 
 pub returns : goal.returns

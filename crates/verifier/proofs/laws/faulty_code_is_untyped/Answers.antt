@@ -1,5 +1,5 @@
-use Rattle.verifier.proofs.FaultLemmas.{faulty_untyped}
+use Rattle.verifier.proofs.BodyLemmas.{faulty_code_untyped}
 use Rattle.verifier.proofs.laws.faulty_code_is_untyped.Goals as goal
 
 pub returns : goal.returns
-returns c = λ p told first typing. faulty_untyped p told first typing
+returns c = λ p b told first typing. faulty_code_untyped p b told first typing

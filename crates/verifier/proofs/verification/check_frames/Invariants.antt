@@ -5,4 +5,4 @@ use Rattle.verifier_types.specs.Fit.{IsFrameFit}
 use Rattle.verifier.proofs.verification.check_frames.Given as goal
 
 abbrev pub invariant-loop-frame : goal.invariant-loop-frame
-invariant-loop-frame g l = All (IsFrameFit l.code) (take l.frame-index (map frame_of l.frames))
+invariant-loop-frame g l = All (IsFrameFit l.body) (take l.frame-index (map frame_of l.frames))

@@ -3,12 +3,12 @@ use Rattle.verifier_types.proofs.leaving.leave.Goals as goal
 
 pub bind-requires : goal.bind-requires
 bind-requires g c =
-    bindable c.args.code.now c.args.instr c.args.shape.now.bound _ c.requires.typed.slot
+    bindable c.args.body.now c.args.instr c.args.shape.now.bound _ c.requires.typed.slot
     (bound_kept c.args.shape.now _ _ _ _ _ c.pop.ensures c.in_ok-push.ensures c.requires.slots)
 
 pub returns : goal.returns
 returns g c =
-    left_is c.args.code.now c.args.instr c.args.shape.now _ _ _ _ _ _ c.needed.ensures c.kind-top.ensures c.kinds_pushed.ensures c.pop.ensures c.in_ok-push.ensures c.bind.ensures
+    left_is c.args.body.now c.args.instr c.args.shape.now _ _ _ _ _ _ c.needed.ensures c.kind-top.ensures c.kinds_pushed.ensures c.pop.ensures c.in_ok-push.ensures c.bind.ensures
 
 pub push-requires : goal.push-requires
-push-requires g c = room_left c.args.code.now c.args.instr c.args.shape.now _ _ c.needed.ensures c.pop.ensures c.requires.typed.depth
+push-requires g c = room_left c.args.body.now c.args.instr c.args.shape.now _ _ c.needed.ensures c.pop.ensures c.requires.typed.depth
