@@ -6,21 +6,24 @@ use Rattle.std.proofs.lemmas.Option.{slice_get-get_or}
 use Rattle.std.proofs.lemmas.List.Elements.{All-head, All-tail}
 use Rattle.mcode.specs.Instr.{target_of}
 use Rattle.mcode.specs.Program.{Program, Frame, IsFrame, frame_at, place_number, most_parts}
+use Rattle.mcode.proofs.BodyLemmas.{alone_main}
 use Rattle.mspec_syntax.specs.Sound.{IsSoundClause}
 use Rattle.mspec_syntax.specs.Specification.{Specification, specification_variables, specification_nodes, IsWithinLimits, most_nodes}
 use Rattle.verifier_types.specs.Fit.{IsTarget, IsFrameFit, most_places}
-use Rattle.verifier.specs.Typing.{IsTyped, IsDepth}
+use Rattle.verifier_types.specs.Shape.{Shape}
+use Rattle.verifier.specs.Typing.{IsPlain, IsTyped, IsDepth}
+use Rattle.verifier.proofs.PlainLemmas.{plain_typed}
 use Rattle.compiler_assembly.specs.Assembled.{assembled, frame_of, IsTargetInRange, IsCode}
 use Rattle.compiler_assembly.specs.Labels.{AllLabels, AllBlockLabels}
 use Rattle.compiler_assembly.specs.Line.{SourceLabel, SourceLine, Block, line_total}
 use Rattle.compiler_assembly.specs.declared.line.Label.TheVariants.{Inside, Clean}
-use Rattle.compiler_assembly.proofs.StandLemmas.{assembled_stands, frames_all, frames_rise, frame_count, instruction_count, constant_count}
+use Rattle.compiler_assembly.proofs.StandLemmas.{assembled_stands, assembled_alone, all_plain, frames_all, frames_rise, frame_count, instruction_count, constant_count}
 use Rattle.compiler_clauses.specs.Clauses.{blocks_of, code_of}
 use Rattle.compiler_clauses.proofs.CountLemmas.{code_size}
 use Rattle.compiler_clauses.proofs.LabelLemmas.{labels_are_frames, labels_fit, labels_inside}
 use Rattle.compiler_clauses.proofs.VariableLemmas.{variables_inside}
 use Rattle.compiler.specs.Typing.{CodeIsTyped}
-use Rattle.compiler.proofs.ProgramFlow.{FlowsOut, blocks_flow, shapes, has_shapes, depth_within}
+use Rattle.compiler.proofs.ProgramFlow.{FlowsOut, blocks_flow, shapes, is_plain, depth_within}
 
 -- ---- what holds at each label
 
@@ -95,24 +98,34 @@ module _ (spec : Specification) (sound : All IsSoundClause spec) (limits : IsWit
       let found = found_frame (IsFrameFit p) p.frames n f frames_fit e in
       omega (arith, found.0.inside, found.1)
 
-  is_typed : IsTyped p
-  is_typed =
+  main : p.around.number ≡ 0
+  main = alone_main p (assembled_alone (length vs) blocks)
+
+  plain : (shapes : ℕ → Shape) × IsPlain p shapes
+  plain =
       let stands = assembled_stands (length vs) blocks in
       let slots = assembled_slots (length vs) blocks in
       let out = blocks_flow p most_nodes vs slots frames_inside spec 0 sound (variables_inside spec) limits.nodes stands.0 in
       let count = instruction_count (length vs) blocks in
       let out' = subst (FlowsOut p most_nodes 0) (sym count) out in
       let few : most_nodes ≤ most_places = omega arith in
-      (shapes p most_nodes few stands.1 out', has_shapes p most_nodes few stands.1 out' frames_fit)
+      let stay = all_plain (length vs) blocks in
+      let size = code_size spec sound vs in (
+        shapes p most_nodes few main stay stands.1 out',
+        is_plain p most_nodes few main stay stands.1 out' (assembled_alone (length vs) blocks) (omega (arith, size, count, limits.nodes)) frames_fit,
+      )
+
+  is_typed : IsTyped p
+  is_typed = plain_typed p plain.0 plain.1
 
   in_range : All IsTargetInRange p.instructions
   in_range = λ k d less.
       let i = get_or p.instructions k d in
       let there = slice_get-get_or p.instructions k d less in
-      let typed = is_typed.1.each k i less there in
+      let typed = plain.1.typed k i there in
       let size = code_size spec sound vs in
       let count = instruction_count (length vs) blocks in
-      below (target_of i) k typed.typed.target (omega (arith, size, count, limits.nodes))
+      below (target_of i) k typed.target (omega (arith, size, count, limits.nodes))
     where
       below : (o : Option ℕ) (k : ℕ) → IfSome o (λ t. IsTarget p k t) → length p.instructions ≤ most_parts → IfSome o (λ t. t ≤ most_parts)
       below None k h few = tt
@@ -164,4 +177,4 @@ depth_within_nodes spec sound limits depth d =
     let Fitting : List ℕ → ℕ → SourceLabel → Type 0 = λ s n l. (0 < n) × ((frame_of s n l).depth ≤ most) × All (λ place. place_number place < (frame_of s n l).depth) (frame_of s n l).places × All (λ slot. slot < length names) (frame_of s n l).slots in
     let labels = labels_fit most spec (omega arith) in
     let low = frames_all IsLow (length names) (blocks_of names spec) (block_labels_both Fitting Fitting (λ s n l. IsLow (frame_of s n l)) (λ s n l fit again. fit.1) 0 (blocks_of names spec) labels labels) in
-    depth_within code most few stands.1 out' (λ n. framed IsLow code.frames n low) (frames_fit spec sound limits) depth d
+    depth_within code most few (main spec sound limits) (all_plain (length names) (blocks_of names spec)) stands.1 out' (λ n. framed IsLow code.frames n low) (frames_fit spec sound limits) depth d

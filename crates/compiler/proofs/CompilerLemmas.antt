@@ -4,7 +4,7 @@ use Rattle.std.specs.Prelude.{All}
 use Rattle.term_core.specs.Datum.{Datum}
 use Rattle.mcode.specs.Answer.{answer_of}
 use Rattle.mcode.specs.Machine.{Runs}
-use Rattle.mcode.specs.Program.{Program, Frame}
+use Rattle.mcode.specs.Program.{Program}
 use Rattle.machine.specs.Laws.{RunsEndWithTheAnswer}
 use Rattle.mspec_syntax.specs.Sound.{IsSoundClause}
 use Rattle.mspec_syntax.specs.Specification.{Specification, specification_variables}
@@ -32,7 +32,8 @@ code_is spec slots names blocks count named written =
 -- in typed code each frame is at an instruction
 pub inside : (p : Program) → IsTyped p → AreFramesInside p
 inside p typed n f e =
-    let found = found_frame (IsFrameFit p) p.frames n f typed.1.frames e in omega (arith, found.0.inside, found.1)
+    let own = typed.bodies 0 (omega arith) in
+    let found = found_frame (IsFrameFit p) p.frames n f own.1.frames e in omega (arith, found.0.inside, found.1)
 
 -- what good code's runs come to
 abbrev pub Ends : Specification → Type 0

@@ -75,7 +75,7 @@ pub fn compile<A: Allocator + Copy>(
     let code = assembled(alloc, specification)?;
     match verify(alloc, code) {
         Ok(verified) => Ok(verified),
-        Err(refused) => match refused.fault {
+        Err(refused) => match refused.fault.fault {
             Fault::Memory => Err(AllocError),
             _ => unreachable!(),
         },

@@ -5,7 +5,7 @@ use Rattle.std.proofs.lemmas.List.{reverse-append, append_assoc, append-nil, len
 use Rattle.term_operand.specs.Order.{is_same}
 use Rattle.term_core.specs.Datum.{Datum}
 use Rattle.mcode.specs.Building.{empty_program, with_constant, with_instruction, IsFrameTooMany, IsNextFrame, IsPartRefused}
-use Rattle.mcode.specs.Program.{Program, Frame, Rise, IsFrame, AreFrames, frame_number, most_parts, most_slots}
+use Rattle.mcode.specs.Program.{Program, Around, Frame, Rise, IsFrame, AreFrames, frame_number, most_parts, most_slots}
 use Rattle.mcode.specs.declared.fault.Fault.{Fault}
 use Rattle.mcode.specs.declared.fault.Fault.TheVariants.{Memory, Limit, FrameOrder}
 use Rattle.mcode.specs.declared.instr.Instr.{Instr}
@@ -57,9 +57,9 @@ front_length cs ds f = omega (arith, ap length f.all, length-append cs f.rest)
 -- ---- lists with something in their middle
 
 -- programs of the same parts
-same_program : (slots : ℕ) {c c' : List Datum} {i i' : List Instr} {f f' : List Frame} → c ≡ c' → i ≡ i' → f ≡ f'
-    → Prim.Path Program record { slots = slots; constants = c; instructions = i; frames = f } record { slots = slots; constants = c'; instructions = i'; frames = f' }
-same_program slots c i f = λ k. record { slots = slots; constants = c k; instructions = i k; frames = f k }
+same_program : (slots : ℕ) (around : Around) {c c' : List Datum} {i i' : List Instr} {f f' : List Frame} → c ≡ c' → i ≡ i' → f ≡ f'
+    → Prim.Path Program record { slots = slots; constants = c; instructions = i; frames = f; around = around } record { slots = slots; constants = c'; instructions = i'; frames = f'; around = around }
+same_program slots around c i f = λ k. record { slots = slots; constants = c k; instructions = i k; frames = f k; around = around }
 
 at_middle : {X : Type 0} (xs ys : List X) (y d : X) → get_or (xs ++ y ∷ ys) (length xs) d ≡ y
 at_middle [] ys y d = refl
@@ -104,11 +104,11 @@ line_added cs p cs' p' slots behind pc l i named here grown ls bs =
     frames : List Frame
     frames = line_frames slots (suc pc) ls ++ block_frames behind bs
 
-    by : (label : Option SourceLabel) → let whole : Program = record { slots = p.slots; constants = p.constants ++ all; instructions = p.instructions ++ (instr_of all behind pc l.op ∷ rest); frames = p.frames ++ (with_label slots (suc pc) label (line_frames slots (suc pc) ls) ++ block_frames behind bs) } in
+    by : (label : Option SourceLabel) → let whole : Program = record { slots = p.slots; constants = p.constants ++ all; instructions = p.instructions ++ (instr_of all behind pc l.op ∷ rest); frames = p.frames ++ (with_label slots (suc pc) label (line_frames slots (suc pc) ls) ++ block_frames behind bs); around = p.around } in
         with_lines named_cs (with_labelled (with_instruction p i) slots (suc pc) label) slots behind (suc pc) ls bs ≡ whole
-    by None = same_program p.slots refl instructions refl
+    by None = same_program p.slots p.around refl instructions refl
     by (Some label) =
-        same_program p.slots refl instructions (append_assoc p.frames (frame_of slots (suc pc) label ∷ []) frames)
+        same_program p.slots p.around refl instructions (append_assoc p.frames (frame_of slots (suc pc) label ∷ []) frames)
 
 -- too many constants
 pub line_constants : (cs : List Datum) (p : Program) (slots : List ℕ) (behind pc : ℕ) (l : SourceLine) → most_parts < length (with_named cs (constant_of l.op)) → IsLineTooMuch cs p slots behind pc l
@@ -218,12 +218,12 @@ no_code {p = p} {q = q} same out code = out (subst IsCode (sym same) code)
 pub nothing_left : (p : Program) → p ≡ with_blocks [] p 0 []
 unfolding with_blocks
 nothing_left p =
-    same_program p.slots (sym (append-nil p.constants)) (sym (append-nil p.instructions)) (sym (append-nil p.frames))
+    same_program p.slots p.around (sym (append-nil p.constants)) (sym (append-nil p.instructions)) (sym (append-nil p.frames))
 
 -- one constant more
 pub constant_moved : (d : Datum) (ds : List Datum) (p : Program) → with_blocks ds (with_constant p d) 0 [] ≡ with_blocks (d ∷ ds) p 0 []
 unfolding with_blocks
-constant_moved d ds p = same_program p.slots (append_assoc p.constants (d ∷ []) ds) refl refl
+constant_moved d ds p = same_program p.slots p.around (append_assoc p.constants (d ∷ []) ds) refl refl
 
 -- too many constants
 pub constant_out : (d : Datum) (ds : List Datum) (p : Program) → most_parts ≤ length p.constants → ¬ IsCode (with_blocks (d ∷ ds) p 0 [])

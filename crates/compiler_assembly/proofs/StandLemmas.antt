@@ -8,9 +8,9 @@ use native.Mathlib.Numerals.{unary_clauses}
 use Rattle.term_operand.specs.Order.{is_same}
 use Rattle.term_core.specs.Datum.{Datum}
 use Rattle.mcode.specs.Instr.{target_of}
-use Rattle.mcode.specs.Program.{Program, Frame, Rise, IsFrame, frame_number, frame_at, most_slots, most_parts}
+use Rattle.mcode.specs.Program.{Program, Frame, alone, Rise, IsFrame, frame_number, frame_at, most_slots, most_parts}
 use Rattle.mcode.specs.declared.instr.Instr.{Instr}
-use Rattle.compiler_assembly.specs.Assembled.{assembled, number_of, with_term, with_named, constant_of, constants_from, block_constants, resolved, instr_of, frame_of, with_label, line_instructions, block_instructions, line_frames, block_frames, IsCode}
+use Rattle.compiler_assembly.specs.Assembled.{assembled, number_of, with_term, with_named, constant_of, constants_from, block_constants, resolved, instr_of, frame_of, with_label, line_instructions, block_instructions, line_frames, block_frames, IsPlain, IsCode}
 use Rattle.compiler_assembly.specs.Assembling.{target_named}
 use Rattle.compiler_assembly.specs.Labels.{AllLabels, AllBlockLabels, AllTargets, AllBlockTargets}
 use Rattle.compiler_assembly.specs.Laws.{AssembledStands}
@@ -305,6 +305,33 @@ all_block_targets P cs pc (b ∷ bs) targets =
 pub targets_all : (P : ℕ → Type 0) (slots : ℕ) (bs : List Block) → AllBlockTargets P 0 bs → All (λ i. IfSome (target_of i) P) (assembled slots bs).instructions
 unfolding assembled
 targets_all P slots bs targets = all_block_targets P (block_constants [] bs) 0 bs targets
+
+-- ---- routines
+
+instr_plain : (cs : List Datum) (behind pc : ℕ) (o : SourceOp) → IsPlain (instr_of cs behind pc o)
+instr_plain cs behind pc op.Load = tt
+instr_plain cs behind pc o = tt
+
+lines_plain : (cs : List Datum) (behind pc : ℕ) (ls : List SourceLine) → All IsPlain (line_instructions cs behind pc ls)
+lines_plain cs behind pc [] = λ i d within. absurd (omega (arith, within))
+lines_plain cs behind pc (l ∷ ls) =
+    All-cons IsPlain (instr_of cs behind pc l.op) (line_instructions cs behind (suc pc) ls) (instr_plain cs behind pc l.op) (lines_plain cs behind (suc pc) ls)
+
+blocks_plain : (cs : List Datum) (pc : ℕ) (bs : List Block) → All IsPlain (block_instructions cs pc bs)
+blocks_plain cs pc [] = λ i d within. absurd (omega (arith, within))
+blocks_plain cs pc (b ∷ bs) =
+    let behind = pc + length b.lines in
+    All-append IsPlain (line_instructions cs behind pc b.lines) (block_instructions cs behind bs) (lines_plain cs behind pc b.lines) (blocks_plain cs behind bs)
+
+-- none is invoked or ended
+pub all_plain : (slots : ℕ) (bs : List Block) → All IsPlain (assembled slots bs).instructions
+unfolding assembled
+all_plain slots bs = blocks_plain (block_constants [] bs) 0 bs
+
+-- and none is there
+pub assembled_alone : (slots : ℕ) (bs : List Block) → (assembled slots bs).around ≡ alone
+unfolding assembled
+assembled_alone slots bs = refl
 
 assembled_slots : (slots : ℕ) (bs : List Block) → (assembled slots bs).slots ≡ slots
 unfolding assembled

@@ -3,7 +3,7 @@ use Rattle.std.specs.Prelude.{ℕ, suc, ◌+◌, ◌≤◌, if◌then◌else◌,
 use Rattle.term_core.specs.Datum.{Datum}
 use Rattle.term_operand.specs.Order.{is_same}
 use Rattle.mcode.specs.Instr.{target_of}
-use Rattle.mcode.specs.Program.{Program, Frame, most_parts, IsProgram}
+use Rattle.mcode.specs.Program.{Program, Frame, alone, most_parts, IsProgram}
 use Rattle.mcode.specs.declared.instr.Instr.{Instr}
 use Rattle.mcode.specs.declared.instr.Instr.TheVariants as instr
 use Rattle.compiler_assembly.specs.Line.{SourceOp, SourceLabel, SourceLine, Block}
@@ -123,7 +123,15 @@ assembled slots bs =
       instructions = block_instructions constants 0 bs;
       frames =
           block_frames 0 bs;
+      around = alone;
     }
+
+-- an instruction that neither invokes a routine nor ends one
+abbrev pub IsPlain : Instr → Type 0
+IsPlain (instr.Invoke r l) = ⊥
+IsPlain instr.Return = ⊥
+IsPlain instr.Fail = ⊥
+IsPlain i = Unit {0}
 
 -- an instruction of which the target is a number of an instruction that code may have
 abbrev pub IsTargetInRange : Instr → Type 0

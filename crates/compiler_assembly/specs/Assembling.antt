@@ -71,6 +71,7 @@ with_lines cs p slots behind pc ls bs =
           ++ (line_instructions constants behind pc ls ++ block_instructions constants behind bs);
       frames = p.frames
           ++ (line_frames slots pc ls ++ block_frames behind bs);
+      around = p.around;
     }
 
 -- the same when these blocks follow from pc on
@@ -86,6 +87,7 @@ with_blocks cs p pc bs =
           ++ block_instructions constants pc bs;
       frames = p.frames
           ++ block_frames pc bs;
+      around = p.around;
     }
 
 -- with the line, this became that: whatever follows, it becomes the same code

@@ -6,7 +6,7 @@ pub fn machine_is_deterministic()
     ensures { IsDeterministic }
 {}
 
-/// A run of typed code always finds what its instructions need.
+/// A run of the main body of typed code always finds what its instructions need.
 pub fn typed_code_is_never_stuck()
     ensures { TypedCodeIsNeverStuck }
 {}
@@ -16,7 +16,7 @@ pub fn runs_stay_within_the_budget()
     ensures { RunsAreWithinBudget }
 {}
 
-/// Typed code runs to an end on each object.
+/// Typed code without routines runs to an end on each object.
 pub fn typed_code_ends()
     ensures { TypedCodeEnds }
 {}

@@ -7,7 +7,7 @@ ghost use Rattle.term_core.specs.Datum.Datum.{cons};
 ghost use Rattle.term_core.specs.Limits.{within_limits};
 ghost use Rattle.term_core.specs.MapPairs.{are_apart};
 ghost use Rattle.mcode.specs.Machine.{map_made};
-ghost use Rattle.machine_stack.specs.Keys.{keys_at};
+ghost use Rattle.machine_stack.specs.Keys.{keys_in};
 ghost use Rattle.term_operand.specs.Value.{value_datum};
 
 use mcode::Code;
@@ -60,8 +60,8 @@ pub fn keys_of<A: Allocator + Copy>(
     code: &Code<A>,
     number: u16,
 ) -> Result<Vec<Term<A>, A>, AllocError>
-    requires { IsSome (keys_at code.now number) }
-    ensures keys { IfOk result (λ keys. keys_at code.now number ≡ Some keys.items) }
+    requires { IsSome (keys_in code.now.constants number) }
+    ensures keys { IfOk result (λ keys. keys_in code.now.constants number ≡ Some keys.items) }
     ensures apart { IfOk result (λ keys. IsTrue (are_apart keys.items)) }
 {
     let list = &code.constants()[usize::from(number)];

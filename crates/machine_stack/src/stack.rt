@@ -42,8 +42,8 @@ impl<'a, 'h, const N: usize, A: Allocator + Copy> Places<'a, 'h, N, A> {
     ghost use Rattle.prims.specs.Calls.{function_of, inline_operands};
     ghost use Rattle.mcode.specs.Machine.{next, push_or_jump, test_outcome};
     ghost use Rattle.mcode.specs.declared.instr.Instr.TheVariants as instr;
-    ghost use Rattle.machine_stack.specs.Keys.{keys_at};
-    ghost use Rattle.machine_stack.specs.Flow.{Leads, IsWithin, top_holds, IsReady, Does};
+    ghost use Rattle.machine_stack.specs.Keys.{keys_in};
+    ghost use Rattle.machine_stack.specs.Flow.{Leads, IsWithin, top_holds, IsReady, IsReadyIn, Does, DoesIn};
     ghost use Rattle.term_operand.specs.Value.{value_datum, is_borrowed, all};
     ghost use Rattle.machine_stack.specs.Stack.{stack_at};
 
@@ -217,12 +217,10 @@ impl<'a, 'h, const N: usize, A: Allocator + Copy> Places<'a, 'h, N, A> {
     ) -> Result<Flow, AllocError>
         requires some { 0 < height }
         requires within { height ≤ length self.old.terms }
-        requires ready { (object : Datum) × (held : List Datum)
-            × IsReady code.now object (instr.Value key otherwise)
-            (stack_at self.old.terms height) held }
-        ensures flow { IfOk result (λ flow. (object : Datum) (held : List Datum)
-            → Does code.now object (instr.Value key otherwise)
-            (stack_at self.old.terms height) held flow self.new.terms held) }
+        requires ready { IsReadyIn code.now.constants (instr.Value key otherwise)
+            (stack_at self.old.terms height) }
+        ensures flow { IfOk result (λ flow. DoesIn code.now.constants
+            (instr.Value key otherwise) (stack_at self.old.terms height) flow self.new.terms) }
         ensures within { IfOk result (λ flow. IsWithin flow (length self.old.terms)) }
         ensures count { length self.new.terms ≡ length self.old.terms }
         ensures memory { IsTrue self.old.borrowed → IsOk result × IsTrue self.new.borrowed }
@@ -403,13 +401,12 @@ impl<'a, 'h, const N: usize, A: Allocator + Copy> Places<'a, 'h, N, A> {
         otherwise: u16,
     ) -> Result<Flow, AllocError>
         requires within { height ≤ length self.old.terms }
-        requires keys { IsSome (keys_at code.now keys) }
-        requires deep { IfSome (keys_at code.now keys) (λ ks. length ks ≤ height) }
-        requires room { IfSome (keys_at code.now keys) (λ ks.
+        requires keys { IsSome (keys_in code.now.constants keys) }
+        requires deep { IfSome (keys_in code.now.constants keys) (λ ks. length ks ≤ height) }
+        requires room { IfSome (keys_in code.now.constants keys) (λ ks.
             height - length ks < length self.old.terms) }
-        ensures flow { IfOk result (λ flow. (object : Datum) (held : List Datum)
-            → Does code.now object (instr.MakeMap keys otherwise)
-            (stack_at self.old.terms height) held flow self.new.terms held) }
+        ensures flow { IfOk result (λ flow. DoesIn code.now.constants
+            (instr.MakeMap keys otherwise) (stack_at self.old.terms height) flow self.new.terms) }
         ensures within { IfOk result (λ flow. IsWithin flow (length self.old.terms)) }
         ensures count { length self.new.terms ≡ length self.old.terms }
     {

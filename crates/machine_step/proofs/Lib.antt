@@ -12,3 +12,4 @@ pub mod TableLemmas
 pub mod AskLemmas
 pub mod TakeLemmas
 pub mod CompareLemmas
+pub mod AloneLemmas

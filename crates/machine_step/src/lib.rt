@@ -1,4 +1,4 @@
-//! Runs of verified code over an operand stack and slots that are kept from one run to the next.
+//! Runs of verified code without routines over an operand stack and slots that are kept from one run to the next.
 //!
 //! The one contract: `Execution::run` executes the code on an object, by the machine's definition (`Runs` of
 //! `mcode/specs/Machine.antt`): it gives in which place the answer is, and the exact number of instructions executed.
@@ -9,7 +9,8 @@
 //!
 //! - `execution`: what an instruction does to stack and slots, a step, and a run, which executes some rows of
 //!   instructions at once (`Takes` and `Compares` of `specs/Flow.antt`); `stack`: which instructions go by the stack
-//!   and the code alone; `step`: what a step comes to. What instructions do to the stack alone is in `machine_stack`.
+//!   and the constants alone, whichever body of code they stand in; `step`: what a step comes to. What instructions do
+//!   to the stack alone is in `machine_stack`.
 #![tactic(auto)]
 
 mod execution;

@@ -1,11 +1,11 @@
-//! What the instructions do that look at nothing but the stack and the code.
+//! What the instructions do that look at nothing but the stack and the constants.
 ghost use Rattle.std.specs.Prelude.{◌≡◌, ◌≤◌, List, IsTrue, IsOk, IfOk, length};
 ghost use Rattle.term_core.specs.Datum.{Datum};
 ghost use Rattle.mcode.specs.Program.{Program};
 ghost use Rattle.verifier_types.specs.Effect.{needs};
-ghost use Rattle.machine_stack.specs.Flow.{IsWithin, IsReady, Does};
+ghost use Rattle.machine_stack.specs.Flow.{IsWithin, IsReady, Does, DoesIn};
 ghost use Rattle.machine_stack.specs.Stack.{stack_at};
-ghost use Rattle.machine_step.specs.Flow.{HasRoom, IsOfStack, Computes, Looks};
+ghost use Rattle.machine_step.specs.Flow.{Finds, IsOfStack, Computes, Looks};
 ghost use Rattle.machine_step.specs.Memory.{MakesNone};
 
 use machine_stack::{Flow, INLINE_PLACES, Places};
@@ -45,7 +45,7 @@ fn looking<'a, 'h, A: Allocator + Copy>(
 }
 
 /// Executes an instruction that puts what it computes in the place of its operands, or leaves all places as they are,
-/// and says where it leads.
+/// and says where it leads, in any code with these constants.
 // Two functions in the place of one of all arms, which takes a fifth longer to prove.
 #[inline(always)]
 fn computing<'a, 'h, A: Allocator + Copy>(
@@ -55,12 +55,10 @@ fn computing<'a, 'h, A: Allocator + Copy>(
     height: u16,
 ) -> Result<Flow, AllocError>
     requires kind { Computes instr }
-    requires room { HasRoom code.now instr height (length stack.old.terms) }
-    requires ready { (object : Datum) × (held : List Datum)
-        × IsReady code.now object instr (stack_at stack.old.terms height) held }
-    ensures flow { IfOk result (λ flow. (object : Datum) (held : List Datum)
-        → Does code.now object instr (stack_at stack.old.terms height) held flow stack.new.terms
-        held) }
+    requires finds { Finds code.now.constants instr (stack_at stack.old.terms height) height
+        (length stack.old.terms) }
+    ensures flow { IfOk result (λ flow. DoesIn code.now.constants instr
+        (stack_at stack.old.terms height) flow stack.new.terms) }
     ensures within { IfOk result (λ flow. IsWithin flow (length stack.old.terms)) }
     ensures count { length stack.new.terms ≡ length stack.old.terms }
     ensures memory { MakesNone instr → length stack.old.terms ≤ INLINE_PLACES
@@ -83,7 +81,8 @@ fn computing<'a, 'h, A: Allocator + Copy>(
     }
 }
 
-/// Executes an instruction that goes by the stack and the code alone, and says where it leads.
+/// Executes an instruction that goes by the stack and the constants alone, and says where it leads, in any code with
+/// these constants.
 #[inline(always)]
 pub(crate) fn on_stack<'a, 'h, A: Allocator + Copy>(
     stack: &mut Places<'a, 'h, INLINE_PLACES, A>,
@@ -92,12 +91,10 @@ pub(crate) fn on_stack<'a, 'h, A: Allocator + Copy>(
     height: u16,
 ) -> Result<Flow, AllocError>
     requires kind { IsOfStack instr }
-    requires room { HasRoom code.now instr height (length stack.old.terms) }
-    requires ready { (object : Datum) × (held : List Datum)
-        × IsReady code.now object instr (stack_at stack.old.terms height) held }
-    ensures flow { IfOk result (λ flow. (object : Datum) (held : List Datum)
-        → Does code.now object instr (stack_at stack.old.terms height) held flow stack.new.terms
-        held) }
+    requires finds { Finds code.now.constants instr (stack_at stack.old.terms height) height
+        (length stack.old.terms) }
+    ensures flow { IfOk result (λ flow. DoesIn code.now.constants instr
+        (stack_at stack.old.terms height) flow stack.new.terms) }
     ensures within { IfOk result (λ flow. IsWithin flow (length stack.old.terms)) }
     ensures count { length stack.new.terms ≡ length stack.old.terms }
     ensures memory { MakesNone instr → length stack.old.terms ≤ INLINE_PLACES

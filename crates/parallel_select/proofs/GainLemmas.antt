@@ -1,16 +1,15 @@
 -- Visits of a walk, and what is gained by them.
-use Rattle.std.proofs.Common.{◌≡◌, ◌≢◌, ℕ, ◌+◌, ◌<◌, ◌⊎◌, inl, inr, refl, ap, sym, subst, ◌∙◌, arith, Option, option_map, Some, None, List, [], ◌++◌, length}
+use Rattle.std.proofs.Common.{◌≡◌, ◌≢◌, ℕ, ◌+◌, ◌<◌, inl, inr, ap, sym, subst, ◌∙◌, arith, Option, option_map, Some, List, [], ◌++◌, length}
 use Rattle.std.specs.Prelude.{get_or, min}
 use Rattle.std.proofs.lemmas.List.{append_assoc, append-nil, length-append}
 use Rattle.term_core.specs.Datum.{Datum}
 use Rattle.part_core.specs.declared.fault.Fault.{Fault}
 use Rattle.part_core.specs.declared.fault.Fault.TheVariants as fault
-use Rattle.part_core.specs.Acts.{Act, Cursor, Purpose, Said, next_in}
+use Rattle.part_core.specs.Acts.{Cursor, Purpose, Said, next_in}
 use Rattle.part_core.specs.Acts.Act.{Visit}
-use Rattle.part_core.specs.Acts.Answer.{Replied, Refused}
+use Rattle.part_core.specs.Acts.Answer.{Refused}
 use Rattle.part_core.specs.Acts.Purpose.{Answers, Counts, Deletes}
 use Rattle.part_core.specs.Acts.Refusal.{TooSmall, FixLimit, NotFixed, BadKey, CursorOutside}
-use Rattle.part_core.specs.Acts.Said.{Found, Counted}
 use Rattle.part_core.specs.Acts.Scope.{Named}
 use Rattle.part_core.specs.Settings.{part_of}
 use Rattle.tables.specs.Options.{settings_of}
@@ -27,7 +26,7 @@ use Rattle.walk_core.proofs.GoesLemmas.{begins_so_far, goes_position}
 use Rattle.walk_core.proofs.TurnLemmas.{turn_visits, turned_drifts, drifts_nowhere, never_outside}
 use Rattle.parallel_select.specs.declared.gained.Gained.{Gained}
 use Rattle.parallel_select.specs.declared.gained.Gained.TheVariants as gained
-use Rattle.parallel_select.specs.Gained.{IsGained, IsCounted, Gains, Adds, TakesIn}
+use Rattle.parallel_select.specs.Gained.{IsGained, IsCounted, Adds, TakesIn}
 use Rattle.parallel_select.specs.Parts.{Visited, Missed, GoesGaining, StopsGaining}
 use Rattle.parallel_select.proofs.WalkLemmas.{at_that_key, named_is, named_not_over, next_named}
 

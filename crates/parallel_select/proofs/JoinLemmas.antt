@@ -1,5 +1,5 @@
 -- What the members of a selection find together.
-use Rattle.std.proofs.Common.{zero, suc, ◌≡◌, ℕ, ◌+◌, ◌<◌, ◌≤◌, ◌⊎◌, inl, inr, refl, ap, sym, subst, ◌∙◌, arith, List, [], ◌∷◌, ◌++◌, length}
+use Rattle.std.proofs.Common.{◌≡◌, ℕ, ◌+◌, ◌<◌, ◌≤◌, ◌⊎◌, inl, inr, refl, ap, sym, subst, ◌∙◌, arith, List, [], ◌∷◌, ◌++◌, length}
 use Rattle.std.specs.Prelude.{Bool, true, false, IsTrue, ◌&&◌, ◌%◌, All, AllPairs, Contains, Option, Some, None, option_map, filter, flat_map, get_or, map, min, nat_le, nat_lt}
 use Rattle.std.proofs.lemmas.Bool.{eqb-true, eq-eqb, le-leb, lt-ltb}
 use Rattle.std.proofs.lemmas.List.Elements.{All-head, All-tail, All-weaker}
@@ -17,13 +17,13 @@ use Rattle.tables.specs.Options.{settings_of}
 use Rattle.tables.specs.Turns.{Home, Views}
 use Rattle.walk_core.specs.Moments.{Span, span, IsMoment, IsMet, Mark, IsAnswer, IsGrown, ArePlaced, answers_at}
 use Rattle.walk_core.specs.Once.{IsOnce}
-use Rattle.walk_core.specs.Walk.{Walk, is_all, is_done, is_in_parts}
+use Rattle.walk_core.specs.Walk.{is_all, is_done, is_in_parts}
 use Rattle.walk_core.specs.Walk.Position.{Over}
 use Rattle.walk_query.specs.declared.query.Query.{Query}
 use Rattle.walks.specs.Query.{plan_of}
 use Rattle.parallel_select.specs.Joined.{PartWalks, IsPartMoment, IsUnanswered, AreAnswers, FindTogether, AreAt, part_answers_at, place_of, shared_walks}
 use Rattle.parallel_select.specs.Laws.{IsAnsweredWithin, IsWell}
-use Rattle.parallel_select.specs.Parts.{answers_of, is_share, number_gained, part_walk, stands_in, walk_through, Counted, Works}
+use Rattle.parallel_select.specs.Parts.{answers_of, is_share, number_gained, part_walk, stands_in, walk_through, Works}
 use Rattle.parallel_select.specs.Workers.{Did, EachAnswers, EachTallied, Tallied}
 use Rattle.parallel_select.proofs.KeyLemmas.{named_there}
 use Rattle.parallel_select.proofs.LawLemmas.{parts_answered}

@@ -1,5 +1,5 @@
 -- What the walks of a worker mean.
-use Rattle.std.proofs.Common.{◌≡◌, ℕ, ◌+◌, ◌<◌, ◌≤◌, ◌==◌, refl, sym, subst, ◌∙◌, arith, List, [], ◌∷◌, ◌++◌}
+use Rattle.std.proofs.Common.{◌≡◌, ℕ, ◌+◌, ◌<◌, ◌==◌, refl, sym, subst, arith, List, [], ◌∷◌}
 use Rattle.std.specs.Prelude.{Bool, true, false, IsTrue, MatchBool, Some, nat_lt}
 use Rattle.std.proofs.lemmas.Bool.{eqb-true, eqb-false, ltb-true, ltb-false}
 use Rattle.std.proofs.lemmas.List.{append-nil}
@@ -9,10 +9,9 @@ use Rattle.part_core.specs.Acts.Act.{Fix, Unfix}
 use Rattle.part_core.specs.Acts.Answer.{Replied}
 use Rattle.part_core.specs.Acts.Said.{Nothing}
 use Rattle.part_core.proofs.KeyLemmas.{by_test}
-use Rattle.tables.specs.Turns.{Home, Views, Turned}
-use Rattle.walk_core.specs.Goes.{way, whole, IsAt, Stops}
-use Rattle.walk_core.specs.Moments.{span, Gathers, IsSoFar, IsAnswer, IsGrown, AreLegal, ArePlaced}
-use Rattle.walk_core.specs.Once.{IsOnce}
+use Rattle.tables.specs.Turns.{Home, Views}
+use Rattle.walk_core.specs.Goes.{way, whole, IsAt}
+use Rattle.walk_core.specs.Moments.{span, Gathers, IsGrown, AreLegal, ArePlaced}
 use Rattle.walk_core.specs.Walk.{Walk, Position, IsWalk, is_done, start_of}
 use Rattle.walk_core.specs.Walk.Position.{Over}
 use Rattle.walk_core.proofs.GoesLemmas.{begins_so_far, drifted_grown, ends_answer, goes_grown, grown_further, grown_itself, grown_legal, placed_before, stops_so_far}
@@ -22,7 +21,7 @@ use Rattle.walk_core.proofs.StepLemmas.{turned_grown}
 use Rattle.walk_query.specs.declared.query.Query.{Query}
 use Rattle.walks.specs.Own.{is_fixed_first}
 use Rattle.parallel_select.specs.Laws.{IsAnsweredWithin, IsGatheredWithin, IsWell}
-use Rattle.parallel_select.specs.Parts.{part_walk, ChangesFix, Selects, Passes, CeasesAt, Works, Ceases}
+use Rattle.parallel_select.specs.Parts.{part_walk, ChangesFix, Selects, Passes, Works, Ceases}
 use Rattle.parallel_select.specs.Parts.Works.{begins, passes}
 use Rattle.parallel_select.proofs.WalkLemmas.{part_is_walk}
 

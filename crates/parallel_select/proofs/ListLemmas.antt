@@ -1,5 +1,5 @@
 -- Lists of answers, a part each.
-use Rattle.std.proofs.Common.{zero, suc, ◌≡◌, ◌≢◌, ℕ, ◌<◌, refl, ap, sym, ◌∙◌, arith, List, [], ◌∷◌, length, map, slice_set, get_or}
+use Rattle.std.proofs.Common.{zero, suc, ◌≡◌, ◌≢◌, ℕ, ◌<◌, refl, ap, sym, arith, List, [], ◌∷◌, length, map, slice_set, get_or}
 use Rattle.term_core.specs.Datum.{Datum}
 use Rattle.parallel_select.specs.Parts.{answers_of}
 

@@ -1,14 +1,13 @@
 -- A walk of one part, with the fix of its own.
 use Rattle.std.proofs.Common.{◌≡◌, ℕ, ◌+◌, ◌<◌, sym, subst, ◌∙◌, arith, List, []}
-use Rattle.std.specs.Prelude.{Bool, true, false, IsTrue, IfOk, IfErr, Result, Ok, Err}
+use Rattle.std.specs.Prelude.{Bool, true, IfOk, IfErr, Result, Ok, Err}
 use Rattle.std.proofs.Math.Logic.{∥∥₁_map}
 use Rattle.term_core.specs.Datum.{Datum}
 use Rattle.part_core.specs.Acts.Act.{Fix, Unfix}
 use Rattle.part_core.specs.Acts.Said.{Nothing}
 use Rattle.part_core.specs.Legal.{fix_count}
-use Rattle.tables.specs.declared.options.Options.{Options}
 use Rattle.tables.specs.Turns.{Home, Views, Follows}
-use Rattle.walk_core.specs.Goes.{way, whole, IsAt, Goes, Stops}
+use Rattle.walk_core.specs.Goes.{way, whole, Stops}
 use Rattle.walk_core.specs.Moments.{AreLegal}
 use Rattle.walk_core.specs.Walk.{Walk, Position, start_of}
 use Rattle.walk_core.specs.Walk.Position.{Over}
@@ -16,7 +15,7 @@ use Rattle.walk_core.proofs.CountLemmas.{turned_count, goes_count, drifted_count
 use Rattle.walk_core.proofs.TurnLemmas.{drifts_nowhere}
 use Rattle.walks.specs.Own.{is_fixed_first}
 use Rattle.parallel_select.specs.declared.gained.Gained.{Gained}
-use Rattle.parallel_select.specs.Parts.{ChangesFix, FixesFirst, GoesGaining, StopsGaining, Selects, SelectsGaining, CeasesGaining}
+use Rattle.parallel_select.specs.Parts.{ChangesFix, FixesFirst, GoesGaining, StopsGaining, SelectsGaining, CeasesGaining}
 
 -- what a walk fixed first it holds at its end
 held_by : (h : Home) (w : Walk) (part : ℕ) (at : Position) (found : List Datum) (v fixed last : Views) → part < h.options.parts → FixesFirst h part true v fixed → Stops h w whole (way fixed (start_of w) []) at found last → 0 < fix_count h.number (last part)

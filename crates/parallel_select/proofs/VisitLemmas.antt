@@ -1,5 +1,5 @@
 -- What visits tell.
-use Rattle.std.proofs.Common.{◌≡◌, ℕ, refl, ap, sym, ◌∙◌, IsTrue, Some}
+use Rattle.std.proofs.Common.{◌≡◌, ℕ, refl, IsTrue, Some}
 use Rattle.std.specs.Prelude.{Bool, true, false, ◌||◌}
 use Rattle.mcode.specs.Program.{Program}
 use Rattle.part_core.specs.declared.settings.Settings.{Settings}

@@ -1,6 +1,6 @@
 -- The walk of one part.
-use Rattle.std.proofs.Common.{◌≡◌, ◌≢◌, ℕ, ◌+◌, ◌<◌, ◌≤◌, refl, ap, sym, subst, ◌∙◌, arith, Option, option_map, Some, None, List, length, is_some}
-use Rattle.std.specs.Prelude.{Bool, true, false, IsTrue, IsFalse, ◌&&◌, ◌==◌, if◌then◌else◌, filter, get_or, nat_le, nat_lt, unwrap_or}
+use Rattle.std.proofs.Common.{◌≡◌, ◌≢◌, ℕ, ◌+◌, ◌<◌, refl, ap, sym, ◌∙◌, arith, Option, option_map, Some, None, List, length, is_some}
+use Rattle.std.specs.Prelude.{Bool, true, false, IsTrue, IsFalse, ◌&&◌, if◌then◌else◌, filter, get_or, nat_le, nat_lt, unwrap_or}
 use Rattle.std.proofs.lemmas.Bool.{true≢false, and_parts, eq-eqb, ltb-true, lt-ltb, le-ltb, leb-true}
 use Rattle.term_core.specs.Datum.{Datum}
 use Rattle.term_core.specs.Datum.Datum.{nil}
@@ -11,7 +11,7 @@ use Rattle.part_core.specs.Settings.{is_object, is_ordered, key_of, part_of}
 use Rattle.tables.specs.declared.options.Options.{Options}
 use Rattle.tables.specs.Options.{settings_of}
 use Rattle.tables.specs.Turns.{Home}
-use Rattle.walk_core.specs.Walk.{Walk, Position, IsPlan, IsWalk, is_all, is_in_parts, at_part, at_key, named_at, named_count, next_position, part_at, scope_at, start_of}
+use Rattle.walk_core.specs.Walk.{Walk, IsPlan, IsWalk, is_all, is_in_parts, at_key, named_at, next_position, start_of}
 use Rattle.walk_core.specs.Walk.Position.{InPart, AtNamed, Over}
 use Rattle.walk_query.specs.declared.query.Query.{Query}
 use Rattle.walk_query.specs.Plan.{AreVisited}

@@ -1,17 +1,17 @@
 -- The walks of one worker, part behind part.
-use Rattle.std.proofs.Common.{zero, suc, ◌≡◌, ℕ, ◌+◌, ◌<◌, ◌≤◌, ◌⊎◌, inl, inr, refl, ap, sym, subst, ◌∙◌, arith, List, [], ◌∷◌, ◌++◌, length}
-use Rattle.std.specs.Prelude.{Bool, true, false, IsTrue, IsFalse, MatchBool, ◌==◌, if◌then◌else◌, get_or, min}
-use Rattle.std.proofs.lemmas.Bool.{true≢false, eq-eqb, eqb-true, false≢true}
+use Rattle.std.proofs.Common.{zero, suc, ◌≡◌, ℕ, ◌+◌, ◌<◌, inl, inr, refl, ap, sym, subst, ◌∙◌, arith, List, [], ◌∷◌, ◌++◌, length}
+use Rattle.std.specs.Prelude.{Bool, true, false, IsTrue, MatchBool, ◌==◌, if◌then◌else◌, min}
+use Rattle.std.proofs.lemmas.Bool.{eq-eqb, eqb-true}
 use Rattle.std.proofs.lemmas.List.{length-append}
 use Rattle.term_core.specs.Datum.{Datum}
 use Rattle.part_core.specs.Replies.{most_counted}
 use Rattle.part_core.proofs.KeyLemmas.{by_test}
 use Rattle.tables.specs.Turns.{Home, Views, Follows}
-use Rattle.walk_core.specs.Walk.{Walk, Position}
+use Rattle.walk_core.specs.Walk.{Walk}
 use Rattle.walk_core.specs.Walk.Position.{Over}
 use Rattle.parallel_select.specs.declared.gained.Gained.{Gained}
 use Rattle.parallel_select.specs.Gained.{IsGained, IsCounted, Gains}
-use Rattle.parallel_select.specs.Parts.{Selects, Passes, PassesCounting, CeasesAt, CeasesCounting, Works, Ceases, Broken, Counted, BrokenAt, IsTotal, number_gained, answers_of}
+use Rattle.parallel_select.specs.Parts.{Selects, Passes, PassesCounting, CeasesAt, CeasesCounting, Works, Broken, Counted, BrokenAt, number_gained, answers_of}
 use Rattle.parallel_select.specs.Parts.Works.{begins, passes}
 use Rattle.parallel_select.proofs.GainLemmas.{counted_too}
 

@@ -1,7 +1,7 @@
 -- Workers side by side.
-use Rattle.std.proofs.Common.{zero, suc, ◌≡◌, ℕ, ◌+◌, ◌<◌, ◌≤◌, ◌⊎◌, inl, inr, refl, ap, sym, subst, ◌∙◌, arith, List, [], ◌∷◌, length}
-use Rattle.std.specs.Prelude.{All, flat_map, get_or, map, ◌++◌, Bool, true, false, ◌||◌, IsTrue, MatchBool, ◌==◌, if◌then◌else◌, min, Result, Ok, Err, IfOk, IfErr, MatchResult}
-use Rattle.std.proofs.lemmas.Bool.{eqb-true, eq-eqb, true≢false}
+use Rattle.std.proofs.Common.{zero, suc, ◌≡◌, ℕ, ◌+◌, ◌<◌, ◌≤◌, inl, refl, ap, sym, subst, ◌∙◌, arith, List, [], ◌∷◌, length}
+use Rattle.std.specs.Prelude.{All, flat_map, get_or, map, ◌++◌, Bool, true, false, ◌||◌, if◌then◌else◌, min, Result, Ok, Err, IfOk, IfErr, MatchResult}
+use Rattle.std.proofs.lemmas.Bool.{eqb-true, true≢false}
 use Rattle.term_core.specs.Datum.{Datum}
 use Rattle.part_core.specs.Acts.{Purpose}
 use Rattle.part_core.specs.Acts.Purpose.{Answers}
@@ -11,7 +11,7 @@ use Rattle.tables.specs.declared.options.Options.{Options}
 use Rattle.tables.specs.Turns.{Home, Views, Follows}
 use Rattle.walk_core.specs.Walk.{Walk}
 use Rattle.walk_query.specs.declared.query.Query.{Query}
-use Rattle.parallel_select.specs.Parts.{part_walk, is_share, answers_of, Works, Broken, Counted, BrokenAt, IsTotal}
+use Rattle.parallel_select.specs.Parts.{part_walk, is_share, answers_of, Works, Broken}
 use Rattle.parallel_select.specs.Workers.{AreOfOneTable, Each, EachAdding, Did, EachAnswers, EachBroken, AreJoined, AreBothJoined, Tallied, EachTallied, Gathered, GatheredEach}
 use Rattle.parallel_select.proofs.WorkLemmas.{works_by, broken_at_end}
 

@@ -1,5 +1,5 @@
 -- What walks gain: answers, or how many objects were counted or deleted.
-use Rattle.std.specs.Prelude.{ℕ, ◌≡◌, ◌+◌, ◌++◌, Bool, true, false, List, length, min}
+use Rattle.std.specs.Prelude.{◌≡◌, ◌+◌, ◌++◌, Bool, true, false, List, length, min}
 use Rattle.term_core.specs.Datum.{Datum}
 use Rattle.part_core.specs.Acts.{Purpose, Said}
 use Rattle.part_core.specs.Acts.Purpose.{Answers, Counts, Deletes}

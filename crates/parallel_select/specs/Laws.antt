@@ -1,6 +1,6 @@
 -- What the walks of a worker mean: for each key of its parts once, what the query answers on the key's objects at one
 -- moment.
-use Rattle.std.specs.Prelude.{ℕ, ◌<◌, ◌+◌, Bool, IsTrue, List, [], ◌∷◌}
+use Rattle.std.specs.Prelude.{ℕ, ◌<◌, Bool, IsTrue, List, [], ◌∷◌}
 use Rattle.term_core.specs.Datum.{Datum}
 use Rattle.part_core.specs.Acts.{Purpose}
 use Rattle.tables.specs.Turns.{Home, Views}

@@ -1,5 +1,5 @@
 -- Walks through one part each, which workers share out, and what a worker's walks make of what its session sees.
-use Rattle.std.specs.Prelude.{ℕ, ◌≡◌, ◌<◌, ◌≤◌, ◌+◌, ◌%◌, ◌==◌, ◌++◌, ◌⊎◌, Bool, IsTrue, MatchBool, Option, Some, option_map, filter, if◌then◌else◌, zero, suc, List, [], length, min, get_or}
+use Rattle.std.specs.Prelude.{ℕ, ◌≡◌, ◌<◌, ◌≤◌, ◌+◌, ◌%◌, ◌==◌, ◌⊎◌, Bool, IsTrue, MatchBool, Option, Some, option_map, filter, if◌then◌else◌, zero, suc, List, [], length, min, get_or}
 use Rattle.term_core.specs.Datum.{Datum}
 use Rattle.part_core.specs.declared.fault.Fault.{Fault}
 use Rattle.part_core.specs.declared.fault.Fault.TheVariants.{Memory}

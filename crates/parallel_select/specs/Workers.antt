@@ -1,5 +1,5 @@
 -- Selection by several workers, each of which walks through its own parts by a session of its own.
-use Rattle.std.specs.Prelude.{ℕ, ◌≡◌, ◌<◌, ◌≤◌, ◌+◌, ◌⊎◌, if◌then◌else◌, IfErr, IfOk, Result, Ok, Err, All, Bool, MatchBool, List, [], ◌∷◌, length}
+use Rattle.std.specs.Prelude.{ℕ, ◌≡◌, ◌<◌, ◌≤◌, ◌+◌, ◌⊎◌, if◌then◌else◌, IfErr, IfOk, Result, Ok, All, Bool, MatchBool, List, [], ◌∷◌, length}
 use Rattle.term_core.specs.Datum.{Datum}
 use Rattle.part_core.specs.Acts.{Purpose}
 use Rattle.part_core.specs.Acts.Purpose.{Answers}

@@ -9,7 +9,7 @@ use Rattle.term_core.specs.KeyHash.{key_hash}
 use Rattle.term_core.specs.Order.{datum_cmp}
 use Rattle.term_operand.specs.Operand.{boolean}
 use Rattle.mcode.specs.Answer.{answer_of}
-use Rattle.mcode.specs.Program.{Program}
+use Rattle.mcode.specs.Program.{Program, alone}
 use Rattle.mcode.specs.declared.instr.Instr.TheVariants as instr
 use Rattle.part_core.specs.declared.kind.TableKind.{TableKind}
 use Rattle.part_core.specs.declared.kind.TableKind.TheVariants.{Set, OrderedSet, Bag, DuplicateBag}
@@ -40,11 +40,11 @@ abbrev settings : TableKind → Settings
 settings kind = record { kind = kind; keypos = 1; parts = 1; sessions = 2 }
 
 abbrev itself : Program
-itself = record { slots = 0; constants = []; instructions = instr.Load ∷ instr.Answer ∷ []; frames = [] }
+itself = record { slots = 0; constants = []; instructions = instr.Load ∷ instr.Answer ∷ []; frames = []; around = alone }
 
 abbrev always : Program
 always =
-    record { slots = 0; constants = boolean true ∷ []; instructions = instr.Const 0 ∷ instr.Answer ∷ []; frames = [] }
+    record { slots = 0; constants = boolean true ∷ []; instructions = instr.Const 0 ∷ instr.Answer ∷ []; frames = []; around = alone }
 
 -- the state after these, of sessions 0 and 1
 abbrev acted : TableKind → List (ℕ × Act) → PartState

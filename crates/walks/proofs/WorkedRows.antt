@@ -7,7 +7,7 @@ use Rattle.term_core.specs.KeyHash.{key_hash}
 use Rattle.term_core.specs.Order.{datum_cmp}
 use Rattle.term_operand.specs.Operand.{boolean}
 use Rattle.mcode.specs.Answer.{answer_of}
-use Rattle.mcode.specs.Program.{Program}
+use Rattle.mcode.specs.Program.{Program, alone}
 use Rattle.mcode.specs.declared.instr.Instr.TheVariants as instr
 use Rattle.part_core.specs.declared.kind.TableKind.{TableKind}
 use Rattle.part_core.specs.declared.kind.TableKind.TheVariants.{Set, OrderedSet}
@@ -36,11 +36,11 @@ options kind parts = record { name = 0; kind = kind; keypos = 1; parts = parts; 
 -- the first element of the object
 abbrev first_element : Program
 first_element =
-    record { slots = 0; constants = []; instructions = instr.Load ∷ instr.Field 1 ∷ instr.Answer ∷ []; frames = [] }
+    record { slots = 0; constants = []; instructions = instr.Load ∷ instr.Field 1 ∷ instr.Answer ∷ []; frames = []; around = alone }
 
 abbrev always : Program
 always =
-    record { slots = 0; constants = boolean true ∷ []; instructions = instr.Const 0 ∷ instr.Answer ∷ []; frames = [] }
+    record { slots = 0; constants = boolean true ∷ []; instructions = instr.Const 0 ∷ instr.Answer ∷ []; frames = []; around = alone }
 
 -- a session does this at the part of a key
 abbrev at_key : TableState → Datum → Act → TableState

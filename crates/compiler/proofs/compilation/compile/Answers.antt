@@ -10,7 +10,7 @@ pub unreachable-requires : goal.unreachable-requires
 unreachable-requires g c =
     elim c.in-Err.ensures.refused.1 [
       | inl memory ↦ c.in_default.not-Memory memory
-      | inr first ↦ c.faulty_code_is_untyped.ensures c.in_ok-code.code c.in-Err.refused.fault first (subst IsTyped (sym c.in_ok-code.ensures) c.is_good.ensures.typed)
+      | inr first ↦ c.faulty_code_is_untyped.ensures c.in_ok-code.code c.in-Err.refused.fault.body c.in-Err.refused.fault.fault first (subst IsTyped (sym c.in_ok-code.ensures) c.is_good.ensures.typed)
     ]
 
 pub returns-in-Ok-clause-runs : goal.returns-in-Ok-clause-runs

@@ -5,39 +5,39 @@ use Rattle.machine_step.proofs.stack.on_stack.Goals as goal
 
 pub field-requires : goal.field-requires
 field-requires g c =
-    let ready = c.requires.ready in
-    let there = found ready.0 (stack_at c.args.stack.now.terms c.args.height) c.in-Field.is c.requires.room ready.2 in
-    (search rules, (omega (arith, there.0.operands), (there.0.within, (c.args.code.now, ready.0, ready.1, there.1))))
+    let finds = c.requires.finds in
+    let there = found finds.object (stack_at c.args.stack.now.terms c.args.height) c.in-Field.is finds.room finds.ready in
+    (search rules, (omega (arith, there.0.operands), (there.0.within, (finds.code, finds.object, finds.held, there.1))))
 
 pub head-requires : goal.head-requires
 head-requires g c =
-    let ready = c.requires.ready in
-    let there = found ready.0 (stack_at c.args.stack.now.terms c.args.height) c.in-Head.is c.requires.room ready.2 in
-    (search rules, (omega (arith, there.0.operands), (there.0.within, (c.args.code.now, ready.0, ready.1, there.1))))
+    let finds = c.requires.finds in
+    let there = found finds.object (stack_at c.args.stack.now.terms c.args.height) c.in-Head.is finds.room finds.ready in
+    (search rules, (omega (arith, there.0.operands), (there.0.within, (finds.code, finds.object, finds.held, there.1))))
 
 pub tail-requires : goal.tail-requires
 tail-requires g c =
-    let ready = c.requires.ready in
-    let there = found ready.0 (stack_at c.args.stack.now.terms c.args.height) c.in-Tail.is c.requires.room ready.2 in
-    (search rules, (omega (arith, there.0.operands), (there.0.within, (c.args.code.now, ready.0, ready.1, there.1))))
+    let finds = c.requires.finds in
+    let there = found finds.object (stack_at c.args.stack.now.terms c.args.height) c.in-Tail.is finds.room finds.ready in
+    (search rules, (omega (arith, there.0.operands), (there.0.within, (finds.code, finds.object, finds.held, there.1))))
 
 pub value-requires : goal.value-requires
 value-requires g c =
-    let ready = c.requires.ready in
-    let there = found ready.0 (stack_at c.args.stack.now.terms c.args.height) c.in-Value.is c.requires.room ready.2 in
-    (search rules, (omega (arith, there.0.operands), (there.0.within, (ready.0, ready.1, there.1))))
+    let finds = c.requires.finds in
+    let there = found finds.object (stack_at c.args.stack.now.terms c.args.height) c.in-Value.is finds.room finds.ready in
+    (search rules, (omega (arith, there.0.operands), (there.0.within, record { code = finds.code; same = finds.same; object = finds.object; held = finds.held; ready = there.1 })))
 
 pub returns-in-Dup-clause-flow : goal.returns-in-Dup-clause-flow
-returns-in-Dup-clause-flow g c = leads_here c.duplicate.result c.args.code.now (stack_at c.args.stack.now.terms c.args.height) c.duplicate.new.self.terms c.in-Dup.is c.duplicate.ensures.flow
+returns-in-Dup-clause-flow g c = leads_here c.duplicate.result c.args.code.now.constants (stack_at c.args.stack.now.terms c.args.height) c.duplicate.new.self.terms c.in-Dup.is c.duplicate.ensures.flow
 
 pub returns-in-Field-clause-flow : goal.returns-in-Field-clause-flow
-returns-in-Field-clause-flow g c = leads_here c.field.result c.args.code.now (stack_at c.args.stack.now.terms c.args.height) c.field.new.self.terms c.in-Field.is c.field.ensures.flow
+returns-in-Field-clause-flow g c = leads_here c.field.result c.args.code.now.constants (stack_at c.args.stack.now.terms c.args.height) c.field.new.self.terms c.in-Field.is c.field.ensures.flow
 
 pub returns-in-Head-clause-flow : goal.returns-in-Head-clause-flow
-returns-in-Head-clause-flow g c = leads_here c.head.result c.args.code.now (stack_at c.args.stack.now.terms c.args.height) c.head.new.self.terms c.in-Head.is c.head.ensures.flow
+returns-in-Head-clause-flow g c = leads_here c.head.result c.args.code.now.constants (stack_at c.args.stack.now.terms c.args.height) c.head.new.self.terms c.in-Head.is c.head.ensures.flow
 
 pub returns-in-Tail-clause-flow : goal.returns-in-Tail-clause-flow
-returns-in-Tail-clause-flow g c = leads_here c.tail.result c.args.code.now (stack_at c.args.stack.now.terms c.args.height) c.tail.new.self.terms c.in-Tail.is c.tail.ensures.flow
+returns-in-Tail-clause-flow g c = leads_here c.tail.result c.args.code.now.constants (stack_at c.args.stack.now.terms c.args.height) c.tail.new.self.terms c.in-Tail.is c.tail.ensures.flow
 
 pub returns-in-Value-clause-flow : goal.returns-in-Value-clause-flow
 returns-in-Value-clause-flow g c = rw c.in-Value.is c.value.ensures.flow
@@ -89,7 +89,7 @@ returns-in-Value-clause-memory g c none few of_stack = c.value.ensures.memory of
 
 pub computing-requires : goal.computing-requires
 computing-requires g c =
-    (search rules, (computes_left c.args.instr c.requires.kind c.in_default.not-Dup c.in_default.not-Field c.in_default.not-Head c.in_default.not-Tail c.in_default.not-Value, (c.requires.room, c.requires.ready)))
+    (search rules, (computes_left c.args.instr c.requires.kind c.in_default.not-Dup c.in_default.not-Field c.in_default.not-Head c.in_default.not-Tail c.in_default.not-Value, c.requires.finds))
 
 pub returns-in_default-clause-flow : goal.returns-in_default-clause-flow
 returns-in_default-clause-flow g c = c.computing.ensures.flow

@@ -1,4 +1,4 @@
-use Rattle.std.proofs.Common.{◌≡◌, ◌<◌, ◌∙◌, refl, subst, sym, List}
+use Rattle.std.proofs.Common.{◌<◌, ◌∙◌, refl, subst, sym}
 use Rattle.std.proofs.lemmas.Result.{IfOk-weaker, IfErr-weaker}
 use Rattle.std.specs.Prelude.{IfOk, IfErr}
 use Rattle.part_core.specs.Acts.Act.{Unfix}

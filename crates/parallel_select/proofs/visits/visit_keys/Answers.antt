@@ -1,5 +1,5 @@
-use Rattle.std.proofs.Common.{◌≡◌, ◌∙◌, ◌+◌, ◌<◌, ◌==◌, List, Option, refl, ap, sym, subst, arith, length, rules}
-use Rattle.std.specs.Prelude.{Bool, true, false, filter, get_or, ℕ, ◌%◌}
+use Rattle.std.proofs.Common.{◌≡◌, ◌∙◌, ◌+◌, ◌<◌, List, Option, refl, ap, sym, subst, arith, length}
+use Rattle.std.specs.Prelude.{true, false, filter, get_or, ℕ, ◌%◌}
 use Rattle.std.proofs.lemmas.Bool.{eq-eqb, eqb-true}
 use Rattle.term_core.specs.Datum.{Datum}
 use Rattle.term_core.specs.Datum.Datum.{nil}
@@ -13,7 +13,6 @@ use Rattle.tables.specs.declared.options.Options.{Options}
 use Rattle.tables.specs.Turns.{Home, Views, Follows}
 use Rattle.walk_core.specs.Moments.{AreLegal}
 use Rattle.walk_core.specs.Walk.{Position, at_key, start_of}
-use Rattle.walk_core.specs.Walk.Position.{Over}
 use Rattle.walks.specs.Query.{plan_of}
 use Rattle.parallel_select.specs.Gained.{purpose_of}
 use Rattle.parallel_select.specs.Parts.{part_walk, stands_in, Visited, Missed, GoesGaining}

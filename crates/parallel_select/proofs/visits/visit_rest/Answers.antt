@@ -1,4 +1,4 @@
-use Rattle.std.proofs.Common.{◌≡◌, ◌∙◌, refl, ap, sym, subst, option_map}
+use Rattle.std.proofs.Common.{◌∙◌, refl, ap, sym, subst, option_map}
 use Rattle.part_core.specs.Ops.{cursor_of}
 use Rattle.tables.specs.Turns.{Home, Views, Follows}
 use Rattle.walk_core.specs.Moments.{AreLegal}

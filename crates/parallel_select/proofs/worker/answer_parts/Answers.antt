@@ -3,7 +3,7 @@ use Rattle.std.proofs.lemmas.List.{length-append, map-append}
 use Rattle.term_core.specs.Datum.{Datum}
 use Rattle.part_core.specs.Acts.Purpose.{Answers}
 use Rattle.tables.specs.declared.options.Options.{Options}
-use Rattle.tables.specs.Turns.{Home, Views, Follows}
+use Rattle.tables.specs.Turns.{Home, Follows}
 use Rattle.parallel_select.specs.Parts.{part_walk, is_share, answers_of, Passes, CeasesAt, Works}
 use Rattle.parallel_select.proofs.WorkLemmas.{works_nothing, works_once, works_until, broken_at_once}
 use Rattle.parallel_select.proofs.worker.answer_parts.Goals as goal

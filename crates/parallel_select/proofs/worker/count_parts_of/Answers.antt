@@ -1,6 +1,5 @@
-use Rattle.std.proofs.Common.{◌≡◌, ◌<◌, ◌∙◌, refl, ap, sym, subst, arith, rules}
-use Rattle.tables.specs.declared.options.Options.{Options}
-use Rattle.tables.specs.Turns.{Home, Views, Follows}
+use Rattle.std.proofs.Common.{◌≡◌, ◌<◌, ◌∙◌, refl, sym, subst, rules}
+use Rattle.tables.specs.Turns.{Home, Follows}
 use Rattle.parallel_select.specs.Gained.{purpose_of}
 use Rattle.parallel_select.specs.Parts.{part_walk, is_share, PassesCounting, CeasesCounting}
 use Rattle.parallel_select.proofs.WorkLemmas.{counts_nothing, counts_once, counted, broken_off}

@@ -1,4 +1,4 @@
-use Rattle.std.proofs.Common.{◌≡◌, ◌<◌, ◌+◌, length, arith, rules}
+use Rattle.std.proofs.Common.{rules}
 use Rattle.std.specs.Prelude.{map, vec_items}
 use denote.Param.Send.{sendable}
 use Rattle.std.proofs.CrossingOver.{crosses}

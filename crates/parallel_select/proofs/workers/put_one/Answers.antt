@@ -1,4 +1,4 @@
-use Rattle.std.proofs.Common.{◌∙◌, ap, sym, refl, vec_items, rules}
+use Rattle.std.proofs.Common.{◌∙◌, ap, sym, refl, vec_items}
 use Rattle.std.specs.Prelude.{Bool, if◌then◌else◌, map}
 use Rattle.parallel_select.specs.Parts.{answers_of}
 use Rattle.parallel_select.proofs.ListLemmas.{set_there, set_elsewhere, given_there}

@@ -8,15 +8,16 @@ use Rattle.machine_stack.proofs.places.Places.value.Goals as goal
 pub bounds-constants-from : goal.bounds-constants-from
 bounds-constants-from g c =
     let ready = c.requires.ready in
-    let inside = key_inside c.args.code.now ready.0 ready.2.0 ready.2.1 c.args.key c.args.otherwise (stack_at c.args.self.now.terms c.args.height) ready.2.3 in
+    let on = ready.ready in
+    let inside = key_inside ready.code ready.object on.0 on.1 c.args.key c.args.otherwise (stack_at c.args.self.now.terms c.args.height) on.3 in
+    let inside = rw ready.same at inside in
     rw (c.constants.ensures.value, c.from.ensures) inside
 
 pub returns-clause-flow : goal.returns-clause-flow
-returns-clause-flow g c object held pc slots are on =
-    let p = c.args.code.now in
+returns-clause-flow g c p object held same pc slots are on =
     let stack = stack_at c.args.self.now.terms c.args.height in
     let read = c.index-constants-from.is in
-    let read = rw (c.constants.ensures.value, c.from.ensures) at read in
+    let read = rw (c.constants.ensures.value, c.from.ensures, ← same) at read in
     let inside = key_inside p object pc slots c.args.key c.args.otherwise stack on in
     let there = read_there p.constants c.args.key c.index-constants-from.result inside read in (
       slots,

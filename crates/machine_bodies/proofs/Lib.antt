@@ -1,0 +1,4 @@
+pub mod SeenLemmas
+pub mod EdgeLemmas
+pub mod RunLemmas
+pub mod WalkLemmas
