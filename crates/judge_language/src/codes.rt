@@ -98,7 +98,10 @@ pub(crate) fn budget<A: Allocator + Copy>(
     code: &Code<A>,
 ) -> Option<Vec<u8>> {
     if all_forward(code) {
-        digits(alloc, u64::from(longest(heap, code).ok()?))
+        match longest(heap, code).ok()? {
+            Some(budget) => digits(alloc, u64::from(budget)),
+            None => word(alloc, "over"),
+        }
     } else {
         word(alloc, "not_forward")
     }
@@ -161,7 +164,7 @@ fn verdict(alloc: Global, code: Code, parts: &Parts<Global>) -> Option<Vec<u8>> 
             accepted(alloc, &verified)
         }
         Err(handed_back) if is_code(&handed_back.value, parts) => {
-            refused(alloc, handed_back.fault)
+            refused(alloc, handed_back.fault.fault)
         }
         _ => word(alloc, "other_code"),
     }

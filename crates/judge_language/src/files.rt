@@ -23,7 +23,7 @@ pub(crate) fn load<A: Allocator + Copy>(heap: A, bytes: &[u8]) -> Result<Verifie
     };
     match verify(heap, code) {
         Ok(code) => Ok(code),
-        Err(refused) => Err(Refusal::Untyped(refused.fault)),
+        Err(refused) => Err(Refusal::Untyped(refused.fault.fault)),
     }
 }
 

@@ -203,6 +203,8 @@ const OF_CODE: &str = "\
 6 46 the code ends after instruction 6, which goes on
 7 47 instruction 7 names a constant that isn't what it needs
 65535 48 instruction 65535 leaves a stack that is too deep
+8 49 instruction 8 invokes no later routine, or may not stand in its body
+39 the body may take too many instructions
 ";
 
 /// Puts the number of the instruction at the end, where there is one; false for want of memory.
@@ -228,6 +230,8 @@ fn are_told_of_code(alloc: Global) -> bool {
         CodeFault::FallsOff(6),
         CodeFault::Constant(7),
         CodeFault::Depth(65_535),
+        CodeFault::Routine(8),
+        CodeFault::Budget,
     ] {
         is_whole = put_place(&mut lines, fault.pc()) && is_whole;
         is_whole = put(&mut lines, fault.number(), fault) && is_whole;
@@ -371,7 +375,7 @@ fn are_told_of_commands(alloc: Global) -> bool {
         ToolFault::BadInput,
         ToolFault::Specification(SpecFault::Unbound(0, 7)),
         ToolFault::File(FileFault::Truncated(9)),
-        ToolFault::Code(CodeFault::Underflow(2)),
+        ToolFault::Code(CodeFault::Underflow(2), 0),
         ToolFault::TooSmall,
         ToolFault::BadOptions,
         ToolFault::ReadFailed,

@@ -40,7 +40,7 @@ read_fault input fault.TooSmall h = absurd h
 read_fault input fault.BadOptions h = absurd h
 read_fault input (fault.Specification f) h = absurd h
 read_fault input (fault.File f) h = absurd h
-read_fault input (fault.Code f) h = absurd h
+read_fault input (fault.Code f b) h = absurd h
 read_fault input fault.WriteFailed h = absurd h
 
 -- where it spells none, it hasn't one
@@ -53,7 +53,7 @@ unspelled_is_unread input fault.TooSmall h = absurd h
 unspelled_is_unread input fault.BadOptions h = absurd h
 unspelled_is_unread input (fault.Specification f) h = absurd h
 unspelled_is_unread input (fault.File f) h = absurd h
-unspelled_is_unread input (fault.Code f) h = absurd h
+unspelled_is_unread input (fault.Code f b) h = absurd h
 unspelled_is_unread input fault.WriteFailed h = absurd h
 
 -- where reading fails, there are no terms

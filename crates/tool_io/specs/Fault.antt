@@ -1,5 +1,5 @@
 -- The status and the line of a refusal.
-use Rattle.std.specs.Prelude.{ℕ, List, [], ◌∷◌, ◌++◌, codes, ◌==◌, nat_le, if◌then◌else◌}
+use Rattle.std.specs.Prelude.{ℕ, zero, suc, Option, Some, None, List, [], ◌∷◌, ◌++◌, codes, ◌==◌, nat_le, if◌then◌else◌}
 use Rattle.std.specs.List.{flat_map}
 use Rattle.std.specs.Option.{option_to_list}
 use Rattle.std.specs.Fmt.{decimal}
@@ -17,19 +17,31 @@ number_of (fault.Text f) = text.number_of f
 number_of fault.BadInput = 65
 number_of (fault.Specification f) = specification.number_of f
 number_of (fault.File f) = file.number_of f
-number_of (fault.Code f) = code.number_of f
+number_of (fault.Code f b) = code.number_of f
 number_of fault.TooSmall = 50
 number_of fault.BadOptions = 60
 number_of fault.ReadFailed = 70
 number_of fault.WriteFailed = 71
 
--- what stands behind its number: a place in the text or in the file; an instruction; a clause, and a variable
+-- the number of a body, where that isn't the main one
+abbrev pub routine_of : ℕ → List ℕ
+routine_of zero = []
+routine_of (suc b) = suc b ∷ []
+
+-- of a fault of code: the instruction, and the body where that isn't the main one; the body alone where no instruction is
+-- at fault
+abbrev pub arguments_of_code : Option ℕ → ℕ → List ℕ
+arguments_of_code None b = b ∷ []
+arguments_of_code (Some pc) b = pc ∷ routine_of b
+
+-- what stands behind its number: a place in the text or in the file; an instruction, and its body; a clause, and a
+-- variable
 abbrev pub arguments_of : ToolFault → List ℕ
 arguments_of (fault.Text f) = option_to_list (text.place_of f)
 arguments_of (fault.Specification f) =
     option_to_list (specification.clause_of f) ++ option_to_list (specification.variable_of f)
 arguments_of (fault.File f) = option_to_list (file.place_of f)
-arguments_of (fault.Code f) = option_to_list (code.pc_of f)
+arguments_of (fault.Code f b) = arguments_of_code (code.pc_of f) b
 arguments_of f = []
 
 -- the status with which the program ends: 3 for want of memory, 4 where reading or writing failed, else 2

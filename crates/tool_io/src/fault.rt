@@ -3,7 +3,7 @@ ghost use Rattle.std.specs.Prelude.{◌≡◌, ◌++◌, IfOk, OnOk, OnErr, opti
 ghost use Rattle.std.specs.Fmt.{decimal};
 ghost use Rattle.std.specs.List.{flat_map};
 ghost use Rattle.std.specs.Option.{option_to_list};
-ghost use Rattle.tool_io.specs.Fault.{number_of, arguments_of, status_by, status_of};
+ghost use Rattle.tool_io.specs.Fault.{number_of, arguments_of, arguments_of_code, routine_of, status_by, status_of};
 ghost use Rattle.tool_io.specs.Fault.{argument_text, line_of};
 
 use crate::numbers::{BAD_INPUT, READ_FAILED, WRITE_FAILED};
@@ -13,6 +13,7 @@ use part_core::OpenFault;
 use std::alloc::{AllocError, Allocator};
 use term_text::TextFault;
 use thiserror::Error;
+use verifier::BodyFault;
 
 /// Why a command ends without its whole answer.
 #[derive(Clone, Copy, Debug, PartialEq, Eq, Error)]
@@ -32,9 +33,9 @@ pub enum ToolFault {
     /// The first term is no code file.
     #[error("{0}")]
     File(FileFault),
-    /// The first term is the file of code that isn't typed.
+    /// The first term is the file of code that isn't typed: the fault, and the number of the body that has it.
     #[error("{0}")]
-    Code(verifier::Fault),
+    Code(verifier::Fault, u16),
     /// A term is no object: no tuple, or one without an element at the place of the key.
     #[error("a term is no object of the table")]
     TooSmall,
@@ -102,17 +103,38 @@ impl From<FileFault> for ToolFault {
     }
 }
 
-impl From<verifier::Fault> for ToolFault {
+impl From<BodyFault> for ToolFault {
     ghost use Rattle.std.specs.Prelude.{◌≡◌};
     ghost use Rattle.tool_io.specs.Wrapped.{of_code};
 
-    ghost from_gives = { λ given fault. fault ≡ of_code given };
+    ghost from_gives = { λ given fault. fault ≡ of_code given.fault given.body };
 
-    fn from(fault: verifier::Fault) -> Self {
-        match fault {
+    fn from(fault: BodyFault) -> Self {
+        match fault.fault {
             verifier::Fault::Memory => ToolFault::Memory,
-            fault => ToolFault::Code(fault),
+            found => ToolFault::Code(found, fault.body),
         }
+    }
+}
+
+/// What stands behind the number of a fault of code: the instruction, and the body where that isn't the main one; the
+/// body alone where no instruction is at fault.
+fn code_arguments(pc: Option<u16>, body: u16) -> (Option<u64>, Option<u64>)
+    ensures { option_to_list result.0 ++ option_to_list result.1 ≡ arguments_of_code pc body }
+{
+    match pc {
+        None => (Some(u64::from(body)), None),
+        Some(pc) => (Some(u64::from(pc)), routine_argument(body)),
+    }
+}
+
+/// The number of a body, where that isn't the main one.
+fn routine_argument(body: u16) -> Option<u64>
+    ensures { option_to_list result ≡ routine_of body }
+{
+    match body {
+        0 => None,
+        body => Some(u64::from(body)),
     }
 }
 
@@ -127,7 +149,7 @@ impl ToolFault {
             ToolFault::BadInput => BAD_INPUT,
             ToolFault::Specification(fault) => fault.number(),
             ToolFault::File(fault) => fault.number(),
-            ToolFault::Code(fault) => fault.number(),
+            ToolFault::Code(fault, _) => fault.number(),
             ToolFault::TooSmall => part_core::Fault::TooSmall.number(),
             ToolFault::BadOptions => OpenFault::BadOptions.number(),
             ToolFault::ReadFailed => READ_FAILED,
@@ -135,8 +157,8 @@ impl ToolFault {
         }
     }
 
-    /// What stands behind the number: a place in the text or in the file, an instruction, or a clause and then a
-    /// variable.
+    /// What stands behind the number: a place in the text or in the file; an instruction and then its body, where that
+    /// isn't the main one, or a body alone; or a clause and then a variable.
     fn arguments(self) -> (Option<u64>, Option<u64>)
         ensures { option_to_list result.0 ++ option_to_list result.1 ≡ arguments_of self }
     {
@@ -147,7 +169,7 @@ impl ToolFault {
                 fault.variable().map(u64::from),
             ),
             ToolFault::File(fault) => (fault.at().map(|at| at as u64), None),
-            ToolFault::Code(fault) => (fault.pc().map(u64::from), None),
+            ToolFault::Code(fault, body) => code_arguments(fault.pc(), body),
             ToolFault::Memory
             | ToolFault::BadInput
             | ToolFault::TooSmall

@@ -1,5 +1,7 @@
 -- What a term asks, and why it asks nothing.
-use Rattle.std.proofs.Common.{◌≡◌, ◌≢◌, ◌<◌, ◌⊎◌, inl, inr, ℕ, Option, List, [], ◌∷◌, length, refl, sym, subst, ◌∙◌, arith, Bor}
+use Rattle.std.proofs.Common.{◌≡◌, ◌≢◌, ◌<◌, ◌⊎◌, inl, inr, ℕ, Option, List, [], ◌∷◌, length, get_or, is_some, false, refl, sym, ap, subst, ◌∙◌, arith, Bor}
+use Rattle.std.proofs.lemmas.Bool.{false≢true}
+use Rattle.std.proofs.lemmas.Option.{slice_get-get_or}
 use Rattle.std.specs.Option.{option_copied}
 use Rattle.term_core.specs.Datum.{Datum}
 use Rattle.term_core.specs.Datum.Datum.{integer, atom, tuple, map, nil, cons, binary}
@@ -10,7 +12,10 @@ use Rattle.term_core.specs.declared.view.View.{View}
 use Rattle.term_core.specs.declared.view.View.TheVariants as view
 use Rattle.mcode.specs.Answer.{answer_of}
 use Rattle.mcode.specs.Machine.{Runs}
-use Rattle.mcode.specs.Program.{Program}
+use Rattle.mcode.specs.Program.{Program, alone, routine_at}
+use Rattle.mcode.specs.declared.instr.Instr.{Instr}
+use Rattle.mcode.specs.declared.instr.Instr.TheVariants as instr
+use Rattle.mcode.proofs.BodyLemmas.{alone_main, no_routine}
 use Rattle.mspec_syntax.specs.Faults.{IsRefusal}
 use Rattle.mspec_syntax.specs.Specification.{Specification}
 use Rattle.mspec_syntax.specs.declared.fault.SpecFault.{SpecFault}
@@ -18,7 +23,7 @@ use Rattle.mspec_syntax.specs.declared.fault.SpecFault.TheVariants as specificat
 use Rattle.mspec_meaning.specs.Meaning.{Means}
 use Rattle.compiler_clauses.specs.Clauses.{code_of}
 use Rattle.code_file.specs.Faults.{IsNoFile}
-use Rattle.code_writer.specs.File.{Spells}
+use Rattle.code_writer.specs.File.{HasFile, IsPlain, Spells}
 use Rattle.code_writer.specs.Laws.{OneCode}
 use Rattle.code_file.specs.declared.fault.FileFault.{FileFault}
 use Rattle.code_file.specs.declared.fault.FileFault.TheVariants as file
@@ -26,6 +31,7 @@ use Rattle.machine.specs.Laws.{RunsEndWithTheAnswer}
 use Rattle.verifier.specs.Faults.{IsFirstFault}
 use Rattle.verifier.specs.Laws.{FaultyCodeIsUntyped}
 use Rattle.verifier.specs.Typing.{IsTyped}
+use Rattle.verifier_types.specs.Fit.{IsPlaced}
 use Rattle.verifier_types.specs.declared.fault.Fault as code_fault
 use Rattle.verifier_types.specs.declared.fault.Fault.TheVariants as code
 use Rattle.tool_io.specs.declared.fault.ToolFault.{ToolFault}
@@ -60,31 +66,49 @@ no_file bytes (file.NotCanonical at) h = let other : file.NotCanonical at ≢ fi
 no_file bytes (file.Trailing at) h = let other : file.Trailing at ≢ file.Memory = λ e. absurd (cc) in (other, h other)
 no_file bytes file.Limit h = let other : file.Limit ≢ file.Memory = λ e. absurd (cc) in (other, h other)
 
-first_fault : (f : code_fault.Fault) (p : Program) → f ≢ code.Memory → (f ≡ code.Memory) ⊎ IsFirstFault p f → IsFirstFault p f
-first_fault f p other (inl memory) = absurd (other memory)
-first_fault f p other (inr first) = first
+first_fault : (f : code_fault.Fault) (b : ℕ) (p : Program) → f ≢ code.Memory → (f ≡ code.Memory) ⊎ IsFirstFault p b f → IsFirstFault p b f
+first_fault f b p other (inl memory) = absurd (other memory)
+first_fault f b p other (inr first) = first
 
-faulty : (bytes : List ℕ) (p : Program) (f : code_fault.Fault) → Spells bytes p → (f ≡ code.Memory) ⊎ IsFirstFault p f → f ≢ code.Memory → (f ≢ code.Memory) × ((q : Program) × Spells bytes q × IsFirstFault q f)
-faulty bytes p f spells h other = (other, (p, spells, first_fault f p other h))
+faulty : (bytes : List ℕ) (p : Program) (f : code_fault.Fault) (b : ℕ) → Spells bytes p → (f ≡ code.Memory) ⊎ IsFirstFault p b f → f ≢ code.Memory → (f ≢ code.Memory) × ((q : Program) × Spells bytes q × IsFirstFault q b f)
+faulty bytes p f b spells h other = (other, (p, spells, first_fault f b p other h))
 
-pub no_code : (bytes : List ℕ) (p : Program) (f : code_fault.Fault) → Spells bytes p → (f ≡ code.Memory) ⊎ IsFirstFault p f → IsUnloaded bytes (of_code f)
-no_code bytes p code.Memory s h = tt
-no_code bytes p (code.Underflow pc) s h = faulty bytes p (code.Underflow pc) s h (λ e. absurd (cc))
-no_code bytes p (code.Kind pc) s h = faulty bytes p (code.Kind pc) s h (λ e. absurd (cc))
-no_code bytes p (code.Unbound pc) s h = faulty bytes p (code.Unbound pc) s h (λ e. absurd (cc))
-no_code bytes p (code.JumpOutside pc) s h = faulty bytes p (code.JumpOutside pc) s h (λ e. absurd (cc))
-no_code bytes p (code.JumpBack pc) s h = faulty bytes p (code.JumpBack pc) s h (λ e. absurd (cc))
-no_code bytes p (code.Frame pc) s h = faulty bytes p (code.Frame pc) s h (λ e. absurd (cc))
-no_code bytes p (code.FallsOff pc) s h = faulty bytes p (code.FallsOff pc) s h (λ e. absurd (cc))
-no_code bytes p (code.Constant pc) s h = faulty bytes p (code.Constant pc) s h (λ e. absurd (cc))
-no_code bytes p (code.Depth pc) s h = faulty bytes p (code.Depth pc) s h (λ e. absurd (cc))
+pub no_code : (bytes : List ℕ) (p : Program) (f : code_fault.Fault) (b : ℕ) → Spells bytes p → (f ≡ code.Memory) ⊎ IsFirstFault p b f → IsUnloaded bytes (of_code f b)
+no_code bytes p code.Memory b s h = tt
+no_code bytes p (code.Underflow pc) b s h = faulty bytes p (code.Underflow pc) b s h (λ e. absurd (cc))
+no_code bytes p (code.Kind pc) b s h = faulty bytes p (code.Kind pc) b s h (λ e. absurd (cc))
+no_code bytes p (code.Unbound pc) b s h = faulty bytes p (code.Unbound pc) b s h (λ e. absurd (cc))
+no_code bytes p (code.JumpOutside pc) b s h = faulty bytes p (code.JumpOutside pc) b s h (λ e. absurd (cc))
+no_code bytes p (code.JumpBack pc) b s h = faulty bytes p (code.JumpBack pc) b s h (λ e. absurd (cc))
+no_code bytes p (code.Frame pc) b s h = faulty bytes p (code.Frame pc) b s h (λ e. absurd (cc))
+no_code bytes p (code.FallsOff pc) b s h = faulty bytes p (code.FallsOff pc) b s h (λ e. absurd (cc))
+no_code bytes p (code.Constant pc) b s h = faulty bytes p (code.Constant pc) b s h (λ e. absurd (cc))
+no_code bytes p (code.Depth pc) b s h = faulty bytes p (code.Depth pc) b s h (λ e. absurd (cc))
+no_code bytes p (code.Routine pc) b s h = faulty bytes p (code.Routine pc) b s h (λ e. absurd (cc))
+no_code bytes p code.Budget b s h = faulty bytes p code.Budget b s h (λ e. absurd (cc))
 
 -- ---- a file that was written is loaded
 
-pub file_is : (s : Specification) (bytes : List ℕ) (p q : Program) → q ≡ p → p ≡ code_of s → Spells bytes q → IsTyped p
+-- an instruction that may stand in code without routines is none of theirs
+placed_plain : (p : Program) (i : Instr) → p.around ≡ alone → IsPlaced p i → IsPlain i
+placed_plain p (instr.Invoke r target) is placed =
+    let none : is_some (routine_at p r) ≡ false = ap is_some (no_routine p r is) in
+    absurd (false≢true (sym none ∙ placed.1))
+placed_plain p instr.Return is placed = absurd (omega (arith, placed, alone_main p is))
+placed_plain p instr.Fail is placed = absurd (omega (arith, placed, alone_main p is))
+placed_plain p instr.Load is placed = omega arith
+placed_plain p i is placed = omega arith
+
+-- typed code without routines has a file
+typed_has_file : (p : Program) → p.around ≡ alone → IsTyped p → HasFile p
+typed_has_file p is typed none pc d inside =
+    let here = slice_get-get_or p.instructions pc d inside in
+    placed_plain p (get_or p.instructions pc d) is ((typed.bodies 0 (omega arith)).1.each pc (get_or p.instructions pc d) inside here).typed.placed
+
+pub file_is : (s : Specification) (bytes : List ℕ) (p q : Program) → q ≡ p → p ≡ code_of s → (HasFile q → Spells bytes q) → IsTyped p
     → ((object : Datum) → (answer : Option Datum) × (n : ℕ) × Means s object answer × Runs p object n answer) → IsFileOf s bytes
 file_is s bytes p q same is spells typed runs = record {
-  spells = subst (Spells bytes) (same ∙ is) spells;
+  spells = subst (Spells bytes) (same ∙ is) (spells (subst HasFile (sym same) (typed_has_file p (ap (λ (r : Program). r.around) is) typed)));
   typed = subst IsTyped is typed;
   runs = subst (λ (r : Program). (object : Datum) → (answer : Option Datum) × (n : ℕ) × Means s object answer × Runs r object n answer) is runs;
 }
@@ -92,8 +116,8 @@ file_is s bytes p q same is spells typed runs = record {
 pub loads_alone : OneCode → FaultyCodeIsUntyped → (s : Specification) (bytes : List ℕ) (f : ToolFault) → IsFileOf s bytes → IsUnloaded bytes f → f ≡ fault.Memory
 loads_alone one untyped s bytes fault.Memory h k = refl
 loads_alone one untyped s bytes (fault.File f) h k = absurd (k.1.none (code_of s) h.spells)
-loads_alone one untyped s bytes (fault.Code f) h k =
-    absurd (untyped k.1.0 f k.1.2 (subst IsTyped (one bytes (code_of s) k.1.0 h.spells k.1.1) h.typed))
+loads_alone one untyped s bytes (fault.Code f b) h k =
+    absurd (untyped k.1.0 b f k.1.2 (subst IsTyped (one bytes (code_of s) k.1.0 h.spells k.1.1) h.typed))
 loads_alone one untyped s bytes (fault.Text f) h k = absurd k
 loads_alone one untyped s bytes fault.BadInput h k = absurd k
 loads_alone one untyped s bytes (fault.Specification f) h k = absurd k

@@ -51,8 +51,8 @@ IsNoSpecification d f = ⊥
 abbrev pub IsUnloaded : List ℕ → ToolFault → Type 0
 IsUnloaded bytes fault.Memory = Unit {0}
 IsUnloaded bytes (fault.File f) = (f ≢ file.Memory) × IsNoFile bytes f
-IsUnloaded bytes (fault.Code f) =
-    (f ≢ code.Memory) × ((p : Program) × Spells bytes p × IsFirstFault p f)
+IsUnloaded bytes (fault.Code f b) =
+    (f ≢ code.Memory) × ((p : Program) × Spells bytes p × IsFirstFault p b f)
 IsUnloaded bytes f = ⊥
 
 -- why a term asks nothing, if not for want of memory

@@ -22,7 +22,7 @@ no_specification o terms first objects old (fault.Text f) is h = (first, objects
 no_specification o terms first objects old fault.BadInput is h = (first, objects, is, h, kept old)
 no_specification o terms first objects old (fault.Specification f) is h = (first, objects, is, h, kept old)
 no_specification o terms first objects old (fault.File f) is h = (first, objects, is, h, kept old)
-no_specification o terms first objects old (fault.Code f) is h = (first, objects, is, h, kept old)
+no_specification o terms first objects old (fault.Code f b) is h = (first, objects, is, h, kept old)
 no_specification o terms first objects old fault.BadOptions is h = (first, objects, is, h, kept old)
 no_specification o terms first objects old fault.ReadFailed is h = (first, objects, is, h, kept old)
 
@@ -45,7 +45,7 @@ answers_stopped o terms s objects answers old new (fault.Text f) asked are h = a
 answers_stopped o terms s objects answers old new fault.BadInput asked are h = absurd h
 answers_stopped o terms s objects answers old new (fault.Specification f) asked are h = absurd h
 answers_stopped o terms s objects answers old new (fault.File f) asked are h = absurd h
-answers_stopped o terms s objects answers old new (fault.Code f) asked are h = absurd h
+answers_stopped o terms s objects answers old new (fault.Code f b) asked are h = absurd h
 answers_stopped o terms s objects answers old new fault.BadOptions asked are h = absurd h
 answers_stopped o terms s objects answers old new fault.ReadFailed asked are h = absurd h
 
@@ -64,7 +64,7 @@ input_unread o known old (fault.Text f) h = unread known old (fault.Text f) (λ 
 input_unread o known old fault.BadInput h = unread known old fault.BadInput (λ terms. StopsTerms o terms old old fault.BadInput) h
 input_unread o known old (fault.Specification f) h = unread known old (fault.Specification f) (λ terms. StopsTerms o terms old old (fault.Specification f)) h
 input_unread o known old (fault.File f) h = unread known old (fault.File f) (λ terms. StopsTerms o terms old old (fault.File f)) h
-input_unread o known old (fault.Code f) h = unread known old (fault.Code f) (λ terms. StopsTerms o terms old old (fault.Code f)) h
+input_unread o known old (fault.Code f b) h = unread known old (fault.Code f b) (λ terms. StopsTerms o terms old old (fault.Code f b)) h
 input_unread o known old fault.ReadFailed h = unread known old fault.ReadFailed (λ terms. StopsTerms o terms old old fault.ReadFailed) h
 
 -- it stops by its terms
@@ -77,5 +77,5 @@ terms_stopped o known old new terms (fault.Text f) h stops = inr (of_terms known
 terms_stopped o known old new terms fault.BadInput h stops = inr (of_terms known terms (λ ts. StopsTerms o ts old new fault.BadInput) h stops)
 terms_stopped o known old new terms (fault.Specification f) h stops = inr (of_terms known terms (λ ts. StopsTerms o ts old new (fault.Specification f)) h stops)
 terms_stopped o known old new terms (fault.File f) h stops = inr (of_terms known terms (λ ts. StopsTerms o ts old new (fault.File f)) h stops)
-terms_stopped o known old new terms (fault.Code f) h stops = inr (of_terms known terms (λ ts. StopsTerms o ts old new (fault.Code f)) h stops)
+terms_stopped o known old new terms (fault.Code f b) h stops = inr (of_terms known terms (λ ts. StopsTerms o ts old new (fault.Code f b)) h stops)
 terms_stopped o known old new terms fault.ReadFailed h stops = inr (of_terms known terms (λ ts. StopsTerms o ts old new fault.ReadFailed) h stops)

@@ -10,7 +10,7 @@ use Rattle.term_operand.specs.Order.{is_same}
 use Rattle.prims_table.specs.declared.prim.Function.TheVariants as function
 use Rattle.prims_table.specs.declared.prim.Comparison.TheVariants as comparison
 use Rattle.mcode.specs.Answer.{answer_of}
-use Rattle.mcode.specs.Program.{Program}
+use Rattle.mcode.specs.Program.{Program, alone}
 use Rattle.mcode.specs.declared.instr.Instr.{Instr}
 use Rattle.mcode.specs.declared.instr.Instr.TheVariants as instr
 use Rattle.part_core.specs.declared.kind.TableKind.{TableKind}
@@ -110,7 +110,7 @@ abbrev yes_each : List ℕ → List Datum
 yes_each ns = map (λ n. yes) ns
 
 abbrev program : List Datum → List Instr → Program
-program ds is = record { slots = 0; constants = ds; instructions = is; frames = [] }
+program ds is = record { slots = 0; constants = ds; instructions = is; frames = []; around = alone }
 
 -- the code of [{{'$1'},[],['$1']}], but for its match of tuples of one element, which all objects here are
 abbrev query : Datum
