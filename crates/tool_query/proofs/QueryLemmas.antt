@@ -21,6 +21,7 @@ use Rattle.mspec_syntax.specs.Specification.{Specification}
 use Rattle.mspec_syntax.specs.declared.fault.SpecFault.{SpecFault}
 use Rattle.mspec_syntax.specs.declared.fault.SpecFault.TheVariants as specification
 use Rattle.mspec_meaning.specs.Meaning.{Means}
+use Rattle.compiler_assembly.proofs.StandLemmas.{assembled_alone}
 use Rattle.compiler_clauses.specs.Clauses.{code_of}
 use Rattle.code_file.specs.Faults.{IsNoFile}
 use Rattle.code_writer.specs.File.{HasFile, IsPlain, Spells}
@@ -105,10 +106,14 @@ typed_has_file p is typed none pc d inside =
     let here = slice_get-get_or p.instructions pc d inside in
     placed_plain p (get_or p.instructions pc d) is ((typed.bodies 0 (omega arith)).1.each pc (get_or p.instructions pc d) inside here).typed.placed
 
+code_alone : (s : Specification) → (code_of s).around ≡ alone
+unfolding code_of
+code_alone s = assembled_alone _ _
+
 pub file_is : (s : Specification) (bytes : List ℕ) (p q : Program) → q ≡ p → p ≡ code_of s → (HasFile q → Spells bytes q) → IsTyped p
     → ((object : Datum) → (answer : Option Datum) × (n : ℕ) × Means s object answer × Runs p object n answer) → IsFileOf s bytes
 file_is s bytes p q same is spells typed runs = record {
-  spells = subst (Spells bytes) (same ∙ is) (spells (subst HasFile (sym same) (typed_has_file p (ap (λ (r : Program). r.around) is) typed)));
+  spells = subst (Spells bytes) (same ∙ is) (spells (subst HasFile (sym same) (typed_has_file p (ap (λ (r : Program). r.around) is ∙ code_alone s) typed)));
   typed = subst IsTyped is typed;
   runs = subst (λ (r : Program). (object : Datum) → (answer : Option Datum) × (n : ℕ) × Means s object answer × Runs r object n answer) is runs;
 }
