@@ -2,3 +2,6 @@ pub mod SeenLemmas
 pub mod EdgeLemmas
 pub mod RunLemmas
 pub mod WalkLemmas
+pub mod HandLemmas
+pub mod StandLemmas
+pub mod GoingLemmas

@@ -7,8 +7,12 @@
 //! - `laws`: what runs meet (`specs/Laws.antt`).
 #![tactic(auto)]
 
+mod activation;
+mod bodies;
+mod came;
 mod laws;
 
+pub use bodies::run_bodies;
 pub use laws::{
     all_runs_stay_within_the_budget, code_with_bodies_ends, code_with_bodies_is_never_lost,
     runs_over_bodies_are_one,

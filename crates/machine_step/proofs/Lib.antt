@@ -1,6 +1,7 @@
 pub mod KindLemmas
 pub mod SlotLemmas
 pub mod FrameLemmas
+pub mod InsideLemmas
 pub mod WayLemmas
 pub mod FindLemmas
 pub mod StepLemmas

@@ -14,7 +14,9 @@
 #![tactic(auto)]
 
 mod execution;
+mod inside;
 mod stack;
 mod step;
 
 pub use execution::Execution;
+pub use inside::execute;
