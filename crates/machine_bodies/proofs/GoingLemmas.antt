@@ -1,10 +1,9 @@
 -- How far a run over all bodies has come, turn by turn.
-use Rattle.std.specs.Prelude.{IsSome}
-use Rattle.std.proofs.Common.{◌≡◌, ◌≢◌, ℕ, zero, suc, ◌+◌, ◌<◌, ◌≤◌, List, [], ◌∷◌, ◌++◌, length, reverse, slice_get, Option, Some, None, refl, sym, ap, subst, ◌∙◌, arith}
+use Rattle.std.proofs.Common.{◌≡◌, ℕ, zero, suc, ◌+◌, ◌≤◌, List, [], ◌∷◌, ◌++◌, length, reverse, Option, refl, sym, ap, subst, ◌∙◌, arith}
 use Rattle.std.proofs.lemmas.List.{reverse-append}
 use Rattle.term_core.specs.Datum.{Datum}
 use Rattle.mcode.specs.Machine.{State, Outcome, step}
-use Rattle.mcode.specs.Machine.Outcome.{Goes, Ends, Enters, Leaves, Stuck}
+use Rattle.mcode.specs.Machine.Outcome.{Ends, Leaves}
 use Rattle.mcode.specs.Program.{Program, Routine, routine_at, own_routine, body_of}
 use Rattle.mcode.specs.Run as run
 use Rattle.mcode.specs.Run.{Whole, entry, resumed, follow, begin, EndsFrom, HasRun}

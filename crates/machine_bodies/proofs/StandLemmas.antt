@@ -1,9 +1,9 @@
 -- Where a body stands that was entered, step by step.
-use Rattle.std.specs.Prelude.{IsTrue, IsSome, IfSome, nat_lt}
+use Rattle.std.specs.Prelude.{IsSome, IfSome}
 use Rattle.std.specs.Option.{option_and_then}
-use Rattle.std.proofs.Common.{◌≡◌, ◌≢◌, ℕ, zero, suc, ◌+◌, ◌-◌, ◌<◌, ◌≤◌, Bool, true, false, cond, List, [], ◌∷◌, length, reverse, take, drop, set, replicate, slice_get, Option, Some, None, inl, inr, refl, sym, ap, subst, ◌∙◌, arith}
+use Rattle.std.proofs.Common.{◌≡◌, ◌≢◌, ℕ, suc, ◌+◌, ◌-◌, ◌<◌, ◌≤◌, Bool, true, false, cond, List, ◌∷◌, length, reverse, take, drop, set, replicate, slice_get, Option, Some, None, inl, refl, sym, ap, subst, ◌∙◌, arith}
 use Rattle.std.specs.Prelude.{IfOk, Result}
-use Rattle.std.proofs.lemmas.Option.{slice_get-get_or, same_Some}
+use Rattle.std.proofs.lemmas.Option.{slice_get-get_or}
 use Rattle.std.proofs.lemmas.List.{length-take-le}
 use Rattle.std.proofs.lemmas.Result.{IfOk-weaker}
 use Rattle.std.proofs.Common.{get_or}
@@ -11,14 +11,13 @@ use Rattle.term_core.specs.Datum.{Datum}
 use Rattle.term_core.specs.Datum.Datum.{nil}
 use Rattle.mcode.specs.Instr.{target_of}
 use Rattle.mcode.specs.Kind.{holds}
-use Rattle.mcode.specs.Machine.{Bindings, State, Outcome, all_hold, invoke_outcome, return_outcome, fail_outcome, does, outcome_at, next, jump, step}
+use Rattle.mcode.specs.Machine.{Bindings, State, Outcome, all_hold, invoke_outcome, return_outcome, fail_outcome, does, outcome_at, jump, step}
 use Rattle.mcode.specs.Machine.Outcome.{Goes, Ends, Enters, Leaves, Stuck}
 use Rattle.mcode.specs.Program.{Program, Routine, frame_at, routine_at, own_routine, body_of}
 use Rattle.mcode.specs.Run.{entry, otherwise, resumed}
 use Rattle.mcode.specs.declared.instr.Instr.{Instr}
 use Rattle.mcode.specs.declared.instr.Instr.TheVariants as instr
 use Rattle.verifier_types.specs.Effect.{arguments_of}
-use Rattle.verifier_types.specs.Shape.{Shape}
 use Rattle.verifier.specs.Typing.{HasShapes, IsOwnDepthAt}
 use Rattle.machine_stack.specs.Cells.{joined, MayJoin}
 use Rattle.machine_stack.specs.Flow.{IsReady, Does, Comes}
@@ -29,14 +28,13 @@ use Rattle.machine_stack.specs.Stack.{stack_at}
 use Rattle.machine_stack.proofs.CellLemmas.{joined_length}
 use Rattle.machine_stack.proofs.StackLemmas.{stack_height, stack_push}
 use Rattle.machine_step.specs.Fits.{AreOf, IsFit, IsSeen, IsResult, GoesOn, Waits, Continues}
-use Rattle.machine_step.specs.Flow.{HasRoom, CanStep, Asks, state_at}
+use Rattle.machine_step.specs.Flow.{HasRoom, CanStep, state_at}
 use Rattle.machine_step.proofs.AskLemmas.{asks_cell}
 use Rattle.machine_step.proofs.ComeLemmas.{room_here}
 use Rattle.machine_step.proofs.JumpLemmas.{jump_framed, jump_lands}
 use Rattle.machine_step.proofs.KindLemmas.{of_count}
 use Rattle.machine_step.proofs.SlotLemmas.{held_unbound}
 use Rattle.machine_step.proofs.StepLemmas.{entry_fits, step_continues}
-use Rattle.machine_step.proofs.WayLemmas.{typed_here}
 use Rattle.machine_bodies.specs.Stands.{HasDepth, Stands, IsNew, IsSettled, GoesTo, IsCome, IsWaiting, IsBodyOf, IsInvoked, IsLeft, state_of}
 use Rattle.machine_bodies.specs.declared.activation.Activation.{Activation}
 use Rattle.machine_bodies.proofs.SeenLemmas.{constants_of_body, same_routine, own_of_body, counted_routine, body_seen}

@@ -238,10 +238,10 @@ impl<'a, 'h, A: Allocator + Copy> Activation<'a, 'h, A> {
         ensures on { (t : Option Routine) (s : State) → IsWaiting t self.old s
             → GoesTo self.new (resumed self.old.body s None) }
     {
-        let Some(target) = self.fetch().target() else {
+        let Some(landing) = self.fetch().target() else {
             unreachable!();
         };
-        self.height = self.body.frame_depth(target);
-        self.pc = target;
+        self.height = self.body.frame_depth(landing);
+        self.pc = landing;
     }
 }

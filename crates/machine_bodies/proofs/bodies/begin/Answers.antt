@@ -1,4 +1,4 @@
-use Rattle.std.proofs.Common.{[], rules, reverse, refl, sym, ap, subst, ◌∙◌, arith}
+use Rattle.std.proofs.Common.{[], reverse, refl, sym, ap, subst, ◌∙◌, arith}
 use Rattle.mcode.specs.Run.{entry}
 use Rattle.verifier_types.specs.Effect.{arguments_of}
 use Rattle.machine_step.specs.Fits.{AreOf}

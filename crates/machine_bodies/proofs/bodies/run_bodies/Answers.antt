@@ -1,5 +1,4 @@
 use Rattle.std.proofs.Common.{rules}
-use Rattle.machine_bodies.proofs.GoingLemmas.{some_left}
 use Rattle.machine_bodies.proofs.bodies.run_bodies.Goals as goal
 
 pub turn-requires : goal.turn-requires

@@ -1,5 +1,4 @@
 use Rattle.std.proofs.Common.{◌≡◌, ◌-◌, ◌≤◌, length, rules, refl, subst, arith}
-use Rattle.machine_stack.specs.Stack.{stack_at}
 use Rattle.machine_step.specs.Flow.{HasRoom}
 use Rattle.machine_bodies.proofs.StandLemmas.{constants_here, has_room, is_ready, jumps_framed, came_next, came_jump, came_answer, came_no_answer}
 use Rattle.machine_bodies.proofs.activation.Activation.execute.Goals as goal

@@ -1,5 +1,4 @@
 use Rattle.std.proofs.Common.{rules, refl, arith}
-use Rattle.machine_bodies.specs.Stands.{IsNew}
 use Rattle.machine_bodies.proofs.StandLemmas.{routine_some, routine_counted, arguments_there, arguments_room, invoked_here}
 use Rattle.machine_bodies.proofs.activation.Activation.invoke.Goals as goal
 

@@ -1,4 +1,4 @@
-use Rattle.std.proofs.Common.{rules, ◌∷◌, ◌≡◌, ◌∙◌, sym, ap, arith}
+use Rattle.std.proofs.Common.{rules, ◌∙◌, sym, arith}
 use Rattle.mcode.specs.declared.instr.Instr.TheVariants as instr
 use Rattle.term_core.specs.Datum.Datum.{nil}
 use Rattle.term_operand.specs.Value.{value_datum}
