@@ -69,28 +69,28 @@ impl<A: Allocator> Routine<A> {
     }
 
     /// How many slots there are, at most `MAX_SLOTS`.
-    pub(crate) fn slots(&self) -> u16
+    pub fn slots(&self) -> u16
         ensures { result ≡ self.now.body.slots }
     {
         self.parts.slots()
     }
 
     /// The instructions, at most `MAX_COUNT`.
-    pub(crate) fn instructions(&self) -> &[Instr]
+    pub fn instructions(&self) -> &[Instr]
         ensures { result.now ≡ self.now.body.instructions }
     {
         self.parts.instructions()
     }
 
     /// The frames, by rising number of the instruction, at most `MAX_COUNT`.
-    pub(crate) fn frames(&self) -> &[Frame<A>]
+    pub fn frames(&self) -> &[Frame<A>]
         ensures { map frame_of result.now ≡ self.now.body.frames }
     {
         self.parts.frames()
     }
 
     /// The frame at an instruction, where there is one.
-    pub(crate) fn frame_at(&self, pc: u16) -> Option<&Frame<A>>
+    pub fn frame_at(&self, pc: u16) -> Option<&Frame<A>>
         ensures { option_map frame_of (option_copied result) ≡ frame_at self.now.body.frames pc }
     {
         self.parts.frame_at(pc)
