@@ -16,7 +16,7 @@ use Rattle.budget.specs.Paths.IsPathFrom.{alone, onward}
 use Rattle.budget.proofs.PathLemmas.{path_fits, counted_at}
 use Rattle.verifier.specs.Typing.{IsTyped}
 use Rattle.machine_step.proofs.WayLemmas.{typed_here}
-use Rattle.machine_bodies.proofs.SeenLemmas.{number_of_body, same_routine, counted_routine}
+use Rattle.mcode.proofs.BodyLemmas.{number_of_body, same_routine, counted_routine}
 use Rattle.machine_bodies.proofs.WalkLemmas.{run_within}
 
 -- ---- fewer routines

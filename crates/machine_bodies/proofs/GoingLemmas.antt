@@ -5,6 +5,7 @@ use Rattle.term_core.specs.Datum.{Datum}
 use Rattle.mcode.specs.Machine.{State, Outcome, step}
 use Rattle.mcode.specs.Machine.Outcome.{Ends, Leaves}
 use Rattle.mcode.specs.Program.{Program, Routine, routine_at, own_routine, body_of}
+use Rattle.mcode.proofs.BodyLemmas.{same_routine, own_of_body}
 use Rattle.mcode.specs.Run as run
 use Rattle.mcode.specs.Run.{Whole, entry, resumed, follow, begin, EndsFrom, HasRun}
 use Rattle.mcode.specs.Run.Whole.{Running, Over, Left, Lost}
@@ -15,7 +16,6 @@ use Rattle.machine_bodies.specs.Stands.{Stands, IsWaiting, IsInvoked, IsLeft, Go
 use Rattle.machine_bodies.specs.Going.{AreWaiting, Going}
 use Rattle.machine_bodies.specs.declared.activation.Activation.{Activation}
 use Rattle.machine_bodies.proofs.RunLemmas.{run_ends}
-use Rattle.machine_bodies.proofs.SeenLemmas.{same_routine, own_of_body}
 use Rattle.machine_bodies.proofs.WalkLemmas.{run_within}
 
 module _ {A : Type 0} {p : Program} {object : Datum} {current : Activation A} {waiting : List (Activation A)} {executed : ℕ} (going : Going p object current waiting executed) where

@@ -37,7 +37,8 @@ use Rattle.machine_step.proofs.SlotLemmas.{held_unbound}
 use Rattle.machine_step.proofs.StepLemmas.{entry_fits, step_continues}
 use Rattle.machine_bodies.specs.Stands.{HasDepth, Stands, IsNew, IsSettled, GoesTo, IsCome, IsWaiting, IsBodyOf, IsInvoked, IsLeft, state_of}
 use Rattle.machine_bodies.specs.declared.activation.Activation.{Activation}
-use Rattle.machine_bodies.proofs.SeenLemmas.{constants_of_body, same_routine, own_of_body, counted_routine, body_seen}
+use Rattle.mcode.proofs.BodyLemmas.{constants_of_body, same_routine, own_of_body, counted_routine}
+use Rattle.machine_bodies.proofs.SeenLemmas.{body_seen}
 use Rattle.machine_bodies.specs.declared.came.Came.{Came}
 
 -- as many places of the same body

@@ -5,7 +5,7 @@ use Rattle.machine_step.specs.Fits.{AreOf}
 use Rattle.machine_step.proofs.AloneLemmas.{main_seen}
 use Rattle.machine_stack.specs.Stack.{stack_at}
 use Rattle.machine_bodies.proofs.GoingLemmas.{going_first}
-use Rattle.machine_bodies.proofs.SeenLemmas.{own_of_body}
+use Rattle.mcode.proofs.BodyLemmas.{own_of_body}
 use Rattle.machine_bodies.proofs.StandLemmas.{entered_stands}
 use Rattle.machine_bodies.proofs.bodies.begin.Goals as goal
 
