@@ -1,5 +1,5 @@
 -- Budgets of all bodies: the pass from the last body to the first, and that there is one of each.
-use Rattle.std.proofs.Common.{◌≡◌, ◌≢◌, ℕ, zero, suc, ◌+◌, ◌-◌, ◌<◌, ◌≤◌, List, [], ◌∷◌, length, set, slice_get, slice_index, Option, Some, None, refl, sym, ◌∙◌, ap, ap₂, arith, get_or, inl, inr}
+use Rattle.std.proofs.Common.{◌≡◌, ◌≢◌, ℕ, zero, suc, ◌+◌, ◌-◌, ◌<◌, ◌≤◌, List, [], ◌∷◌, length, replicate, set, slice_get, slice_index, Option, Some, None, refl, sym, ◌∙◌, ap, ap₂, arith, get_or, inl, inr}
 use Rattle.std.proofs.lemmas.List.{get_or_past, length-set, get_or-set_same, get_or-set_other}
 use Rattle.std.proofs.lemmas.Option.{slice_get-get_or, slice_get_within}
 use Rattle.mcode.specs.Program.{Program, body_of}
@@ -57,6 +57,11 @@ budget_agrees p budgets others n same forward budget = record {
 -- before the pass no budget is asked for
 pub budgets_none : (p : Program) (budgets : List ℕ) (from : ℕ) → length budgets ≡ suc (length p.around.routines) → length p.around.routines < from → AreBudgets p from budgets
 budgets_none p budgets from count past = record { count = count; each = λ b low inside. absurd (omega (arith, low, inside, past)) }
+
+pub few_none : (n b : ℕ) → slice_index (replicate n 0) b ≤ most_budget
+few_none zero b = omega arith
+few_none (suc n) zero = omega arith
+few_none (suc n) (suc b) = few_none n b
 
 -- all bodies from one on go forward
 abbrev pub ForwardFrom : Program → ℕ → Type 0

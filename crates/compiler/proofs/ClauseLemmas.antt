@@ -41,6 +41,7 @@ use Rattle.compiler_clauses.proofs.BodyLemmas.{clean_frame, body_framed}
 use Rattle.compiler_clauses.proofs.VariableLemmas.{variables_inside}
 use Rattle.compiler_assembly.specs.Assembled.{assembled}
 use Rattle.compiler.specs.Meaning.{CodeRunsAsMeant}
+use Rattle.mcode.proofs.RunLemmas.{run_alone}
 use Rattle.compiler.specs.Known.{Names, seen_at, own_slots, AreKept, Decides}
 use Rattle.compiler.specs.Reach.{at, Comes}
 use Rattle.compiler.specs.Shown.{AreShown}
@@ -294,4 +295,5 @@ unfolding code_of assembled
 code_runs spec sound inside o =
     let vs = specification_variables spec in
     let standing = assembled_stands (length vs) (blocks_of vs spec) in
-    clauses_run (code_of spec) o vs inside spec 0 (replicate (length vs) None) sound (variables_inside spec) (length-replicate (length vs) None) standing.0
+    let run = clauses_run (code_of spec) o vs inside spec 0 (replicate (length vs) None) sound (variables_inside spec) (length-replicate (length vs) None) standing.0 in
+    (run.0, run.1, run.2, run_alone (code_of spec) o run.1 run.0 run.3)

@@ -3,9 +3,10 @@ use Rattle.std.proofs.Common.{◌≡◌, ℕ, List, length, ◌∙◌, ap, subst
 use Rattle.std.specs.Prelude.{All}
 use Rattle.term_core.specs.Datum.{Datum}
 use Rattle.mcode.specs.Answer.{answer_of}
-use Rattle.mcode.specs.Machine.{Runs}
 use Rattle.mcode.specs.Program.{Program}
-use Rattle.machine.specs.Laws.{RunsEndWithTheAnswer}
+use Rattle.mcode.specs.Run.{HasRun}
+use Rattle.mcode.proofs.BodyLemmas.{alone_main}
+use Rattle.machine_bodies.specs.Laws.{RunsEndWithTheAnswer}
 use Rattle.mspec_syntax.specs.Sound.{IsSoundClause}
 use Rattle.mspec_syntax.specs.Specification.{Specification, specification_variables}
 use Rattle.mspec_meaning.specs.Meaning.{Means}
@@ -14,7 +15,7 @@ use Rattle.verifier_types.specs.Fit.{IsFrameFit}
 use Rattle.verifier.specs.Typing.{IsTyped}
 use Rattle.compiler_assembly.specs.Assembled.{assembled}
 use Rattle.compiler_assembly.specs.Line.{Block}
-use Rattle.compiler_assembly.proofs.StandLemmas.{instruction_count}
+use Rattle.compiler_assembly.proofs.StandLemmas.{assembled_alone, instruction_count}
 use Rattle.compiler_clauses.specs.Clauses.{blocks_of, code_of}
 use Rattle.compiler_clauses.proofs.CountLemmas.{code_size}
 use Rattle.compiler.specs.Meaning.{AreFramesInside, CodeRunsAsMeant}
@@ -38,15 +39,20 @@ inside p typed n f e =
 -- what good code's runs come to
 abbrev pub Ends : Specification → Type 0
 Ends spec =
-    (o : Datum) → (answer : Option Datum) × (n : ℕ) × Means spec o answer × Runs (code_of spec) o n answer
+    (o : Datum) → (answer : Option Datum) × (n : ℕ) × Means spec o answer × HasRun (code_of spec) o n answer
 
 pub good_ends : CodeRunsAsMeant → (spec : Specification) → All IsSoundClause spec → IsGoodCode spec → Ends spec
 good_ends runs spec sound good = runs spec sound (inside (code_of spec) good.typed)
 
+-- the code has no routines
+code_main : (spec : Specification) → (code_of spec).around.number ≡ 0
+unfolding code_of
+code_main spec = alone_main (code_of spec) (assembled_alone _ _)
+
 pub good_answers : RunsEndWithTheAnswer → (spec : Specification) → Ends spec → IsGoodCode spec → (o : Datum) → Means spec o (answer_of (code_of spec) o)
 good_answers last spec ends good o =
     let run = ends o in
-    subst (Means spec o) (last (code_of spec) o good.typed run.1 run.0 run.3) run.2
+    subst (Means spec o) (last (code_of spec) o (code_main spec) good.typed run.1 run.0 run.3) run.2
 
 pub code_answers : CodeIsTyped → CodeRunsAsMeant → RunsEndWithTheAnswer → CodeAnswersAsMeant
 code_answers typed runs last spec o answer sound limits means =

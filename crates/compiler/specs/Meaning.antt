@@ -1,8 +1,8 @@
 -- A law of the code of specifications.
 use Rattle.std.specs.Prelude.{ℕ, ◌≡◌, ◌<◌, Option, Some, length, All}
 use Rattle.term_core.specs.Datum.{Datum}
-use Rattle.mcode.specs.Machine.{Runs}
 use Rattle.mcode.specs.Program.{Program, Frame, frame_at}
+use Rattle.mcode.specs.Run.{HasRun}
 use Rattle.mspec_syntax.specs.Sound.{IsSoundClause}
 use Rattle.mspec_syntax.specs.Specification.{Specification}
 use Rattle.mspec_meaning.specs.Meaning.{Means}
@@ -18,4 +18,4 @@ AreFramesInside p =
 abbrev pub CodeRunsAsMeant : Type 0
 CodeRunsAsMeant =
     (spec : Specification) → All IsSoundClause spec → AreFramesInside (code_of spec) → (o : Datum)
-    → (answer : Option Datum) × (n : ℕ) × Means spec o answer × Runs (code_of spec) o n answer
+    → (answer : Option Datum) × (n : ℕ) × Means spec o answer × HasRun (code_of spec) o n answer

@@ -2,7 +2,7 @@
 ghost use Rattle.std.specs.Prelude.{ℕ, ◌≡◌, Option, IfOk};
 ghost use Rattle.term_core.specs.Datum.{Datum};
 ghost use Rattle.mcode.specs.Answer.{answer_of};
-ghost use Rattle.mcode.specs.Machine.{Runs};
+ghost use Rattle.mcode.specs.Run.{HasRun};
 ghost use Rattle.mspec_meaning.specs.Meaning.{Means};
 ghost use Rattle.compiler_clauses.specs.Clauses.{code_of};
 ghost use Rattle.compiler.specs.Typing.{IsGoodCode};
@@ -11,7 +11,7 @@ use crate::meaning::code_runs_as_meant;
 use crate::typing::code_of_specifications_is_typed;
 use compiler_assembly::assemble;
 use compiler_clauses::write_blocks;
-use machine::runs_end_with_the_answer;
+use machine_bodies::runs_end_with_the_answer;
 use mcode::Code;
 use mspec_syntax::Spec;
 use std::alloc::{AllocError, Allocator};
@@ -28,7 +28,7 @@ fn is_good<A: Allocator>(specification: &Spec<A>)
 /// That the code of a specification answers what the specification means.
 fn answers_as_meant<A: Allocator>(specification: &Spec<A>)
     ensures runs { (object : Datum) → (answer : Option Datum) × (n : ℕ)
-        × Means specification.now object answer × Runs (code_of specification.now) object n answer }
+        × Means specification.now object answer × HasRun (code_of specification.now) object n answer }
     ensures answers { (object : Datum)
         → Means specification.now object (answer_of (code_of specification.now) object) }
 {
@@ -65,7 +65,7 @@ pub fn compile<A: Allocator + Copy>(
     ensures code { IfOk result (λ verified. verified ≡ code_of specification.now) }
     ensures runs { IfOk result (λ verified. (object : Datum)
         → (answer : Option Datum) × (n : ℕ) × Means specification.now object answer
-        × Runs verified object n answer) }
+        × HasRun verified object n answer) }
     ensures answers { IfOk result (λ verified. (object : Datum)
         → Means specification.now object (answer_of verified object)) }
 {

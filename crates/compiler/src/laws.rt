@@ -3,7 +3,7 @@ ghost use Rattle.compiler.specs.Laws.{CodeAnswersAsMeant, CodeIsShort, CodeIsSha
 
 use crate::meaning::code_runs_as_meant;
 use crate::typing::code_of_specifications_is_typed;
-use machine::runs_end_with_the_answer;
+use machine_bodies::runs_end_with_the_answer;
 
 /// What the evaluator answers, the code answers, on every object.
 pub fn compiled_code_answers_as_meant()

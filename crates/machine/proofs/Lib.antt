@@ -1,2 +1,0 @@
-pub mod EdgeLemmas
-pub mod RunLemmas

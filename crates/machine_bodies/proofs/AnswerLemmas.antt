@@ -6,6 +6,7 @@ use Rattle.std.proofs.Math.Nat.{zero-mul, one-mul, suc-mul}
 use Rattle.std.proofs.lemmas.Nat.{mul-le}
 use Rattle.std.proofs.lemmas.Option.{none-some, slice_get-get_or}
 use Rattle.term_core.specs.Datum.{Datum}
+use Rattle.mcode.specs.Answer.{answer_of, end_answer}
 use Rattle.mcode.specs.Program.{Program, Routine, routine_at, routine_body, body_of}
 use Rattle.mcode.specs.Run.{Whole, turn, begin, EndsFrom, HasRun, after, most_steps}
 use Rattle.mcode.specs.Run.Whole.{Running, Over, Left, Lost}
@@ -148,7 +149,12 @@ module _ (p : Program) (main : p.around.number ≡ 0) (typed : IsTyped p) where
   run_over object (suc n) m Lost a less ends = absurd ends
 
   -- each run has ended by then
-  pub ended_by : (object : Datum) (n : ℕ) (a : Option Datum) → HasRun p object n a → after p object (length p.instructions * suc (most_steps ts)) (begin p) ≡ Over a
+  ended_by : (object : Datum) (n : ℕ) (a : Option Datum) → HasRun p object n a → after p object (length p.instructions * suc (most_steps ts)) (begin p) ≡ Over a
   ended_by object n a run =
       let within = run_within p object n a _ (typed.budgets, typed.limits, refl) run in
       run_over object n (length p.instructions * suc (most_steps ts)) (begin p) a (omega (arith, within, budget_within)) run
+
+  -- with the code's answer
+  pub ends_with : (object : Datum) (n : ℕ) (a : Option Datum) → HasRun p object n a → a ≡ answer_of p object
+  unfolding answer_of
+  ends_with object n a run = sym (ap end_answer (ended_by object n a run))

@@ -6,7 +6,6 @@ ghost use Rattle.machine_bodies.specs.Going.{Going};
 
 use crate::activation::Activation;
 use crate::came::Came;
-use crate::laws::{all_runs_stay_within_the_budget, code_with_bodies_ends};
 use mcode::Instr;
 use std::alloc::{AllocError, Allocator};
 use std::mem;
@@ -139,8 +138,6 @@ fn begin<'a, 'h, A: Allocator + Copy>(
     ensures going { IfOk result (λ run. (object : Datum)
         → Going code.now object run.current run.waiting.items 0) }
 {
-    code_with_bodies_ends();
-    all_runs_stay_within_the_budget();
     let _routines = code.code().routines();
     let current = Activation::new(heap, code.main())?;
     Ok(Run {

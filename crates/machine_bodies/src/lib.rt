@@ -1,10 +1,12 @@
-//! Runs over all bodies of code: what holds of them, whatever code is run.
+//! Runs over all bodies of code.
 //!
-//! The contract: four laws over `HasRun` of `mcode`, the run in which bodies that invoked routines wait. A run of typed
-//! code is never lost, and ends; no run of any code executes more instructions than its budget, an invocation counting
-//! those of its routine; a run has one end.
+//! The one contract: `run_bodies` gives the answer of the run of verified code on an object, and the exact number of
+//! instructions executed, by `HasRun` of `mcode/specs/Run.antt`, the run in which bodies that invoked routines wait.
 //!
-//! - `laws`: what runs meet (`specs/Laws.antt`).
+//! - `bodies`: the run, turn by turn, with a list of the bodies that wait (`specs/Going.antt`); `activation`: one body
+//!   that was entered, with places of its own (`specs/Stands.antt`); `came`: what an instruction comes to.
+//! - `laws`: that a run has one end, that typed code is never stuck and ends with its answer (`answer_of` of
+//!   `mcode/specs/Answer.antt`), and that no run passes the budget (`specs/Laws.antt`).
 #![tactic(auto)]
 
 mod activation;
@@ -14,6 +16,6 @@ mod laws;
 
 pub use bodies::run_bodies;
 pub use laws::{
-    all_runs_stay_within_the_budget, code_with_bodies_ends, code_with_bodies_is_never_lost,
-    runs_over_bodies_are_one,
+    machine_is_deterministic, runs_end_with_the_answer, runs_stay_within_the_budget,
+    typed_code_ends, typed_code_is_never_stuck,
 };

@@ -11,8 +11,8 @@ use Rattle.term_core.specs.View.{shown, IsSplit}
 use Rattle.term_core.specs.declared.view.View.{View}
 use Rattle.term_core.specs.declared.view.View.TheVariants as view
 use Rattle.mcode.specs.Answer.{answer_of}
-use Rattle.mcode.specs.Machine.{Runs}
 use Rattle.mcode.specs.Program.{Program, alone, routine_at}
+use Rattle.mcode.specs.Run.{HasRun}
 use Rattle.mcode.specs.declared.instr.Instr.{Instr}
 use Rattle.mcode.specs.declared.instr.Instr.TheVariants as instr
 use Rattle.mcode.proofs.BodyLemmas.{alone_main, no_routine}
@@ -28,7 +28,7 @@ use Rattle.code_writer.specs.File.{HasFile, IsPlain, Spells}
 use Rattle.code_writer.specs.Laws.{OneCode}
 use Rattle.code_file.specs.declared.fault.FileFault.{FileFault}
 use Rattle.code_file.specs.declared.fault.FileFault.TheVariants as file
-use Rattle.machine.specs.Laws.{RunsEndWithTheAnswer}
+use Rattle.machine_bodies.specs.Laws.{RunsEndWithTheAnswer}
 use Rattle.verifier.specs.Faults.{IsFirstFault}
 use Rattle.verifier.specs.Laws.{FaultyCodeIsUntyped}
 use Rattle.verifier.specs.Typing.{IsTyped}
@@ -111,11 +111,11 @@ unfolding code_of
 code_alone s = assembled_alone _ _
 
 pub file_is : (s : Specification) (bytes : List ℕ) (p q : Program) → q ≡ p → p ≡ code_of s → (HasFile q → Spells bytes q) → IsTyped p
-    → ((object : Datum) → (answer : Option Datum) × (n : ℕ) × Means s object answer × Runs p object n answer) → IsFileOf s bytes
+    → ((object : Datum) → (answer : Option Datum) × (n : ℕ) × Means s object answer × HasRun p object n answer) → IsFileOf s bytes
 file_is s bytes p q same is spells typed runs = record {
   spells = subst (Spells bytes) (same ∙ is) (spells (subst HasFile (sym same) (typed_has_file p (ap (λ (r : Program). r.around) is ∙ code_alone s) typed)));
   typed = subst IsTyped is typed;
-  runs = subst (λ (r : Program). (object : Datum) → (answer : Option Datum) × (n : ℕ) × Means s object answer × Runs r object n answer) is runs;
+  runs = subst (λ (r : Program). (object : Datum) → (answer : Option Datum) × (n : ℕ) × Means s object answer × HasRun r object n answer) is runs;
 }
 
 pub loads_alone : OneCode → FaultyCodeIsUntyped → (s : Specification) (bytes : List ℕ) (f : ToolFault) → IsFileOf s bytes → IsUnloaded bytes f → f ≡ fault.Memory
@@ -135,7 +135,7 @@ pub loaded_answers : OneCode → RunsEndWithTheAnswer → (s : Specification) (b
 loaded_answers one ends s bytes p h loaded object =
     let run = h.runs object in
     let same : code_of s ≡ p = one bytes (code_of s) p h.spells loaded.0 in
-    let answer : run.0 ≡ answer_of (code_of s) object = ends (code_of s) object h.typed run.1 run.0 run.3 in
+    let answer : run.0 ≡ answer_of (code_of s) object = ends (code_of s) object (alone_main (code_of s) (code_alone s)) h.typed run.1 run.0 run.3 in
     subst (λ (q : Program). Means s object (answer_of q object)) same (subst (Means s object) answer run.2)
 
 -- ---- a term that is no binary asks by its specification

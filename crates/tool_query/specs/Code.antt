@@ -4,8 +4,8 @@ use Rattle.std.specs.Io.KnownBytes.{Appends, Keeps}
 use Rattle.term_core.specs.Datum.{Datum}
 use Rattle.term_core.specs.Datum.Datum.{binary, integer, tuple}
 use Rattle.term_core.specs.Datum.Items.{no_items, item}
-use Rattle.mcode.specs.Machine.{Runs}
 use Rattle.mcode.specs.Program.{Program}
+use Rattle.mcode.specs.Run.{HasRun}
 use Rattle.mspec_syntax.specs.Specification.{Specification}
 use Rattle.mspec_meaning.specs.Meaning.{Means}
 use Rattle.compiler_clauses.specs.Clauses.{code_of}
@@ -24,7 +24,7 @@ pub record IsFileOf (s : Specification) (bytes : List ℕ) : Type 0 where
   pub spells : Spells bytes (code_of s)
   pub typed : IsTyped (code_of s)
   pub runs : (object : Datum) → (answer : Option Datum) × (n : ℕ) × Means s object answer
-      × Runs (code_of s) object n answer
+      × HasRun (code_of s) object n answer
 
 -- the writer gains the file of the one term's specification, as a binary
 pub record WritesFile (terms : List Datum) (old new : Option (List ℕ)) : Type 0 where

@@ -9,7 +9,7 @@ ghost use Rattle.tool_query.specs.Query.{IsNoSpecification, IsUnloaded, IsNoQuer
 
 use code_file::{decode, encode, one_code};
 use compiler::compile;
-use machine::runs_end_with_the_answer;
+use machine_bodies::runs_end_with_the_answer;
 use mspec_reader::read_spec;
 use mspec_syntax::Spec;
 use std::alloc::{AllocError, Allocator};

@@ -1,6 +1,17 @@
-use Rattle.std.proofs.Common.{arith, ap, length, ◌≡◌, ◌≤◌, ◌+◌, ◌-◌, slice_index}
-use Rattle.budget.proofs.BodyLemmas.{budgets_more, few_more, over_here}
+use Rattle.std.proofs.Common.{ℕ, arith, ap, length, replicate, ◌≡◌, ◌≤◌, ◌+◌, ◌-◌, slice_index, rules}
+use Rattle.std.proofs.lemmas.List.{length-replicate}
+use Rattle.budget.proofs.BodyLemmas.{budgets_none, budgets_more, few_none, few_more, over_here}
 use Rattle.budget.proofs.paths.longest.Goals as goal
+
+pub loop-number-init : goal.loop-number-init
+loop-number-init g c =
+    let p = c.args.code.now in
+    let budgets = c.in_ok-budgets.budgets.items in
+    let zeros = c.in_ok-budgets.ensures.items_if_clones_equal (λ y is. search (rules, is)) in
+    let routines : length c.routines.result.now ≡ length p.around.routines = ap length c.routines.ensures.value in
+    let last : c.len-number.result ≡ length budgets = search rules in
+    let count : length (replicate {A = ℕ} (length c.routines.result.now + 1) 0) ≡ length c.routines.result.now + 1 = length-replicate {A = ℕ} (length c.routines.result.now + 1) 0 in
+    (budgets_none p budgets c.len-number.result (omega (arith, ap length zeros, count, routines)) (omega (arith, last, ap length zeros, count, routines)), λ b. rw zeros (few_none (length c.routines.result.now + 1) b))
 
 pub budget_at-requires-clause-forward : goal.budget_at-requires-clause-forward
 budget_at-requires-clause-forward g c =

@@ -1,7 +1,7 @@
 use Rattle.std.proofs.Common.{ℕ, Option, ◌∙◌, sym, subst, inl, inr}
 use Rattle.term_core.specs.Datum.{Datum}
 use Rattle.mcode.specs.Answer.{answer_of}
-use Rattle.mcode.specs.Machine.{Runs}
+use Rattle.mcode.specs.Run.{HasRun}
 use Rattle.mspec_meaning.specs.Meaning.{Means}
 use Rattle.verifier.specs.Typing.{IsTyped}
 use Rattle.compiler.proofs.compilation.compile.Goals as goal
@@ -15,7 +15,7 @@ unreachable-requires g c =
 
 pub returns-in-Ok-clause-runs : goal.returns-in-Ok-clause-runs
 returns-in-Ok-clause-runs g c =
-    subst (λ p. (object : Datum) → (answer : Option Datum) × (n : ℕ) × Means c.args.specification.now object answer × Runs p object n answer)
+    subst (λ p. (object : Datum) → (answer : Option Datum) × (n : ℕ) × Means c.args.specification.now object answer × HasRun p object n answer)
     (sym (c.in-Ok.ensures.ok.0 ∙ c.in_ok-code.ensures)) c.answers_as_meant.ensures.runs
 
 pub returns-in-Ok-clause-answers : goal.returns-in-Ok-clause-answers
