@@ -6,7 +6,7 @@ use Rattle.std.proofs.lemmas.List.Elements.{All-from_recursion}
 use Rattle.term_core.specs.Datum.{Datum}
 use Rattle.term_core.specs.Limits.{IsTerm}
 use Rattle.term_core.specs.Sizes.{depth_limit}
-use Rattle.mcode.specs.Program.{Program, Frame, IsFrame, IsTelling, most_slots}
+use Rattle.mcode.specs.Program.{Program, Frame, IsFrame, IsTelling, most_slots, Around}
 use Rattle.mcode.specs.declared.instr.Instr.{Instr}
 use Rattle.mcode.proofs.BodyLemmas.{whole_alone}
 use Rattle.mcode.specs.declared.kind.Kind.{Kind}
@@ -88,7 +88,10 @@ spells_read bytes p h = record {
     frame_count = omega (arith, h.begins.fits.1.1.0.0);
     frames = record { each = All-from_recursion IsFrame p.frames (frames_are p.frames h.begins.fits.1.1.0.1); rise = h.begins.fits.1.1.1 };
   }) h.around;
-  file = λ none. All-from_recursion IsPlain p.instructions (instructions_plain p.instructions h.begins.fits.1.0.1);
+  file = record {
+    alone = ap (λ (a : Around). a.routines) h.around;
+    plain = All-from_recursion IsPlain p.instructions (instructions_plain p.instructions h.begins.fits.1.0.1);
+  };
   constants = All-from_recursion IsTerm p.constants (terms_read p.constants h.begins.fits.0.1);
   instructions = All-from_recursion HoldsArguments p.instructions (instructions_hold p.instructions h.begins.fits.1.0.1);
   frames = All-from_recursion HoldsFrame p.frames (frames_hold p.frames h.begins.fits.1.1.0.1);

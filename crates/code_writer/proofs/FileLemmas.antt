@@ -7,7 +7,6 @@ use Rattle.term_core.specs.Datum.{Datum}
 use Rattle.term_core.specs.Limits.{IsTerm}
 use Rattle.term_core.specs.Sizes.{depth_limit}
 use Rattle.mcode.specs.Program.{Program, IsWhole, Frame, IsFrame, IsTelling, Rise, frame_number, alone}
-use Rattle.mcode.proofs.BodyLemmas.{alone_is}
 use Rattle.mcode.specs.declared.kind.Kind.{Kind}
 use Rattle.mcode.specs.declared.instr.Instr.{Instr}
 use Rattle.code_writer.specs.Spelling.{u16_bytes, constant_bytes, instruction_bytes, frame_bytes}
@@ -92,7 +91,7 @@ pub body_fits : (bytes : List ℕ) (p : Program) → Spells bytes p → body_for
 body_fits bytes p h = (
   (omega (arith, h.program.seen.constants), terms_fit p.constants (recursion_from_All IsTerm p.constants h.constants)),
   (
-    (omega (arith, h.program.seen.instructions), instructions_fit p.instructions (recursion_from_All HoldsArguments p.instructions h.instructions) (recursion_from_All IsPlain p.instructions (h.file h.program.none))),
+    (omega (arith, h.program.seen.instructions), instructions_fit p.instructions (recursion_from_All HoldsArguments p.instructions h.instructions) (recursion_from_All IsPlain p.instructions h.file.plain)),
     ((omega (arith, h.program.seen.frame_count), frames_fit p.frames (recursion_from_All HoldsFrame p.frames h.frames) (recursion_from_All IsFrame p.frames h.program.seen.frames.each)), h.program.seen.frames.rise),
   ),
 )
@@ -123,10 +122,10 @@ pub one_code : OneCode
 one_code bytes p q h k =
     let same = rest_free.one (behind_magic p) (version, (p.slots, body_of p)) (version, (q.slots, body_of q)) [] []
     (rest_begins (behind_magic p) bytes p h.spelling h) (rest_begins (behind_magic p) bytes q h.spelling k) in
-    let as_alone : (r : Program) → IsWhole r → Prim.Path Program r (record { slots = r.slots; constants = r.constants; instructions = r.instructions; frames = r.frames; around = alone }) = λ r whole i. record { slots = r.slots; constants = r.constants; instructions = r.instructions; frames = r.frames; around = alone_is r whole i } in
-    as_alone p h.program
+    let as_alone : (r : Program) → IsWhole r → HasFile r → Prim.Path Program r (record { slots = r.slots; constants = r.constants; instructions = r.instructions; frames = r.frames; around = alone }) = λ r whole file i. record { slots = r.slots; constants = r.constants; instructions = r.instructions; frames = r.frames; around = record { number = whole.number i; main = whole.main i; routines = file.alone i } } in
+    as_alone p h.program h.file
     ∙ ap (λ (x : ℕ × (ℕ × (List Datum × (List Instr × List Frame)))). record { slots = x.1.0; constants = x.1.1.0; instructions = x.1.1.1.0; frames = x.1.1.1.1; around = alone }) same.0
-    ∙ sym (as_alone q k.program)
+    ∙ sym (as_alone q k.program k.file)
 
 pub read_back : ReadBack
 read_back p program file constants instructions frames =

@@ -87,10 +87,11 @@ pub record HoldsFrame (f : Frame) : Type 0 where
   pub places : All HoldsPlace f.places
   pub slots : All IsU8 f.slots
 
--- Code that has a file: where it has no routines, none of its instructions is one of those that code with routines alone
--- has.
-abbrev pub HasFile : Program → Type 0
-HasFile p = p.around.routines ≡ [] → All IsPlain p.instructions
+-- Code that has a file: it has no routines, and none of its instructions is one of those that code with routines alone
+-- has. The format has none of code with routines yet.
+pub record HasFile (p : Program) : Type 0 where
+  pub alone : p.around.routines ≡ []
+  pub plain : All IsPlain p.instructions
 
 -- The bytes are the code file of this code: it is code that has one, its constants are terms, and the bytes spell it.
 pub record Spells (bytes : List ℕ) (p : Program) : Type 0 where

@@ -11,7 +11,7 @@ use Rattle.term_core.specs.View.{shown, IsSplit}
 use Rattle.term_core.specs.declared.view.View.{View}
 use Rattle.term_core.specs.declared.view.View.TheVariants as view
 use Rattle.mcode.specs.Answer.{answer_of}
-use Rattle.mcode.specs.Program.{Program, alone, routine_at}
+use Rattle.mcode.specs.Program.{Program, Around, alone, routine_at}
 use Rattle.mcode.specs.Run.{HasRun}
 use Rattle.mcode.specs.declared.instr.Instr.{Instr}
 use Rattle.mcode.specs.declared.instr.Instr.TheVariants as instr
@@ -102,9 +102,12 @@ placed_plain p i is placed = omega arith
 
 -- typed code without routines has a file
 typed_has_file : (p : Program) → p.around ≡ alone → IsTyped p → HasFile p
-typed_has_file p is typed none pc d inside =
-    let here = slice_get-get_or p.instructions pc d inside in
-    placed_plain p (get_or p.instructions pc d) is ((typed.bodies 0 (omega arith)).1.each pc (get_or p.instructions pc d) inside here).typed.placed
+typed_has_file p is typed = record {
+  alone = ap (λ (a : Around). a.routines) is;
+  plain = λ pc d inside.
+      let here = slice_get-get_or p.instructions pc d inside in
+      placed_plain p (get_or p.instructions pc d) is ((typed.bodies 0 (omega arith)).1.each pc (get_or p.instructions pc d) inside here).typed.placed;
+}
 
 code_alone : (s : Specification) → (code_of s).around ≡ alone
 unfolding code_of
