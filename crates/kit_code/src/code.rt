@@ -237,8 +237,7 @@ fn has_routine<A: Allocator>(
     wanted: &[RoutineParts<A>],
     is_whole: bool,
 ) -> bool {
-    let (Some(parts), Some(body)) =
-        (wanted.get(place), body_at(code, place.saturating_add(1)))
+    let (Some(parts), Some(body)) = (wanted.get(place), body_at(code, place.saturating_add(1)))
     else {
         return false;
     };

@@ -120,11 +120,7 @@ fn kinds<A: Allocator + Copy>(heap: A, list: &Term<A>) -> Option<Vec<Kind, A>> {
 }
 
 /// The routine of a number that these fields say.
-fn routine<A: Allocator + Copy>(
-    heap: A,
-    own: u16,
-    said: &[Term<A>],
-) -> Option<RoutineParts<A>> {
+fn routine<A: Allocator + Copy>(heap: A, own: u16, said: &[Term<A>]) -> Option<RoutineParts<A>> {
     let [word, arguments, gives, slots, listed, framed] = said else {
         return None;
     };
@@ -188,10 +184,7 @@ fn push_member<A: Allocator + Copy>(
 }
 
 /// The routines that these terms say.
-fn routines<A: Allocator + Copy>(
-    heap: A,
-    members: &[Term<A>],
-) -> Option<Vec<RoutineParts<A>, A>> {
+fn routines<A: Allocator + Copy>(heap: A, members: &[Term<A>]) -> Option<Vec<RoutineParts<A>, A>> {
     let mut out = Vec::new(heap);
     for member in members {
         push_member(heap, &mut out, fields(member)?)?;
@@ -199,11 +192,11 @@ fn routines<A: Allocator + Copy>(
     Some(out)
 }
 
-/// The parts of code that these fields and these routines say.
+/// The parts of code that these fields say, with these routines.
 fn parts_with<A: Allocator + Copy>(
     heap: A,
     said: &[Term<A>],
-    members: &[Term<A>],
+    routines: Vec<RoutineParts<A>, A>,
 ) -> Option<Parts<A>> {
     let [code, slots, fixed, listed, framed] = said else {
         return None;
@@ -212,11 +205,10 @@ fn parts_with<A: Allocator + Copy>(
         return None;
     }
     let main = body(heap, 0, slots, listed, framed)?;
-    let constants = constants(heap, fixed)?;
     Some(Parts {
-        constants,
+        constants: constants(heap, fixed)?,
         main,
-        routines: routines(heap, members)?,
+        routines,
     })
 }
 
@@ -224,8 +216,8 @@ fn parts_with<A: Allocator + Copy>(
 pub fn parts_of<A: Allocator + Copy>(heap: A, term: &Term<A>) -> Option<Parts<A>> {
     let said = fields(term)?;
     if said.len() == FIELDS {
-        return parts_with(heap, said, &[]);
+        return parts_with(heap, said, Vec::new(heap));
     }
     let (members, front) = said.split_last()?;
-    parts_with(heap, front, elements(members)?)
+    parts_with(heap, front, routines(heap, elements(members)?)?)
 }
