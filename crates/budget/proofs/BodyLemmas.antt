@@ -2,7 +2,8 @@
 use Rattle.std.proofs.Common.{◌≡◌, ◌≢◌, ℕ, zero, suc, ◌+◌, ◌-◌, ◌<◌, ◌≤◌, List, [], ◌∷◌, length, set, slice_get, slice_index, Option, Some, None, refl, sym, ◌∙◌, ap, ap₂, arith, get_or, inl, inr}
 use Rattle.std.proofs.lemmas.List.{get_or_past, length-set, get_or-set_same, get_or-set_other}
 use Rattle.std.proofs.lemmas.Option.{slice_get-get_or, slice_get_within}
-use Rattle.mcode.specs.Program.{Program, Routine, body_of, routine_body}
+use Rattle.mcode.specs.Program.{Program, body_of}
+use Rattle.mcode.proofs.BodyLemmas.{least_number_of_body}
 use Rattle.mcode.specs.declared.instr.Instr.{Instr}
 use Rattle.mcode.specs.declared.instr.Instr.TheVariants as instr
 use Rattle.budget.specs.Paths.{IsPathFrom, IsBodyBudget, AreBudgets, IsBudget, IsOver, IsForward, IsCallForward, weight, weight_of, counted, most_budget}
@@ -53,15 +54,6 @@ budget_agrees p budgets others n same forward budget = record {
 
 -- ---- all bodies
 
--- the number of the body that is seen
-number_seen : (p : Program) (n : ℕ) (t : Option Routine) → (routine_body p n t).around.number ≡ n
-number_seen p n None = refl
-number_seen p n (Some t) = refl
-
-pub number_of_body : (p : Program) (b : ℕ) → b ≤ (body_of p b).around.number
-number_of_body p zero = omega arith
-number_of_body p (suc n) = omega (arith, number_seen p (suc n) (slice_get p.around.routines n))
-
 -- before the pass no budget is asked for
 pub budgets_none : (p : Program) (budgets : List ℕ) (from : ℕ) → length budgets ≡ suc (length p.around.routines) → length p.around.routines < from → AreBudgets p from budgets
 budgets_none p budgets from count past = record { count = count; each = λ b low inside. absurd (omega (arith, low, inside, past)) }
@@ -89,7 +81,7 @@ budgets_more p budgets b n forward inside are here = record {
     moved : (c : ℕ) → b ≤ c → c ≤ length p.around.routines → (m : ℕ) → IsBodyBudget (body_of p c) budgets m → IsBodyBudget (body_of p c) (set budgets b n) m
     moved c from within m budget =
         budget_agrees (body_of p c) budgets (set budgets b n) m
-        (λ d behind. let other : d ≢ b = omega (arith, behind, from, number_of_body p c) in sym (get_or-set_other budgets b d n 0 other))
+        (λ d behind. let other : d ≢ b = omega (arith, behind, from, least_number_of_body p c) in sym (get_or-set_other budgets b d n 0 other))
         (forward c from within) budget
 
 -- budgets within the limit, with one more
@@ -200,6 +192,6 @@ budgets_agree p from budgets others forward are again c low = by (suc (length p.
     by (suc left) c low past = elim (before_or_not (length p.around.routines) c) [
       | inl above ↦ get_or_past budgets c 0 (omega (arith, above, are.count)) ∙ sym (get_or_past others c 0 (omega (arith, above, again.count)))
       | inr inside ↦
-          let same : AgreeBehind (body_of p c).around.number budgets others = λ d behind. by left d (omega (arith, behind, low, number_of_body p c)) (omega (arith, behind, past, number_of_body p c)) in
+          let same : AgreeBehind (body_of p c).around.number budgets others = λ d behind. by left d (omega (arith, behind, low, least_number_of_body p c)) (omega (arith, behind, past, least_number_of_body p c)) in
           body_once (body_of p c) others _ _ (budget_agrees (body_of p c) budgets others _ same (forward c low inside) (are.each c low inside)) (again.each c low inside)
     ]

@@ -11,7 +11,8 @@ use Rattle.verifier_types.specs.Effect.{arguments_of}
 use Rattle.verifier.specs.Typing.{IsTyped}
 use Rattle.machine_step.specs.Fits.{AreOf, IsFit, IsResult, GoesOn, Waits, Continues}
 use Rattle.machine_step.proofs.StepLemmas.{entry_fits, step_continues}
-use Rattle.machine_bodies.proofs.SeenLemmas.{number_of_body, same_routine, own_of_body, counted_routine, body_seen}
+use Rattle.mcode.proofs.BodyLemmas.{number_of_body, same_routine, own_of_body, counted_routine}
+use Rattle.machine_bodies.proofs.SeenLemmas.{body_seen}
 
 -- ---- one end
 

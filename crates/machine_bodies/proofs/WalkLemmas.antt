@@ -16,7 +16,7 @@ use Rattle.budget.specs.Paths.{HasEdge, IsPathFrom, AreBudgets, IsBudget, weight
 use Rattle.budget.specs.Paths.IsPathFrom.{alone, onward}
 use Rattle.budget.proofs.PathLemmas.{weight_some, counted_at}
 use Rattle.machine_bodies.proofs.EdgeLemmas.{LeadsOut, invoked_of, next_leads, jump_leads, does_leads}
-use Rattle.machine_bodies.proofs.SeenLemmas.{same_routine, counted_routine}
+use Rattle.mcode.proofs.BodyLemmas.{same_routine, counted_routine}
 
 -- the instruction that invokes a routine
 invoked_is : (i : Instr) (r : ℕ) → invoked_of i ≡ Some r → (l : ℕ) × (i ≡ instr.Invoke r l)

@@ -1,3 +1,4 @@
 pub mod RiseLemmas
 pub mod KindLemmas
 pub mod BodyLemmas
+pub mod BuildLemmas

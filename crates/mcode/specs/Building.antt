@@ -1,10 +1,33 @@
 -- What adding a part to code comes to.
-use Rattle.std.specs.Prelude.{ℕ, ◌<◌, ◌≤◌, ◌⊎◌, List, [], ◌∷◌, ◌++◌, length}
+use Rattle.std.specs.Prelude.{ℕ, zero, suc, ◌≡◌, ◌<◌, ◌≤◌, ◌⊎◌, ◌↔◌, Option, Some, None, List, [], ◌∷◌, ◌++◌, length}
 use Rattle.term_core.specs.Datum.{Datum}
-use Rattle.mcode.specs.Program.{Program, Frame, most_parts, IsOrdered, Rise, frame_number, alone}
+use Rattle.mcode.specs.Program.{Program, Body, Routine, Frame, most_slots, most_parts, most_routines, most_arguments, IsOrdered, Rise, frame_number, alone, routine_of, code_of, seen_body, seen_from}
 use Rattle.mcode.specs.declared.fault.Fault.{Fault}
 use Rattle.mcode.specs.declared.fault.Fault.TheVariants.{Memory, Limit, FrameOrder}
 use Rattle.mcode.specs.declared.instr.Instr.{Instr}
+use Rattle.mcode.specs.declared.kind.Kind.{Kind}
+
+-- a body without parts
+abbrev pub empty_body : ℕ → Body
+empty_body slots = record { slots = slots; instructions = []; frames = [] }
+
+-- the body with one more instruction
+abbrev pub one_instruction_more : Body → Instr → Body
+one_instruction_more b i =
+    record {
+      slots = b.slots;
+      instructions = b.instructions ++ i ∷ [];
+      frames = b.frames;
+    }
+
+-- the body with one more frame
+abbrev pub one_frame_more : Body → Frame → Body
+one_frame_more b f =
+    record {
+      slots = b.slots;
+      instructions = b.instructions;
+      frames = b.frames ++ f ∷ [];
+    }
 
 -- code without parts
 abbrev pub empty_program : ℕ → Program
@@ -70,3 +93,87 @@ abbrev pub IsFrameRefused : List Frame → Frame → Fault → Type 0
 IsFrameRefused fs f Limit = IsFrameTooMany fs f
 IsFrameRefused fs f FrameOrder = (¬ IsFrameTooMany fs f) × (¬ IsNextFrame fs f)
 IsFrameRefused fs f Memory = (¬ IsFrameTooMany fs f) × IsNextFrame fs f
+
+-- Code is seen from its newest body while it is built. Until that is done, the routine of that number, the last, has no
+-- parts in its own body.
+
+-- the routines, the last with this body
+abbrev pub with_last_body : List Routine → Body → List Routine
+with_last_body [] b = []
+with_last_body (t ∷ []) b = routine_of t.arguments t.result b ∷ []
+with_last_body (t ∷ t' ∷ ts) b = t ∷ with_last_body (t' ∷ ts) b
+
+-- the main body, which is the one that is seen where no other is given
+abbrev pub main_of : Option Body → Body → Body
+main_of None seen = seen
+main_of (Some main) seen = main
+
+-- the code with a routine begun, of these arguments, which gives this kind, over so many slots: the body that was seen
+-- is stored, and the new one is seen
+abbrev pub with_routine : Program → List Kind → Kind → ℕ → Program
+with_routine p arguments gives slots =
+    seen_from p (empty_body slots)
+    (record {
+      number = suc p.around.number;
+      main = Some (main_of p.around.main (seen_body p));
+      routines = with_last_body p.around.routines (seen_body p)
+          ++ routine_of arguments gives (empty_body slots) ∷ [];
+    })
+
+-- the code seen from its main body, the one that was seen stored
+abbrev pub finished_from : Program → Option Body → Program
+finished_from p None = p
+finished_from p (Some main) =
+    code_of p.constants main (with_last_body p.around.routines (seen_body p))
+
+-- the code that was built, seen from its main body
+abbrev pub finished : Program → Program
+finished p = finished_from p p.around.main
+
+-- there are as many routines as there may be, or too many arguments or slots of this one
+abbrev pub IsRoutineTooMuch : ℕ → List Kind → ℕ → Type 0
+IsRoutineTooMuch routines arguments slots =
+    (most_routines ≤ routines)
+    ⊎ ((most_arguments < length arguments) ⊎ (most_slots < slots))
+
+-- what a refusal of a routine says: memory only where one more would do
+abbrev pub IsRoutineRefused : ℕ → List Kind → ℕ → Fault → Type 0
+IsRoutineRefused routines arguments slots Limit = IsRoutineTooMuch routines arguments slots
+IsRoutineRefused routines arguments slots Memory = ¬ IsRoutineTooMuch routines arguments slots
+IsRoutineRefused routines arguments slots FrameOrder = ⊥
+
+-- How a builder keeps code: as code that is seen from its newest body, the main body beside it once a routine is begun.
+
+-- the code with one more routine
+abbrev pub one_routine_more : Program → Routine → Program
+one_routine_more p t =
+    code_of p.constants (seen_body p) (p.around.routines ++ t ∷ [])
+
+-- the code with another main body
+abbrev pub with_body : Program → Body → Program
+with_body p b = code_of p.constants b p.around.routines
+
+-- the routines, the one at a place with this body
+abbrev pub with_body_at : List Routine → ℕ → Body → List Routine
+with_body_at [] n b = []
+with_body_at (t ∷ ts) zero b = routine_of t.arguments t.result b ∷ ts
+with_body_at (t ∷ ts) (suc n) b = t ∷ with_body_at ts n b
+
+-- the code with another body of the routine at a place
+abbrev pub with_stored : Program → ℕ → Body → Program
+with_stored p n b =
+    code_of p.constants (seen_body p) (with_body_at p.around.routines n b)
+
+-- what code kept so, and a main body where there is one beside it, stand for
+abbrev pub begun : Program → Option Body → Program
+begun p main =
+    seen_from p (seen_body p)
+    (record {
+      number = length p.around.routines;
+      main = main;
+      routines = p.around.routines;
+    })
+
+-- there is one beside it exactly once a routine is begun
+abbrev pub IsBegun : Program → Option Body → Type 0
+IsBegun p main = (main ≡ None) ↔ (p.around.routines ≡ [])

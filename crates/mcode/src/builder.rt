@@ -1,15 +1,18 @@
 //! Code built part by part.
-ghost use Rattle.std.specs.Prelude.{◌≡◌, ◌≤◌, ◌↔◌, ◌++◌, ◌∷◌, [], IsTrue, IfSome, IfNone, IfErr, OnOk, OnErr, All, length, map};
+ghost use Rattle.std.specs.Prelude.{◌≡◌, ◌↔◌, ◌++◌, ◌∷◌, [], IsTrue, IfSome, IfNone, MatchOption, All, map};
 ghost use Rattle.mcode.specs.Frame.{frame_of};
 ghost use Rattle.mcode.specs.Program.{Rise, place_number, frame_number, IsTelling, IsOrdered};
-ghost use Rattle.mcode.specs.Building.{IsFrameTooMany, IsNextFrame, IsFrameRefused};
+ghost use Rattle.mcode.specs.Building.{IsFrameTooMany, IsNextFrame, IsFrameRefused, IsRoutineTooMuch};
+ghost use Rattle.mcode.specs.declared.fault.Fault.TheVariants.{Limit};
 
 use crate::code::Code;
 use crate::fault::Fault;
 use crate::frame::Frame;
 use crate::instr::Instr;
 use crate::kind::Kind;
-use crate::{MAX_COUNT, MAX_SLOTS};
+use crate::parts::Parts;
+use crate::routine::Routine;
+use crate::{MAX_ARGUMENTS, MAX_COUNT, MAX_ROUTINES, MAX_SLOTS};
 use std::alloc::{AllocError, Allocator, Global};
 use std::marker::Model;
 use term_core::{Refused, Term};
@@ -90,31 +93,53 @@ fn frame_fault<A: Allocator>(frames: &[Frame<A>], frame: &Frame<A>) -> Option<Fa
     None
 }
 
-/// Code that is built part by part. What is refused leaves it as it was.
+/// Why a routine can't be begun behind so many, memory aside.
+fn routine_fault(routines: usize, arguments: &[Kind], slots: u16) -> Option<Fault>
+    ensures { MatchOption result (¬ IsRoutineTooMuch routines arguments.now slots)
+        (λ fault. (fault ≡ Limit) × IsRoutineTooMuch routines arguments.now slots) }
+{
+    if routines >= MAX_ROUTINES {
+        return Some(Fault::Limit);
+    }
+    if arguments.len() > MAX_ARGUMENTS {
+        return Some(Fault::Limit);
+    }
+    if slots > MAX_SLOTS {
+        return Some(Fault::Limit);
+    }
+    None
+}
+
+/// Code that is built part by part: first the main body, then one routine after the other, and constants at any time.
+/// What is refused leaves it as it was.
 #[derive(Drop)]
 pub struct Builder<A: Allocator = Global> {
+    /// Seen from the newest body; of the last routine the parts are here.
     code: Code<A>,
+    /// The main body, once a routine is begun.
+    main: Option<Parts<A>>,
 }
 
 impl<A: Allocator> Model for Builder<A> {
     ghost use Rattle.std.specs.Coded.{codes};
     ghost use Rattle.term_core.specs.DatumCode.{datum_code};
-    ghost use Rattle.mcode.specs.Program.{Program, IsProgram};
+    ghost use Rattle.mcode.specs.Building.{begun, IsBegun};
+    ghost use Rattle.mcode.specs.Program.{Program};
 
     ghost Value = { Program };
 
     ghost coded = { Prim.hlevel (codes, datum_code) };
 
-    ghost view = { λ b. b.code };
+    ghost view = { λ b. begun b.code b.main };
 
-    ghost invariant = { λ b. IsProgram b.code };
+    ghost invariant = { λ b. IsBegun b.code b.main };
 }
 
 impl<A: Allocator> Builder<A> {
     ghost use Rattle.std.specs.Prelude.{◌≡◌, ◌<◌, ◌≤◌, ◌++◌, ◌∷◌, [], length, IfOk, IfErr, OnOk, OnErr};
     ghost use Rattle.mcode.specs.Frame.{frame_of};
     ghost use Rattle.mcode.specs.Program.{Program, most_slots};
-    ghost use Rattle.mcode.specs.Building.{empty_program, with_constant, with_instruction, with_frame, IsPartRefused, IsFrameTooMany, IsFrameRefused, IsNextFrame};
+    ghost use Rattle.mcode.specs.Building.{empty_program, with_constant, with_instruction, with_frame, with_routine, finished, IsPartRefused, IsFrameTooMany, IsFrameRefused, IsNextFrame, IsRoutineTooMuch, IsRoutineRefused};
     ghost use Rattle.mcode.specs.declared.fault.Fault.TheVariants.{Limit};
 
     /// Code without parts, over this many slots. More than `MAX_SLOTS` are refused.
@@ -129,6 +154,7 @@ impl<A: Allocator> Builder<A> {
         }
         Ok(Builder {
             code: Code::empty(alloc, slots),
+            main: None,
         })
     }
 
@@ -199,10 +225,54 @@ impl<A: Allocator> Builder<A> {
         }
     }
 
-    /// The code of these parts.
-    pub fn finish(self) -> Code<A>
-        ensures { result ≡ self }
+    /// Begins a routine without parts, of these arguments, the lowest first, which gives this kind, over this many slots,
+    /// and answers its number, from 1. The instructions and frames that are added behind that are the routine's. More than
+    /// `MAX_ROUTINES` routines, `MAX_ARGUMENTS` arguments or `MAX_SLOTS` slots are refused.
+    pub fn routine(
+        &mut self,
+        arguments: Vec<Kind, A>,
+        gives: Kind,
+        slots: u16,
+    ) -> Result<u16, Fault>
+    where
+        A: Copy,
+        ensures ok { IfOk result (λ number.
+            (self.new ≡ with_routine self.old arguments.items gives slots)
+            × (number ≡ self.new.around.number)) }
+        ensures fits { OnOk result (¬ IsRoutineTooMuch self.old.around.number arguments.items
+            slots) }
+        ensures kept { OnErr result (self.new ≡ self.old) }
+        ensures refused { IfErr result (λ fault. IsRoutineRefused self.old.around.number
+            arguments.items slots fault) }
     {
-        self.code
+        let before = self.code.routines().len();
+        if let Some(fault) = routine_fault(before, arguments.as_slice(), slots) {
+            return Err(fault);
+        }
+        let alloc = *arguments.allocator();
+        let routine = Routine::new(arguments, gives, Parts::empty(alloc, slots));
+        if let Err(AllocError) = self.code.push_routine(routine) {
+            return Err(Fault::Memory);
+        }
+        let seen = self.code.exchange(Parts::empty(alloc, slots));
+        let Some(last) = before.checked_sub(1) else {
+            self.main = Some(seen);
+            return Ok(1);
+        };
+        self.code.store(last, seen);
+        Ok(before as u16 + 1)
+    }
+
+    /// The code of these parts. It takes no memory.
+    pub fn finish(self) -> Code<A>
+        ensures { result ≡ finished self }
+    {
+        let Builder { mut code, main } = self;
+        let count = code.routines().len();
+        if let Some(main) = main {
+            let newest = code.exchange(main);
+            code.store(count - 1, newest);
+        }
+        code
     }
 }

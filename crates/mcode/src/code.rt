@@ -1,81 +1,42 @@
 //! Code, of which only the counts and the order of frames are known to be right.
-ghost use Rattle.std.specs.Prelude.{◌≡◌, ◌≤◌, ◌++◌, ◌∷◌, [], length, map, OnOk, OnErr, IfErr};
-ghost use Rattle.std.specs.Option.{option_map, option_copied};
-ghost use Rattle.mcode.specs.Frame.{frame_of};
-ghost use Rattle.mcode.specs.Program.{most_parts, Rise, AreFrames, frame_number, frame_at};
-ghost use Rattle.mcode.specs.Building.{IsFrameTooMany, IsNextFrame};
-
 use crate::frame::Frame;
 use crate::instr::Instr;
+use crate::parts::Parts;
 use crate::routine::Routine;
 use std::alloc::{AllocError, AllocFailed, Allocator, Global};
 use std::marker::Model;
+use std::mem;
 use term_core::Term;
 
-/// The frame of a number among these, whose numbers rise.
-pub(crate) fn frame_with<A: Allocator>(frames: &[Frame<A>], pc: u16) -> Option<&Frame<A>>
-    requires { Rise frame_number (map frame_of frames.now) }
-    ensures { option_map frame_of (option_copied result) ≡ frame_at (map frame_of frames.now) pc }
-{
-    match frames.binary_search_by(|frame| frame.pc.cmp(&pc)) {
-        Ok(place) => Some(&frames[place]),
-        Err(_) => None,
-    }
-}
-
-/// Puts a frame that fits at the end of those that are there.
-fn add_frame<A: Allocator>(
-    frames: &mut Vec<Frame<A>, A>,
-    frame: Frame<A>,
-) -> Result<(), AllocFailed<Frame<A>>>
-    requires frames { AreFrames (map frame_of frames.old.items) }
-    requires fits { ¬ IsFrameTooMany (map frame_of frames.old.items) (frame_of frame) }
-    requires next { IsNextFrame (map frame_of frames.old.items) (frame_of frame) }
-    ensures items { OnOk result (map frame_of frames.new.items ≡ map frame_of frames.old.items
-        ++ frame_of frame ∷ []) }
-    ensures frames { AreFrames (map frame_of frames.new.items) }
-    ensures count { length (map frame_of frames.new.items) ≤ most_parts }
-    ensures kept { OnErr result (frames.new.items ≡ frames.old.items) }
-    ensures back { IfErr result (λ failed. frame_of failed.value ≡ frame_of frame) }
-{
-    frames.push(frame)?;
-    Ok(())
-}
-
-/// Instructions for the machine, with the constants and frames that they name.
+/// Instructions for the machine, with the constants and frames that they name, and the routines that they invoke.
 #[derive(Drop)]
 pub struct Code<A: Allocator = Global> {
-    slots: u16,
     constants: Vec<Term<A>, A>,
-    instructions: Vec<Instr, A>,
-    frames: Vec<Frame<A>, A>,
+    /// Of the main body.
+    parts: Parts<A>,
     routines: Vec<Routine<A>, A>,
 }
 
 impl<A: Allocator> Model for Code<A> {
-    ghost use Rattle.std.specs.Prelude.{map};
     ghost use Rattle.std.specs.Coded.{codes};
     ghost use Rattle.term_core.specs.DatumCode.{datum_code};
-    ghost use Rattle.mcode.specs.Program.{Program, IsWhole};
+    ghost use Rattle.mcode.specs.Program.{Program, IsWhole, code_of};
 
     ghost Value = { Program };
 
     ghost coded = { Prim.hlevel (codes, datum_code) };
 
-    ghost use Rattle.mcode.specs.Frame.{program_of};
+    ghost view = { λ c. code_of c.constants.items c.parts c.routines.items };
 
-    ghost view = { λ c. program_of c.slots c.constants.items c.instructions.items c.frames.items c.routines.items };
-
-    ghost invariant = { λ c. IsWhole (program_of c.slots c.constants.items c.instructions.items c.frames.items
-        c.routines.items) };
+    ghost invariant = { λ c. IsWhole (code_of c.constants.items c.parts c.routines.items) };
 }
 
 impl<A: Allocator> Code<A> {
     ghost use Rattle.std.specs.Prelude.{◌≡◌, ◌<◌, ◌≤◌, length, map, OnOk, OnErr, IfErr};
     ghost use Rattle.std.specs.Option.{option_map, option_copied};
     ghost use Rattle.mcode.specs.Frame.{frame_of};
-    ghost use Rattle.mcode.specs.Program.{IsProgram, IsWhole, most_slots, most_parts, frame_at};
-    ghost use Rattle.mcode.specs.Building.{empty_program, with_constant, with_instruction, with_frame, IsFrameTooMany, IsNextFrame};
+    ghost use Rattle.mcode.specs.Program.{IsProgram, IsRoutine, IsWhole, most_slots, most_parts, most_routines, frame_at, seen_body};
+    ghost use Rattle.mcode.specs.Building.{empty_program, with_constant, with_instruction, with_frame, with_body, one_routine_more, with_stored, IsFrameTooMany, IsNextFrame};
 
     /// Code without parts over this many slots.
     pub(crate) fn empty(alloc: A, slots: u16) -> Self
@@ -85,10 +46,8 @@ impl<A: Allocator> Code<A> {
         ensures { result ≡ empty_program slots }
     {
         Code {
-            slots,
             constants: Vec::new(alloc),
-            instructions: Vec::new(alloc),
-            frames: Vec::new(alloc),
+            parts: Parts::empty(alloc, slots),
             routines: Vec::new(alloc),
         }
     }
@@ -103,28 +62,53 @@ impl<A: Allocator> Code<A> {
         self.constants.push(term)
     }
 
-    /// Puts an instruction at the end.
+    /// Puts an instruction at the end of the main body.
     pub(crate) fn push_instruction(&mut self, instr: Instr) -> Result<(), AllocError>
         requires { length self.old.instructions < most_parts }
         ensures ok { OnOk result (self.new ≡ with_instruction self.old instr) }
         ensures kept { OnErr result (self.new ≡ self.old) }
     {
-        match self.instructions.push(instr) {
-            Ok(()) => Ok(()),
-            Err(_) => Err(AllocError),
-        }
+        self.parts.push_instruction(instr)
     }
 
-    /// Puts a frame at the end, which stands above the others and is in order.
+    /// Puts a frame at the end of the main body, which stands above the others and is in order.
     pub(crate) fn push_frame(&mut self, frame: Frame<A>) -> Result<(), AllocFailed<Frame<A>>>
         requires fits { ¬ IsFrameTooMany self.old.frames (frame_of frame) }
         requires next { IsNextFrame self.old.frames (frame_of frame) }
         ensures ok { OnOk result (self.new ≡ with_frame self.old (frame_of frame)) }
         ensures kept { OnErr result (self.new ≡ self.old) }
         ensures back { IfErr result (λ failed. frame_of failed.value ≡ frame_of frame) }
-        ensures within { IsProgram self.new }
     {
-        add_frame(&mut self.frames, frame)
+        self.parts.push_frame(frame)
+    }
+
+    /// Puts a routine at the end.
+    pub(crate) fn push_routine(&mut self, routine: Routine<A>) -> Result<(), AllocError>
+        requires count { length self.old.around.routines < most_routines }
+        requires within { IsRoutine routine }
+        ensures ok { OnOk result (self.new ≡ one_routine_more self.old routine) }
+        ensures kept { OnErr result (self.new ≡ self.old) }
+    {
+        match self.routines.push(routine) {
+            Ok(()) => Ok(()),
+            Err(_) => Err(AllocError),
+        }
+    }
+
+    /// Exchanges the main body.
+    pub(crate) fn exchange(&mut self, parts: Parts<A>) -> Parts<A>
+        ensures code { self.new ≡ with_body self.old parts }
+        ensures before { result ≡ seen_body self.old }
+    {
+        mem::replace(&mut self.parts, parts)
+    }
+
+    /// Gives a routine, at this place of all, another body.
+    pub(crate) fn store(&mut self, place: usize, parts: Parts<A>)
+        requires { place < length self.old.around.routines }
+        ensures { self.new ≡ with_stored self.old place parts }
+    {
+        drop(self.routines[place].exchange(parts));
     }
 
     /// How many slots there are, at most `MAX_SLOTS`.
@@ -133,7 +117,7 @@ impl<A: Allocator> Code<A> {
         ensures within { IsProgram self.now }
         ensures whole { IsWhole self.now }
     {
-        self.slots
+        self.parts.slots()
     }
 
     /// The constants, at most `MAX_COUNT`.
@@ -149,7 +133,7 @@ impl<A: Allocator> Code<A> {
         ensures value { result.now ≡ self.now.instructions }
         ensures within { IsProgram self.now }
     {
-        self.instructions.as_slice()
+        self.parts.instructions()
     }
 
     /// The frames, by rising number of the instruction, at most `MAX_COUNT`.
@@ -157,7 +141,7 @@ impl<A: Allocator> Code<A> {
         ensures value { map frame_of result.now ≡ self.now.frames }
         ensures within { IsProgram self.now }
     {
-        self.frames.as_slice()
+        self.parts.frames()
     }
 
     /// The routines, numbered from 1, at most `MAX_ROUTINES`.
@@ -173,6 +157,6 @@ impl<A: Allocator> Code<A> {
         ensures value { option_map frame_of (option_copied result) ≡ frame_at self.now.frames pc }
         ensures within { IsProgram self.now }
     {
-        frame_with(self.frames.as_slice(), pc)
+        self.parts.frame_at(pc)
     }
 }

@@ -1,13 +1,13 @@
 //! Code for the matching machine, and what the machine does with it.
 //!
-//! The one contract: a `Code` has the counts and the order of frames that `IsProgram` of `specs/Program.antt` says, and
+//! The one contract: a `Code` has the counts and the order of frames that `IsWhole` of `specs/Program.antt` says, and
 //! nothing else is known of it. `Builder` makes it part by part, and refuses what would break that. What each
 //! instruction does is `does` of `specs/Machine.antt`, a run is `Runs`.
 //!
 //! - `instr`: the instructions; `kind`: the kinds of terms that the verifier tells
 //!   apart (`specs/Kind.antt`); `frame`: what is known where jumps lead.
-//! - `code`: code; `routine`: a body of it that others invoke; `body`: code seen from one of its bodies
-//!   (`specs/Program.antt`), and runs over all of them (`specs/Run.antt`).
+//! - `code`: code; `parts`: what each of its bodies has; `routine`: a body that others invoke; `body`: code seen from
+//!   one of its bodies (`specs/Program.antt`), and runs over all of them (`specs/Run.antt`).
 //! - `builder`: how code is built; `fault`: why a part is refused.
 #![tactic(auto)]
 
@@ -18,6 +18,7 @@ mod fault;
 mod frame;
 mod instr;
 mod kind;
+mod parts;
 mod routine;
 
 pub use body::Body;

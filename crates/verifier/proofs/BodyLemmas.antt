@@ -6,8 +6,9 @@ use Rattle.std.proofs.lemmas.Bool.{cases_lt}
 use Rattle.std.proofs.lemmas.List.{get_or_past}
 use Rattle.std.proofs.lemmas.Option.{slice_get_within}
 use Rattle.budget.specs.Paths.{IsForward, IsCallForward}
-use Rattle.budget.proofs.BodyLemmas.{AgreeBehind, ForwardFrom, number_of_body, body_once, budget_agrees, budgets_agree}
+use Rattle.budget.proofs.BodyLemmas.{AgreeBehind, ForwardFrom, body_once, budget_agrees, budgets_agree}
 use Rattle.mcode.specs.Program.{Program, body_of, routine_at}
+use Rattle.mcode.proofs.BodyLemmas.{least_number_of_body}
 use Rattle.mcode.specs.declared.instr.Instr.{Instr}
 use Rattle.mcode.specs.declared.instr.Instr.TheVariants as instr
 use Rattle.verifier_types.specs.Shape.{Shape}
@@ -105,7 +106,7 @@ depths_agree p from ds es are again c low = by (suc (length p.around.routines) -
     by (suc left) c low past = elim (cases_lt (length p.around.routines) c) [
       | inl above ↦ get_or_past ds c 0 (omega (arith, above, are.count)) ∙ sym (get_or_past es c 0 (omega (arith, above, again.count)))
       | inr inside ↦
-          let same : AgreeBehind (body_of p c).around.number ds es = λ d behind. by left d (omega (arith, behind, low, number_of_body p c)) (omega (arith, behind, past, number_of_body p c)) in
+          let same : AgreeBehind (body_of p c).around.number ds es = λ d behind. by left d (omega (arith, behind, low, least_number_of_body p c)) (omega (arith, behind, past, least_number_of_body p c)) in
           body_depth_once (body_of p c) es _ _ (body_depth_moves (body_of p c) ds es same _ (are.each c low inside)) (again.each c low inside)
     ]
 
@@ -133,8 +134,8 @@ typed_later p from later ds budgets more typed = record {
 -- what is known behind a body in two ways agrees there
 behind_agrees : (p : Program) (b : ℕ) (ds bs es cs : List ℕ) → AreTypedFrom p (suc b) ds bs → AreTypedFrom p (suc b) es cs → AgreeBehind (body_of p b).around.number ds es × AgreeBehind (body_of p b).around.number bs cs
 behind_agrees p b ds bs es cs one two = (
-  λ c behind. depths_agree p (suc b) ds es one.deep two.deep c (omega (arith, behind, number_of_body p b)),
-  λ c behind. budgets_agree p (suc b) bs cs (bodies_forward p (suc b) ds bs one) one.limits two.limits c (omega (arith, behind, number_of_body p b)),
+  λ c behind. depths_agree p (suc b) ds es one.deep two.deep c (omega (arith, behind, least_number_of_body p b)),
+  λ c behind. budgets_agree p (suc b) bs cs (bodies_forward p (suc b) ds bs one) one.limits two.limits c (omega (arith, behind, least_number_of_body p b)),
 )
 
 -- a body that is typed, with a budget within the limit, isn't at fault

@@ -7,8 +7,9 @@ use Rattle.std.proofs.lemmas.List.{take_more, take_all, length-append, length-se
 use Rattle.std.proofs.lemmas.List.Elements.{All-append}
 use Rattle.std.proofs.lemmas.Option.{slice_get-get_or, slice_get_within}
 use Rattle.budget.specs.Paths.{IsForward, IsBodyBudget, most_budget}
-use Rattle.budget.proofs.BodyLemmas.{AgreeBehind, ForwardFrom, number_of_body, budgets_none, budgets_more, few_more}
+use Rattle.budget.proofs.BodyLemmas.{AgreeBehind, ForwardFrom, budgets_none, budgets_more, few_more}
 use Rattle.mcode.specs.Program.{Program, Frame, IsProgram, body_of}
+use Rattle.mcode.proofs.BodyLemmas.{least_number_of_body}
 use Rattle.mcode.specs.declared.instr.Instr.{Instr}
 use Rattle.mcode.specs.declared.instr.Instr.TheVariants as instr
 use Rattle.verifier_types.specs.Shape.{Shape}
@@ -146,7 +147,7 @@ module _ (p : Program) (b : ℕ) (ds bs : List ℕ) (table : Table) (d n : ℕ) 
   -- a change of a body's depth is not seen by those behind it, nor by the body
   unseen : (c : ℕ) → b ≤ c → AgreeBehind (body_of p c).around.number ds (set ds b d)
   unseen c low e behind =
-      let other : e ≢ b = omega (arith, behind, low, number_of_body p c) in
+      let other : e ≢ b = omega (arith, behind, low, least_number_of_body p c) in
       sym (get_or-set_other ds b e d 0 other)
 
   forward : ForwardFrom p b

@@ -5,7 +5,7 @@ use Rattle.std.specs.Ordering.{nat_cmp}
 use Rattle.term_core.proofs.RowLemmas.{nat_cmp-equal}
 use Rattle.mcode.specs.Frame.{frame_of}
 use Rattle.mcode.proofs.RiseLemmas.{frames_rise, frame_seen, number_found, number_between, numbers_partition}
-use Rattle.mcode.proofs.code.frame_with.Goals as goal
+use Rattle.mcode.proofs.parts.frame_with.Goals as goal
 
 pub returns-in-Ok : goal.returns-in-Ok
 returns-in-Ok g c =
