@@ -2,31 +2,48 @@
 use budget::{all_forward, longest};
 use compiler::compile;
 use kit_code::{
-    Built, CodeTerms, Part, Parts, accepted, build, code_of, instruction, is_code, parts_of,
+    BodyParts, Built, CodeTerms, Part, Parts, accepted, build, code_of, instruction, is_code,
+    parts_of,
 };
 use kit_rows::{Outcome, digits, fields, function, is_atom, primitive, short, truth_name, word};
-use mcode::Code;
+use mcode::{Body, Code, Frame};
 use mspec_reader::read_spec;
 use prims_table::Primitive;
 use std::alloc::{Allocator, Global};
 use term_core::Term;
-use verifier::{Fault, Verified, verify};
+use verifier::{BodyFault, Fault, Seen, Verified, verify};
 
 const fn part_name(part: Part) -> &'static str {
     match part {
         Part::Slots => "slots",
         Part::Constant => "constant",
+        Part::Routine => "routine",
         Part::Instruction => "instruction",
         Part::Frame => "frame",
     }
 }
 
-/// How many constants, instructions and frames code has.
+/// How many routines code has that has some, and how many instructions and frames the last of them.
+fn routine_counts(alloc: Global, code: &Code) -> Option<Vec<u8>> {
+    let count = code.routines().len();
+    let last = Body::of(code, u16::try_from(count).ok()?);
+    let out = Outcome::tuple(alloc).number(count);
+    out.number(last.instructions().len())
+        .number(last.frames().len())
+        .end()
+}
+
+/// How many constants, instructions and frames code has, and the same of its last routine, where it has one.
 fn counts(alloc: Global, code: &Code) -> Option<Vec<u8>> {
     let out = Outcome::tuple(alloc).number(code.constants().len());
-    out.number(code.instructions().len())
-        .number(code.frames().len())
-        .end()
+    let out = out
+        .number(code.instructions().len())
+        .number(code.frames().len());
+    if code.routines().is_empty() {
+        out.end()
+    } else {
+        out.text(routine_counts(alloc, code)?.as_slice()).end()
+    }
 }
 
 /// The beginning of the text of a part that was refused for a fault of this number.
@@ -82,7 +99,7 @@ fn called(alloc: Global, name: &Term, arguments: u16) -> Option<Vec<u8>> {
 
 /// Where an instruction may jump, and whether it goes on.
 fn leads(alloc: Global, term: &Term) -> Option<Vec<u8>> {
-    let instr = instruction(alloc, term)?;
+    let instr = instruction(alloc, 0, term)?;
     let out = Outcome::tuple(alloc);
     let out = match instr.target() {
         Some(target) => out.number(usize::from(target)),
@@ -112,17 +129,38 @@ fn forward(alloc: Global, code: &Code) -> Option<Vec<u8>> {
     word(alloc, truth_name(all_forward(code)))
 }
 
-/// Whether verified code has the depths of these frames.
-fn are_depths(verified: &Verified, parts: &Parts<Global>) -> bool {
-    for frame in &parts.frames {
-        if verified.code().frame_at(frame.pc).is_none() {
+/// Whether a body has the depths of these frames.
+fn has_depths(seen: &Seen<'_>, frames: &[Frame]) -> bool {
+    for frame in frames {
+        if seen.code().frame_at(frame.pc).is_none() {
             return false;
         }
-        if verified.frame_depth(frame.pc) != frame.depth {
+        if seen.frame_depth(frame.pc) != frame.depth {
             return false;
         }
     }
     true
+}
+
+/// Whether the routine at a place of verified code has the depths of its frames.
+fn routine_has_depths(verified: &Verified, place: usize, parts: &BodyParts<Global>) -> bool {
+    if place >= verified.code().routines().len() {
+        return false;
+    }
+    match u16::try_from(place.saturating_add(1)) {
+        Ok(number) => has_depths(&verified.routine(number), parts.frames.as_slice()),
+        Err(_) => false,
+    }
+}
+
+/// Whether verified code has the depths of the frames of all bodies.
+fn are_depths(verified: &Verified, parts: &Parts<Global>) -> bool {
+    for (place, routine) in parts.routines.iter().enumerate() {
+        if !routine_has_depths(verified, place, &routine.body) {
+            return false;
+        }
+    }
+    has_depths(&verified.main(), parts.main.frames.as_slice())
 }
 
 /// The specification of a term `{compile,Specification}`.
@@ -150,11 +188,20 @@ impl CodeTerms for GivenCode {
     }
 }
 
-/// The number of a fault of code, and the instruction that it names; none for want of memory.
-pub(crate) fn refused(alloc: Global, fault: Fault) -> Option<Vec<u8>> {
-    let pc = usize::from(fault.pc()?);
+/// The number of a fault of code, the instruction that it names, and its body, where that isn't the main one; the body
+/// alone where it is at fault as a whole. None for want of memory.
+pub(crate) fn refused(alloc: Global, told: BodyFault) -> Option<Vec<u8>> {
+    if told.fault == Fault::Memory {
+        return None;
+    }
     let out = Outcome::tuple(alloc).word("refused");
-    out.number(usize::from(fault.number())).number(pc).end()
+    let out = out.number(usize::from(told.fault.number()));
+    let body = usize::from(told.body);
+    match told.fault.pc() {
+        None => out.number(body).end(),
+        Some(pc) if body == 0 => out.number(usize::from(pc)).end(),
+        Some(pc) => out.number(usize::from(pc)).number(body).end(),
+    }
 }
 
 /// What the verifier says of code, which it keeps or hands back.
@@ -164,7 +211,7 @@ fn verdict(alloc: Global, code: Code, parts: &Parts<Global>) -> Option<Vec<u8>> 
             accepted(alloc, &verified)
         }
         Err(handed_back) if is_code(&handed_back.value, parts) => {
-            refused(alloc, handed_back.fault.fault)
+            refused(alloc, handed_back.fault)
         }
         _ => word(alloc, "other_code"),
     }

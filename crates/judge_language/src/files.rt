@@ -1,10 +1,11 @@
-//! Code files that are read and verified, and code that is written as one.
+//! Code files that are read, verified and run, and code that is written as one.
+use crate::codes;
 use code_file::{FileFault, decode, encode};
-use kit_code::{code_of, is_code, parts_of};
-use kit_rows::{Outcome, text, word};
+use kit_code::{accepted, code_of, is_code, parts_of, ran_each};
+use kit_rows::{Outcome, elements, text, word};
 use std::alloc::{Allocator, Global};
 use term_core::Term;
-use verifier::{Fault, Verified, verify};
+use verifier::{BodyFault, Verified, verify};
 
 /// Why bytes are no file of typed code.
 #[derive(Clone, Copy)]
@@ -12,7 +13,7 @@ pub(crate) enum Refusal {
     /// They are no code file.
     Unread(FileFault),
     /// The code isn't typed.
-    Untyped(Fault),
+    Untyped(BodyFault),
 }
 
 /// The code of a file, verified.
@@ -23,37 +24,54 @@ pub(crate) fn load<A: Allocator + Copy>(heap: A, bytes: &[u8]) -> Result<Verifie
     };
     match verify(heap, code) {
         Ok(code) => Ok(code),
-        Err(refused) => Err(Refusal::Untyped(refused.fault.fault)),
+        Err(refused) => Err(Refusal::Untyped(refused.fault)),
     }
 }
 
-/// A word and a number, and the place that a fault names, where it names one.
-fn fault_text(alloc: Global, tag: &str, number: u8, at: Option<usize>) -> Option<Vec<u8>> {
-    let out = Outcome::tuple(alloc).word(tag).number(usize::from(number));
-    match at {
+/// The number of a fault of a file, and the place that it names, where it names one; none for want of memory.
+fn unread(alloc: Global, fault: FileFault) -> Option<Vec<u8>> {
+    if fault == FileFault::Memory {
+        return None;
+    }
+    let out = Outcome::tuple(alloc).word("unread");
+    let out = out.number(usize::from(fault.number()));
+    match fault.at() {
         Some(at) => out.number(at).end(),
         None => out.end(),
     }
 }
 
-/// What is said of a file; none for want of memory.
+/// Why bytes are no file of typed code; none for want of memory.
+fn refused(alloc: Global, refusal: Refusal) -> Option<Vec<u8>> {
+    match refusal {
+        Refusal::Unread(fault) => unread(alloc, fault),
+        Refusal::Untyped(told) => codes::refused(alloc, told),
+    }
+}
+
+/// What is said of a file, which the code that is accepted has to be written as again; none for want of memory.
 pub(crate) fn verdict<A: Allocator + Copy>(
     alloc: Global,
     heap: A,
     bytes: &[u8],
 ) -> Option<Vec<u8>> {
-    match load(heap, bytes) {
-        Ok(code) => {
-            let out = Outcome::tuple(alloc).word("accepted");
-            let out = out.number(code.budget() as usize);
-            out.number(usize::from(code.depth())).end()
-        }
-        Err(Refusal::Unread(FileFault::Memory)) | Err(Refusal::Untyped(Fault::Memory)) => None,
-        Err(Refusal::Unread(fault)) => fault_text(alloc, "unread", fault.number(), fault.at()),
-        Err(Refusal::Untyped(fault)) => {
-            let pc = fault.pc().map(usize::from);
-            fault_text(alloc, "refused", fault.number(), pc)
-        }
+    let code = match load(heap, bytes) {
+        Ok(code) => code,
+        Err(refusal) => return refused(alloc, refusal),
+    };
+    let file = encode(heap, code.code()).ok()?;
+    if file.as_slice() == bytes {
+        accepted(alloc, &code)
+    } else {
+        word(alloc, "other_file")
+    }
+}
+
+/// What the code of a file answers on each of these objects, or what is said of a file that is refused.
+fn answers(alloc: Global, bytes: &[u8], objects: &[Term]) -> Option<Vec<u8>> {
+    match load(alloc, bytes) {
+        Ok(code) => ran_each(alloc, &code, objects),
+        Err(refusal) => refused(alloc, refusal),
     }
 }
 
@@ -80,6 +98,9 @@ pub(crate) fn encoded<A: Allocator + Copy>(
 pub(crate) fn came(alloc: Global, kind: &str, parts: &[Term]) -> Option<Vec<u8>> {
     match (kind, parts) {
         ("file", [file, _]) => verdict(alloc, alloc, text(alloc, file)?.as_slice()),
+        ("file_each", [file, objects, _]) => {
+            answers(alloc, text(alloc, file)?.as_slice(), elements(objects)?)
+        }
         ("encoded", [code, file, _]) => {
             encoded(alloc, alloc, code, text(alloc, file)?.as_slice())
         }

@@ -36,7 +36,8 @@ fn runs_within(alloc: Global, code: &Verified, objects: &[Term]) -> Option<bool>
 fn holds(alloc: Global, file: &[u8], objects: &[Term]) -> Option<bool> {
     match load(alloc, file) {
         Ok(code) => runs_within(alloc, &code, objects),
-        Err(Refusal::Unread(FileFault::Memory)) | Err(Refusal::Untyped(Fault::Memory)) => None,
+        Err(Refusal::Unread(FileFault::Memory)) => None,
+        Err(Refusal::Untyped(told)) if told.fault == Fault::Memory => None,
         Err(Refusal::Unread(_)) | Err(Refusal::Untyped(_)) => Some(true),
     }
 }

@@ -47,7 +47,7 @@ fn budget<A: Allocator + Copy>(alloc: Global, heap: A, given: &[u8]) -> Option<V
 fn verdict<A: Allocator + Copy>(alloc: Global, heap: A, given: &[u8]) -> Option<Vec<u8>> {
     match verify(heap, code(heap, given)?) {
         Ok(verified) => accepted(alloc, &verified),
-        Err(refused) => codes::refused(alloc, refused.fault.fault),
+        Err(refused) => codes::refused(alloc, refused.fault),
     }
 }
 

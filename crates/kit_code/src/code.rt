@@ -1,25 +1,10 @@
-//! Code in a row: `{code,Slots,[Constant],[Instruction],[Frame]}`, where `{Count,Constant}` in place of the list of
-//! constants stands for so many of one.
-use crate::frame::{frames, same_frame};
-use crate::instr::instructions;
-use kit_rows::{elements, fields, is_atom, number, put_copy, short};
-use mcode::{Builder, Code, Fault, Frame, Instr};
+//! Code that is built of its parts: the constants first, then the main body and each routine in turn, the instructions
+//! of each before its frames.
+use crate::frame::same_frame;
+use crate::parts::{BodyParts, Parts, RoutineParts, parts_of};
+use mcode::{Body, Builder, Code, Fault, Frame, Instr};
 use std::alloc::Allocator;
-use term_build::copy_all;
 use term_core::Term;
-
-/// The parts of code.
-#[derive(Drop)]
-pub struct Parts<A: Allocator> {
-    /// How many slots there are.
-    pub slots: u16,
-    /// The constants.
-    pub constants: Vec<Term<A>, A>,
-    /// The instructions.
-    pub instructions: Vec<Instr, A>,
-    /// The frames.
-    pub frames: Vec<Frame<A>, A>,
-}
 
 /// What a builder takes.
 #[derive(Clone, Copy, Debug, PartialEq, Eq)]
@@ -28,20 +13,23 @@ pub enum Part {
     Slots,
     /// A constant.
     Constant,
+    /// A routine, of which only its signature and the number of its slots are there.
+    Routine,
     /// An instruction.
     Instruction,
     /// A frame.
     Frame,
 }
 
-/// What comes of parts that are given to a builder, the constants first and the frames last.
+/// What comes of parts that are given to a builder.
 #[derive(Drop)]
 pub enum Built<A: Allocator> {
     /// All were taken.
     Whole(Code<A>),
     /// The number of slots was refused for a fault of this number.
     NoSlots(u8),
-    /// A part was refused for a fault of this number and came back, and this is the code of those before it.
+    /// A part was refused for a fault of this number and came back, where it is no routine, and this is the code of
+    /// those before it.
     Refused(Part, u8, Code<A>),
     /// The builder answered another number, handed back another part, or had other parts in the end.
     Wrong,
@@ -52,47 +40,6 @@ pub enum Built<A: Allocator> {
 enum Stop {
     Refused(Part, u8),
     Wrong,
-}
-
-/// So many times a constant.
-fn repeated<A: Allocator + Copy>(
-    heap: A,
-    count: u32,
-    constant: &Term<A>,
-) -> Option<Vec<Term<A>, A>> {
-    let mut out = Vec::new(heap);
-    let mut is_whole = true;
-    for _ in 0..count {
-        is_whole = put_copy(&mut out, constant) && is_whole;
-    }
-    if is_whole { Some(out) } else { None }
-}
-
-/// The constants that a term says.
-fn constants<A: Allocator + Copy>(heap: A, term: &Term<A>) -> Option<Vec<Term<A>, A>> {
-    match fields(term) {
-        Some([count, constant]) => repeated(heap, number(count)?, constant),
-        _ => copy_all(heap, elements(term)?).ok(),
-    }
-}
-
-/// The parts of code that a term says.
-pub fn parts_of<A: Allocator + Copy>(heap: A, term: &Term<A>) -> Option<Parts<A>> {
-    let [code, slots, fixed, listed, framed] = fields(term)? else {
-        return None;
-    };
-    if !is_atom(code, "code") {
-        return None;
-    }
-    let slots = short(slots)?;
-    let instructions = instructions(heap, listed)?;
-    let constants = constants(heap, fixed)?;
-    Some(Parts {
-        slots,
-        constants,
-        instructions,
-        frames: frames(heap, framed)?,
-    })
 }
 
 /// Why a part was not taken, which has to be as it was given.
@@ -191,6 +138,44 @@ fn add_frames<A: Allocator>(
     Ok(())
 }
 
+/// Adds the instructions and the frames of the newest body.
+fn add_body<A: Allocator>(
+    builder: &mut Builder<A>,
+    given: BodyParts<A>,
+    wanted: &BodyParts<A>,
+) -> Result<(), Stop> {
+    add_instructions(builder, given.instructions.as_slice())?;
+    add_frames(builder, given.frames, wanted.frames.as_slice())
+}
+
+/// Adds a routine, whose number is one above its place, as the main body has the first.
+fn add_routine<A: Allocator + Copy>(
+    builder: &mut Builder<A>,
+    place: usize,
+    given: RoutineParts<A>,
+    wanted: &[RoutineParts<A>],
+) -> Result<(), Stop> {
+    let Some(wanted) = wanted.get(place) else {
+        return Err(Stop::Wrong);
+    };
+    match builder.routine(given.arguments, given.gives, given.body.slots) {
+        Ok(number) => check_number(number, place.saturating_add(1))?,
+        Err(fault) => return Err(stop_at(Part::Routine, fault, true)),
+    }
+    add_body(builder, given.body, &wanted.body)
+}
+
+fn add_routines<A: Allocator + Copy>(
+    builder: &mut Builder<A>,
+    given: Vec<RoutineParts<A>, A>,
+    wanted: &[RoutineParts<A>],
+) -> Result<(), Stop> {
+    for (place, routine) in given.into_iter().enumerate() {
+        add_routine(builder, place, routine, wanted)?;
+    }
+    Ok(())
+}
+
 /// Whether these constants are the first of those.
 fn are_first_constants<A: Allocator>(constants: &[Term<A>], wanted: &[Term<A>]) -> bool {
     for place in 0..constants.len() {
@@ -211,38 +196,106 @@ fn are_first_frames<A: Allocator>(frames: &[Frame<A>], wanted: &[Frame<A>]) -> b
     true
 }
 
-/// Whether code has the first of these constants, instructions and frames, and the slots.
-fn is_front<A: Allocator>(code: &Code<A>, parts: &Parts<A>) -> bool {
-    code.slots() == parts.slots
-        && are_first_constants(code.constants(), parts.constants.as_slice())
+/// Whether a body has the slots, and the first of these instructions and frames.
+fn is_body_front<A: Allocator>(body: &Body<'_, A>, parts: &BodyParts<A>) -> bool {
+    body.slots() == parts.slots
         && parts
             .instructions
             .as_slice()
-            .starts_with(code.instructions())
-        && are_first_frames(code.frames(), parts.frames.as_slice())
+            .starts_with(body.instructions())
+        && are_first_frames(body.frames(), parts.frames.as_slice())
+}
+
+/// Whether a body has as many instructions and frames as these are.
+fn is_body_whole<A: Allocator>(body: &Body<'_, A>, parts: &BodyParts<A>) -> bool {
+    body.instructions().len() == parts.instructions.len()
+        && body.frames().len() == parts.frames.len()
+}
+
+/// Whether a body is a routine of this signature.
+fn is_of<A: Allocator>(body: &Body<'_, A>, parts: &RoutineParts<A>) -> bool {
+    match body.own_routine() {
+        Some(routine) => {
+            routine.gives() == parts.gives && routine.arguments() == parts.arguments.as_slice()
+        }
+        None => false,
+    }
+}
+
+/// The body of code at a place, where there is one: the main body stands at 0.
+pub(crate) fn body_at<A: Allocator>(code: &Code<A>, place: usize) -> Option<Body<'_, A>> {
+    if place > code.routines().len() {
+        return None;
+    }
+    Some(Body::of(code, u16::try_from(place).ok()?))
+}
+
+/// Whether the routine at a place of code has its signature and the first of these parts, or all of them.
+fn has_routine<A: Allocator>(
+    code: &Code<A>,
+    place: usize,
+    wanted: &[RoutineParts<A>],
+    is_whole: bool,
+) -> bool {
+    let (Some(parts), Some(body)) = (wanted.get(place), body_at(code, place.saturating_add(1)))
+    else {
+        return false;
+    };
+    is_of(&body, parts)
+        && is_body_front(&body, &parts.body)
+        && (!is_whole || is_body_whole(&body, &parts.body))
+}
+
+/// Whether code has the first of these routines, of which the last may have the first of its parts alone.
+fn are_first_routines<A: Allocator>(code: &Code<A>, wanted: &[RoutineParts<A>]) -> bool {
+    let count = code.routines().len();
+    for place in 0..count {
+        if !has_routine(code, place, wanted, place.saturating_add(1) < count) {
+            return false;
+        }
+    }
+    true
+}
+
+/// Whether code has the first of these parts, those of the main body before those of routines.
+fn is_front<A: Allocator>(code: &Code<A>, parts: &Parts<A>) -> bool {
+    let main = Body::of(code, 0);
+    are_first_constants(code.constants(), parts.constants.as_slice())
+        && is_body_front(&main, &parts.main)
+        && (code.routines().is_empty() || is_body_whole(&main, &parts.main))
+        && are_first_routines(code, parts.routines.as_slice())
+}
+
+/// Whether the last body of code has as many parts as these.
+fn is_last_whole<A: Allocator>(code: &Code<A>, parts: &Parts<A>) -> bool {
+    match (parts.routines.last(), body_at(code, parts.routines.len())) {
+        (Some(last), Some(body)) => is_body_whole(&body, &last.body),
+        (None, Some(body)) => is_body_whole(&body, &parts.main),
+        _ => false,
+    }
 }
 
 /// Whether code has these parts.
 pub fn is_code<A: Allocator>(code: &Code<A>, parts: &Parts<A>) -> bool {
     is_front(code, parts)
         && code.constants().len() == parts.constants.len()
-        && code.instructions().len() == parts.instructions.len()
-        && code.frames().len() == parts.frames.len()
+        && code.routines().len() == parts.routines.len()
+        && is_last_whole(code, parts)
 }
 
-fn add_all<A: Allocator>(
+fn add_all<A: Allocator + Copy>(
     builder: &mut Builder<A>,
     given: Parts<A>,
     wanted: &Parts<A>,
 ) -> Result<(), Stop> {
     add_constants(builder, given.constants, wanted.constants.as_slice())?;
-    add_instructions(builder, given.instructions.as_slice())?;
-    add_frames(builder, given.frames, wanted.frames.as_slice())
+    add_body(builder, given.main, &wanted.main)?;
+    add_routines(builder, given.routines, wanted.routines.as_slice())
 }
 
 /// Gives parts to a builder; the same once more are what has to be there in the end.
 pub fn build<A: Allocator + Copy>(heap: A, given: Parts<A>, wanted: &Parts<A>) -> Built<A> {
-    let mut builder = match Builder::new(heap, given.slots) {
+    let mut builder = match Builder::new(heap, given.main.slots) {
         Ok(builder) => builder,
         Err(fault) => return Built::NoSlots(fault.number()),
     };

@@ -28,7 +28,7 @@ fn named<A: Allocator>(kinds: &[(&str, Kind)], term: &Term<A>) -> Option<Kind> {
 }
 
 /// The kind that a term says.
-fn kind<A: Allocator>(term: &Term<A>) -> Option<Kind> {
+pub(crate) fn kind<A: Allocator>(term: &Term<A>) -> Option<Kind> {
     match fields(term) {
         Some([tuple, size]) if is_atom(tuple, "tuple") => Some(Kind::Tuple(short(size)?)),
         _ => named(&KINDS, term),

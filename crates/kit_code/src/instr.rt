@@ -2,8 +2,8 @@
 //!
 //! An instruction without operands is an atom, `load`; one with operands a tuple, `{tuple,2,4}`, `{call,hd,1,5}`,
 //! `{arith,'+',7}`: its name, what it needs, and where it jumps to. In a list of instructions `{Count,[Instruction]}`
-//! stands for so many times the same.
-use kit_rows::{arithmetic, elements, fields, function, name, number, short};
+//! stands for so many times the same, and `{invoke,next,3}` invokes the routine behind the body that it stands in.
+use kit_rows::{arithmetic, elements, fields, function, is_atom, name, number, short};
 use mcode::Instr;
 use std::alloc::Allocator;
 use term_core::Term;
@@ -91,28 +91,37 @@ fn call<A: Allocator>(named: &Term<A>, arguments: u16, otherwise: u16) -> Option
     })
 }
 
-/// The instruction of a name and operands. The last of several says where it jumps to.
-fn with_operands<A: Allocator>(name: &str, operands: &[Term<A>]) -> Option<Instr> {
+/// The instruction that invokes the routine behind the body of this number.
+fn invoke_next(own: u16, otherwise: u16) -> Option<Instr> {
+    Some(Instr::Invoke {
+        routine: own.checked_add(1)?,
+        otherwise,
+    })
+}
+
+/// The instruction of a name and operands, in the body of this number. The last of several says where it jumps to.
+fn with_operands<A: Allocator>(name: &str, own: u16, operands: &[Term<A>]) -> Option<Instr> {
     let last = short(operands.last()?)?;
     match operands {
         [_] => with_one(name, last),
         [named, _] if name == "arith" => arith(named, last),
+        [named, _] if name == "invoke" && is_atom(named, "next") => invoke_next(own, last),
         [operand, _] => with_two(name, short(operand)?, last),
         [named, arguments, _] if name == "call" => call(named, short(arguments)?, last),
         _ => None,
     }
 }
 
-/// The instruction that a tuple of a name and operands says.
-fn of_fields<A: Allocator + Copy>(heap: A, fields: &[Term<A>]) -> Option<Instr> {
+/// The instruction that a tuple of a name and operands says, in the body of this number.
+fn of_fields<A: Allocator + Copy>(heap: A, own: u16, fields: &[Term<A>]) -> Option<Instr> {
     let (first, operands) = fields.split_first()?;
-    with_operands(name(heap, first)?.as_str(), operands)
+    with_operands(name(heap, first)?.as_str(), own, operands)
 }
 
-/// The instruction that a term says.
-pub fn instruction<A: Allocator + Copy>(heap: A, term: &Term<A>) -> Option<Instr> {
+/// The instruction that a term says, in the body of this number.
+pub fn instruction<A: Allocator + Copy>(heap: A, own: u16, term: &Term<A>) -> Option<Instr> {
     match fields(term) {
-        Some(fields) => of_fields(heap, fields),
+        Some(fields) => of_fields(heap, own, fields),
         None => bare(name(heap, term)?.as_str()),
     }
 }
@@ -120,11 +129,12 @@ pub fn instruction<A: Allocator + Copy>(heap: A, term: &Term<A>) -> Option<Instr
 /// Adds each of these instructions.
 fn push_all<A: Allocator + Copy>(
     heap: A,
+    own: u16,
     out: &mut Vec<Instr, A>,
     terms: &[Term<A>],
 ) -> Option<()> {
     for term in terms {
-        out.push(instruction(heap, term)?).ok()?;
+        out.push(instruction(heap, own, term)?).ok()?;
     }
     Some(())
 }
@@ -132,12 +142,13 @@ fn push_all<A: Allocator + Copy>(
 /// Adds these instructions so many times.
 fn push_repeated<A: Allocator + Copy>(
     heap: A,
+    own: u16,
     out: &mut Vec<Instr, A>,
     count: u32,
     unit: &Term<A>,
 ) -> Option<()> {
     let mut instructions = Vec::new(heap);
-    push_all(heap, &mut instructions, elements(unit)?)?;
+    push_all(heap, own, &mut instructions, elements(unit)?)?;
     for _ in 0..count {
         out.extend_from_slice(instructions.as_slice()).ok()?;
     }
@@ -147,22 +158,27 @@ fn push_repeated<A: Allocator + Copy>(
 /// Adds what a member of a list of instructions says.
 fn push_member<A: Allocator + Copy>(
     heap: A,
+    own: u16,
     out: &mut Vec<Instr, A>,
     member: &Term<A>,
 ) -> Option<()> {
     if let Some([count, unit]) = fields(member)
         && let Some(count) = number(count)
     {
-        return push_repeated(heap, out, count, unit);
+        return push_repeated(heap, own, out, count, unit);
     }
-    out.push(instruction(heap, member)?).ok()
+    out.push(instruction(heap, own, member)?).ok()
 }
 
-/// The instructions that a list says.
-pub fn instructions<A: Allocator + Copy>(heap: A, list: &Term<A>) -> Option<Vec<Instr, A>> {
+/// The instructions that a list says, in the body of this number.
+pub(crate) fn instructions<A: Allocator + Copy>(
+    heap: A,
+    own: u16,
+    list: &Term<A>,
+) -> Option<Vec<Instr, A>> {
     let mut out = Vec::new(heap);
     for member in elements(list)? {
-        push_member(heap, &mut out, member)?;
+        push_member(heap, own, &mut out, member)?;
     }
     Some(out)
 }

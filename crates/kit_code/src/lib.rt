@@ -3,7 +3,8 @@
 //! A program says what terms it takes for code (`CodeTerms`). What is read from a row is generic in the allocator, so
 //! that a test may refuse memory meanwhile.
 //!
-//! - `instr`: instructions; `frame`: frames; `code`: code of its parts, given to a builder.
+//! - `instr`: instructions; `frame`: frames; `parts`: the parts of code, with its routines; `code`: code that a builder
+//!   makes of them.
 //! - `codes`: the verified code of a term.
 //! - `runs`: what it answers on objects; `loads`: the same of the code of a text and an object behind it.
 //! - `meanings`: what a specification answers, and whether its code answers that.
@@ -15,11 +16,13 @@ mod frame;
 mod instr;
 mod loads;
 mod meanings;
+mod parts;
 mod runs;
 
-pub use code::{Built, Part, Parts, build, code_of, is_code, parts_of};
+pub use code::{Built, Part, build, code_of, is_code};
 pub use codes::{CodeTerms, accepted};
-pub use instr::{instruction, instructions};
+pub use instr::instruction;
 pub use loads::{is_loaded, run_outcome};
 pub use meanings::{agrees, answers_of, answers_of_text};
-pub use runs::came;
+pub use parts::{BodyParts, Parts, RoutineParts, parts_of};
+pub use runs::{came, ran_each};

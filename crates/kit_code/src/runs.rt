@@ -67,7 +67,7 @@ fn with_ran_by<'a>(
 }
 
 /// The answers of one machine on these objects, one after the other.
-fn ran_each(alloc: Global, code: &Verified, objects: &[Term]) -> Option<Vec<u8>> {
+pub fn ran_each(alloc: Global, code: &Verified, objects: &[Term]) -> Option<Vec<u8>> {
     let mut machine = Machine::new(&alloc, code).ok()?;
     let mut out = Outcome::list(alloc);
     for object in objects {

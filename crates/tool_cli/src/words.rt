@@ -86,7 +86,8 @@ const COMPILE_ABOUT: &str = "Reads a specification and writes its code file";
 const COMPILE_EXAMPLE: &str = "\
 Reads from standard input, as term text: one match specification and a dot.
 Writes to standard output: its code file as a binary, a dot and a line feed,
-which `verify` and `run` read. Where the input is refused nothing is written.
+which `verify` and `run` read: of version 1, since its code has no routines.
+Where the input is refused nothing is written.
 
 Example:
   printf \"[{'_',[],[true]}].\" | ets_tool compile
@@ -96,10 +97,12 @@ writes
 const VERIFY_ABOUT: &str = "Reads a code file and writes what it takes";
 
 const VERIFY_EXAMPLE: &str = "\
-Reads from standard input, as term text: one code file as a binary and a dot.
+Reads from standard input, as term text: one code file as a binary and a dot,
+of version 1, or of version 2, which has routines.
 Writes to standard output, where the file is code that can be run, {ok,B,D}.
 with B the most instructions that a run executes and D the greatest depth of
-its stack. Where the input is refused nothing is written.
+its stack, with those of routines. Where the input is refused nothing is
+written.
 
 Example:
   printf \"[{'_',[],[true]}].\" | ets_tool compile | ets_tool verify

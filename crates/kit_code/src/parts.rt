@@ -1,0 +1,223 @@
+//! Code in a row: `{code,Slots,[Constant],[Instruction],[Frame]}`, and with routines
+//! `{code,Slots,[Constant],[Instruction],[Frame],[Routine]}`, where `{Count,Constant}` in place of the list of constants
+//! stands for so many of one.
+//!
+//! A routine is `{routine,[Kind],Kind,Slots,[Instruction],[Frame]}`: the kinds of its arguments, of which the first is
+//! the lowest, and of what it gives, and then its own parts. Among kinds `{Count,Kind}` stands for so many of one, among
+//! routines `{Count,[Routine]}` for so many times the same.
+use crate::frame::{frames, kind};
+use crate::instr::instructions;
+use kit_rows::{elements, fields, is_atom, number, put_copy, short};
+use mcode::{Frame, Instr, Kind};
+use std::alloc::Allocator;
+use term_build::copy_all;
+use term_core::Term;
+
+/// How many fields a term has that says code without routines.
+const FIELDS: usize = 5;
+
+/// The parts of a body.
+#[derive(Drop)]
+pub struct BodyParts<A: Allocator> {
+    /// How many slots there are.
+    pub slots: u16,
+    /// The instructions.
+    pub instructions: Vec<Instr, A>,
+    /// The frames.
+    pub frames: Vec<Frame<A>, A>,
+}
+
+/// The parts of a routine.
+#[derive(Drop)]
+pub struct RoutineParts<A: Allocator> {
+    /// The kinds of the arguments, the lowest first.
+    pub arguments: Vec<Kind, A>,
+    /// The kind of what the routine gives.
+    pub gives: Kind,
+    /// Its own parts.
+    pub body: BodyParts<A>,
+}
+
+/// The parts of code.
+#[derive(Drop)]
+pub struct Parts<A: Allocator> {
+    /// The constants.
+    pub constants: Vec<Term<A>, A>,
+    /// Those of the main body.
+    pub main: BodyParts<A>,
+    /// Those of the routines.
+    pub routines: Vec<RoutineParts<A>, A>,
+}
+
+/// So many times a constant.
+fn repeated<A: Allocator + Copy>(
+    heap: A,
+    count: u32,
+    constant: &Term<A>,
+) -> Option<Vec<Term<A>, A>> {
+    let mut out = Vec::new(heap);
+    let mut is_whole = true;
+    for _ in 0..count {
+        is_whole = put_copy(&mut out, constant) && is_whole;
+    }
+    if is_whole { Some(out) } else { None }
+}
+
+/// The constants that a term says.
+fn constants<A: Allocator + Copy>(heap: A, term: &Term<A>) -> Option<Vec<Term<A>, A>> {
+    match fields(term) {
+        Some([count, constant]) => repeated(heap, number(count)?, constant),
+        _ => copy_all(heap, elements(term)?).ok(),
+    }
+}
+
+/// The body of a number that these terms say.
+fn body<A: Allocator + Copy>(
+    heap: A,
+    own: u16,
+    slots: &Term<A>,
+    listed: &Term<A>,
+    framed: &Term<A>,
+) -> Option<BodyParts<A>> {
+    let slots = short(slots)?;
+    let instructions = instructions(heap, own, listed)?;
+    Some(BodyParts {
+        slots,
+        instructions,
+        frames: frames(heap, framed)?,
+    })
+}
+
+/// Adds so many kinds.
+fn push_repeated_kind<A: Allocator>(
+    out: &mut Vec<Kind, A>,
+    count: u32,
+    repeated: Kind,
+) -> Option<()> {
+    for _ in 0..count {
+        out.push(repeated).ok()?;
+    }
+    Some(())
+}
+
+/// Adds what a member of a list of kinds says.
+fn push_kind<A: Allocator>(out: &mut Vec<Kind, A>, member: &Term<A>) -> Option<()> {
+    if let Some([count, unit]) = fields(member)
+        && let Some(count) = number(count)
+    {
+        return push_repeated_kind(out, count, kind(unit)?);
+    }
+    out.push(kind(member)?).ok()
+}
+
+/// The kinds that a list says.
+fn kinds<A: Allocator + Copy>(heap: A, list: &Term<A>) -> Option<Vec<Kind, A>> {
+    let mut out = Vec::new(heap);
+    for member in elements(list)? {
+        push_kind(&mut out, member)?;
+    }
+    Some(out)
+}
+
+/// The routine of a number that these fields say.
+fn routine<A: Allocator + Copy>(heap: A, own: u16, said: &[Term<A>]) -> Option<RoutineParts<A>> {
+    let [word, arguments, gives, slots, listed, framed] = said else {
+        return None;
+    };
+    if !is_atom(word, "routine") {
+        return None;
+    }
+    let gives = kind(gives)?;
+    let arguments = kinds(heap, arguments)?;
+    Some(RoutineParts {
+        arguments,
+        gives,
+        body: body(heap, own, slots, listed, framed)?,
+    })
+}
+
+/// Adds the routine that these fields say.
+fn push_routine<A: Allocator + Copy>(
+    heap: A,
+    out: &mut Vec<RoutineParts<A>, A>,
+    said: &[Term<A>],
+) -> Option<()> {
+    let own = u16::try_from(out.len().checked_add(1)?).ok()?;
+    out.push(routine(heap, own, said)?).ok()
+}
+
+/// Adds each of these routines.
+fn push_each<A: Allocator + Copy>(
+    heap: A,
+    out: &mut Vec<RoutineParts<A>, A>,
+    terms: &[Term<A>],
+) -> Option<()> {
+    for term in terms {
+        push_routine(heap, out, fields(term)?)?;
+    }
+    Some(())
+}
+
+/// Adds these routines so many times.
+fn push_repeated<A: Allocator + Copy>(
+    heap: A,
+    out: &mut Vec<RoutineParts<A>, A>,
+    count: u32,
+    terms: &[Term<A>],
+) -> Option<()> {
+    for _ in 0..count {
+        push_each(heap, out, terms)?;
+    }
+    Some(())
+}
+
+/// Adds what a member of a list of routines says.
+fn push_member<A: Allocator + Copy>(
+    heap: A,
+    out: &mut Vec<RoutineParts<A>, A>,
+    member: &[Term<A>],
+) -> Option<()> {
+    match member {
+        [count, units] => push_repeated(heap, out, number(count)?, elements(units)?),
+        _ => push_routine(heap, out, member),
+    }
+}
+
+/// The routines that these terms say.
+fn routines<A: Allocator + Copy>(heap: A, members: &[Term<A>]) -> Option<Vec<RoutineParts<A>, A>> {
+    let mut out = Vec::new(heap);
+    for member in members {
+        push_member(heap, &mut out, fields(member)?)?;
+    }
+    Some(out)
+}
+
+/// The parts of code that these fields say, with these routines.
+fn parts_with<A: Allocator + Copy>(
+    heap: A,
+    said: &[Term<A>],
+    routines: Vec<RoutineParts<A>, A>,
+) -> Option<Parts<A>> {
+    let [code, slots, fixed, listed, framed] = said else {
+        return None;
+    };
+    if !is_atom(code, "code") {
+        return None;
+    }
+    let main = body(heap, 0, slots, listed, framed)?;
+    Some(Parts {
+        constants: constants(heap, fixed)?,
+        main,
+        routines,
+    })
+}
+
+/// The parts of code that a term says.
+pub fn parts_of<A: Allocator + Copy>(heap: A, term: &Term<A>) -> Option<Parts<A>> {
+    let said = fields(term)?;
+    if said.len() == FIELDS {
+        return parts_with(heap, said, Vec::new(heap));
+    }
+    let (members, front) = said.split_last()?;
+    parts_with(heap, front, routines(heap, elements(members)?)?)
+}
