@@ -5,7 +5,7 @@ use Rattle.std.proofs.Common.{arith, refl, sym, ap, subst, ◌∙◌, inl, inr, 
 use Rattle.std.proofs.lemmas.Bool.{cases_lt}
 use Rattle.std.proofs.lemmas.List.{take_more, take_all, length-append, length-set, length-replicate, get_or_past, get_or-replicate, get_or-set_same, get_or-set_other}
 use Rattle.std.proofs.lemmas.List.Elements.{All-append}
-use Rattle.std.proofs.lemmas.Option.{slice_get-get_or, slice_get_within}
+use Rattle.std.proofs.lemmas.Option.{get_or_from_slice_get, slice_get-get_or, slice_get_within}
 use Rattle.budget.specs.Paths.{IsForward, IsBodyBudget, most_budget}
 use Rattle.budget.proofs.BodyLemmas.{AgreeBehind, ForwardFrom, budgets_none, budgets_more, few_more}
 use Rattle.mcode.specs.Program.{Program, Frame, IsProgram, body_of}
@@ -235,3 +235,10 @@ tables_more p b tables table inside are here = record {
         (table, slice_get-last tables table n last, subst (λ e. IsTable (body_of p e) table) same here)
   ];
 }
+
+-- that of a routine
+pub table_at : (p : Program) (tables : List Table) (b n : ℕ) (t : Table) → AreTables p 1 tables → 0 < b → b + n ≡ length p.around.routines → t ≡ get_or tables n t → IsTable (body_of p b) t
+table_at p tables b n t are some sum is =
+    let there = are.each b n (omega (arith, some)) sum in
+    let same : t ≡ there.0 = is ∙ get_or_from_slice_get tables n there.0 t there.1 in
+    rw same there.2
