@@ -1,5 +1,5 @@
 -- Budgets of all bodies: the pass from the last body to the first, and that there is one of each.
-use Rattle.std.proofs.Common.{◌≡◌, ◌≢◌, ℕ, zero, suc, ◌+◌, ◌-◌, ◌<◌, ◌≤◌, List, [], ◌∷◌, length, set, slice_get, slice_index, Option, Some, None, refl, sym, ◌∙◌, ap, ap₂, arith, get_or, inl, inr}
+use Rattle.std.proofs.Common.{◌≡◌, ◌≢◌, ℕ, zero, suc, ◌+◌, ◌-◌, ◌<◌, ◌≤◌, List, [], ◌∷◌, length, replicate, set, slice_get, slice_index, Option, Some, None, refl, sym, ◌∙◌, ap, ap₂, arith, get_or, inl, inr}
 use Rattle.std.proofs.lemmas.List.{get_or_past, length-set, get_or-set_same, get_or-set_other}
 use Rattle.std.proofs.lemmas.Option.{slice_get-get_or, slice_get_within}
 use Rattle.mcode.specs.Program.{Program, body_of}
@@ -83,6 +83,12 @@ budgets_more p budgets b n forward inside are here = record {
         budget_agrees (body_of p c) budgets (set budgets b n) m
         (λ d behind. let other : d ≢ b = omega (arith, behind, from, least_number_of_body p c) in sym (get_or-set_other budgets b d n 0 other))
         (forward c from within) budget
+
+-- before the pass each is 0
+pub few_none : (n b : ℕ) → slice_index (replicate n 0) b ≤ most_budget
+few_none zero b = omega arith
+few_none (suc n) zero = omega arith
+few_none (suc n) (suc b) = few_none n b
 
 -- budgets within the limit, with one more
 pub few_more : (budgets : List ℕ) (b n : ℕ) → b < length budgets → ((c : ℕ) → slice_index budgets c ≤ most_budget) → n ≤ most_budget → (c : ℕ) → slice_index (set budgets b n) c ≤ most_budget

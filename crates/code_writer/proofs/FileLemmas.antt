@@ -1,6 +1,6 @@
 -- Code files: what is spelled fits its formats, and no file spells two programs.
 use Rattle.std.specs.List.{AllByRecursion, flat_map}
-use Rattle.std.proofs.Common.{◌≡◌, ℕ, zero, suc, ◌+◌, ◌-◌, ◌<◌, ◌≤◌, ◌^◌, List, [], ◌∷◌, ◌++◌, length, get_or, All, refl, sym, ap, subst, ◌∙◌, append_assoc, arith}
+use Rattle.std.proofs.Common.{◌≡◌, ℕ, zero, suc, ◌+◌, ◌-◌, ◌<◌, ◌≤◌, ◌^◌, List, [], ◌∷◌, ◌++◌, length, get_or, All, refl, sym, ap, ◌∙◌, append_assoc, arith}
 use Rattle.std.proofs.lemmas.List.{append-nil}
 use Rattle.std.proofs.lemmas.List.Elements.{All-from_recursion, recursion_from_All}
 use Rattle.term_core.specs.Datum.{Datum}
@@ -13,7 +13,7 @@ use Rattle.mcode.specs.declared.instr.Instr.TheVariants as instr
 use Rattle.mcode.proofs.BuildLemmas.{body_whole}
 use Rattle.code_writer.specs.Spelling.{u16_bytes, constants_bytes, instructions_bytes, frames_bytes, body_bytes, routine_bytes}
 use Rattle.code_writer.specs.File.{IsU8, HoldsArguments, HoldsPlace, HoldsFrame, HoldsSize, HoldsRoutine, HasFile, IsUpTo, IsFileOf, Spells, magic, version, routine_version, plain_opcode, most_opcode, file_of, file_bytes}
-use Rattle.code_writer.specs.Format.{Format, Begins, both, counted, rows}
+use Rattle.code_writer.specs.Format.{Begins, both, counted, rows}
 use Rattle.code_writer.specs.Formats.{u16_format, constant_format, instruction_format, place_format, frame_format, constants_format, instructions_format, frames_format, parts_format, slot_count_format, body_format, body_parts, any_kind_format, argument_count_format, arguments_format, signature_format, routine_format, routine_parts, body_count_format, bodies_format, plain_format, plain_parts, code_format, code_parts}
 use Rattle.code_writer.specs.Laws.{OneCode, ReadBack}
 use Rattle.code_writer.proofs.FormatLemmas.{IsPrefixFree, both_prefix_free, both_first, both_rest, such_prefix_free, counted_prefix_free, through_prefix_free, rows_prefix_free}

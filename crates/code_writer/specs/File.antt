@@ -2,7 +2,7 @@
 use Rattle.std.specs.Prelude.{ℕ, ◌≡◌, ◌<◌, ◌^◌, List, [], ◌∷◌, ◌++◌, suc, length, slice_index_or, ◌≤◌, All}
 use Rattle.std.specs.List.{flat_map}
 use Rattle.term_core.specs.Limits.{IsTerm}
-use Rattle.mcode.specs.Program.{Program, Body, Routine, Frame, IsWhole, seen_body}
+use Rattle.mcode.specs.Program.{Program, Routine, Frame, IsWhole, seen_body}
 use Rattle.mcode.specs.declared.kind.Kind.{Kind}
 use Rattle.mcode.specs.declared.kind.Kind.TheVariants as kind
 use Rattle.mcode.specs.declared.instr.Instr.{Instr}

@@ -1,10 +1,20 @@
-use Rattle.std.proofs.Common.{arith, ap, length, ◌≡◌, ◌≤◌, ◌+◌, ◌-◌, slice_index}
-use Rattle.budget.proofs.BodyLemmas.{budgets_more, few_more, over_here}
+use Rattle.std.proofs.lemmas.List.{length-replicate}
+use Rattle.std.proofs.Common.{rules, ℕ, replicate, arith, ap, length, ◌≡◌, ◌≤◌, ◌+◌, ◌-◌, slice_index}
+use Rattle.budget.proofs.BodyLemmas.{budgets_none, budgets_more, few_none, few_more, over_here}
 use Rattle.budget.proofs.paths.longest.Goals as goal
 
 pub budget_at-requires-clause-forward : goal.budget_at-requires-clause-forward
 budget_at-requires-clause-forward g c =
     c.requires (c.loop-number.number - 1) (omega (arith, c.loop-number-test.true, c.loop-number.auto.number, c.in_ok-budgets.ensures.len, ap length c.routines.ensures.value))
+
+pub loop-number-init : goal.loop-number-init
+loop-number-init g c =
+    let zeros : c.in_ok-budgets.budgets.items ≡ replicate (length c.routines.result.now + 1) 0 = search rules in (
+      budgets_none c.args.code.now c.in_ok-budgets.budgets.items c.len-number.result
+      (omega (arith, ap length zeros, length-replicate {A = ℕ} (length c.routines.result.now + 1) 0, ap length c.routines.ensures.value))
+      (omega (arith, c.len-number.ensures, c.in_ok-budgets.ensures.len, ap length c.routines.ensures.value)),
+      λ b. rw zeros (few_none (length c.routines.result.now + 1) b),
+    )
 
 pub loop-number-preserved : goal.loop-number-preserved
 loop-number-preserved g c =

@@ -1,4 +1,4 @@
-use Rattle.std.proofs.Common.{◌≡◌, ◌<◌, List, [], ◌∷◌, All, length, arith, refl, subst, ◌∙◌, sym}
+use Rattle.std.proofs.Common.{All, arith, subst, ◌∙◌, sym}
 use Rattle.term_core.specs.Limits.{IsTerm}
 use Rattle.code_writer.specs.File.{HoldsArguments, HoldsFrame, HoldsRoutine}
 use Rattle.code_writer.proofs.FileLemmas.{code_written, some_left}
