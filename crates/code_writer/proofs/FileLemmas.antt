@@ -166,12 +166,12 @@ routines_fit (t ∷ ts) h k = (routine_fits t h.0 k.0, routines_fit ts h.1 k.1)
 constants_fit : (bytes : List ℕ) (p : Program) → Spells bytes p → constants_format.Fits p.constants
 constants_fit bytes p h = (omega (arith, h.program.seen.constants), terms_fit p.constants (recursion_from_All IsTerm p.constants h.constants))
 
-plain_fits : (bytes : List ℕ) (p : Program) → Spells bytes p → p.around.routines ≡ [] → plain_format.Fits (plain_parts p)
+pub plain_fits : (bytes : List ℕ) (p : Program) → Spells bytes p → p.around.routines ≡ [] → plain_format.Fits (plain_parts p)
 plain_fits bytes p h none =
     let body = body_fits (seen_body p) (body_whole p h.program.seen) h.instructions h.frames plain_opcode (recursion_from_All (IsUpTo plain_opcode) p.instructions (h.file none)) in
     (body.0, (constants_fit bytes p h, body.1))
 
-code_fits : (bytes : List ℕ) (p : Program) (t : Routine) (ts : List Routine) → Spells bytes p → p.around.routines ≡ t ∷ ts → code_format.Fits (code_parts p)
+pub code_fits : (bytes : List ℕ) (p : Program) (t : Routine) (ts : List Routine) → Spells bytes p → p.around.routines ≡ t ∷ ts → code_format.Fits (code_parts p)
 code_fits bytes p t ts h some = (
   constants_fit bytes p h,
   (
@@ -185,7 +185,7 @@ code_fits bytes p t ts h some = (
 
 -- ---- files behind their magic
 
-abbrev drop_four : List ℕ → List ℕ
+abbrev pub drop_four : List ℕ → List ℕ
 drop_four (a ∷ b ∷ c ∷ d ∷ bs) = bs
 drop_four bs = bs
 
@@ -211,7 +211,7 @@ magic_first : (p : Program) (ts : List Routine) → file_of p ts ≡ magic ++ dr
 magic_first p [] = refl
 magic_first p (t ∷ ts) = refl
 
-behind_magic : (bytes : List ℕ) (p : Program) → Spells bytes p → bytes ≡ magic ++ drop_four bytes
+pub behind_magic : (bytes : List ℕ) (p : Program) → Spells bytes p → bytes ≡ magic ++ drop_four bytes
 behind_magic bytes p h =
     h.spelling ∙ magic_first p p.around.routines
     ∙ ap (λ (bs : List ℕ). magic ++ drop_four bs) (sym h.spelling)
