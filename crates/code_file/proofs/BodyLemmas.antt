@@ -1,54 +1,81 @@
 -- The parts of code that are read into a builder.
 use Rattle.std.specs.Prelude.{Option, Some, None, IfSome}
 use Rattle.std.specs.List.{AllByRecursion}
-use Rattle.std.proofs.Common.{◌≡◌, ℕ, ◌+◌, ◌<◌, List, [], ◌∷◌, ◌++◌, length, refl, sym, ap, subst, ◌∙◌, arith, inl, inr}
+use Rattle.std.proofs.Common.{◌≡◌, ℕ, ◌+◌, ◌<◌, ◌≤◌, List, [], ◌∷◌, ◌++◌, length, reverse, refl, sym, ap, subst, ◌∙◌, append_assoc, arith, inl, inr}
+use Rattle.std.proofs.lemmas.List.{append-nil, length-append, reverse-append, reverse-reverse}
 use Rattle.std.proofs.lemmas.List.Elements.{All-from_recursion}
 use Rattle.term_core.specs.Datum.{Datum}
 use Rattle.term_core.specs.Sizes.{depth_limit}
-use Rattle.mcode.specs.Program.{Program, Frame, Rise, frame_number, most_parts, IsTelling}
-use Rattle.mcode.specs.Building.{IsPartRefused, IsFrameRefused}
+use Rattle.mcode.specs.Program.{Program, Body, Frame, Rise, frame_number, most_parts, IsTelling, seen_body}
+use Rattle.mcode.specs.Building.{IsPartRefused, IsFrameRefused, empty_program, with_constant}
 use Rattle.mcode.specs.declared.fault.Fault.{Fault}
 use Rattle.mcode.specs.declared.fault.Fault.TheVariants as refusal
 use Rattle.mcode.specs.declared.kind.Kind.{Kind}
 use Rattle.mcode.specs.declared.instr.Instr.{Instr}
 use Rattle.code_writer.specs.Format.{Format, Begins, BeginsNone, rows, such, both}
-use Rattle.code_writer.specs.Formats.{u16_format, constant_format, instruction_format, place_format, frame_format, frame_rest_format, constants_format, instructions_format, frames_format, body_format, body_of}
+use Rattle.code_writer.specs.Formats.{u16_format, constant_format, instruction_format, place_format, frame_format, frame_rest_format, instructions_format, frames_format, parts_format, slot_count_format, body_format, body_parts}
+use Rattle.code_writer.specs.File.{most_opcode}
 use Rattle.code_writer.proofs.NumberLemmas.{u16_free}
 use Rattle.code_writer.proofs.FrameLemmas.{frame_parts, frame_from, frame_free}
 use Rattle.code_writer.proofs.FormatLemmas.{both_first, both_rest, both_begins}
-use Rattle.code_writer.proofs.ConstantLemmas.{constant_free}
 use Rattle.code_writer.proofs.InstructionLemmas.{instruction_free}
-use Rattle.code_writer.proofs.FileLemmas.{constants_free, instructions_free}
+use Rattle.code_writer.proofs.FileLemmas.{instructions_free, slot_count_free}
 use Rattle.code_file.specs.declared.stop.FileCause.TheVariants as causes
 use Rattle.code_file.specs.declared.stop.FileStop.{FileStop}
 use Rattle.code_file.specs.Due.{Due}
-use Rattle.code_file.specs.Due.Item.{a_count, many, a_term, an_instruction, a_frame, a_depth}
-use Rattle.code_file.specs.Due.Row.{constants, instructions, frames}
+use Rattle.code_file.specs.Due.Item.{a_count, many, an_instruction, a_frame, a_depth, a_slot_count, a_body}
+use Rattle.code_file.specs.Due.Row.{constants, instructions, frames, terms}
 use Rattle.code_file.specs.Causes.{IsWrong}
 use Rattle.code_file.specs.Reads.{Blames, IsCut, IsRefuted, IsStop}
 use Rattle.code_file.proofs.RowLemmas.{IsRowSoFar, row_start, row_step, row_stop, plain_stop}
-use Rattle.code_file.proofs.StopLemmas.{stop_none, stop_due, stop_cut}
+use Rattle.code_file.proofs.StopLemmas.{stop_due, stop_cut, both_first_stop, both_rest_stop, through_stop}
 use Rattle.code_file.specs.Rising.{LastIs}
-use Rattle.code_file.specs.Parts.{with_frames, IsNextRead, with_instructions}
+use Rattle.code_file.specs.Parts.{with_constants, with_frames, IsNextRead, with_instructions, with_parts, IsMainRead}
 use Rattle.code_file.proofs.FrameLemmas.{frame_begins}
 use Rattle.code_file.proofs.RiseLemmas.{rise_above, above_last, rise_front}
 
 -- ---- rows that are read into a builder
 
-pub constants_stop : (bytes : List ℕ) (xs : List Datum) (rest : List ℕ) (i n : ℕ) (stop : FileStop) → IsRowSoFar (constant_format depth_limit) (λ _. Unit {0}) bytes xs rest i → i < n
-    → IsStop (constant_format depth_limit) rest (Blames (a_term depth_limit) rest) stop → IsStop (rows (constant_format depth_limit) n) bytes (Blames (many constants n) bytes) stop
-constants_stop bytes xs rest i n stop h fewer k =
-    plain_stop (constant_format depth_limit) (a_term depth_limit) (many constants n) (constant_free depth_limit) bytes xs rest i n stop h fewer (λ file due begun. Due.constant due begun fewer) k
+-- constants are terms
+pub constant_rows_stop : (bytes : List ℕ) (n : ℕ) (stop : FileStop) → IsStop (rows (constant_format depth_limit) n) bytes (Blames (many (terms depth_limit) n) bytes) stop → IsStop (rows (constant_format depth_limit) n) bytes (Blames (many constants n) bytes) stop
+constant_rows_stop bytes n stop h =
+    stop_due (rows (constant_format depth_limit) n) (rows (constant_format depth_limit) n) (many (terms depth_limit) n) (many constants n) bytes bytes stop (λ none. none) (λ file due. Due.constant due) h
 
-pub instructions_stop : (bytes : List ℕ) (xs : List Instr) (rest : List ℕ) (i n : ℕ) (stop : FileStop) → IsRowSoFar instruction_format (λ _. Unit {0}) bytes xs rest i → i < n
-    → IsStop instruction_format rest (Blames an_instruction rest) stop → IsStop (rows instruction_format n) bytes (Blames (many instructions n) bytes) stop
-instructions_stop bytes xs rest i n stop h fewer k =
-    plain_stop instruction_format an_instruction (many instructions n) instruction_free bytes xs rest i n stop h fewer (λ file due begun. Due.instruction due begun fewer) k
+pub instructions_stop : (most : ℕ) (bytes : List ℕ) (xs : List Instr) (rest : List ℕ) (i n : ℕ) (stop : FileStop) → IsRowSoFar (instruction_format most) (λ _. Unit {0}) bytes xs rest i → i < n
+    → IsStop (instruction_format most) rest (Blames (an_instruction most) rest) stop → IsStop (rows (instruction_format most) n) bytes (Blames (many (instructions most) n) bytes) stop
+instructions_stop most bytes xs rest i n stop h fewer k =
+    plain_stop (instruction_format most) (an_instruction most) (many (instructions most) n) (instruction_free most) bytes xs rest i n stop h fewer (λ file due begun. Due.instruction due begun fewer) k
 
 pub part_memory : (n : ℕ) (f : Fault) → n < most_parts → IsPartRefused n f → f ≡ refusal.Memory
 part_memory n refusal.Memory few h = refl
 part_memory n refusal.Limit few h = absurd (omega (arith, h))
 part_memory n refusal.FrameOrder few h = absurd h
+
+-- ---- constants that were read
+
+pub begun_with : (p : Program) (slots : ℕ) (ds left : List Datum) → p ≡ empty_program slots → left ≡ reverse ds → with_constants p (p.constants ++ reverse left) ≡ with_constants (empty_program slots) ds
+begun_with p slots ds left is turned =
+    ap (λ (x : Program). with_constants x (x.constants ++ reverse left)) is
+    ∙ ap (with_constants (empty_program slots)) (ap reverse turned ∙ reverse-reverse ds)
+
+last_first : (left rest : List Datum) (d : Datum) → left ≡ rest ++ d ∷ [] → reverse left ≡ d ∷ reverse rest
+last_first left rest d is = ap reverse is ∙ reverse-append rest (d ∷ [])
+
+pub one_begun : (old new : Program) (d : Datum) (left rest : List Datum) (wanted : Program) → new ≡ with_constant old d → left ≡ rest ++ d ∷ [] → with_constants old (old.constants ++ reverse left) ≡ wanted → with_constants new (new.constants ++ reverse rest) ≡ wanted
+one_begun old new d left rest wanted is last h =
+    ap (λ (x : Program). with_constants x (x.constants ++ reverse rest)) is
+    ∙ ap (with_constants old) (append_assoc old.constants (d ∷ []) (reverse rest) ∙ ap (λ ds. old.constants ++ ds) (sym (last_first left rest d last)))
+    ∙ h
+
+pub few_begun : (old wanted : Program) (left rest : List Datum) (d : Datum) → left ≡ rest ++ d ∷ [] → with_constants old (old.constants ++ reverse left) ≡ wanted → length wanted.constants ≤ most_parts → length old.constants < most_parts
+few_begun old wanted left rest d last h few =
+    let same : length (old.constants ++ reverse left) ≡ length wanted.constants = ap (λ (x : Program). length x.constants) h in
+    omega (arith, same, few, length-append old.constants (reverse left), ap length (last_first left rest d last))
+
+pub all_begun : (p wanted : Program) (left : List Datum) (n : ℕ) → n ≡ length left → n ≡ 0 → with_constants p (p.constants ++ reverse left) ≡ wanted → p ≡ wanted
+all_begun p wanted [] n long over h =
+    ap (with_constants p) (sym (append-nil p.constants)) ∙ h
+all_begun p wanted (d ∷ left) n long over h = absurd (omega (arith, long, over))
 
 -- ---- frames
 
@@ -131,31 +158,48 @@ frames_step start bytes old new rest n pc last r h k =
       last_is = (old.frames, k.frame, fs_is, k.pc_is);
     }
 
-pub body_begins : (bytes r t u : List ℕ) (old one two three : Program) → Begins constants_format bytes one.constants r → Begins instructions_format r two.instructions t → Begins frames_format t three.frames u
-    → two ≡ with_instructions one two.instructions → three ≡ with_frames two three.frames → Begins body_format bytes (body_of three) u
-body_begins bytes r t u old one two three h k l first second =
-    let is_same : two.instructions ≡ three.instructions = sym (ap (λ (p : Program). p.instructions) second) in
-    let ds_same : one.constants ≡ three.constants = sym (ap (λ (p : Program). p.constants) first) ∙ sym (ap (λ (p : Program). p.constants) second) in
-    let begun = both_begins constants_format (both instructions_format frames_format) bytes one.constants r (two.instructions, three.frames) u h (both_begins instructions_format frames_format r two.instructions t three.frames u k l) in
-    subst (λ (ds : List Datum). Begins body_format bytes (ds, (three.instructions, three.frames)) u) ds_same
-    (subst (λ (is : List Instr). Begins body_format bytes (one.constants, (is, three.frames)) u) is_same begun)
+-- ---- bodies
 
--- ---- what stops in a part
+pub parts_begin : (most : ℕ) (bytes r t : List ℕ) (old one two : Program) → Begins (instructions_format most) bytes one.instructions r → Begins frames_format r two.frames t
+    → one ≡ with_instructions old one.instructions → two ≡ with_frames one two.frames → Begins (parts_format most) bytes (two.instructions, two.frames) t × (two ≡ with_parts old two.instructions two.frames)
+parts_begin most bytes r t old one two h k first second =
+    let same : one.instructions ≡ two.instructions = sym (ap (λ (p : Program). p.instructions) second) in (
+      subst (λ (is : List Instr). Begins (parts_format most) bytes (is, two.frames) t) same (both_begins (instructions_format most) frames_format bytes one.instructions r two.frames t h k),
+      second ∙ ap (λ (p : Program). with_frames p two.frames) first
+      ∙ ap (λ (is : List Instr). with_parts old is two.frames) same,
+    )
 
-pub first_stop : (bytes : List ℕ) (stop : FileStop) → IsStop constants_format bytes (Blames (a_count constants) bytes) stop → IsStop body_format bytes (Blames (a_count constants) bytes) stop
-first_stop bytes stop h =
-    stop_none constants_format body_format bytes bytes (Blames (a_count constants) bytes) stop (λ none b s k. none b.0 ((both instructions_format frames_format).spell b.1 ++ s) (both_first constants_format (both instructions_format frames_format) bytes b s k)) h
+pub instructions_stop_parts : (most : ℕ) (bytes : List ℕ) (stop : FileStop) → IsStop (instructions_format most) bytes (Blames (a_count (instructions most)) bytes) stop → IsStop (parts_format most) bytes (Blames (a_count (instructions most)) bytes) stop
+instructions_stop_parts most bytes stop h =
+    both_first_stop (instructions_format most) frames_format (a_count (instructions most)) (a_count (instructions most)) bytes stop (λ file due. due) h
 
-behind_constants : (bytes : List ℕ) (ds : List Datum) (r : List ℕ) → Begins constants_format bytes ds r → BeginsNone (both instructions_format frames_format) r → BeginsNone body_format bytes
-behind_constants bytes ds r h none b s k = none b.1 s (both_rest constants_format (both instructions_format frames_format) constants_free bytes ds r b s h k).1
+pub frames_stop_parts : (most : ℕ) (bytes : List ℕ) (is : List Instr) (r : List ℕ) (stop : FileStop) → Begins (instructions_format most) bytes is r → IsStop frames_format r (Blames (a_count frames) r) stop → IsStop (parts_format most) bytes (Blames (a_count (instructions most)) bytes) stop
+frames_stop_parts most bytes is r stop h k =
+    both_rest_stop (instructions_format most) frames_format (a_count frames) (a_count (instructions most)) bytes is r stop (instructions_free most) h (λ file due. Due.behind_instructions due h) k
 
-pub second_stop : (bytes : List ℕ) (ds : List Datum) (r : List ℕ) (stop : FileStop) → Begins constants_format bytes ds r → IsStop instructions_format r (Blames (a_count instructions) r) stop → IsStop body_format bytes (Blames (a_count constants) bytes) stop
-second_stop bytes ds r stop h k =
-    stop_due instructions_format body_format (a_count instructions) (a_count constants) r bytes stop
-    (λ none. behind_constants bytes ds r h (λ p s l. none p.0 (frames_format.spell p.1 ++ s) (both_first instructions_format frames_format r p s l))) (λ file due. Due.behind_constants due h) k
+abbrev counted_parts : Format (ℕ × (List Instr × List Frame))
+counted_parts = both slot_count_format (parts_format most_opcode)
 
-pub third_stop : (bytes : List ℕ) (ds : List Datum) (r : List ℕ) (is : List Instr) (t : List ℕ) (stop : FileStop) → Begins constants_format bytes ds r → Begins instructions_format r is t → IsStop frames_format t (Blames (a_count frames) t) stop
-    → IsStop body_format bytes (Blames (a_count constants) bytes) stop
-third_stop bytes ds r is t stop h k l =
-    stop_due frames_format body_format (a_count frames) (a_count constants) t bytes stop
-    (λ none. behind_constants bytes ds r h (λ p s m. none p.1 s (both_rest instructions_format frames_format instructions_free r is t p s k m).1)) (λ file due. Due.behind_instructions (Due.behind_constants due h) k) l
+pub main_slots_stop : (bytes : List ℕ) (stop : FileStop) → IsStop slot_count_format bytes (Blames a_slot_count bytes) stop → IsStop body_format bytes (Blames a_body bytes) stop
+main_slots_stop bytes stop h =
+    through_stop body_parts counted_parts bytes (Blames a_body bytes) stop (both_first_stop slot_count_format (parts_format most_opcode) a_slot_count a_body bytes stop (λ file due. Due.body_slots due) h)
+
+pub main_parts_stop : (bytes : List ℕ) (n : ℕ) (r : List ℕ) (stop : FileStop) → Begins slot_count_format bytes n r → IsStop (parts_format most_opcode) r (Blames (a_count (instructions most_opcode)) r) stop → IsStop body_format bytes (Blames a_body bytes) stop
+main_parts_stop bytes n r stop h k =
+    through_stop body_parts counted_parts bytes (Blames a_body bytes) stop (both_rest_stop slot_count_format (parts_format most_opcode) (a_count (instructions most_opcode)) a_body bytes n r stop slot_count_free h (λ file due. Due.body_instructions due h) k)
+
+-- a body of these parts
+pub body_begins : (bytes : List ℕ) (b : Body) (r s : List ℕ) → Begins slot_count_format bytes b.slots r → Begins (parts_format most_opcode) r (b.instructions, b.frames) s → Begins body_format bytes b s
+body_begins bytes b r s h k =
+    let begun = both_begins slot_count_format (parts_format most_opcode) bytes b.slots r (b.instructions, b.frames) s h k in
+    record { fits = begun.fits; parts = begun.parts }
+
+pub main_read : (ds : List Datum) (bytes : List ℕ) (n : ℕ) (r s : List ℕ) (old new : Program) → Begins slot_count_format bytes n r → old ≡ with_constants (empty_program n) ds → Begins (parts_format most_opcode) r (new.instructions, new.frames) s
+    → new ≡ with_parts old new.instructions new.frames → IsMainRead ds new bytes s
+main_read ds bytes n r s old new h begun k is =
+    let new_is : new ≡ with_parts (with_constants (empty_program n) ds) new.instructions new.frames = is ∙ ap (λ p. with_parts p new.instructions new.frames) begun in
+    let slots : n ≡ new.slots = sym (ap (λ (p : Program). p.slots) new_is) in
+    record {
+      begins = body_begins bytes (seen_body new) r s (subst (λ m. Begins slot_count_format bytes m r) slots h) k;
+      new_is = new_is ∙ ap (λ m. with_parts (with_constants (empty_program m) ds) new.instructions new.frames) slots;
+    }

@@ -1,27 +1,24 @@
 -- The front of a code file, and its faults.
-use Rattle.std.proofs.Common.{◌≡◌, ◌≢◌, ℕ, ◌-◌, ◌<◌, List, [], ◌++◌, length, take, drop, refl, sym, ap, subst, ◌∙◌, arith}
+use Rattle.std.proofs.Common.{◌≡◌, ◌≢◌, ℕ, ◌-◌, ◌<◌, List, [], ◌++◌, length, take, drop, ◌∷◌, refl, sym, ap, ◌∙◌, append_assoc, arith}
 use Rattle.std.specs.Prelude.{min, Bool, true}
 use Rattle.std.specs.List.{starts_with}
 use Rattle.std.proofs.Math.Dec.{eqb}
 use Rattle.std.proofs.lemmas.Bool.Decides.{Decides-eqb}
 use Rattle.std.proofs.lemmas.Slice.Eq.{starts_is}
 use Rattle.std.proofs.lemmas.List.{append-nil, length-append, take_all}
-use Rattle.term_core.specs.Datum.{Datum}
-use Rattle.mcode.specs.Program.{Program, Frame}
-use Rattle.mcode.specs.declared.instr.Instr.{Instr}
+use Rattle.mcode.specs.Program.{Program, Routine}
 use Rattle.code_writer.specs.Spelling.{u16_bytes}
-use Rattle.code_writer.specs.File.{Spells, magic, version}
-use Rattle.code_writer.specs.Format.{Format, Begins, BeginsNone, both}
-use Rattle.code_writer.specs.Formats.{u16_format, body_format, body_of}
-use Rattle.code_writer.proofs.FormatLemmas.{both_first, both_rest}
-use Rattle.code_writer.proofs.NumberLemmas.{u16_free}
-use Rattle.code_writer.proofs.FileLemmas.{rest_begins}
+use Rattle.code_writer.specs.File.{Spells, magic, version, routine_version}
+use Rattle.code_writer.specs.Format.{Format, Begins, BeginsNone}
+use Rattle.code_writer.specs.Formats.{u16_format, plain_format, plain_parts, code_format, code_parts}
+use Rattle.code_writer.proofs.FormatLemmas.{both_first}
+use Rattle.code_writer.proofs.FileLemmas.{plain_begins, code_begins, IsOfVersion, of_version, behind_magic}
 use Rattle.code_file.specs.declared.stop.FileCause.{FileCause}
 use Rattle.code_file.specs.declared.stop.FileCause.TheVariants as causes
 use Rattle.code_file.specs.declared.stop.FileStop.{FileStop}
 use Rattle.code_file.specs.declared.stop.FileStop.TheVariants as stops
 use Rattle.code_file.specs.Due.{BeginsWith, Item, Due}
-use Rattle.code_file.specs.Due.Item.{a_version, a_slot_count}
+use Rattle.code_file.specs.Due.Item.{a_version}
 use Rattle.code_file.specs.Causes.{IsWrong, width}
 use Rattle.code_file.specs.Reads.{Blames, IsCut, IsStop}
 use Rattle.code_file.proofs.StopLemmas.{stop_cut}
@@ -65,42 +62,42 @@ magic_begins bytes front n r value so front_is n_is short =
 
 pub magic_short : (bytes : List ℕ) → BeginsWith (take 4 bytes) magic → length bytes < 4 → IsNoFile bytes (faults.Truncated (length bytes))
 magic_short bytes begins short = record {
-  none = λ p s. omega (arith, short, ap length s.spelling);
+  none = λ p s. omega (arith, short, ap length (behind_magic bytes p s));
   why = record { front = bytes; rest = []; parts = sym (append-nil bytes); at_is = refl; wrong = IsWrong.cut_off (Due.start begins) short };
 }
 
--- ---- the version and the number of slots
+-- ---- the version
 
--- behind the magic stand the version, the number of slots and the body
-abbrev pub slots_format : Format (ℕ × (List Datum × (List Instr × List Frame)))
-slots_format = both u16_format body_format
-
--- the version that was read, and what a file has behind it
-behind_version : (bytes rest : List ℕ) (n : ℕ) (more : List ℕ) (p : Program) → bytes ≡ magic ++ rest → Begins u16_format rest n more → Spells bytes p
-    → (n ≡ version) × Begins slots_format more (p.slots, body_of p) []
-behind_version bytes rest n more p is h s = both_rest u16_format slots_format u16_free rest n more (version, (p.slots, body_of p)) [] h (rest_begins rest bytes p is s)
+-- each file has one behind its magic
+version_there : (rest bytes : List ℕ) (p : Program) → bytes ≡ magic ++ rest → Spells bytes p → (n : ℕ) × (s : List ℕ) × Begins u16_format rest n s
+version_there rest bytes p is s = by p.around.routines refl
+  where
+    by : (ts : List Routine) → p.around.routines ≡ ts → (n : ℕ) × (s : List ℕ) × Begins u16_format rest n s
+    by [] none = (version, _, both_first u16_format plain_format rest (version, plain_parts p) [] (plain_begins rest bytes p is s none))
+    by (t ∷ ts) some = (routine_version, _, both_first u16_format code_format rest (routine_version, code_parts p) [] (code_begins rest bytes p t ts is s some))
 
 pub version_stopped : (bytes rest : List ℕ) (stop : FileStop) → bytes ≡ magic ++ rest → IsStop u16_format rest (IsCut 2 rest) stop → fault_of stop (length bytes) ≢ faults.Memory → IsNoFile bytes (fault_of stop (length bytes))
 version_stopped bytes rest stop is h =
     stopped u16_format a_version bytes rest stop
-    (λ none p s. none version (slots_format.spell (p.slots, body_of p) ++ []) (both_first u16_format slots_format rest (version, (p.slots, body_of p)) [] (rest_begins rest bytes p is s)))
+    (λ none p s. let there = version_there rest bytes p is s in none there.0 there.1 there.2)
     (Due.behind_magic is) (cut_number a_version rest stop refl h)
 
-pub bad_version : (bytes rest : List ℕ) (n : ℕ) (more : List ℕ) → bytes ≡ magic ++ rest → Begins u16_format rest n more → n ≢ version → IsNoFile bytes faults.BadVersion
-bad_version bytes rest n more is h other = record {
-  none = λ p s. other (behind_version bytes rest n more p is h s).0;
-  why = (n, h.fits, other, (more, is ∙ ap (λ (t : List ℕ). magic ++ t) h.parts));
+pub header_read : (bytes rest : List ℕ) (n : ℕ) (more : List ℕ) → bytes ≡ magic ++ rest → Begins u16_format rest n more → IsHeader bytes n more
+header_read bytes rest n more is h = record {
+  fits = h.fits;
+  parts = is ∙ ap (λ (t : List ℕ). magic ++ t) h.parts;
 }
 
-pub slots_stopped : (bytes rest : List ℕ) (n : ℕ) (more : List ℕ) (stop : FileStop) → bytes ≡ magic ++ rest → Begins u16_format rest n more → n ≡ version → IsStop u16_format more (IsCut 2 more) stop → fault_of stop (length bytes) ≢ faults.Memory
-    → IsNoFile bytes (fault_of stop (length bytes))
-slots_stopped bytes rest n more stop is h same k =
-    stopped u16_format a_slot_count bytes more stop
-    (λ none p s. none p.slots (body_format.spell (body_of p) ++ []) (both_first u16_format body_format more (p.slots, body_of p) [] (behind_version bytes rest n more p is h s).1))
-    (Due.behind_version (Due.behind_magic is) (subst (λ m. Begins u16_format rest m more) same h)) (cut_number a_slot_count more stop refl k)
+-- what a file has behind a version that was read
+pub behind_header : (bytes : List ℕ) (n : ℕ) (rest : List ℕ) (p : Program) → IsHeader bytes n rest → Spells bytes p → IsOfVersion n rest p
+behind_header bytes n rest p h s = of_version bytes (u16_bytes n ++ rest) n rest p h.parts (record { fits = h.fits; parts = refl }) s
 
-pub header_read : (bytes rest : List ℕ) (n : ℕ) (more : List ℕ) (slots : ℕ) (body : List ℕ) → bytes ≡ magic ++ rest → Begins u16_format rest n more → n ≡ version → Begins u16_format more slots body → IsHeader bytes slots body
-header_read bytes rest n more slots body is h same k = record {
-  fits = k.fits;
-  parts = is ∙ ap (λ (t : List ℕ). magic ++ t) (h.parts ∙ ap (λ (m : ℕ). u16_bytes m ++ more) same ∙ ap (λ (t : List ℕ). u16_bytes version ++ t) k.parts);
+pub bad_version : (bytes : List ℕ) (n : ℕ) (rest : List ℕ) → IsHeader bytes n rest → n ≢ version → n ≢ routine_version → IsNoFile bytes faults.BadVersion
+bad_version bytes n rest h other another = record {
+  none = λ p s. by p (behind_header bytes n rest p h s) p.around.routines refl;
+  why = (n, h.fits, (other, another), (rest, h.parts ∙ sym (append_assoc magic (u16_bytes n) rest)));
 }
+  where
+    by : (p : Program) → IsOfVersion n rest p → (ts : List Routine) → p.around.routines ≡ ts → ⊥
+    by p v [] none = other (v.plain none).0
+    by p v (t ∷ ts) some = another (v.others t ts some).0

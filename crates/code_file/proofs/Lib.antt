@@ -11,3 +11,4 @@ pub mod BodyLemmas
 pub mod EndLemmas
 pub mod HeaderLemmas
 pub mod DecodeLemmas
+pub mod RoutineLemmas

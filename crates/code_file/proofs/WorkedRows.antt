@@ -18,13 +18,13 @@ header t = magic ++ (0 ∷ 1 ∷ 0 ∷ 0 ∷ t)
 after_header : (t : List ℕ) → Due (header t) (a_count constants) t
 unfolding u16_bytes
 after_header t =
-    Due.behind_slot_count {n = 0} (Due.behind_version (Due.behind_magic refl) (record { fits = omega arith; parts = refl })) (record { fits = omega arith; parts = refl }) (omega arith)
+    Due.plain_constants {n = 0} (Due.plain_code (Due.behind_magic refl) (record { fits = omega arith; parts = refl })) (record { fits = (omega arith, omega arith); parts = refl })
 
 -- behind the number of one constant it is due
 first : (t : List ℕ) → Due (header (0 ∷ 1 ∷ t)) (a_term 255) t
 unfolding u16_bytes
 first t =
-    Due.constant {n = 1} {k = 0} {ds = []} (Due.behind_count (after_header (0 ∷ 1 ∷ t)) (record { fits = omega arith; parts = refl })) (record { fits = (refl, tt); parts = refl }) (omega arith)
+    Due.term {n = 1} {k = 0} {ds = []} (Due.constant (Due.behind_count (after_header (0 ∷ 1 ∷ t)) (record { fits = omega arith; parts = refl }))) (record { fits = (refl, tt); parts = refl }) (omega arith)
 
 -- the file ends where its first constant is due
 cut : IsFileFault (faults.Truncated 10) (header (0 ∷ 1 ∷ []))
@@ -64,4 +64,15 @@ no_elements = record {
   parts = refl;
   at_is = refl;
   wrong = IsWrong.no_elements (Due.list_length {levels = 254} (first (6 ∷ 0 ∷ 0 ∷ 0 ∷ 0 ∷ 9 ∷ []))) (record { fits = omega arith; parts = refl });
+}
+
+-- code with routines that has one body alone
+one_body : IsFileFault (faults.NotCanonical 8) (magic ++ (0 ∷ 2 ∷ 0 ∷ 0 ∷ 0 ∷ 1 ∷ []))
+unfolding u16_bytes
+one_body = record {
+  front = magic ++ (0 ∷ 2 ∷ 0 ∷ 0 ∷ []);
+  rest = 0 ∷ 1 ∷ [];
+  parts = refl;
+  at_is = refl;
+  wrong = IsWrong.few_bodies {n = 1} (Due.body_count {ds = []} (Due.code (Due.behind_magic refl) (record { fits = omega arith; parts = refl })) (record { fits = (omega arith, tt); parts = refl })) (record { fits = omega arith; parts = refl }) (omega arith);
 }

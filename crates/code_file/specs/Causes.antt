@@ -8,15 +8,15 @@ use Rattle.term_core.specs.Datum.{Datum}
 use Rattle.term_core.specs.Limits.{AreScalars}
 use Rattle.term_core.specs.Sizes.{atom_limit, list_limit, binary_limit}
 use Rattle.term_order.specs.Keys.{IsAboveKeys}
-use Rattle.mcode.specs.Program.{Frame, place_number, frame_number, most_slots}
+use Rattle.mcode.specs.Program.{Frame, place_number, frame_number, most_slots, most_routines, most_arguments}
 use Rattle.mcode.specs.declared.kind.Kind.{Kind}
 use Rattle.mcode.specs.declared.instr.Instr.{Instr}
 use Rattle.code_writer.specs.Spelling.{constant_bytes, instruction_bytes, kind_bytes}
-use Rattle.code_writer.specs.File.{IsPlain}
+use Rattle.code_writer.specs.File.{IsUpTo}
 use Rattle.code_writer.specs.Format.{Begins}
 use Rattle.code_writer.specs.Formats.{u8_format, u16_format, u32_format, bytes_format, constant_format}
 use Rattle.code_file.specs.Due.{BeginsWith, IsAbove, Item, Due}
-use Rattle.code_file.specs.Due.Item.{a_magic, a_version, a_slot_count, a_count, many, a_term, a_tail, a_pair, a_text_size, a_text, a_list_length, a_binary_size, an_instruction, a_function, an_arithmetic, a_frame, a_depth, a_place, a_kind, a_slot, so_many}
+use Rattle.code_file.specs.Due.Item.{a_magic, a_version, a_plain_code, a_code, a_slot_count, a_body_count, a_body, a_routine, a_signature_kind, a_count, many, a_term, a_tail, a_pair, a_text_size, a_text, a_list_length, a_binary_size, an_instruction, a_function, an_arithmetic, a_frame, a_depth, a_place, a_kind, a_slot, so_many}
 use Rattle.code_file.specs.declared.stop.FileCause.{FileCause}
 use Rattle.code_file.specs.declared.stop.FileCause.TheVariants as causes
 
@@ -24,7 +24,13 @@ use Rattle.code_file.specs.declared.stop.FileCause.TheVariants as causes
 abbrev pub width : Item → ℕ
 width a_magic = 4
 width a_version = 2
+width a_plain_code = 0
+width a_code = 0
 width a_slot_count = 2
+width a_body_count = 2
+width a_body = 0
+width a_routine = 2
+width a_signature_kind = 1
 width (a_count row) = 2
 width (many row n) = 0
 width (a_term levels) = 1
@@ -34,7 +40,7 @@ width a_text_size = 2
 width (a_text n) = n
 width a_list_length = 4
 width a_binary_size = 4
-width an_instruction = 1
+width (an_instruction most) = 1
 width a_function = 1
 width an_arithmetic = 1
 width (a_frame fs) = 2
@@ -53,8 +59,8 @@ pub data IsWrong (file : List ℕ) : FileCause → List ℕ → Type 0 where
   no_tag : {levels b : ℕ} {t : List ℕ} → Due file (a_term (suc levels)) (b ∷ t)
       → ((d : Datum) → ¬ BeginsWith (b ∷ []) (constant_bytes d))
       → IsWrong file causes.BadOpcode (b ∷ t)
-  no_opcode : {b : ℕ} {t : List ℕ} → Due file an_instruction (b ∷ t)
-      → ((i : Instr) → IsPlain i → ¬ BeginsWith (b ∷ []) (instruction_bytes i))
+  no_opcode : {most b : ℕ} {t : List ℕ} → Due file (an_instruction most) (b ∷ t)
+      → ((i : Instr) → IsUpTo most i → ¬ BeginsWith (b ∷ []) (instruction_bytes i))
       → IsWrong file causes.BadOpcode (b ∷ t)
   no_function : {b : ℕ} {t : List ℕ} → Due file a_function (b ∷ t)
       → ((f : Function) → function_number f ≢ b) → IsWrong file causes.BadOpcode (b ∷ t)
@@ -73,6 +79,9 @@ pub data IsWrong (file : List ℕ) : FileCause → List ℕ → Type 0 where
       → Begins u16_format t n u → ¬ IsAbove place_number ps n → IsWrong file causes.NotCanonical t
   low_slot : {v : ℕ} {vs : List ℕ} {t u : List ℕ} → Due file (a_slot vs) t
       → Begins u8_format t v u → ¬ IsAbove (λ v. v) vs v → IsWrong file causes.NotCanonical t
+  -- there is one body, or none, where code without routines has another version
+  few_bodies : {n : ℕ} {t u : List ℕ} → Due file a_body_count t → Begins u16_format t n u → n < 2
+      → IsWrong file causes.NotCanonical t
   -- a list has no elements, or a list for its tail, or an atom's bytes aren't UTF-8
   no_elements : {t u : List ℕ} → Due file a_list_length t → Begins u32_format t 0 u
       → IsWrong file causes.NotCanonical t
@@ -80,9 +89,13 @@ pub data IsWrong (file : List ℕ) : FileCause → List ℕ → Type 0 where
       → IsWrong file causes.NotCanonical t
   no_text : {n : ℕ} {bs t u : List ℕ} → Due file (a_text n) t → Begins (bytes_format n) t bs u
       → ¬ IsUtf8 bs → IsWrong file causes.NotCanonical t
-  -- more slots than code has, more elements, bytes or characters than a term has, or a term where no level is left
+  -- more slots, bodies or arguments than code has, more elements, bytes or characters than a term has, or a term where no level is left
   many_slots : {n : ℕ} {t u : List ℕ} → Due file a_slot_count t → Begins u16_format t n u
       → most_slots < n → IsWrong file causes.Limit t
+  many_bodies : {n : ℕ} {t u : List ℕ} → Due file a_body_count t → Begins u16_format t n u
+      → suc most_routines < n → IsWrong file causes.Limit t
+  many_arguments : {n : ℕ} {t u : List ℕ} → Due file a_routine t → Begins u16_format t n u
+      → most_arguments < n → IsWrong file causes.Limit t
   many_elements : {n : ℕ} {t u : List ℕ} → Due file a_list_length t → Begins u32_format t n u
       → list_limit < n → IsWrong file causes.Limit t
   many_bytes : {n : ℕ} {t u : List ℕ} → Due file a_binary_size t → Begins u32_format t n u

@@ -1,20 +1,20 @@
 -- What is due at a place of a code file, given what stands before it.
-use Rattle.std.specs.Prelude.{ℕ, suc, ◌≡◌, ◌<◌, ◌≤◌, List, [], ◌∷◌, ◌++◌, take}
+use Rattle.std.specs.Prelude.{ℕ, suc, ◌≡◌, ◌-◌, ◌<◌, List, [], ◌∷◌, ◌++◌, take}
 use Rattle.term_core.specs.Datum.{Datum}
 use Rattle.term_core.specs.Sizes.{depth_limit}
 use Rattle.term_order.specs.Keys.{IsAboveKeys}
 use Rattle.prims_table.specs.declared.prim.Function.{Function}
 use Rattle.prims_table.specs.declared.prim.Arithmetic.{Arithmetic}
-use Rattle.mcode.specs.Program.{Frame, Rise, place_number, frame_number, most_slots}
+use Rattle.mcode.specs.Program.{Body, Routine, Frame, Rise, place_number, frame_number}
 use Rattle.mcode.specs.declared.kind.Kind.{Kind}
 use Rattle.mcode.specs.declared.instr.Instr.{Instr}
 use Rattle.code_writer.specs.declared.opcode.Opcode.TheVariants as opcode
 use Rattle.code_writer.specs.declared.opcode.Slotted.{Slotted}
 use Rattle.code_writer.specs.declared.opcode.Single.{Single}
 use Rattle.code_writer.specs.declared.opcode.Double.{Double}
-use Rattle.code_writer.specs.File.{magic, version}
+use Rattle.code_writer.specs.File.{magic, version, routine_version, plain_opcode, most_opcode}
 use Rattle.code_writer.specs.Format.{Begins, rows, counted, such}
-use Rattle.code_writer.specs.Formats.{u8_format, u16_format, opcode_format, function_format, arithmetic_format, instruction_format, instructions_format, constant_format, constants_format, place_format, places_format, frame_format, pair_format, length_format, size_format, RisingPairs}
+use Rattle.code_writer.specs.Formats.{u8_format, u16_format, opcode_format, function_format, arithmetic_format, instruction_format, instructions_format, constant_format, constants_format, place_format, places_format, frame_format, pair_format, length_format, size_format, RisingPairs, slot_count_format, body_count_format, body_format, argument_count_format, any_kind_format, arguments_format, signature_format, routine_format}
 
 -- these bytes begin so
 abbrev pub BeginsWith : List ℕ → List ℕ → Type 0
@@ -26,11 +26,14 @@ IsAbove number [] n = Unit {0}
 IsAbove number (x ∷ []) n = number x < n
 IsAbove number (x ∷ y ∷ xs) n = IsAbove number (y ∷ xs) n
 
--- what stands behind a number that says how many there are; terms and pairs with so many levels left
+-- what stands behind a number that says how many there are; instructions up to a number, terms and pairs with so many
+-- levels left
 pub data Row : Type 0 where
   constants : Row
-  instructions : Row
+  instructions : ℕ → Row
   frames : Row
+  kinds : Row
+  routines : Row
   places : Row
   slots : Row
   terms : ℕ → Row
@@ -40,7 +43,15 @@ pub data Row : Type 0 where
 pub data Item : Type 0 where
   a_magic : Item
   a_version : Item
+  -- what stands behind the version: code without routines, or with some
+  a_plain_code : Item
+  a_code : Item
   a_slot_count : Item
+  -- the number of bodies, a body, a routine from the number of its arguments on, and the kind of an argument or a result
+  a_body_count : Item
+  a_body : Item
+  a_routine : Item
+  a_signature_kind : Item
   -- the number of a row, and so many items of it
   a_count : Row → Item
   many : Row → ℕ → Item
@@ -53,7 +64,7 @@ pub data Item : Type 0 where
   a_text : ℕ → Item
   a_list_length : Item
   a_binary_size : Item
-  an_instruction : Item
+  an_instruction : ℕ → Item
   a_function : Item
   an_arithmetic : Item
   -- a frame behind these, its depth, a place behind these, its kind, and a slot behind these
@@ -70,20 +81,34 @@ pub data Item : Type 0 where
 pub data Due (file : List ℕ) : Item → List ℕ → Type 0 where
   start : BeginsWith (take 4 file) magic → Due file a_magic file
   behind_magic : {t : List ℕ} → file ≡ magic ++ t → Due file a_version t
-  behind_version : {t u : List ℕ} → Due file a_version t → Begins u16_format t version u
-      → Due file a_slot_count u
-  behind_slot_count : {n : ℕ} {t u : List ℕ} → Due file a_slot_count t → Begins u16_format t n u
-      → n ≤ most_slots → Due file (a_count constants) u
-  behind_constants : {ds : List Datum} {t u : List ℕ} → Due file (a_count constants) t
-      → Begins constants_format t ds u → Due file (a_count instructions) u
-  behind_instructions : {is : List Instr} {t u : List ℕ} → Due file (a_count instructions) t
-      → Begins instructions_format t is u → Due file (a_count frames) u
+  plain_code : {t u : List ℕ} → Due file a_version t → Begins u16_format t version u
+      → Due file a_plain_code u
+  plain_slots : {t : List ℕ} → Due file a_plain_code t → Due file a_slot_count t
+  plain_constants : {n : ℕ} {t u : List ℕ} → Due file a_plain_code t
+      → Begins slot_count_format t n u → Due file (a_count constants) u
+  plain_instructions : {n : ℕ} {ds : List Datum} {t u v : List ℕ} → Due file a_plain_code t
+      → Begins slot_count_format t n u → Begins constants_format u ds v
+      → Due file (a_count (instructions plain_opcode)) v
+  code : {t u : List ℕ} → Due file a_version t → Begins u16_format t routine_version u
+      → Due file a_code u
+  code_constants : {t : List ℕ} → Due file a_code t → Due file (a_count constants) t
+  body_count : {ds : List Datum} {t u : List ℕ} → Due file a_code t → Begins constants_format t ds u
+      → Due file a_body_count u
+  main_body : {n : ℕ} {t u : List ℕ} → Due file a_body_count t → Begins body_count_format t n u
+      → Due file a_body u
+  behind_main_body : {n : ℕ} {b : Body} {t u v : List ℕ} → Due file a_body_count t
+      → Begins body_count_format t n u → Begins body_format u b v → Due file (many routines (n - 1)) v
+  body_slots : {t : List ℕ} → Due file a_body t → Due file a_slot_count t
+  body_instructions : {n : ℕ} {t u : List ℕ} → Due file a_body t → Begins slot_count_format t n u
+      → Due file (a_count (instructions most_opcode)) u
+  behind_instructions : {most : ℕ} {is : List Instr} {t u : List ℕ}
+      → Due file (a_count (instructions most)) t → Begins (instructions_format most) t is u
+      → Due file (a_count frames) u
   behind_count : {row : Row} {n : ℕ} {t u : List ℕ} → Due file (a_count row) t
       → Begins u16_format t n u → Due file (many row n) u
   -- constants, and terms in terms
-  constant : {n k : ℕ} {ds : List Datum} {t u : List ℕ} → Due file (many constants n) t
-      → Begins (rows (constant_format depth_limit) k) t ds u → k < n
-      → Due file (a_term depth_limit) u
+  constant : {n : ℕ} {t : List ℕ} → Due file (many constants n) t
+      → Due file (many (terms depth_limit) n) t
   integer : {levels : ℕ} {t : List ℕ} → Due file (a_term (suc levels)) (1 ∷ t) → Due file (so_many 8) t
   text_size : {levels : ℕ} {t : List ℕ} → Due file (a_term (suc levels)) (2 ∷ t)
       → Due file a_text_size t
@@ -117,19 +142,19 @@ pub data Due (file : List ℕ) : Item → List ℕ → Type 0 where
       → Due file (a_pair levels ps) t → Begins (constant_format levels) t k u → IsAboveKeys ps k
       → Due file (a_term levels) u
   -- instructions
-  instruction : {n k : ℕ} {is : List Instr} {t u : List ℕ} → Due file (many instructions n) t
-      → Begins (rows instruction_format k) t is u → k < n → Due file an_instruction u
-  argument_slot : {o : Slotted} {t u : List ℕ} → Due file an_instruction t
-      → Begins opcode_format t (opcode.Slotted o) u → Due file (so_many 1) u
-  argument : {o : Single} {t u : List ℕ} → Due file an_instruction t
-      → Begins opcode_format t (opcode.Single o) u → Due file (so_many 2) u
-  arguments : {o : Double} {t u : List ℕ} → Due file an_instruction t
-      → Begins opcode_format t (opcode.Double o) u → Due file (so_many 4) u
-  function : {t u : List ℕ} → Due file an_instruction t → Begins opcode_format t opcode.Call u
+  instruction : {most n k : ℕ} {is : List Instr} {t u : List ℕ} → Due file (many (instructions most) n) t
+      → Begins (rows (instruction_format most) k) t is u → k < n → Due file (an_instruction most) u
+  argument_slot : {most : ℕ} {o : Slotted} {t u : List ℕ} → Due file (an_instruction most) t
+      → Begins (opcode_format most) t (opcode.Slotted o) u → Due file (so_many 1) u
+  argument : {most : ℕ} {o : Single} {t u : List ℕ} → Due file (an_instruction most) t
+      → Begins (opcode_format most) t (opcode.Single o) u → Due file (so_many 2) u
+  arguments : {most : ℕ} {o : Double} {t u : List ℕ} → Due file (an_instruction most) t
+      → Begins (opcode_format most) t (opcode.Double o) u → Due file (so_many 4) u
+  function : {most : ℕ} {t u : List ℕ} → Due file (an_instruction most) t → Begins (opcode_format most) t opcode.Call u
       → Due file a_function u
   behind_function : {f : Function} {t u : List ℕ} → Due file a_function t
       → Begins function_format t f u → Due file (so_many 4) u
-  arithmetic : {t u : List ℕ} → Due file an_instruction t → Begins opcode_format t opcode.Arith u
+  arithmetic : {most : ℕ} {t u : List ℕ} → Due file (an_instruction most) t → Begins (opcode_format most) t opcode.Arith u
       → Due file an_arithmetic u
   behind_arithmetic : {a : Arithmetic} {t u : List ℕ} → Due file an_arithmetic t
       → Begins arithmetic_format t a u → Due file (so_many 2) u
@@ -151,3 +176,16 @@ pub data Due (file : List ℕ) : Item → List ℕ → Type 0 where
       → Begins places_format t ps u → Due file (a_count slots) u
   slot : {n k : ℕ} {vs : List ℕ} {t u : List ℕ} → Due file (many slots n) t
       → Begins (such (rows u8_format k) (Rise (λ v. v))) t vs u → k < n → Due file (a_slot vs) u
+  -- routines
+  routine : {n k : ℕ} {ts : List Routine} {t u : List ℕ} → Due file (many routines n) t
+      → Begins (rows routine_format k) t ts u → k < n → Due file a_routine u
+  argument_kinds : {n : ℕ} {t u : List ℕ} → Due file a_routine t
+      → Begins argument_count_format t n u → Due file (many kinds n) u
+  argument_kind : {n k : ℕ} {ks : List Kind} {t u : List ℕ} → Due file (many kinds n) t
+      → Begins (rows any_kind_format k) t ks u → k < n → Due file a_signature_kind u
+  result_kind : {ks : List Kind} {t u : List ℕ} → Due file a_routine t
+      → Begins arguments_format t ks u → Due file a_signature_kind u
+  told_kind : {t : List ℕ} → Due file a_signature_kind t → ¬ BeginsWith (0 ∷ []) t
+      → Due file a_kind t
+  routine_body : {s : List Kind × Kind} {t u : List ℕ} → Due file a_routine t
+      → Begins signature_format t s u → Due file a_body u

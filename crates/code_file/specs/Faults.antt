@@ -1,10 +1,8 @@
 -- What the faults of a file say, and that there is no code in it.
-use Rattle.std.specs.Prelude.{ℕ, ◌≡◌, ◌≢◌, ◌<◌, ◌≤◌, ◌-◌, List, ◌++◌, length, take}
-use Rattle.mcode.specs.Program.{Program, most_slots, alone}
+use Rattle.std.specs.Prelude.{ℕ, ◌≡◌, ◌≢◌, ◌<◌, ◌-◌, List, ◌++◌, length, take}
+use Rattle.mcode.specs.Program.{Program}
 use Rattle.code_writer.specs.Spelling.{u16_bytes}
-use Rattle.code_writer.specs.File.{Spells, IsU16, magic, version}
-use Rattle.code_writer.specs.Format.{Begins}
-use Rattle.code_writer.specs.Formats.{body_format, body_of}
+use Rattle.code_writer.specs.File.{Spells, IsU16, magic, version, routine_version, file_bytes}
 use Rattle.code_file.specs.Due.{BeginsWith}
 use Rattle.code_file.specs.Causes.{IsWrong}
 use Rattle.code_file.specs.declared.stop.FileCause.{FileCause}
@@ -35,7 +33,8 @@ pub record GoesOn (bytes : List ℕ) (at : ℕ) : Type 0 where
 -- the version is another one
 abbrev pub IsOtherVersion : List ℕ → Type 0
 IsOtherVersion bytes =
-    (n : ℕ) × IsU16 n × (n ≢ version) × BeginsWith (magic ++ u16_bytes n) bytes
+    (n : ℕ) × IsU16 n × ((n ≢ version) × (n ≢ routine_version))
+    × BeginsWith (magic ++ u16_bytes n) bytes
 
 -- what a fault says of a file; of one for want of memory nothing is said
 abbrev pub IsFileFault : FileFault → List ℕ → Type 0
@@ -65,15 +64,12 @@ abbrev pub fault_of : FileStop → ℕ → FileFault
 fault_of stops.Memory size = faults.Memory
 fault_of (stops.At cause left) size = at_byte cause (size - left)
 
--- The number of slots is read, behind the magic and the version.
-pub record IsHeader (bytes : List ℕ) (slots : ℕ) (rest : List ℕ) : Type 0 where
-  pub fits : IsU16 slots
-  pub parts : bytes ≡ magic ++ (u16_bytes version ++ (u16_bytes slots ++ rest))
+-- The version is read, behind the magic.
+pub record IsHeader (bytes : List ℕ) (version : ℕ) (rest : List ℕ) : Type 0 where
+  pub fits : IsU16 version
+  pub parts : bytes ≡ magic ++ (u16_bytes version ++ rest)
 
--- The code is read, up to this rest.
+-- The code is read, up to this rest: what stands before that is its file.
 pub record IsRead (bytes : List ℕ) (p : Program) (rest : List ℕ) : Type 0 where
-  pub body : List ℕ
-  pub header : IsHeader bytes p.slots body
-  pub begins : Begins body_format body (body_of p) rest
-  pub few : p.slots ≤ most_slots
-  pub around : p.around ≡ alone
+  pub parts : bytes ≡ file_bytes p ++ rest
+  pub spells : Spells (file_bytes p) p

@@ -1,85 +1,96 @@
 //! The parts of code, read into a builder.
-ghost use Rattle.std.specs.Prelude.{◌≡◌, ◌<◌, length, ◌++◌, ◌∷◌, [], IfOk, IfErr};
-ghost use Rattle.mcode.specs.Program.{Rise, frame_number, most_parts};
+ghost use Rattle.std.specs.Prelude.{◌≡◌, ◌<◌, ◌≤◌, length, ◌++◌, ◌∷◌, [], IfOk, IfErr, OnOk};
+ghost use Rattle.mcode.specs.Building.{empty_program, with_constant};
+ghost use Rattle.mcode.specs.Program.{Rise, frame_number, most_parts, most_slots};
 ghost use Rattle.code_writer.specs.Format.{Begins, rows, such};
-ghost use Rattle.code_writer.specs.Formats.{constant_format, constants_format, instruction_format, instructions_format, frame_format, frames_format};
-ghost use Rattle.term_core.specs.Sizes.{depth_limit};
-ghost use Rattle.code_file.specs.Due.Item.{a_count, many, a_frame};
+ghost use Rattle.code_writer.specs.Formats.{constants_format, instruction_format, instructions_format, frame_format, frames_format, parts_format, body_format};
+ghost use Rattle.code_file.specs.Due.Item.{a_count, many, a_frame, a_body};
 ghost use Rattle.code_file.specs.Due.Row.{constants, instructions, frames};
-ghost use Rattle.code_file.specs.Reads.{Blames, IsStop};
-ghost use Rattle.code_file.specs.Parts.{with_constants, with_instructions, with_frames, IsNextRead};
+ghost use Rattle.code_file.specs.Reads.{Reads, Blames, IsStop};
+ghost use Rattle.code_file.specs.Parts.{with_constants, with_instructions, with_frames, with_parts, IsNextRead, IsMainRead};
 ghost use Rattle.code_file.specs.Rising.{LastIs};
 
-use crate::constant::read_constant;
+use crate::constant::read_elements;
+use crate::count::read_slot_count;
 use crate::frame::{is_above, read_frame_at};
 use crate::instr::read_instr;
 use crate::number::read_u16;
 use crate::stop::{FileCause, FileStop};
+use code_writer::MAX_OPCODE;
 use mcode::Builder;
-use std::alloc::Allocator;
+use std::alloc::{AllocError, Allocator};
 use term_core::{MAX_DEPTH, Term};
 
-/// So many constants.
-fn read_constant_rows<'a, A: Allocator + Copy>(
-    alloc: A,
-    builder: &mut Builder<A>,
-    count: u16,
-    bytes: &'a [u8],
-) -> Result<&'a [u8], FileStop>
-    requires { builder.old.constants ≡ [] }
-    ensures ok { IfOk result (λ rest. Begins (rows (constant_format depth_limit) count) bytes.now
-        builder.new.constants rest.now) }
-    ensures kept { IfOk result (λ rest. builder.new ≡ with_constants builder.old
-        builder.new.constants) }
-    ensures refused { IfErr result (λ stop. IsStop (rows (constant_format depth_limit) count)
-        bytes.now (Blames (many constants count) bytes.now) stop) }
-{
-    let mut rest = bytes;
-    for _read in 0..count {
-        let (constant, behind) = read_constant(alloc, rest, MAX_DEPTH)?;
-        let _number = builder
-            .constant(constant)
-            .map_err(|refused| refused.fault.alloc_error())?;
-        rest = behind;
-    }
-    Ok(rest)
-}
-
 /// The constants.
-pub(crate) fn read_constants<'a, A: Allocator + Copy>(
+pub(crate) fn read_constants<A: Allocator + Copy>(
     alloc: A,
-    builder: &mut Builder<A>,
-    bytes: &'a [u8],
-) -> Result<&'a [u8], FileStop>
-    requires { builder.old.constants ≡ [] }
-    ensures ok { IfOk result (λ rest. Begins constants_format bytes.now builder.new.constants
-        rest.now) }
-    ensures kept { IfOk result (λ rest. builder.new ≡ with_constants builder.old
-        builder.new.constants) }
-    ensures refused { IfErr result (λ stop. IsStop constants_format bytes.now (Blames (a_count constants) bytes.now)
-        stop) }
+    bytes: &[u8],
+) -> Result<(Vec<Term<A>, A>, &[u8]), FileStop>
+    ensures { Reads constants_format (Blames (a_count constants) bytes.now)
+        (λ r. (r.0.items, r.1.now)) bytes.now result }
 {
     let (count, rest) = read_u16(bytes)?;
-    read_constant_rows(alloc, builder, count, rest)
+    let (constants, rest) = read_elements(alloc, u32::from(count), rest, MAX_DEPTH)?;
+    Ok((constants, rest))
+}
+
+/// Adds a constant, where there are fewer than there may be.
+fn add_constant<A: Allocator>(builder: &mut Builder<A>, term: Term<A>) -> Result<(), AllocError>
+    requires { length builder.old.constants < most_parts }
+    ensures { OnOk result (builder.new ≡ with_constant builder.old term) }
+{
+    let _number = builder
+        .constant(term)
+        .map_err(|refused| refused.fault.alloc_error())?;
+    Ok(())
+}
+
+/// Code without parts over so many slots.
+fn builder_over<A: Allocator + Copy>(alloc: A, slots: u16) -> Result<Builder<A>, AllocError>
+    requires { slots ≤ most_slots }
+    ensures { IfOk result (λ builder. builder ≡ empty_program slots) }
+{
+    let builder = Builder::new(alloc, slots).map_err(|fault| fault.alloc_error())?;
+    Ok(builder)
+}
+
+/// Code over so many slots that has these constants and no other parts.
+pub(crate) fn builder_of<A: Allocator + Copy>(
+    alloc: A,
+    slots: u16,
+    constants: Vec<Term<A>, A>,
+) -> Result<Builder<A>, AllocError>
+    requires slots { slots ≤ most_slots }
+    requires constants { length constants.items ≤ most_parts }
+    ensures { IfOk result (λ builder. builder ≡ with_constants (empty_program slots) constants.items) }
+{
+    let mut builder = builder_over(alloc, slots)?;
+    let mut left = constants;
+    left.reverse();
+    while let Some(constant) = left.pop() {
+        add_constant(&mut builder, constant)?;
+    }
+    Ok(builder)
 }
 
 /// So many instructions.
 fn read_instr_rows<'a, A: Allocator>(
+    most: u8,
     builder: &mut Builder<A>,
     count: u16,
     bytes: &'a [u8],
 ) -> Result<&'a [u8], FileStop>
     requires { builder.old.instructions ≡ [] }
-    ensures ok { IfOk result (λ rest. Begins (rows instruction_format count) bytes.now
+    ensures ok { IfOk result (λ rest. Begins (rows (instruction_format most) count) bytes.now
         builder.new.instructions rest.now) }
     ensures kept { IfOk result (λ rest. builder.new ≡ with_instructions builder.old
         builder.new.instructions) }
-    ensures refused { IfErr result (λ stop. IsStop (rows instruction_format count) bytes.now
-        (Blames (many instructions count) bytes.now) stop) }
+    ensures refused { IfErr result (λ stop. IsStop (rows (instruction_format most) count) bytes.now
+        (Blames (many (instructions most) count) bytes.now) stop) }
 {
     let mut rest = bytes;
     for _read in 0..count {
-        let (instr, behind) = read_instr(rest)?;
+        let (instr, behind) = read_instr(most, rest)?;
         let _number = builder.instr(instr).map_err(|fault| fault.alloc_error())?;
         rest = behind;
     }
@@ -87,20 +98,22 @@ fn read_instr_rows<'a, A: Allocator>(
 }
 
 /// The instructions.
-pub(crate) fn read_instrs<'a, A: Allocator>(
+fn read_instrs<'a, A: Allocator>(
+    most: u8,
     builder: &mut Builder<A>,
     bytes: &'a [u8],
 ) -> Result<&'a [u8], FileStop>
     requires { builder.old.instructions ≡ [] }
-    ensures ok { IfOk result (λ rest. Begins instructions_format bytes.now
+    ensures ok { IfOk result (λ rest. Begins (instructions_format most) bytes.now
         builder.new.instructions rest.now) }
     ensures kept { IfOk result (λ rest. builder.new ≡ with_instructions builder.old
         builder.new.instructions) }
-    ensures refused { IfErr result (λ stop. IsStop instructions_format bytes.now (Blames (a_count instructions) bytes.now)
+    ensures refused { IfErr result (λ stop. IsStop (instructions_format most) bytes.now
+        (Blames (a_count (instructions most)) bytes.now)
         stop) }
 {
     let (count, rest) = read_u16(bytes)?;
-    read_instr_rows(builder, count, rest)
+    read_instr_rows(most, builder, count, rest)
 }
 
 /// A frame above those that are there, of which this is the last one's number. Answers its own.
@@ -153,7 +166,7 @@ fn read_frame_rows<'a, A: Allocator + Copy>(
 }
 
 /// The frames.
-pub(crate) fn read_frames<'a, A: Allocator + Copy>(
+fn read_frames<'a, A: Allocator + Copy>(
     alloc: A,
     builder: &mut Builder<A>,
     bytes: &'a [u8],
@@ -166,4 +179,41 @@ pub(crate) fn read_frames<'a, A: Allocator + Copy>(
 {
     let (count, rest) = read_u16(bytes)?;
     read_frame_rows(alloc, builder, count, rest)
+}
+
+/// The instructions of a body, up to this opcode, and its frames.
+pub(crate) fn read_parts<'a, A: Allocator + Copy>(
+    alloc: A,
+    most: u8,
+    builder: &mut Builder<A>,
+    bytes: &'a [u8],
+) -> Result<&'a [u8], FileStop>
+    requires instructions { builder.old.instructions ≡ [] }
+    requires frames { builder.old.frames ≡ [] }
+    ensures ok { IfOk result (λ rest. Begins (parts_format most) bytes.now
+        (builder.new.instructions, builder.new.frames) rest.now) }
+    ensures kept { IfOk result (λ rest. builder.new ≡ with_parts builder.old
+        builder.new.instructions builder.new.frames) }
+    ensures refused { IfErr result (λ stop. IsStop (parts_format most) bytes.now
+        (Blames (a_count (instructions most)) bytes.now) stop) }
+{
+    let rest = read_instrs(most, builder, bytes)?;
+    let rest = read_frames(alloc, builder, rest)?;
+    Ok(rest)
+}
+
+/// The main body of code with these constants and with routines.
+pub(crate) fn read_main<A: Allocator + Copy>(
+    alloc: A,
+    constants: Vec<Term<A>, A>,
+    bytes: &[u8],
+) -> Result<(Builder<A>, &[u8]), FileStop>
+    requires { length constants.items ≤ most_parts }
+    ensures ok { IfOk result (λ r. IsMainRead constants.items r.0 bytes.now r.1.now) }
+    ensures refused { IfErr result (λ stop. IsStop body_format bytes.now (Blames a_body bytes.now) stop) }
+{
+    let (slots, rest) = read_slot_count(bytes)?;
+    let mut builder = builder_of(alloc, slots, constants)?;
+    let rest = read_parts(alloc, MAX_OPCODE, &mut builder, rest)?;
+    Ok((builder, rest))
 }

@@ -190,7 +190,7 @@ fn make_room<T, A: Allocator>(row: &mut Vec<T, A>, left: u32) -> Result<(), Allo
 
 /// So many terms, one after the other.
 #[cycle(constant)]
-fn read_elements<A: Allocator + Copy>(
+pub(crate) fn read_elements<A: Allocator + Copy>(
     alloc: A,
     count: u32,
     bytes: &[u8],

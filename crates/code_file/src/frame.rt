@@ -13,8 +13,8 @@ use crate::stop::{FileCause, FileStop};
 use mcode::{Frame, Kind, Places, Slots};
 use std::alloc::Allocator;
 
-/// A kind.
-fn read_kind(bytes: &[u8]) -> Result<(Kind, &[u8]), FileStop>
+/// A kind that says something.
+pub(crate) fn read_kind(bytes: &[u8]) -> Result<(Kind, &[u8]), FileStop>
     ensures { Reads kind_format (Blames a_kind bytes.now) (λ r. (r.0, r.1.now)) bytes.now result }
 {
     let (tag, rest) = read_u8(bytes)?;

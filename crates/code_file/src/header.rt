@@ -1,4 +1,4 @@
-//! The front of a code file: the magic, the version and the number of slots.
+//! The front of a code file: the magic and the version.
 ghost use Rattle.std.specs.Prelude.{◌≡◌, ◌≢◌, ◌++◌, IfOk, IfErr};
 ghost use Rattle.code_writer.specs.File.{magic};
 ghost use Rattle.code_file.specs.Faults.{IsNoFile, IsHeader, fault_of};
@@ -10,9 +10,6 @@ use crate::stop::{FileCause, FileStop};
 
 /// EMSC, with which each code file begins.
 const MAGIC: [u8; 4] = [69, 77, 83, 67];
-/// The version of the format.
-const VERSION: u16 = 1;
-
 /// Why reading a file of so many bytes stopped.
 pub(crate) fn file_fault(stop: FileStop, size: usize) -> FileFault
     ensures { result ≡ fault_of stop size }
@@ -44,19 +41,12 @@ fn read_magic(bytes: &[u8]) -> Result<&[u8], FileFault>
     Ok(rest)
 }
 
-/// The number of slots, and what follows it.
-pub(crate) fn read_header(bytes: &[u8]) -> Result<(u16, &[u8]), FileFault>
+/// The version, and what follows it.
+pub(crate) fn read_version(bytes: &[u8]) -> Result<(u16, &[u8]), FileFault>
     ensures ok { IfOk result (λ r. IsHeader bytes.now r.0 r.1.now) }
     ensures refused { IfErr result (λ fault. fault ≢ OutOfMemory → IsNoFile bytes.now fault) }
 {
     let rest = read_magic(bytes)?;
-    let (version, rest) = match read_u16(rest) {
-        Ok(read) => read,
-        Err(stop) => return Err(file_fault(stop, bytes.len())),
-    };
-    if version != VERSION {
-        return Err(FileFault::BadVersion);
-    }
     match read_u16(rest) {
         Ok(read) => Ok(read),
         Err(stop) => Err(file_fault(stop, bytes.len())),

@@ -2,7 +2,6 @@
 ghost use Rattle.std.specs.Prelude.{◌≡◌, ◌≤◌, ◌↔◌, Some};
 ghost use Rattle.code_writer.specs.declared.opcode.Opcode.{Opcode as AnyOpcode};
 ghost use Rattle.code_writer.specs.declared.opcode.Opcode.TheVariants as Opcode;
-ghost use Rattle.code_writer.specs.File.{most_opcode};
 ghost use Rattle.code_writer.specs.Opcodes.{opcode_number};
 ghost use Rattle.code_writer.specs.Format.{Begins, both};
 ghost use Rattle.code_writer.specs.Formats.{u16_format, opcode_format, function_format, arithmetic_format, instruction_format};
@@ -11,26 +10,26 @@ ghost use Rattle.code_file.specs.Reads.{Reads, Blames, IsCut};
 
 use crate::number::{read_u8, read_u16};
 use crate::stop::{FileCause, FileStop};
-use code_writer::{MAX_OPCODE, Opcode};
+use code_writer::Opcode;
 use mcode::Instr;
 use prims_table::{Arithmetic, Function};
 
-/// The opcode of a number in code without routines.
-fn opcode_of(number: u8) -> Option<Opcode>
-    ensures { (o : AnyOpcode) → (result ≡ Some o) ↔ ((opcode_number o ≡ number) × (opcode_number o ≤ most_opcode)) }
+/// The opcode of a number, up to the greatest that code of a version has.
+fn opcode_of(most: u8, number: u8) -> Option<Opcode>
+    ensures { (o : AnyOpcode) → (result ≡ Some o) ↔ ((opcode_number o ≡ number) × (opcode_number o ≤ most)) }
 {
-    if number > MAX_OPCODE {
+    if number > most {
         return None;
     }
     Opcode::numbered(number)
 }
 
 /// An opcode.
-fn read_opcode(bytes: &[u8]) -> Result<(Opcode, &[u8]), FileStop>
-    ensures { Reads opcode_format (Blames an_instruction bytes.now) (λ r. (r.0, r.1.now)) bytes.now result }
+fn read_opcode(most: u8, bytes: &[u8]) -> Result<(Opcode, &[u8]), FileStop>
+    ensures { Reads (opcode_format most) (Blames (an_instruction most) bytes.now) (λ r. (r.0, r.1.now)) bytes.now result }
 {
     let (byte, rest) = read_u8(bytes)?;
-    match opcode_of(byte) {
+    match opcode_of(most, byte) {
         Some(opcode) => Ok((opcode, rest)),
         None => Err(FileStop::At(FileCause::BadOpcode, bytes.len())),
     }
@@ -71,9 +70,13 @@ fn read_arithmetic(bytes: &[u8]) -> Result<(Arithmetic, &[u8]), FileStop>
 }
 
 /// A call, behind its opcode.
-fn read_call<'a>(bytes: &[u8], rest: &'a [u8]) -> Result<(Instr, &'a [u8]), FileStop>
-    requires { Begins opcode_format bytes.now Opcode.Call rest.now }
-    ensures { Reads instruction_format (Blames an_instruction bytes.now) (λ r. (r.0, r.1.now)) bytes.now result }
+fn read_call<'a>(
+    most: u8,
+    bytes: &[u8],
+    rest: &'a [u8],
+) -> Result<(Instr, &'a [u8]), FileStop>
+    requires { Begins (opcode_format most) bytes.now Opcode.Call rest.now }
+    ensures { Reads (instruction_format most) (Blames (an_instruction most) bytes.now) (λ r. (r.0, r.1.now)) bytes.now result }
 {
     let (function, rest) = read_function(rest)?;
     let ((arguments, otherwise), rest) = read_two(rest)?;
@@ -86,9 +89,13 @@ fn read_call<'a>(bytes: &[u8], rest: &'a [u8]) -> Result<(Instr, &'a [u8]), File
 }
 
 /// A function of two integers with where to go otherwise, behind its opcode.
-fn read_arith<'a>(bytes: &[u8], rest: &'a [u8]) -> Result<(Instr, &'a [u8]), FileStop>
-    requires { Begins opcode_format bytes.now Opcode.Arith rest.now }
-    ensures { Reads instruction_format (Blames an_instruction bytes.now) (λ r. (r.0, r.1.now)) bytes.now result }
+fn read_arith<'a>(
+    most: u8,
+    bytes: &[u8],
+    rest: &'a [u8],
+) -> Result<(Instr, &'a [u8]), FileStop>
+    requires { Begins (opcode_format most) bytes.now Opcode.Arith rest.now }
+    ensures { Reads (instruction_format most) (Blames (an_instruction most) bytes.now) (λ r. (r.0, r.1.now)) bytes.now result }
 {
     let (function, rest) = read_arithmetic(rest)?;
     let (otherwise, rest) = read_u16(rest)?;
@@ -101,11 +108,11 @@ fn read_arith<'a>(bytes: &[u8], rest: &'a [u8]) -> Result<(Instr, &'a [u8]), Fil
     ))
 }
 
-/// An instruction.
-pub(crate) fn read_instr(bytes: &[u8]) -> Result<(Instr, &[u8]), FileStop>
-    ensures { Reads instruction_format (Blames an_instruction bytes.now) (λ r. (r.0, r.1.now)) bytes.now result }
+/// An instruction, up to the greatest opcode that code of a version has.
+pub(crate) fn read_instr(most: u8, bytes: &[u8]) -> Result<(Instr, &[u8]), FileStop>
+    ensures { Reads (instruction_format most) (Blames (an_instruction most) bytes.now) (λ r. (r.0, r.1.now)) bytes.now result }
 {
-    let (opcode, rest) = read_opcode(bytes)?;
+    let (opcode, rest) = read_opcode(most, bytes)?;
     match opcode {
         Opcode::Bare(bare) => Ok((bare.instr(), rest)),
         Opcode::Slotted(slotted) => {
@@ -120,7 +127,7 @@ pub(crate) fn read_instr(bytes: &[u8]) -> Result<(Instr, &[u8]), FileStop>
             let ((number, otherwise), rest) = read_two(rest)?;
             Ok((double.instr(number, otherwise), rest))
         }
-        Opcode::Call => read_call(bytes, rest),
-        Opcode::Arith => read_arith(bytes, rest),
+        Opcode::Call => read_call(most, bytes, rest),
+        Opcode::Arith => read_arith(most, bytes, rest),
     }
 }

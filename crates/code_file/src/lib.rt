@@ -11,19 +11,21 @@
 //! (`specs/Reads.antt`). Places are counted in the bytes that are left.
 //!
 //! - `stop`: why a reader stops; `number`: numbers and rows of bytes; `constant`: terms, at most 255 levels deep;
-//!   `instr`: instructions; `frame`: frames.
-//! - `body`: the parts of code, read into a builder; `header`: the magic, the version and the number of slots;
-//!   `reading`: whole files; `fault`: why a file can't be read.
+//!   `instr`: instructions; `frame`: frames; `count`: numbers that have a limit.
+//! - `body`: the parts of code, read into a builder; `routine`: routines; `header`: the magic and the version;
+//!   `reading`: whole files, of both versions; `fault`: why a file can't be read.
 #![tactic(auto)]
 
 mod body;
 mod constant;
+mod count;
 mod fault;
 mod frame;
 mod header;
 mod instr;
 mod number;
 mod reading;
+mod routine;
 mod stop;
 
 pub use code_writer::{encode, one_code, read_back};

@@ -1,39 +1,56 @@
 //! Whole code files, read.
 ghost use Rattle.std.specs.Prelude.{◌≡◌, ◌≢◌, IfOk, IfErr};
-ghost use Rattle.mcode.specs.Building.{empty_program};
 ghost use Rattle.mcode.specs.Program.{alone};
-ghost use Rattle.code_writer.specs.Formats.{body_format};
-ghost use Rattle.code_writer.specs.File.{Spells};
-ghost use Rattle.code_file.specs.Due.Item.{a_count};
-ghost use Rattle.code_file.specs.Due.Row.{constants};
+ghost use Rattle.code_writer.specs.Formats.{plain_format, plain_parts, code_format, code_parts};
+ghost use Rattle.code_writer.specs.File.{Spells, version, routine_version};
+ghost use Rattle.code_file.specs.Due.Item.{a_plain_code, a_code};
 ghost use Rattle.code_file.specs.Reads.{Reads, Blames};
-ghost use Rattle.code_writer.specs.Formats.{body_of};
-ghost use Rattle.code_file.specs.Faults.{IsNoFile, IsRead};
+ghost use Rattle.code_file.specs.Faults.{IsNoFile, IsHeader, IsRead};
 ghost use Rattle.code_file.specs.declared.fault.FileFault.TheVariants.{Memory as OutOfMemory};
 
-use crate::body::{read_constants, read_frames, read_instrs};
+use crate::body::{builder_of, read_constants, read_main, read_parts};
+use crate::count::{read_body_count, read_slot_count};
 use crate::fault::FileFault;
-use crate::header::{file_fault, read_header};
+use crate::header::{file_fault, read_version};
+use crate::routine::read_routines;
 use crate::stop::FileStop;
-use mcode::{Builder, Code};
+use code_writer::MAX_PLAIN_OPCODE;
+use mcode::Code;
 use std::alloc::Allocator;
 
-/// What follows the number of slots.
-fn read_body<A: Allocator + Copy>(
+/// The version of the format for code without routines.
+const PLAIN_VERSION: u16 = 1;
+/// The version for code with routines.
+const ROUTINE_VERSION: u16 = 2;
+
+/// Code without routines, behind the version.
+fn read_plain<A: Allocator + Copy>(
     alloc: A,
-    slots: u16,
-    mut builder: Builder<A>,
     bytes: &[u8],
 ) -> Result<(Code<A>, &[u8]), FileStop>
-    requires { builder ≡ empty_program slots }
-    ensures body { Reads body_format (Blames (a_count constants) bytes.now) (λ r. (body_of r.0, r.1.now)) bytes.now
-        result }
-    ensures slots { IfOk result (λ r. r.0.slots ≡ slots) }
-    ensures around { IfOk result (λ r. r.0.around ≡ alone) }
+    ensures code { Reads plain_format (Blames a_plain_code bytes.now)
+        (λ r. (plain_parts r.0, r.1.now)) bytes.now result }
+    ensures alone { IfOk result (λ r. r.0.around ≡ alone) }
 {
-    let rest = read_constants(alloc, &mut builder, bytes)?;
-    let rest = read_instrs(&mut builder, rest)?;
-    let rest = read_frames(alloc, &mut builder, rest)?;
+    let (slots, rest) = read_slot_count(bytes)?;
+    let (constants, rest) = read_constants(alloc, rest)?;
+    let mut builder = builder_of(alloc, slots, constants)?;
+    let rest = read_parts(alloc, MAX_PLAIN_OPCODE, &mut builder, rest)?;
+    Ok((builder.finish(), rest))
+}
+
+/// Code with routines, behind the version.
+fn read_code<A: Allocator + Copy>(
+    alloc: A,
+    bytes: &[u8],
+) -> Result<(Code<A>, &[u8]), FileStop>
+    ensures { Reads code_format (Blames a_code bytes.now) (λ r. (code_parts r.0, r.1.now))
+        bytes.now result }
+{
+    let (constants, rest) = read_constants(alloc, bytes)?;
+    let (count, rest) = read_body_count(rest)?;
+    let (mut builder, rest) = read_main(alloc, constants, rest)?;
+    let rest = read_routines(alloc, &mut builder, count - 1, rest)?;
     Ok((builder.finish(), rest))
 }
 
@@ -49,6 +66,46 @@ fn whole<A: Allocator>(code: Code<A>, bytes: &[u8], rest: &[u8]) -> Result<Code<
     Err(FileFault::Trailing(bytes.len().saturating_sub(rest.len())))
 }
 
+/// The code of a file without routines, of which this is what follows the version.
+fn decode_plain<A: Allocator + Copy>(
+    alloc: A,
+    bytes: &[u8],
+    rest: &[u8],
+) -> Result<Code<A>, FileFault>
+    requires { IsHeader bytes.now version rest.now }
+    ensures ok { IfOk result (λ code. Spells bytes.now code) }
+    ensures refused { IfErr result (λ fault. fault ≢ OutOfMemory → IsNoFile bytes.now fault) }
+{
+    match read_plain(alloc, rest) {
+        Ok((code, more)) => {
+            // Asked for the proof: code is within its limits.
+            let _routines = code.routines();
+            whole(code, bytes, more)
+        }
+        Err(stop) => Err(file_fault(stop, bytes.len())),
+    }
+}
+
+/// The code of a file with routines, of which this is what follows the version.
+fn decode_code<A: Allocator + Copy>(
+    alloc: A,
+    bytes: &[u8],
+    rest: &[u8],
+) -> Result<Code<A>, FileFault>
+    requires { IsHeader bytes.now routine_version rest.now }
+    ensures ok { IfOk result (λ code. Spells bytes.now code) }
+    ensures refused { IfErr result (λ fault. fault ≢ OutOfMemory → IsNoFile bytes.now fault) }
+{
+    match read_code(alloc, rest) {
+        Ok((code, more)) => {
+            // Asked for the proof: code is within its limits.
+            let _routines = code.routines();
+            whole(code, bytes, more)
+        }
+        Err(stop) => Err(file_fault(stop, bytes.len())),
+    }
+}
+
 /// The code of a file: bytes from anywhere, of which nothing has to be known. A count in a file is never believed: what
 /// is kept grows by the items that are there. Refused is what spells no code, and by `FileFault::Memory` whatever there
 /// was no memory for.
@@ -56,13 +113,10 @@ pub fn decode<A: Allocator + Copy>(alloc: A, bytes: &[u8]) -> Result<Code<A>, Fi
     ensures ok { IfOk result (λ code. Spells bytes.now code) }
     ensures refused { IfErr result (λ fault. fault ≢ OutOfMemory → IsNoFile bytes.now fault) }
 {
-    let (slots, rest) = read_header(bytes)?;
-    let builder = match Builder::new(alloc, slots) {
-        Ok(builder) => builder,
-        Err(_fault) => return Err(FileFault::Limit),
-    };
-    match read_body(alloc, slots, builder, rest) {
-        Ok((code, more)) => whole(code, bytes, more),
-        Err(stop) => Err(file_fault(stop, bytes.len())),
+    let (version, rest) = read_version(bytes)?;
+    match version {
+        PLAIN_VERSION => decode_plain(alloc, bytes, rest),
+        ROUTINE_VERSION => decode_code(alloc, bytes, rest),
+        _ => Err(FileFault::BadVersion),
     }
 }

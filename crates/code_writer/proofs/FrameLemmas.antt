@@ -4,10 +4,10 @@ use Rattle.std.proofs.Common.{◌≡◌, ◌≢◌, ℕ, List, [], ◌∷◌, �
 use Rattle.mcode.specs.Program.{Frame, Rise, place_number}
 use Rattle.mcode.specs.declared.kind.Kind.{Kind}
 use Rattle.mcode.specs.declared.kind.Kind.TheVariants as kind
-use Rattle.code_writer.specs.Spelling.{u16_bytes, kind_bytes}
+use Rattle.code_writer.specs.Spelling.{u16_bytes, kind_bytes, any_kind_bytes}
 use Rattle.code_writer.specs.File.{HoldsSize}
 use Rattle.code_writer.specs.Format.{Format, Begins, both, counted, such}
-use Rattle.code_writer.specs.Formats.{u8_format, u16_format, kind_format, place_format, places_format, slots_format, frame_rest_format, frame_format}
+use Rattle.code_writer.specs.Formats.{u8_format, u16_format, kind_format, any_kind_format, place_format, places_format, slots_format, frame_rest_format, frame_format}
 use Rattle.code_writer.proofs.FormatLemmas.{IsPrefixFree, both_prefix_free, such_prefix_free, counted_prefix_free}
 use Rattle.code_writer.proofs.NumberLemmas.{u8_free, u16_free}
 use Rattle.code_writer.proofs.InstructionLemmas.{head_is, tail_is}
@@ -63,6 +63,44 @@ kind_free = record {
   one = λ bytes k l r s h g.
       let is = h.parts ∙ ap (λ (bs : List ℕ). bs ++ r) (kind_spelled k h.fits.1) in
       kinds_one k l (kind_rest k ++ r) r s (kind_opened bytes (kind_tag k) (kind_rest k ++ r) k r is h) (kind_opened bytes (kind_tag k) (kind_rest k ++ r) l s is g);
+}
+
+-- ---- kinds that may be Any
+
+any_spelled : (k : Kind) → any_kind_bytes k ≡ kind_tag k ∷ kind_rest k
+any_spelled kind.Any = refl
+any_spelled k = refl
+
+pub record AnyOpened (b : ℕ) (r : List ℕ) (k : Kind) (s : List ℕ) : Type 0 where
+  pub tag_is : kind_tag k ≡ b
+  pub rest_is : r ≡ kind_rest k ++ s
+  pub size : HoldsSize k
+
+pub any_opened : (bytes : List ℕ) (b : ℕ) (r : List ℕ) (k : Kind) (s : List ℕ) → bytes ≡ b ∷ r → Begins any_kind_format bytes k s → AnyOpened b r k s
+any_opened bytes b r k s is h =
+    let same = sym is ∙ h.parts ∙ ap (λ (bs : List ℕ). bs ++ s) (any_spelled k) in
+    record {
+      tag_is = sym (head_is b (kind_tag k) r (kind_rest k ++ s) same);
+      rest_is = tail_is b (kind_tag k) r (kind_rest k ++ s) same;
+      size = h.fits;
+    }
+
+any_one : (k l : Kind) (t r s : List ℕ) → AnyOpened (kind_tag k) t k r → AnyOpened (kind_tag k) t l s → (k ≡ l) × (r ≡ s)
+any_one (kind.Tuple n) (kind.Tuple m) t r s h g =
+    let same = u16_free.one t n m r s (record { fits = h.size; parts = h.rest_is }) (record { fits = g.size; parts = g.rest_is }) in
+    (ap kind.Tuple same.0, same.1)
+any_one kind.Any kind.Any t r s h g = (refl, sym h.rest_is ∙ g.rest_is)
+any_one kind.Int kind.Int t r s h g = (refl, sym h.rest_is ∙ g.rest_is)
+any_one kind.Bool kind.Bool t r s h g = (refl, sym h.rest_is ∙ g.rest_is)
+any_one kind.Cons kind.Cons t r s h g = (refl, sym h.rest_is ∙ g.rest_is)
+any_one kind.Map kind.Map t r s h g = (refl, sym h.rest_is ∙ g.rest_is)
+any_one k l t r s h g = absurd (omega (arith, g.tag_is))
+
+pub any_kind_free : IsPrefixFree any_kind_format
+any_kind_free = record {
+  one = λ bytes k l r s h g.
+      let is = h.parts ∙ ap (λ (bs : List ℕ). bs ++ r) (any_spelled k) in
+      any_one k l (kind_rest k ++ r) r s (any_opened bytes (kind_tag k) (kind_rest k ++ r) k r is h) (any_opened bytes (kind_tag k) (kind_rest k ++ r) l s is g);
 }
 
 -- ---- places

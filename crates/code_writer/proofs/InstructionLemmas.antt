@@ -31,7 +31,7 @@ use Rattle.code_writer.specs.declared.opcode.Double.{Double}
 use Rattle.code_writer.specs.declared.opcode.Double.TheVariants as double
 use Rattle.code_writer.specs.Opcodes.{bare_instr, slotted_instr, single_instr, double_instr, opcode_number}
 use Rattle.code_writer.specs.Spelling.{u16_bytes, instruction_bytes}
-use Rattle.code_writer.specs.File.{IsU8, IsU16, HoldsArguments, instruction_number, most_opcode}
+use Rattle.code_writer.specs.File.{IsU8, IsU16, HoldsArguments, instruction_number}
 use Rattle.code_writer.specs.Format.{Begins, both}
 use Rattle.code_writer.specs.Formats.{u8_format, u16_format, opcode_format, function_format, arithmetic_format, instruction_format}
 use Rattle.code_writer.proofs.FormatLemmas.{IsPrefixFree, both_prefix_free}
@@ -86,8 +86,8 @@ function_free = by_number function_number (λ _. Unit {0}) one_function
 pub arithmetic_free : IsPrefixFree arithmetic_format
 arithmetic_free = by_number arithmetic_number (λ _. Unit {0}) one_arithmetic
 
-pub opcode_free : IsPrefixFree opcode_format
-opcode_free = by_number opcode_number (λ o. opcode_number o ≤ most_opcode) one_opcode
+pub opcode_free : (most : ℕ) → IsPrefixFree (opcode_format most)
+opcode_free most = by_number opcode_number (λ o. opcode_number o ≤ most) one_opcode
 
 -- ---- the parts of an instruction
 
@@ -183,8 +183,8 @@ pub record Opened (o : Opcode) (r : List ℕ) (p : Parts) (s : List ℕ) : Type 
   pub rest_is : r ≡ rest_bytes p ++ s
   pub fits : HoldsParts p
 
-pub opened : (bytes : List ℕ) (o : Opcode) (r : List ℕ) (i : Instr) (s : List ℕ) → Begins opcode_format bytes o r → Begins instruction_format bytes i s → Opened o r (parts_of i) s
-opened bytes o r i s h k =
+pub opened : (most : ℕ) (bytes : List ℕ) (o : Opcode) (r : List ℕ) (i : Instr) (s : List ℕ) → Begins (opcode_format most) bytes o r → Begins (instruction_format most) bytes i s → Opened o r (parts_of i) s
+opened most bytes o r i s h k =
     let same = sym h.parts ∙ k.parts ∙ ap (λ bs. bs ++ s) (spelled i) in
     record {
       opcode_is = sym (one_opcode o (opcode_of (parts_of i)) (head_is (opcode_number o) (opcode_number (opcode_of (parts_of i))) r (rest_bytes (parts_of i) ++ s) same));
@@ -193,8 +193,8 @@ opened bytes o r i s h k =
     }
 
 -- the same from any opcode
-pub self_opened : (bytes : List ℕ) (i : Instr) (s : List ℕ) → Begins instruction_format bytes i s → Begins opcode_format bytes (opcode_of (parts_of i)) (rest_bytes (parts_of i) ++ s)
-self_opened bytes i s h = record { fits = subst (λ n. n ≤ most_opcode) (number_is i) h.fits.1; parts = h.parts ∙ ap (λ bs. bs ++ s) (spelled i) }
+pub self_opened : (most : ℕ) (bytes : List ℕ) (i : Instr) (s : List ℕ) → Begins (instruction_format most) bytes i s → Begins (opcode_format most) bytes (opcode_of (parts_of i)) (rest_bytes (parts_of i) ++ s)
+self_opened most bytes i s h = record { fits = subst (λ n. n ≤ most) (number_is i) h.fits.1; parts = h.parts ∙ ap (λ bs. bs ++ s) (spelled i) }
 
 -- ---- the parts behind an opcode, as values of a format
 
@@ -250,11 +250,11 @@ parts_one (of_arith a l) q r s t h k =
     let same = (both_prefix_free arithmetic_format u16_format arithmetic_free u16_free).one t x.0 y.0 r s x.2 y.2 in
     (x.1 ∙ ap (λ (z : Arithmetic × ℕ). of_arith z.0 z.1) same.0 ∙ sym y.1, same.1)
 
-pub instruction_free : IsPrefixFree instruction_format
-instruction_free = record {
+pub instruction_free : (most : ℕ) → IsPrefixFree (instruction_format most)
+instruction_free most = record {
   one = λ bytes i j r s h k.
-      let begun = self_opened bytes i r h in
+      let begun = self_opened most bytes i r h in
       let t : List ℕ = rest_bytes (parts_of i) ++ r in
-      let same = parts_one (parts_of i) (parts_of j) r s t (opened bytes (opcode_of (parts_of i)) t i r begun h) (opened bytes (opcode_of (parts_of i)) t j s begun k) in
+      let same = parts_one (parts_of i) (parts_of j) r s t (opened most bytes (opcode_of (parts_of i)) t i r begun h) (opened most bytes (opcode_of (parts_of i)) t j s begun k) in
       (sym (back i) ∙ ap whole same.0 ∙ back j, same.1);
 }

@@ -10,7 +10,7 @@ use Rattle.std.proofs.lemmas.Str.{length-encode}
 use Rattle.mcode.specs.Program.{Frame}
 use Rattle.mcode.specs.declared.kind.Kind.{Kind}
 use Rattle.code_writer.specs.Spelling.{u16_bytes, place_bytes, frame_bytes}
-use Rattle.code_writer.specs.File.{IsU8}
+use Rattle.code_writer.specs.File.{IsU8, magic}
 
 -- ---- one part behind another
 
@@ -22,6 +22,12 @@ three old a b c n1 n2 n3 e f g = two old a (b ++ c) n1 n3 e (two n1 b c n2 n3 f 
 
 pub four : (old a b c d n1 n2 n3 n4 : List ℕ) → n1 ≡ old ++ a → n2 ≡ n1 ++ b → n3 ≡ n2 ++ c → n4 ≡ n3 ++ d → n4 ≡ old ++ (a ++ (b ++ (c ++ d)))
 four old a b c d n1 n2 n3 n4 e f g h = two old a (b ++ (c ++ d)) n1 n4 e (three n1 b c d n2 n3 n4 f g h)
+
+-- a whole file with six parts, put behind nothing
+pub six : (h ds n s ps ts old n1 n2 n3 n4 n5 n6 : List ℕ) → old ≡ [] → n1 ≡ old ++ (magic ++ h) → n2 ≡ n1 ++ ds → n3 ≡ n2 ++ n → n4 ≡ n3 ++ s → n5 ≡ n4 ++ ps → n6 ≡ n5 ++ ts → n6 ≡ magic ++ (h ++ (ds ++ (n ++ ((s ++ ps) ++ ts))))
+six h ds n s ps ts old n1 n2 n3 n4 n5 n6 empty e1 e2 e3 e4 e5 e6 =
+    two old (magic ++ h) (ds ++ (n ++ ((s ++ ps) ++ ts))) n1 n6 e1 (four n1 ds n (s ++ ps) ts n2 n3 n5 n6 e2 e3 (two n3 s ps n4 n5 e4 e5) e6)
+    ∙ ap (λ (o : List ℕ). o ++ ((magic ++ h) ++ (ds ++ (n ++ ((s ++ ps) ++ ts))))) empty
 
 -- ---- rows
 

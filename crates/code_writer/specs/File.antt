@@ -1,44 +1,62 @@
 -- What a code file is.
-use Rattle.std.specs.Prelude.{ℕ, ◌≡◌, ◌<◌, ◌^◌, List, [], ◌∷◌, ◌++◌, length, slice_index_or, ◌≤◌, All}
+use Rattle.std.specs.Prelude.{ℕ, ◌≡◌, ◌<◌, ◌^◌, List, [], ◌∷◌, ◌++◌, suc, length, slice_index_or, ◌≤◌, All}
 use Rattle.std.specs.List.{flat_map}
 use Rattle.term_core.specs.Limits.{IsTerm}
-use Rattle.mcode.specs.Program.{Program, Frame, IsWhole}
+use Rattle.mcode.specs.Program.{Program, Routine, Frame, IsWhole, seen_body}
 use Rattle.mcode.specs.declared.kind.Kind.{Kind}
 use Rattle.mcode.specs.declared.kind.Kind.TheVariants as kind
 use Rattle.mcode.specs.declared.instr.Instr.{Instr}
 use Rattle.mcode.specs.declared.instr.Instr.TheVariants as instr
-use Rattle.code_writer.specs.Spelling.{u16_bytes, constant_bytes, instruction_bytes, frame_bytes}
+use Rattle.code_writer.specs.Spelling.{u16_bytes, constants_bytes, instruction_bytes, instructions_bytes, frames_bytes, body_bytes, routine_bytes}
 
 -- EMSC in ASCII
 abbrev pub magic : List ℕ
 magic = 69 ∷ 77 ∷ 83 ∷ 67 ∷ []
 
--- the version of the format
+-- the version of the format for code without routines
 abbrev pub version : ℕ
 version = 1
 
--- the one file of code: the magic, the version, how many slots there are, then the constants, the instructions and the
--- frames, each behind their number
-abbrev pub file_bytes : Program → List ℕ
-file_bytes p =
+-- the version for code with routines
+abbrev pub routine_version : ℕ
+routine_version = 2
+
+-- The one file of code, by its routines. Without any: the magic, the version, how many slots there are, then the
+-- constants, the instructions and the frames, each behind their number. With some: the magic, the version, the
+-- constants, the number of bodies, the main body, and the routines.
+abbrev pub file_of : Program → List Routine → List ℕ
+file_of p [] =
     magic
     ++ (u16_bytes version
     ++ (u16_bytes p.slots
-    ++ ((u16_bytes (length p.constants) ++ flat_map constant_bytes p.constants)
-    ++ ((u16_bytes (length p.instructions) ++ flat_map instruction_bytes p.instructions)
-    ++ (u16_bytes (length p.frames) ++ flat_map frame_bytes p.frames)))))
+    ++ (constants_bytes p.constants
+    ++ (instructions_bytes p.instructions ++ frames_bytes p.frames))))
+file_of p (t ∷ ts) =
+    magic
+    ++ (u16_bytes routine_version
+    ++ (constants_bytes p.constants
+    ++ (u16_bytes (suc (length (t ∷ ts)))
+    ++ (body_bytes (seen_body p) ++ flat_map routine_bytes (t ∷ ts)))))
 
--- the greatest number of an instruction; those above it are of code with routines
+-- the one file of code
+abbrev pub file_bytes : Program → List ℕ
+file_bytes p = file_of p p.around.routines
+
+-- the greatest number of an instruction
 abbrev pub most_opcode : ℕ
-most_opcode = 25
+most_opcode = 28
+
+-- the greatest in code without routines; those above it are of code with routines
+abbrev pub plain_opcode : ℕ
+plain_opcode = 25
 
 -- the number of an instruction, with which its bytes begin
 abbrev pub instruction_number : Instr → ℕ
 instruction_number i = slice_index_or (instruction_bytes i) 0 0
 
--- an instruction of code without routines
-abbrev pub IsPlain : Instr → Type 0
-IsPlain i = instruction_number i ≤ most_opcode
+-- an instruction up to this number
+abbrev pub IsUpTo : ℕ → Instr → Type 0
+IsUpTo most i = instruction_number i ≤ most
 
 -- a number that two bytes hold
 abbrev pub IsU16 : ℕ → Type 0
@@ -87,11 +105,25 @@ pub record HoldsFrame (f : Frame) : Type 0 where
   pub places : All HoldsPlace f.places
   pub slots : All IsU8 f.slots
 
--- Code that has a file: it has no routines, and none of its instructions is one of those that code with routines alone
--- has. The format has none of code with routines yet.
-pub record HasFile (p : Program) : Type 0 where
-  pub alone : p.around.routines ≡ []
-  pub plain : All IsPlain p.instructions
+-- each number of a routine is held by its bytes
+pub record HoldsRoutine (t : Routine) : Type 0 where
+  pub arguments : All HoldsSize t.arguments
+  pub result : HoldsSize t.result
+  pub instructions : All HoldsArguments t.body.instructions
+  pub frames : All HoldsFrame t.body.frames
+
+-- Code that has a file: where it has no routines, none of its instructions is one of those that code with routines alone
+-- has.
+abbrev pub HasFile : Program → Type 0
+HasFile p = p.around.routines ≡ [] → All (IsUpTo plain_opcode) p.instructions
+
+-- the bytes are what is written of this code: all that they hold is held by them
+pub record IsFileOf (p : Program) (bytes : List ℕ) : Type 0 where
+  pub constants : All IsTerm p.constants
+  pub instructions : All HoldsArguments p.instructions
+  pub frames : All HoldsFrame p.frames
+  pub routines : All HoldsRoutine p.around.routines
+  pub spelling : bytes ≡ file_bytes p
 
 -- The bytes are the code file of this code: it is code that has one, its constants are terms, and the bytes spell it.
 pub record Spells (bytes : List ℕ) (p : Program) : Type 0 where
@@ -100,4 +132,5 @@ pub record Spells (bytes : List ℕ) (p : Program) : Type 0 where
   pub constants : All IsTerm p.constants
   pub instructions : All HoldsArguments p.instructions
   pub frames : All HoldsFrame p.frames
+  pub routines : All HoldsRoutine p.around.routines
   pub spelling : bytes ≡ file_bytes p

@@ -1,8 +1,8 @@
 -- The formats of the parts of a code file.
-use Rattle.std.specs.Prelude.{ℕ, ℤ, ◌≡◌, ◌<◌, ◌≤◌, ◌≢◌, ◌^◌, List, [], ◌∷◌, ◌++◌, length, FitsSigned}
+use Rattle.std.specs.Prelude.{ℕ, suc, ℤ, ◌≡◌, ◌<◌, ◌≤◌, ◌≢◌, ◌^◌, List, [], ◌∷◌, ◌++◌, length, FitsSigned}
 use Rattle.std.specs.Int.{w64}
 use Rattle.std.specs.Str.{IsUtf8}
-use Rattle.std.specs.List.{AllByRecursion}
+use Rattle.std.specs.List.{AllByRecursion, flat_map}
 use Rattle.prims_table.specs.Numbers.{function_number, arithmetic_number}
 use Rattle.prims_table.specs.declared.prim.Function.{Function}
 use Rattle.prims_table.specs.declared.prim.Arithmetic.{Arithmetic}
@@ -11,15 +11,15 @@ use Rattle.term_core.specs.Datum.Datum.{cons}
 use Rattle.term_core.specs.Limits.{IsSound, depth}
 use Rattle.term_core.specs.MapPairs.{AreRising}
 use Rattle.term_core.specs.Sizes.{depth_limit, list_limit, binary_limit}
-use Rattle.mcode.specs.Program.{Frame, Rise, place_number, frame_number, Program}
+use Rattle.mcode.specs.Program.{Frame, Rise, place_number, frame_number, Program, Body, Routine, most_slots, most_routines, most_arguments, seen_body}
 use Rattle.mcode.specs.declared.kind.Kind.{Kind}
 use Rattle.mcode.specs.declared.kind.Kind.TheVariants as kind
 use Rattle.mcode.specs.declared.instr.Instr.{Instr}
 use Rattle.code_writer.specs.Opcodes.{opcode_number}
 use Rattle.code_writer.specs.declared.opcode.Opcode.{Opcode}
-use Rattle.code_writer.specs.Spelling.{u16_bytes, u32_bytes, i64_bytes, constant_bytes, instruction_bytes, kind_bytes, frame_bytes}
-use Rattle.code_writer.specs.File.{IsU8, IsU16, HoldsArguments, HoldsSize, IsPlain, most_opcode}
-use Rattle.code_writer.specs.Format.{Format, both, counted, such}
+use Rattle.code_writer.specs.Spelling.{u16_bytes, u32_bytes, i64_bytes, constant_bytes, instruction_bytes, kind_bytes, frame_bytes, body_bytes, any_kind_bytes, routine_bytes}
+use Rattle.code_writer.specs.File.{IsU8, IsU16, HoldsArguments, HoldsSize, IsUpTo, plain_opcode, most_opcode}
+use Rattle.code_writer.specs.Format.{Format, both, counted, such, through}
 
 abbrev pub u8_format : Format ℕ
 u8_format = record { spell = λ n. n ∷ []; Fits = IsU8 }
@@ -37,10 +37,10 @@ i64_format = record { spell = i64_bytes; Fits = FitsSigned w64 }
 abbrev pub bytes_format : ℕ → Format (List ℕ)
 bytes_format n = record { spell = λ bs. bs; Fits = λ bs. length bs ≡ n }
 
--- an instruction
-abbrev pub instruction_format : Format Instr
-instruction_format =
-    record { spell = instruction_bytes; Fits = λ i. HoldsArguments i × IsPlain i }
+-- an instruction, up to this number
+abbrev pub instruction_format : ℕ → Format Instr
+instruction_format most =
+    record { spell = instruction_bytes; Fits = λ i. HoldsArguments i × IsUpTo most i }
 
 -- a term at most so deep
 abbrev pub constant_format : ℕ → Format Datum
@@ -50,9 +50,10 @@ constant_format room =
       Fits = λ d. IsSound d × (depth d ≤ room);
     }
 
-abbrev pub opcode_format : Format Opcode
-opcode_format =
-    record { spell = λ o. opcode_number o ∷ []; Fits = λ o. opcode_number o ≤ most_opcode }
+-- an opcode, up to this number
+abbrev pub opcode_format : ℕ → Format Opcode
+opcode_format most =
+    record { spell = λ o. opcode_number o ∷ []; Fits = λ o. opcode_number o ≤ most }
 
 -- a function of the table of calls
 abbrev pub function_format : Format Function
@@ -149,21 +150,80 @@ abbrev pub list_format : ℕ → Format (List Datum × Datum)
 list_format room =
     both (counted length_format (constant_format room)) (such (constant_format room) IsNoCell)
 
--- ---- the body of a file
+-- ---- bodies
 
 abbrev pub constants_format : Format (List Datum)
 constants_format = counted u16_format (constant_format depth_limit)
 
-abbrev pub instructions_format : Format (List Instr)
-instructions_format = counted u16_format instruction_format
+abbrev pub instructions_format : ℕ → Format (List Instr)
+instructions_format most = counted u16_format (instruction_format most)
 
 abbrev pub frames_format : Format (List Frame)
 frames_format = such (counted u16_format frame_format) (Rise frame_number)
 
--- what follows the number of slots
-abbrev pub body_format : Format (List Datum × (List Instr × List Frame))
-body_format = both constants_format (both instructions_format frames_format)
+-- what a body has but its slots, its instructions up to this number
+abbrev pub parts_format : ℕ → Format (List Instr × List Frame)
+parts_format most = both (instructions_format most) frames_format
 
--- code but for the number of its slots
-abbrev pub body_of : Program → List Datum × (List Instr × List Frame)
-body_of p = (p.constants, (p.instructions, p.frames))
+-- how many slots there are
+abbrev pub slot_count_format : Format ℕ
+slot_count_format = such u16_format (λ n. n ≤ most_slots)
+
+abbrev pub body_parts : Body → ℕ × (List Instr × List Frame)
+body_parts b = (b.slots, (b.instructions, b.frames))
+
+-- a body of code with routines
+abbrev pub body_format : Format Body
+body_format = through body_parts (both slot_count_format (parts_format most_opcode))
+
+-- the kind of an argument or a result
+abbrev pub any_kind_format : Format Kind
+any_kind_format = record { spell = any_kind_bytes; Fits = HoldsSize }
+
+-- how many arguments a routine has
+abbrev pub argument_count_format : Format ℕ
+argument_count_format = such u16_format (λ n. n ≤ most_arguments)
+
+abbrev pub arguments_format : Format (List Kind)
+arguments_format = counted argument_count_format any_kind_format
+
+-- the arguments of a routine and its result
+abbrev pub signature_format : Format (List Kind × Kind)
+signature_format = both arguments_format any_kind_format
+
+abbrev pub routine_parts : Routine → (List Kind × Kind) × Body
+routine_parts t = ((t.arguments, t.result), t.body)
+
+abbrev pub routine_format : Format Routine
+routine_format = through routine_parts (both signature_format body_format)
+
+-- how many bodies code with routines has
+abbrev pub body_count_format : Format ℕ
+body_count_format = such u16_format (λ n. (2 ≤ n) × (n ≤ suc most_routines))
+
+-- the main body and the routines, behind the number of them all
+abbrev pub bodies_format : Format (Body × List Routine)
+bodies_format =
+    record {
+      spell =
+          λ p. u16_bytes (suc (length p.1))
+              ++ (body_bytes p.0 ++ flat_map routine_bytes p.1);
+      Fits = λ p. body_count_format.Fits (suc (length p.1))
+          × (body_format.Fits p.0 × AllByRecursion routine_format.Fits p.1);
+    }
+
+-- ---- files behind their version
+
+-- code without routines
+abbrev pub plain_format : Format (ℕ × (List Datum × (List Instr × List Frame)))
+plain_format = both slot_count_format (both constants_format (parts_format plain_opcode))
+
+abbrev pub plain_parts : Program → ℕ × (List Datum × (List Instr × List Frame))
+plain_parts p = (p.slots, (p.constants, (p.instructions, p.frames)))
+
+-- code with routines
+abbrev pub code_format : Format (List Datum × (Body × List Routine))
+code_format = both constants_format bodies_format
+
+abbrev pub code_parts : Program → List Datum × (Body × List Routine)
+code_parts p = (p.constants, (seen_body p, p.around.routines))

@@ -2,7 +2,7 @@
 use Rattle.std.specs.Prelude.{ℕ, ◌≡◌, List, All}
 use Rattle.term_core.specs.Limits.{IsTerm}
 use Rattle.mcode.specs.Program.{Program, IsWhole}
-use Rattle.code_writer.specs.File.{Spells, HasFile, HoldsArguments, HoldsFrame, file_bytes}
+use Rattle.code_writer.specs.File.{Spells, HasFile, HoldsArguments, HoldsFrame, HoldsRoutine, file_bytes}
 
 -- bytes that spell two programs spell one
 abbrev pub OneCode : Type 0
@@ -14,4 +14,5 @@ abbrev pub ReadBack : Type 0
 ReadBack =
     (p : Program) → IsWhole p → HasFile p → All IsTerm p.constants
     → All HoldsArguments p.instructions → All HoldsFrame p.frames
+    → All HoldsRoutine p.around.routines
     → Spells (file_bytes p) p × ((q : Program) → Spells (file_bytes p) q → q ≡ p)

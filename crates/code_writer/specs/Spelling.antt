@@ -8,7 +8,7 @@ use Rattle.term_core.specs.Datum.{Datum, Items, Entries, item_count, entry_count
 use Rattle.term_core.specs.Datum.Datum.{integer, atom, tuple, map, nil, cons, binary}
 use Rattle.term_core.specs.Datum.Items.{no_items, item}
 use Rattle.term_core.specs.Datum.Entries.{no_entries, entry}
-use Rattle.mcode.specs.Program.{Frame}
+use Rattle.mcode.specs.Program.{Frame, Body, Routine}
 use Rattle.mcode.specs.declared.kind.Kind.{Kind}
 use Rattle.mcode.specs.declared.kind.Kind.TheVariants as kind
 use Rattle.mcode.specs.declared.instr.Instr.{Instr}
@@ -118,3 +118,30 @@ frame_bytes f =
     ++ (u16_bytes f.depth
     ++ ((u16_bytes (length f.places) ++ flat_map place_bytes f.places)
     ++ (u16_bytes (length f.slots) ++ f.slots)))
+
+-- constants, instructions and frames, each behind their number
+abbrev pub constants_bytes : List Datum → List ℕ
+constants_bytes ds = u16_bytes (length ds) ++ flat_map constant_bytes ds
+
+abbrev pub instructions_bytes : List Instr → List ℕ
+instructions_bytes is = u16_bytes (length is) ++ flat_map instruction_bytes is
+
+abbrev pub frames_bytes : List Frame → List ℕ
+frames_bytes fs = u16_bytes (length fs) ++ flat_map frame_bytes fs
+
+-- a body: how many slots it has, its instructions and its frames
+abbrev pub body_bytes : Body → List ℕ
+body_bytes b =
+    u16_bytes b.slots ++ (instructions_bytes b.instructions ++ frames_bytes b.frames)
+
+-- the kind of an argument or a result, which may be Any
+abbrev pub any_kind_bytes : Kind → List ℕ
+any_kind_bytes kind.Any = 0 ∷ []
+any_kind_bytes k = kind_bytes k
+
+-- a routine: how many arguments it has and their kinds, the lowest first, the kind of its result, and its body
+abbrev pub routine_bytes : Routine → List ℕ
+routine_bytes t =
+    ((u16_bytes (length t.arguments) ++ flat_map any_kind_bytes t.arguments)
+    ++ any_kind_bytes t.result)
+    ++ body_bytes t.body

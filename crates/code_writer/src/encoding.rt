@@ -1,34 +1,72 @@
 //! Whole code files, written.
-ghost use Rattle.std.specs.Prelude.{◌≡◌, ◌++◌, IfOk, OnOk};
+ghost use Rattle.std.specs.Prelude.{◌≡◌, ◌≢◌, ◌++◌, [], IfOk, OnOk};
 ghost use Rattle.code_writer.specs.Spelling.{u16_bytes};
-ghost use Rattle.code_writer.specs.File.{HasFile, Spells, magic, version};
+ghost use Rattle.code_writer.specs.File.{HasFile, Spells, IsFileOf, magic};
 
 use crate::constant::put_constants;
-use crate::frame::put_frames;
-use crate::instr::put_instrs;
 use crate::number::put_u16;
+use crate::routine::{put_parts, put_routines};
 use mcode::Code;
 use std::alloc::{AllocError, Allocator};
 
-/// Appends the magic, EMSC in ASCII, the version and the number of slots.
-fn put_header<A: Allocator>(slots: u16, out: &mut Vec<u8, A>) -> Result<(), AllocError>
-    ensures { OnOk result (out.new.items ≡ out.old.items
-        ++ (magic ++ (u16_bytes version ++ u16_bytes slots))) }
+/// The version of the format for code without routines.
+const PLAIN_VERSION: u16 = 1;
+/// The version for code with routines.
+const ROUTINE_VERSION: u16 = 2;
+
+/// Appends the magic, EMSC in ASCII, and the version.
+fn put_header<A: Allocator>(version: u16, out: &mut Vec<u8, A>) -> Result<(), AllocError>
+    ensures { OnOk result (out.new.items ≡ out.old.items ++ (magic ++ u16_bytes version)) }
 {
     out.extend_from_slice(b"EMSC")?;
-    put_u16(1, out)?;
-    put_u16(slots, out)
+    put_u16(version, out)
+}
+
+/// Appends code without routines to nothing.
+fn put_plain<A: Allocator, B: Allocator>(
+    code: &Code<A>,
+    out: &mut Vec<u8, B>,
+) -> Result<(), AllocError>
+    requires none { code.now.around.routines ≡ [] }
+    requires empty { out.old.items ≡ [] }
+    ensures { OnOk result (IsFileOf code.now out.new.items) }
+{
+    put_header(PLAIN_VERSION, out)?;
+    put_u16(code.slots(), out)?;
+    put_constants(code.constants(), out)?;
+    put_parts(code.instructions(), code.frames(), out)
+}
+
+/// Appends code with routines to nothing.
+fn put_code<A: Allocator, B: Allocator>(
+    code: &Code<A>,
+    out: &mut Vec<u8, B>,
+) -> Result<(), AllocError>
+    requires some { code.now.around.routines ≢ [] }
+    requires empty { out.old.items ≡ [] }
+    ensures { OnOk result (IsFileOf code.now out.new.items) }
+{
+    let routines = code.routines();
+    put_header(ROUTINE_VERSION, out)?;
+    put_constants(code.constants(), out)?;
+    put_u16(routines.len() as u16 + 1, out)?;
+    put_u16(code.slots(), out)?;
+    put_parts(code.instructions(), code.frames(), out)?;
+    put_routines(routines, out)?;
+    Ok(())
 }
 
 /// The one code file of this code. It has no refusal but want of memory. Code without routines that has an instruction of
 /// those that are of routines has no file: what is written of it is refused by whoever reads it, as `verify` refuses it.
+#[tactic(auto, using(crate::proofs::FileLemmas::file_spells))]
 pub fn encode<A: Allocator + Copy>(alloc: A, code: &Code<A>) -> Result<Vec<u8, A>, AllocError>
     ensures ok { IfOk result (λ bytes. HasFile code.now → Spells bytes.items code.now) }
 {
     let mut file = Vec::new(alloc);
-    put_header(code.slots(), &mut file)?;
-    put_constants(code.constants(), &mut file)?;
-    put_instrs(code.instructions(), &mut file)?;
-    put_frames(code.frames(), &mut file)?;
+    if code.routines().is_empty() {
+        put_plain(code, &mut file)?;
+        return Ok(file);
+    }
+    put_code(code, &mut file)?;
     Ok(file)
 }

@@ -11,7 +11,7 @@ use mcode::{Frame, Kind};
 use std::alloc::{AllocError, Allocator};
 
 /// Appends a kind, nothing for `Kind::Any`.
-fn put_kind<A: Allocator>(kind: Kind, out: &mut Vec<u8, A>) -> Result<(), AllocError>
+pub(crate) fn put_kind<A: Allocator>(kind: Kind, out: &mut Vec<u8, A>) -> Result<(), AllocError>
     ensures bytes { OnOk result (out.new.items ≡ out.old.items ++ kind_bytes kind) }
     ensures held { HoldsSize kind }
 {

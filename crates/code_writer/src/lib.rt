@@ -6,7 +6,8 @@
 //!
 //! - `opcode`: the opcodes of instructions, by the arguments that they have.
 //! - `laws`: what files meet.
-//! - `number`, `instr`, `frame`, `constant`: the parts, each put behind what is written; `encoding`: whole files.
+//! - `number`, `instr`, `frame`, `constant`, `routine`: the parts, each put behind what is written; `encoding`: whole
+//!   files.
 //!
 //! The formats of the parts, `specs/Formats.antt`, are what readers go by.
 #![tactic(auto)]
@@ -18,7 +19,8 @@ mod instr;
 mod laws;
 mod number;
 mod opcode;
+mod routine;
 
 pub use encoding::encode;
 pub use laws::{one_code, read_back};
-pub use opcode::{Bare, Double, MAX_OPCODE, Opcode, Single, Slotted};
+pub use opcode::{Bare, Double, MAX_OPCODE, MAX_PLAIN_OPCODE, Opcode, Single, Slotted};

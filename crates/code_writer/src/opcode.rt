@@ -103,8 +103,10 @@ fn at(table: &[Opcode], place: usize) -> Option<Opcode>
     table.get(place).copied()
 }
 
+/// The greatest number of an opcode.
+pub const MAX_OPCODE: u8 = 28;
 /// The greatest number of an opcode in code without routines.
-pub const MAX_OPCODE: u8 = 25;
+pub const MAX_PLAIN_OPCODE: u8 = 25;
 
 impl Opcode {
     /// The opcode of this number, none where there is none.

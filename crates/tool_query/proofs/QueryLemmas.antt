@@ -11,7 +11,7 @@ use Rattle.term_core.specs.View.{shown, IsSplit}
 use Rattle.term_core.specs.declared.view.View.{View}
 use Rattle.term_core.specs.declared.view.View.TheVariants as view
 use Rattle.mcode.specs.Answer.{answer_of}
-use Rattle.mcode.specs.Program.{Program, Around, alone, routine_at}
+use Rattle.mcode.specs.Program.{Program, alone, routine_at}
 use Rattle.mcode.specs.Run.{HasRun}
 use Rattle.mcode.specs.declared.instr.Instr.{Instr}
 use Rattle.mcode.specs.declared.instr.Instr.TheVariants as instr
@@ -24,7 +24,7 @@ use Rattle.mspec_meaning.specs.Meaning.{Means}
 use Rattle.compiler_assembly.proofs.StandLemmas.{assembled_alone}
 use Rattle.compiler_clauses.specs.Clauses.{code_of}
 use Rattle.code_file.specs.Faults.{IsNoFile}
-use Rattle.code_writer.specs.File.{HasFile, IsPlain, Spells}
+use Rattle.code_writer.specs.File.{HasFile, IsUpTo, plain_opcode, Spells}
 use Rattle.code_writer.specs.Laws.{OneCode}
 use Rattle.code_file.specs.declared.fault.FileFault.{FileFault}
 use Rattle.code_file.specs.declared.fault.FileFault.TheVariants as file
@@ -91,7 +91,7 @@ no_code bytes p code.Budget b s h = faulty bytes p code.Budget b s h (λ e. absu
 -- ---- a file that was written is loaded
 
 -- an instruction that may stand in code without routines is none of theirs
-placed_plain : (p : Program) (i : Instr) → p.around ≡ alone → IsPlaced p i → IsPlain i
+placed_plain : (p : Program) (i : Instr) → p.around ≡ alone → IsPlaced p i → IsUpTo plain_opcode i
 placed_plain p (instr.Invoke r target) is placed =
     let none : is_some (routine_at p r) ≡ false = ap is_some (no_routine p r is) in
     absurd (false≢true (sym none ∙ placed.1))
@@ -102,12 +102,9 @@ placed_plain p i is placed = omega arith
 
 -- typed code without routines has a file
 typed_has_file : (p : Program) → p.around ≡ alone → IsTyped p → HasFile p
-typed_has_file p is typed = record {
-  alone = ap (λ (a : Around). a.routines) is;
-  plain = λ pc d inside.
-      let here = slice_get-get_or p.instructions pc d inside in
-      placed_plain p (get_or p.instructions pc d) is ((typed.bodies 0 (omega arith)).1.each pc (get_or p.instructions pc d) inside here).typed.placed;
-}
+typed_has_file p is typed none pc d inside =
+    let here = slice_get-get_or p.instructions pc d inside in
+    placed_plain p (get_or p.instructions pc d) is ((typed.bodies 0 (omega arith)).1.each pc (get_or p.instructions pc d) inside here).typed.placed
 
 code_alone : (s : Specification) → (code_of s).around ≡ alone
 unfolding code_of
