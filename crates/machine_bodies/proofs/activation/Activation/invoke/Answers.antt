@@ -25,6 +25,12 @@ hand_over-requires g c =
     let counts = c.argument_count-count.ensures in
     (search rules, (omega (arith, there, settled.height, counts), (omega (arith, stands.within, settled.height, settled.places), omega (arith, room, counts))))
 
+pub overflow_sub-self : goal.overflow_sub-self
+overflow_sub-self g c =
+    let settled = c.in_ok-settle.ensures.settled in
+    let there = arguments_there c.args.code.now c.requires.main c.requires.body c.args.routine c.requires.read.0 c.requires.read.1 c.requires.stands in
+    omega (arith, there, settled.height, c.argument_count-count.ensures)
+
 pub returns-clause-invoked : goal.returns-clause-invoked
 returns-clause-invoked g c object stands =
     let settled = c.in_ok-settle.ensures.settled in
