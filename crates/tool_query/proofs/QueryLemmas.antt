@@ -24,7 +24,7 @@ use Rattle.mspec_meaning.specs.Meaning.{Means}
 use Rattle.compiler_assembly.proofs.StandLemmas.{assembled_alone}
 use Rattle.compiler_clauses.specs.Clauses.{code_of}
 use Rattle.code_file.specs.Faults.{IsNoFile}
-use Rattle.code_writer.specs.File.{HasFile, IsPlain, Spells}
+use Rattle.code_writer.specs.File.{HasFile, IsUpTo, Spells, plain_opcode}
 use Rattle.code_writer.specs.Laws.{OneCode}
 use Rattle.code_file.specs.declared.fault.FileFault.{FileFault}
 use Rattle.code_file.specs.declared.fault.FileFault.TheVariants as file
@@ -91,7 +91,7 @@ no_code bytes p code.Budget b s h = faulty bytes p code.Budget b s h (λ e. absu
 -- ---- a file that was written is loaded
 
 -- an instruction that may stand in code without routines is none of theirs
-placed_plain : (p : Program) (i : Instr) → p.around ≡ alone → IsPlaced p i → IsPlain i
+placed_plain : (p : Program) (i : Instr) → p.around ≡ alone → IsPlaced p i → IsUpTo plain_opcode i
 placed_plain p (instr.Invoke r target) is placed =
     let none : is_some (routine_at p r) ≡ false = ap is_some (no_routine p r is) in
     absurd (false≢true (sym none ∙ placed.1))
