@@ -166,7 +166,7 @@ parts_begin most bytes r t old one two h k first second =
     let same : one.instructions ≡ two.instructions = sym (ap (λ (p : Program). p.instructions) second) in (
       subst (λ (is : List Instr). Begins (parts_format most) bytes (is, two.frames) t) same (both_begins (instructions_format most) frames_format bytes one.instructions r two.frames t h k),
       second ∙ ap (λ (p : Program). with_frames p two.frames) first
-      ∙ ap (λ (is : List Instr). with_parts old is two.frames) same,
+          ∙ ap (λ (is : List Instr). with_parts old is two.frames) same,
     )
 
 pub instructions_stop_parts : (most : ℕ) (bytes : List ℕ) (stop : FileStop) → IsStop (instructions_format most) bytes (Blames (a_count (instructions most)) bytes) stop → IsStop (parts_format most) bytes (Blames (a_count (instructions most)) bytes) stop

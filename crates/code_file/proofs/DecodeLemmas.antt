@@ -208,8 +208,8 @@ pub plain_parts_stop : (bytes : List ℕ) (n : ℕ) (r : List ℕ) (ds : List Da
 plain_parts_stop bytes n r ds t stop h k m =
     stop_due (parts_format plain_opcode) plain_format (a_count (instructions plain_opcode)) a_plain_code t bytes stop
     (λ none p s l.
-      let behind = both_rest slot_count_format constants_and_parts slot_count_free bytes n r p s h l in
-      none p.1.1 s (both_rest constants_format (parts_format plain_opcode) constants_free r ds t p.1 s k behind.1).1)
+    let behind = both_rest slot_count_format constants_and_parts slot_count_free bytes n r p s h l in
+    none p.1.1 s (both_rest constants_format (parts_format plain_opcode) constants_free r ds t p.1 s k behind.1).1)
     (λ file due. Due.plain_instructions due h k) m
 
 pub plain_built : (bytes : List ℕ) (n : ℕ) (r : List ℕ) (ds : List Datum) (t s : List ℕ) (old new code : Program) → Begins slot_count_format bytes n r → Begins constants_format r ds t → old ≡ with_constants (empty_program n) ds

@@ -70,11 +70,7 @@ fn read_arithmetic(bytes: &[u8]) -> Result<(Arithmetic, &[u8]), FileStop>
 }
 
 /// A call, behind its opcode.
-fn read_call<'a>(
-    most: u8,
-    bytes: &[u8],
-    rest: &'a [u8],
-) -> Result<(Instr, &'a [u8]), FileStop>
+fn read_call<'a>(most: u8, bytes: &[u8], rest: &'a [u8]) -> Result<(Instr, &'a [u8]), FileStop>
     requires { Begins (opcode_format most) bytes.now Opcode.Call rest.now }
     ensures { Reads (instruction_format most) (Blames (an_instruction most) bytes.now) (λ r. (r.0, r.1.now)) bytes.now result }
 {
@@ -89,11 +85,7 @@ fn read_call<'a>(
 }
 
 /// A function of two integers with where to go otherwise, behind its opcode.
-fn read_arith<'a>(
-    most: u8,
-    bytes: &[u8],
-    rest: &'a [u8],
-) -> Result<(Instr, &'a [u8]), FileStop>
+fn read_arith<'a>(most: u8, bytes: &[u8], rest: &'a [u8]) -> Result<(Instr, &'a [u8]), FileStop>
     requires { Begins (opcode_format most) bytes.now Opcode.Arith rest.now }
     ensures { Reads (instruction_format most) (Blames (an_instruction most) bytes.now) (λ r. (r.0, r.1.now)) bytes.now result }
 {

@@ -24,10 +24,7 @@ const PLAIN_VERSION: u16 = 1;
 const ROUTINE_VERSION: u16 = 2;
 
 /// Code without routines, behind the version.
-fn read_plain<A: Allocator + Copy>(
-    alloc: A,
-    bytes: &[u8],
-) -> Result<(Code<A>, &[u8]), FileStop>
+fn read_plain<A: Allocator + Copy>(alloc: A, bytes: &[u8]) -> Result<(Code<A>, &[u8]), FileStop>
     ensures code { Reads plain_format (Blames a_plain_code bytes.now)
         (λ r. (plain_parts r.0, r.1.now)) bytes.now result }
     ensures alone { IfOk result (λ r. r.0.around ≡ alone) }
@@ -40,10 +37,7 @@ fn read_plain<A: Allocator + Copy>(
 }
 
 /// Code with routines, behind the version.
-fn read_code<A: Allocator + Copy>(
-    alloc: A,
-    bytes: &[u8],
-) -> Result<(Code<A>, &[u8]), FileStop>
+fn read_code<A: Allocator + Copy>(alloc: A, bytes: &[u8]) -> Result<(Code<A>, &[u8]), FileStop>
     ensures { Reads code_format (Blames a_code bytes.now) (λ r. (code_parts r.0, r.1.now))
         bytes.now result }
 {

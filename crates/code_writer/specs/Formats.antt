@@ -207,7 +207,7 @@ bodies_format =
     record {
       spell =
           λ p. u16_bytes (suc (length p.1))
-              ++ (body_bytes p.0 ++ flat_map routine_bytes p.1);
+          ++ (body_bytes p.0 ++ flat_map routine_bytes p.1);
       Fits = λ p. body_count_format.Fits (suc (length p.1))
           × (body_format.Fits p.0 × AllByRecursion routine_format.Fits p.1);
     }

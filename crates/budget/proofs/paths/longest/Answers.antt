@@ -11,8 +11,8 @@ pub loop-number-init : goal.loop-number-init
 loop-number-init g c =
     let zeros : c.in_ok-budgets.budgets.items ≡ replicate (length c.routines.result.now + 1) 0 = search rules in (
       budgets_none c.args.code.now c.in_ok-budgets.budgets.items c.len-number.result
-      (omega (arith, ap length zeros, length-replicate {A = ℕ} (length c.routines.result.now + 1) 0, ap length c.routines.ensures.value))
-      (omega (arith, c.len-number.ensures, c.in_ok-budgets.ensures.len, ap length c.routines.ensures.value)),
+          (omega (arith, ap length zeros, length-replicate {A = ℕ} (length c.routines.result.now + 1) 0, ap length c.routines.ensures.value))
+          (omega (arith, c.len-number.ensures, c.in_ok-budgets.ensures.len, ap length c.routines.ensures.value)),
       λ b. rw zeros (few_none (length c.routines.result.now + 1) b),
     )
 

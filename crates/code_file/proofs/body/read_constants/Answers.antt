@@ -19,4 +19,3 @@ pub returns-in_err-constants : goal.returns-in_err-constants
 returns-in_err-constants g c =
     let p = err_from_is_err_and c.from_residual-in_err-constants.result c.from_residual-in_err-constants.ensures.1 in
     rw (p.1, p.2) (counted_stop (constant_format depth_limit) constants c.args.bytes.now c.in_ok-count.count c.in_ok-count.rest.now _ c.in_ok-count.ensures (constant_rows_stop c.in_ok-count.rest.now c.in_ok-count.count _ (subst (λ n. IsStop (rows (constant_format depth_limit) n) c.in_ok-count.rest.now (Blames (many (terms depth_limit) n) c.in_ok-count.rest.now) c.in_err-constants.field-0.0) c.from.ensures c.in_err-constants.ensures)))
-
