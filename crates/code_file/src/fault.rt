@@ -20,14 +20,14 @@ pub enum FileFault {
     /// A byte names no tag, opcode, function or kind.
     #[error("at byte {0}: the byte names nothing")]
     BadOpcode(usize),
-    /// A key, frame, place or slot isn't above the one before it, a list has no elements or a list for its tail, or an
-    /// atom isn't UTF-8. The byte is the item's first.
+    /// A key, frame, place or slot isn't above the one before it, a list has no elements or a list for its tail, an atom
+    /// isn't UTF-8, or code of the version with routines has none. The byte is the item's first.
     #[error("at byte {0}: not as code files are written")]
     NotCanonical(usize),
     /// Bytes stand behind the code, of which this is the first.
     #[error("at byte {0}: the code file goes on behind its end")]
     Trailing(usize),
-    /// There are too many slots, or a term is past a limit of terms.
+    /// There are too many slots, bodies or arguments, or a term is past a limit of terms.
     #[error("past a limit")]
     Limit,
 }

@@ -4,7 +4,7 @@ use Rattle.std.proofs.Common.{arith, get_or, reverse, refl, sym, ap, subst, ◌�
 use Rattle.std.proofs.lemmas.List.{reverse-append, append_assoc, append-nil, length-append, get_or_append_left}
 use Rattle.term_operand.specs.Order.{is_same}
 use Rattle.term_core.specs.Datum.{Datum}
-use Rattle.mcode.specs.Building.{empty_program, with_constant, with_instruction, IsFrameTooMany, IsNextFrame, IsPartRefused}
+use Rattle.mcode.specs.Building.{empty_program, finished, with_constant, with_instruction, IsFrameTooMany, IsNextFrame, IsPartRefused}
 use Rattle.mcode.specs.Program.{Program, Around, Frame, Rise, IsFrame, AreFrames, frame_number, most_parts, most_slots}
 use Rattle.mcode.specs.declared.fault.Fault.{Fault}
 use Rattle.mcode.specs.declared.fault.Fault.TheVariants.{Memory, Limit, FrameOrder}
@@ -213,6 +213,11 @@ none_left (x ∷ xs) n is over = absurd (omega (arith, is, over))
 -- what isn't code by another name
 pub no_code : {p q : Program} → p ≡ q → ¬ IsCode p → ¬ IsCode q
 no_code {p = p} {q = q} same out code = out (subst IsCode (sym same) code)
+
+-- assembled code is seen from its main body
+pub finished_assembled : (slots : ℕ) (bs : List Block) → finished (assembled slots bs) ≡ assembled slots bs
+unfolding assembled
+finished_assembled slots bs = refl
 
 -- the code so far is the code, where nothing is left
 pub nothing_left : (p : Program) → p ≡ with_blocks [] p 0 []

@@ -1,6 +1,6 @@
 //! Code out of blocks of lines.
 ghost use Rattle.std.specs.Prelude.{◌≡◌, ◌+◌, ◌<◌, ◌⊎◌, [], length, IfOk, IfErr, OnOk, MatchOption};
-ghost use Rattle.mcode.specs.Building.{with_constant, IsPartRefused};
+ghost use Rattle.mcode.specs.Building.{with_constant, finished, IsPartRefused};
 ghost use Rattle.mcode.specs.Program.{most_parts};
 ghost use Rattle.mcode.specs.Frame.{frame_of};
 ghost use Rattle.mcode.specs.declared.fault.Fault.TheVariants.{Memory};
@@ -196,7 +196,7 @@ fn with_constants<A: Allocator>(
     builder: Builder<A>,
     terms: Vec<Term<A>, A>,
 ) -> Result<Code<A>, Fault>
-    ensures ok { IfOk result (λ code. code ≡ with_blocks terms.items builder 0 []) }
+    ensures ok { IfOk result (λ code. code ≡ finished (with_blocks terms.items builder 0 [])) }
     ensures refused { IfErr result (λ fault. (fault ≡ Memory)
         ⊎ (¬ IsCode (with_blocks terms.items builder 0 []))) }
 {

@@ -24,7 +24,7 @@ use Rattle.mspec_meaning.specs.Meaning.{Means}
 use Rattle.compiler_assembly.proofs.StandLemmas.{assembled_alone}
 use Rattle.compiler_clauses.specs.Clauses.{code_of}
 use Rattle.code_file.specs.Faults.{IsNoFile}
-use Rattle.code_writer.specs.File.{HasFile, IsUpTo, plain_opcode, Spells}
+use Rattle.code_writer.specs.File.{HasFile, IsUpTo, Spells, plain_opcode}
 use Rattle.code_writer.specs.Laws.{OneCode}
 use Rattle.code_file.specs.declared.fault.FileFault.{FileFault}
 use Rattle.code_file.specs.declared.fault.FileFault.TheVariants as file

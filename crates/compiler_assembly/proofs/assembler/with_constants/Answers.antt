@@ -1,5 +1,6 @@
 use Rattle.std.proofs.Common.{sym, ap, inl, inr, ◌∙◌, [], reverse}
 use Rattle.std.proofs.lemmas.Result.{err_from_is_err_and}
+use Rattle.mcode.specs.Building.{finished}
 use Rattle.compiler_assembly.specs.Assembling.{with_blocks}
 use Rattle.compiler_assembly.proofs.AssemblerLemmas.{constant_moved, constant_out, nothing_left, last_first, none_left, no_code, part_refused}
 use Rattle.compiler_assembly.proofs.assembler.with_constants.Goals as goal
@@ -28,4 +29,4 @@ pub returns-clause-ok : goal.returns-clause-ok
 returns-clause-ok g c =
     let builder = c.loop-term.builder in
     let over = none_left c.loop-term.left.items c.loop-term.left.len c.loop-term.left.ok.0 c.in_default.ensures.cases.0 in
-    c.finish.ensures ∙ nothing_left builder ∙ ap (λ ds. with_blocks ds builder 0 []) (sym over) ∙ c.loop-term.invariant
+    c.finish.ensures ∙ ap finished (nothing_left builder ∙ ap (λ ds. with_blocks ds builder 0 []) (sym over) ∙ c.loop-term.invariant)
