@@ -190,7 +190,7 @@ module _ {T A : Type 0} (is_ready : T → Type 0) (home : T → Home) (sees : T 
         works = works;
       }
 
-  some_parts : (olds : List T) (d : T) → 0 < length olds → AreAt is_ready home sees o numbers before olds → 0 < o.parts
+  pub some_parts : (olds : List T) (d : T) → 0 < length olds → AreAt is_ready home sees o numbers before olds → 0 < o.parts
   some_parts olds d some at =
       subst (λ (x : Options). 0 < x.parts) (at.home_of 0 d some).0 (fits (get_or olds 0 d) (at.ready 0 d some)).0
 

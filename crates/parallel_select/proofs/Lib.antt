@@ -11,3 +11,4 @@ mod LawLemmas
 mod StretchLemmas
 mod MemberLemmas
 mod JoinLemmas
+mod RemovalLemmas

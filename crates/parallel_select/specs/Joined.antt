@@ -1,17 +1,19 @@
 -- What the members of a selection find together: the answer of a query over all parts of their table, the moments of
 -- each part being those that its worker sees.
-use Rattle.std.specs.Prelude.{ℕ, ◌≡◌, ◌≢◌, ◌<◌, ◌≤◌, ◌⊎◌, ◌%◌, false, IsTrue, All, AllPairs, Contains, None, map, flat_map, get_or, List, [], ◌∷◌, length, min}
+use Rattle.std.specs.Prelude.{ℕ, ◌≡◌, ◌≢◌, ◌<◌, ◌≤◌, ◌+◌, ◌⊎◌, ◌%◌, not, false, IsTrue, All, AllPairs, Contains, None, filter, map, flat_map, get_or, List, [], ◌∷◌, length, min}
 use Rattle.term_core.specs.Datum.{Datum}
 use Rattle.mcode.specs.Answer.{answer_of}
 use Rattle.mcode.specs.Program.{Program}
 use Rattle.part_core.specs.Acts.{Purpose}
-use Rattle.part_core.specs.Acts.Purpose.{Answers}
+use Rattle.part_core.specs.Acts.Purpose.{Answers, Deletes}
 use Rattle.part_core.specs.Replies.{most_counted}
 use Rattle.part_core.specs.Settings.{is_object, key_of, part_of}
+use Rattle.part_core.specs.Visits.{is_true}
 use Rattle.tables.specs.declared.options.Options.{Options}
 use Rattle.tables.specs.Options.{settings_of}
 use Rattle.tables.specs.Turns.{Home, Views}
 use Rattle.walk_core.specs.Moments.{Span, IsMoment, Mark, IsGrown, ArePlaced, answers_at}
+use Rattle.walk_core.specs.Once.{IsVisitAt, content_at}
 use Rattle.walk_core.specs.Walk.{Walk}
 use Rattle.walk_query.specs.declared.query.Query.{Query}
 use Rattle.parallel_select.specs.Parts.{walk_through}
@@ -70,6 +72,30 @@ pub record FindTogether {A : Type 0} (o : Options) (numbers : ℕ → ℕ) (purp
       → IsGrown o (before (part % workers)) (call part).before × IsGrown o (call part).after (now (part % workers))
   pub answers : AreAnswers o q.code (shared_walks o numbers purpose q workers call now) found
 
+-- the objects of a key after so many entries of its part
+abbrev pub part_content_at : Options → PartWalks → Datum → ℕ → List Datum
+part_content_at o ws k count = content_at (ws.walk (place_of o k)) (ws.now (place_of o k)) k count
+
+-- a visit of the walk of the key's part, whether or not it covers the key
+abbrev pub IsPartVisit : Options → PartWalks → Datum → ℕ → Type 0
+IsPartVisit o ws k place =
+    IsVisitAt (ws.walk (place_of o k)) (ws.call (place_of o k) ∷ []) (ws.now (place_of o k)) k place
+
+-- Whatever visit of a walk that deletes, and whatever key of its part: either the visit is the key's moment among those
+-- that are answered, and takes out the objects that answer true, which are the key's answers; or it takes out nothing.
+abbrev pub TakeTheAnswers : (o : Options) (p : Program) (ws : PartWalks) → List Mark → Type 0
+TakeTheAnswers o p ws marks =
+    (k : Datum) (place : ℕ) → IsPartVisit o ws k place
+    → (Contains marks (record { key = k; moment = place })
+    × (part_content_at o ws k (place + 1) ≡ filter (λ t. not (is_true p t)) (part_content_at o ws k place))
+    × (part_answers_at o ws k place ≡ filter (is_true p) (part_content_at o ws k place)))
+    ⊎ (part_content_at o ws k (place + 1) ≡ part_content_at o ws k place)
+
+-- What workers find together that delete, they take out, each object at its key's moment, and nothing else.
+pub record RemoveTogether {A : Type 0} (o : Options) (numbers : ℕ → ℕ) (q : Query A) (workers : ℕ) (before now : ℕ → Views) (found : List Datum) : Type 0 where
+  pub find : FindTogether o numbers Deletes q workers before now found
+  pub take : TakeTheAnswers o q.code (shared_walks o numbers Deletes q workers find.call now) find.answers.marks
+
 -- sessions of a table with these options that can make turns; by its place, each one's number, and what it sees
 pub record AreAt {T : Type 0} (is_ready : T → Type 0) (home : T → Home) (sees : T → Views → Type 0) (o : Options) (numbers : ℕ → ℕ) (views : ℕ → Views) (members : List T) : Type 0 where
   pub ready : All is_ready members
@@ -97,3 +123,15 @@ CountsJoin {T} A is_ready home sees =
     × (count ≡ min (length found) most_counted)
     × (((n : ℕ) → n < length olds → ArePlaced o (now n))
     → FindTogether o numbers purpose q (length olds) before now found)
+
+-- What members deleted is what they find together; it is gone from the content of their parts; and what they answered is
+-- its number, at most 2^64 - 1.
+abbrev pub RemovalsJoin : {T : Type 0} → Type 0 → (T → Type 0) → (T → Home) → (T → Views → Type 0) → Type 0
+RemovalsJoin {T} A is_ready home sees =
+    (o : Options) (numbers : ℕ → ℕ) (q : Query A) (count : ℕ) (before : ℕ → Views) (olds news : List T)
+    → 0 < length olds → AreAt is_ready home sees o numbers before olds
+    → EachTallied is_ready home sees q Deletes (length olds) false count 0 olds news
+    → (now : ℕ → Views) × (found : List Datum) × AreAt is_ready home sees o numbers now news
+    × (count ≡ min (length found) most_counted)
+    × (((n : ℕ) → n < length olds → ArePlaced o (now n))
+    → RemoveTogether o numbers q (length olds) before now found)

@@ -1,5 +1,5 @@
 //! Laws of the walks of workers, each the contract of a function that does nothing.
-ghost use Rattle.parallel_select.specs.Joined.{PartsJoin, CountsJoin};
+ghost use Rattle.parallel_select.specs.Joined.{PartsJoin, CountsJoin, RemovalsJoin};
 ghost use Rattle.parallel_select.specs.Laws.{PartsAreAnswered, BrokenPartsAreGathered};
 
 use std::alloc::Allocator;
@@ -24,4 +24,9 @@ pub fn parts_join<A: Allocator, T: Turns<A>>()
 /// What they counted, or deleted and counted, is the number of these answers.
 pub fn counts_join<A: Allocator, T: Turns<A>>()
     ensures { CountsJoin A T.is_ready T.home T.sees }
+{}
+
+/// What they deleted, each in the turn in which it was asked, is gone, and nothing else.
+pub fn removals_join<A: Allocator, T: Turns<A>>()
+    ensures { RemovalsJoin A T.is_ready T.home T.sees }
 {}

@@ -19,6 +19,8 @@ mod worker;
 mod workers;
 
 pub use fault::SelectFault;
-pub use laws::{broken_parts_are_gathered, counts_join, parts_are_answered, parts_join};
+pub use laws::{
+    broken_parts_are_gathered, counts_join, parts_are_answered, parts_join, removals_join,
+};
 pub use parallel_list::{LEAST_RUN, run_list};
 pub use selecting::{MOST_MEMBERS, count_parts, delete_parts, select_parts};

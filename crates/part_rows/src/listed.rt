@@ -1,5 +1,5 @@
 //! What code answers on the objects of rows that are listed by their places.
-ghost use Rattle.std.specs.Prelude.{◌≡◌, ◌++◌, [], ◌∷◌, IfOk, filter_map, length, min};
+ghost use Rattle.std.specs.Prelude.{◌≡◌, ◌++◌, [], ◌∷◌, true, IfOk, IsOk, filter_map, length, min};
 ghost use Rattle.part_core.specs.Acts.Purpose.{Answers, Counts};
 ghost use Rattle.part_core.specs.Replies.{most_counted};
 ghost use Rattle.part_core.specs.Visits.{yield_of_rows};
@@ -7,9 +7,43 @@ ghost use Rattle.part_core.specs.Visits.{yield_of_rows};
 use crate::objects::{count_true, gather};
 use crate::place::Place;
 use crate::rows::Rows;
+use crate::seen::SeenRow;
 use machine::Machine;
 use std::alloc::{AllocError, Allocator};
 use term_core::Term;
+
+/// How many places a visit reads ahead of itself.
+const AHEAD: usize = 64;
+
+/// Whether the first element of the first object of a row has a depth, as each term has.
+fn is_deep<A: Allocator>(row: &SeenRow<'_, A>) -> bool
+    ensures { result ≡ true }
+{
+    match row.held().as_slice().first() {
+        Some(object) => match object.element_at(1) {
+            Some(element) => 0 < element.depth(),
+            None => true,
+        },
+        None => true,
+    }
+}
+
+/// Reads the rows at the first places, and of each its object, before a visit comes to them. Here no read waits for
+/// what code does with the row before, so that several are under way at once, and the visit finds all at hand. It
+/// answers nothing: that each term has a depth isn't known to the compiler, which keeps the loop for that.
+#[inline(never)]
+fn read_ahead<R: Rows<A>, A: Allocator>(rows: &R, places: &[Place]) -> Result<(), AllocError>
+    ensures { IsOk result }
+{
+    for place in places.iter().take(AHEAD) {
+        if let Some(row) = rows.row_at(*place) {
+            if !is_deep(&row) {
+                return Err(AllocError);
+            }
+        }
+    }
+    Ok(())
+}
 
 /// Puts the answers on the row at a place behind others, where one stands there.
 fn gather_place<'r, R: Rows<A>, A: Allocator + Copy>(
@@ -42,7 +76,10 @@ pub fn gather_listed<'r, R: Rows<A>, A: Allocator + Copy>(
     ensures found { IfOk result (λ _. found.new.items ≡ found.old.items
         ++ yield_of_rows Answers machine.old.code (filter_map (R.row_of rows.now) places.now)) }
 {
-    for place in places {
+    for (number, place) in places.iter().enumerate() {
+        if number % AHEAD == 0 {
+            read_ahead(rows, &places[number..])?;
+        }
         gather_place(machine, rows, place, found)?;
     }
     Ok(())
@@ -76,7 +113,10 @@ pub fn count_listed<'r, R: Rows<A>, A: Allocator + Copy>(
         most_counted) }
 {
     let mut total: u64 = 0;
-    for place in places {
+    for (number, place) in places.iter().enumerate() {
+        if number % AHEAD == 0 {
+            read_ahead(rows, &places[number..])?;
+        }
         let count = count_place(machine, rows, place)?;
         total = total.saturating_add(count);
     }

@@ -6,4 +6,3 @@ pub mod TurnLemmas
 pub mod FindLemmas
 pub mod TourLemmas
 pub mod KeyLemmas
-mod AnsweredLemmas

@@ -1,7 +1,7 @@
 //! A walk of a session at a table whose parts have gates.
-ghost use Rattle.std.specs.Prelude.{IfOk};
+ghost use Rattle.std.specs.Prelude.{IfOk, IfErr};
 ghost use Rattle.tables.specs.Sessions.{IsOpened};
-ghost use Rattle.walk_laws.specs.Answered.{IsAnsweredBy};
+ghost use Rattle.walk_laws.specs.Answered.{IsAnsweredBy, IsGivenUpBy};
 
 use part_core::Part;
 use std::alloc::{AllocError, Allocator};
@@ -10,8 +10,8 @@ use tables::{Session, Table};
 use term_core::Term;
 use walks::{Query, select};
 
-/// All answers of a query on the objects of a table (ets:select/2), and the session back. Other sessions may turn its
-/// parts meanwhile.
+/// All answers of a query on the objects of a table (ets:select/2), and the session back, which makes no other entry than
+/// those of the walk. Other sessions may turn its parts meanwhile.
 pub fn select_at<R: Wait, A: Allocator + Copy, P: Part<A> + Drop>(
     rt: &R,
     alloc: A,
@@ -21,8 +21,10 @@ pub fn select_at<R: Wait, A: Allocator + Copy, P: Part<A> + Drop>(
 ) -> (Session<P, A>, Result<Vec<Term<A>, A>, AllocError>)
     requires { IsOpened table.now.options table.now.gates.items session.number session.passes.items }
     ensures opened { IsOpened table.now.options table.now.gates.items result.0.number result.0.passes.items }
-    ensures answered { IfOk result.1 (λ answers. IsAnsweredBy table.now.options session.number query.now session.passes.items
-        result.0.passes.items answers.items) }
+    ensures answered { IfOk result.1 (λ answers. IsAnsweredBy table.now.options table.now.gates.items session.number query.now
+        session.passes.items result.0.passes.items answers.items) }
+    ensures refused { IfErr result.1 (λ _. IsGivenUpBy table.now.options table.now.gates.items session.number query.now
+        session.passes.items result.0.passes.items) }
 {
     let mut session = session;
     let mut at = table.at(rt, &mut session);

@@ -5,7 +5,7 @@ use Rattle.part_core.specs.Replies.{most_counted}
 use Rattle.part_core.specs.Visits.{yield_of_rows}
 use Rattle.part_rows.proofs.listed.count_listed.Given as goal
 
-abbrev pub invariant-loop-place : goal.invariant-loop-place
-invariant-loop-place g l =
+abbrev pub invariant-loop-number : goal.invariant-loop-number
+invariant-loop-number g l =
     (l.machine.code ≡ l.initial.machine.code)
-    × (l.total ≡ min (length (yield_of_rows Counts l.initial.machine.code (filter_map (g.R.Rows.row_of l.rows) (take l.place-index l.places)))) most_counted)
+    × (l.total ≡ min (length (yield_of_rows Counts l.initial.machine.code (filter_map (g.R.Rows.row_of l.rows) (take l.number l.places)))) most_counted)
