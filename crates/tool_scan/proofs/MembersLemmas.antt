@@ -1,15 +1,15 @@
 -- What the sessions of a scan do, each by itself.
-use Rattle.std.proofs.Common.{zero, suc, ◌≡◌, ◌≢◌, ℕ, ◌+◌, ◌<◌, ◌≤◌, refl, ap, sym, subst, ◌∙◌, arith, List, [], ◌∷◌, ◌++◌, length, map, take, get_or, slice_set}
-use Rattle.std.specs.Prelude.{Some, Option, All, filter, true, false}
-use Rattle.std.proofs.lemmas.Bool.{ne_eqb, eq-eqb}
-use Rattle.std.proofs.lemmas.List.{take_more}
-use Rattle.std.proofs.lemmas.List.Elements.{All-set, All-get_or, All-head, All-tail, filter-append}
+use Rattle.std.proofs.Common.{suc, ◌≡◌, ℕ, ◌+◌, ◌<◌, refl, ap, sym, subst, ◌∙◌, arith, List, [], ◌∷◌, ◌++◌, length, map, take, get_or}
+use Rattle.std.specs.Prelude.{Bool, Some, Option, All, ◌==◌, if◌then◌else◌, filter, true, false}
+use Rattle.std.proofs.lemmas.List.{append-nil, length-take-le, take_more}
+use Rattle.std.proofs.lemmas.List.Elements.{All-cons, All-head, All-nil, All-tail}
 use Rattle.term_core.specs.Datum.{Datum}
 use Rattle.mcode.specs.Program.{Program}
 use Rattle.part_core.specs.Acts.Act.{Insert}
 use Rattle.part_core.specs.Acts.Answer.{Replied}
 use Rattle.part_core.specs.Acts.Purpose.{Answers}
 use Rattle.part_core.specs.Acts.Said.{Nothing}
+use Rattle.part_core.proofs.KeyLemmas.{by_test}
 use Rattle.tables.specs.Calls.{TurnedByObject}
 use Rattle.tables.specs.Turns.{Home, Views, Follows}
 use Rattle.tables.specs.declared.options.Options.{Options}
@@ -17,7 +17,7 @@ use Rattle.walk_query.specs.declared.query.Query.{Query}
 use Rattle.walks.specs.Query.{plan_of}
 use Rattle.parallel_select.specs.Parts.{part_walk, is_share, answers_of, Works}
 use Rattle.parallel_select.specs.Workers.{AreOfOneTable, Did, Each, EachAnswers}
-use Rattle.tool_scan.specs.Members.{AreMembers, EachPuts, EachScans, Puts, Scans, scan_walk}
+use Rattle.tool_scan.specs.Members.{AreMembers, EachPuts, EachPutsThose, EachScans, Puts, Scans, scan_walk, those_of}
 use Rattle.tool_scan.specs.Options.{is_own, table_of, worker_of}
 use Rattle.tool_scan.specs.declared.options.ScanOptions.{ScanOptions}
 
@@ -30,42 +30,71 @@ puts_more : (h : Home) (ts : List Datum) (t : Datum) (v u w : Views) → Puts h 
 puts_more h [] t v u w same turned = (w, subst (λ x. PutIn t h x w) same turned, refl)
 puts_more h (s ∷ ts) t v u w puts turned = (puts.0, puts.1, puts_more h ts t puts.0 u w puts.2 turned)
 
+-- ---- objects, each with a number beside it
+
+those_push : (n m : ℕ) (t : Datum) (ms : List ℕ) (ts : List Datum) → length ms ≡ length ts → those_of n (ms ++ m ∷ []) (ts ++ t ∷ []) ≡ those_of n ms ts ++ (if m == n then t ∷ [] else [])
+those_push n m t [] [] same = refl
+those_push n m t [] (u ∷ ts) same = absurd (omega (arith, same))
+those_push n m t (k ∷ ms) [] same = absurd (omega (arith, same))
+those_push n m t (k ∷ ms) (u ∷ ts) same =
+    by_test (k == n) _
+    (λ own. rw own (ap (λ l. u ∷ l) (those_push n m t ms ts (omega (arith, same)))))
+    (λ other. rw other (those_push n m t ms ts (omega (arith, same))))
+
+-- one more object, where it has the number or not
+pub those_more : (n : ℕ) (ms : List ℕ) (ts : List Datum) (i m : ℕ) (t : Datum) → length ms ≡ length ts → i < length ts → m ≡ get_or ms i m → t ≡ get_or ts i t
+    → those_of n (take (i + 1) ms) (take (i + 1) ts) ≡ those_of n (take i ms) (take i ts) ++ (if m == n then t ∷ [] else [])
+those_more n ms ts i m t same within is_number is =
+    ap (λ (l : List ℕ). those_of n l (take (i + 1) ts)) (take_more ms i m (omega (arith, same, within)) ∙ ap (λ (k : ℕ). take i ms ++ k ∷ []) (sym is_number))
+    ∙ ap (λ (l : List Datum). those_of n (take i ms ++ m ∷ []) l) (take_more ts i t within ∙ ap (λ (u : Datum). take i ts ++ u ∷ []) (sym is))
+    ∙ those_push n m t (take i ms) (take i ts) (length-take i ms (omega (arith, same, within)) ∙ sym (length-take i ts (omega (arith, within))))
+
+-- those of a worker are those that stand in its parts
+those_are : (o : ScanOptions) (n : ℕ) (ts : List Datum) → those_of n (map (worker_of o) ts) ts ≡ filter (is_own o n) ts
+those_are o n [] = refl
+those_are o n (t ∷ ts) = ap (λ l. if worker_of o t == n then t ∷ l else l) (those_are o n ts)
+
+-- ---- one member
+
+module _ {T : Type 0} (is_ready : T → Type 0) (home : T → Home) (sees : T → Views → Type 0) where
+  -- nothing yet
+  pub nothing_put : (h : Home) (n : ℕ) (numbers : List ℕ) (objects : List Datum) (s : T) → Follows (sees s) (sees s) (Puts h (those_of n (take 0 numbers) (take 0 objects)))
+  nothing_put h n numbers objects s v b = (v, b, refl)
+
+  -- one object more
+  pub one_put : (n : ℕ) (numbers : List ℕ) (objects : List Datum) (i m : ℕ) (t : Datum) (old mid new : T) → length numbers ≡ length objects → i < length objects → m ≡ get_or numbers i m → t ≡ get_or objects i t → (m == n) ≡ true
+      → home mid ≡ home old → Follows (sees old) (sees mid) (Puts (home old) (those_of n (take i numbers) (take i objects))) → Follows (sees mid) (sees new) (PutIn t (home mid))
+      → Follows (sees old) (sees new) (Puts (home old) (those_of n (take (i + 1) numbers) (take (i + 1) objects)))
+  one_put n numbers objects i m t old mid new same within is_number is own stays so_far put v b =
+      let f = so_far v b in
+      let g = put f.0 f.1 in
+      let more = those_more n numbers objects i m t same within is_number is ∙ ap (λ (b : Bool). those_of n (take i numbers) (take i objects) ++ (if b then t ∷ [] else [])) own in (
+        g.0,
+        g.1,
+        subst (λ ts. Puts (home old) ts v g.0) (sym more)
+            (puts_more (home old) (those_of n (take i numbers) (take i objects)) t v f.0 g.0 f.2 (subst (λ (h : Home). PutIn t h f.0 g.0) stays g.2)),
+      )
+
+  -- one object that is another's
+  pub none_put : (n : ℕ) (numbers : List ℕ) (objects : List Datum) (i m : ℕ) (t : Datum) (old mid : T) → length numbers ≡ length objects → i < length objects → m ≡ get_or numbers i m → t ≡ get_or objects i t → (m == n) ≡ false
+      → Follows (sees old) (sees mid) (Puts (home old) (those_of n (take i numbers) (take i objects)))
+      → Follows (sees old) (sees mid) (Puts (home old) (those_of n (take (i + 1) numbers) (take (i + 1) objects)))
+  none_put n numbers objects i m t old mid same within is_number is other so_far v b =
+      let f = so_far v b in
+      let more = those_more n numbers objects i m t same within is_number is
+          ∙ ap (λ (b : Bool). those_of n (take i numbers) (take i objects) ++ (if b then t ∷ [] else [])) other
+          ∙ append-nil (those_of n (take i numbers) (take i objects)) in
+      (f.0, f.1, subst (λ ts. Puts (home old) ts v f.0) (sym more) f.2)
+
 -- ---- lists of members
 
 module _ {T : Type 0} where
-  map_set : {X : Type 0} (f : T → X) (xs : List T) (i : ℕ) (x d : T) → i < length xs → f x ≡ f (get_or xs i d) → map f (slice_set xs i x) ≡ map f xs
-  map_set f [] i x d within same = absurd (omega (arith, within))
-  map_set f (y ∷ ys) zero x d within same = ap (λ z. z ∷ map f ys) same
-  map_set f (y ∷ ys) (suc i) x d within same = ap (λ l. f y ∷ l) (map_set f ys i x d (omega (arith, within)) same)
-
-  length_set : (xs : List T) (i : ℕ) (x : T) → length (slice_set xs i x) ≡ length xs
-  length_set [] i x = refl
-  length_set (y ∷ ys) zero x = refl
-  length_set (y ∷ ys) (suc i) x = ap (λ n. suc n) (length_set ys i x)
-
   -- what holds of each, told as something else
-  each_by : (P Q : ℕ → T → T → Type 0) (k : ℕ) (olds news : List T) → ((n : ℕ) (old new : T) → k ≤ n → P n old new → Q n old new) → Each P k olds news → Each Q k olds news
+  each_by : (P Q : ℕ → T → T → Type 0) (k : ℕ) (olds news : List T) → ((n : ℕ) (old new : T) → P n old new → Q n old new) → Each P k olds news → Each Q k olds news
   each_by P Q k [] [] by each = tt
-  each_by P Q k (old ∷ olds) (new ∷ news) by each =
-      (by k old new (omega arith) each.0, each_by P Q (k + 1) olds news (λ n o m above. by n o m (omega (arith, above))) each.1)
+  each_by P Q k (old ∷ olds) (new ∷ news) by each = (by k old new each.0, each_by P Q (k + 1) olds news by each.1)
   each_by P Q k [] (new ∷ news) by each = absurd each
   each_by P Q k (old ∷ olds) [] by each = absurd each
-
-  -- one of them changes
-  each_set : (P Q : ℕ → T → T → Type 0) (m k i : ℕ) (olds news : List T) (x d : T) → m ≡ k + i → i < length news → Each P k olds news
-      → ((old : T) → P m old (get_or news i d) → Q m old x) → ((n : ℕ) (old new : T) → n ≢ m → P n old new → Q n old new) → Each Q k olds (slice_set news i x)
-  each_set P Q m k i [] [] x d is within each step rest = absurd (omega (arith, within))
-  each_set P Q m k i [] (new ∷ news) x d is within each step rest = absurd each
-  each_set P Q m k i (old ∷ olds) [] x d is within each step rest = absurd each
-  each_set P Q m k zero (old ∷ olds) (new ∷ news) x d is within each step rest =
-      let same : m ≡ k = omega (arith, is) in (
-        subst (λ n. Q n old x) same (step old (subst (λ n. P n old new) (sym same) each.0)),
-        each_by P Q (k + 1) olds news (λ n o w above. rest n o w (λ e. omega (arith, e, same, above))) each.1,
-      )
-  each_set P Q m k (suc i) (old ∷ olds) (new ∷ news) x d is within each step rest = (
-    rest k old new (λ e. omega (arith, e, is)) each.0,
-    each_set P Q m (k + 1) i olds news x d (omega (arith, is)) (omega (arith, within)) each.1 step rest,
-  )
 
   -- what each did first, and then
   each_both : (P Q R : ℕ → T → T → Type 0) (k : ℕ) (olds mids news : List T) → ((n : ℕ) (old mid new : T) → P n old mid → Q n mid new → R n old new) → Each P k olds mids → Each Q k mids news → Each R k olds news
@@ -78,62 +107,49 @@ module _ {T : Type 0} where
   each_both P Q R k (old ∷ olds) (mid ∷ mids) [] both first then = absurd then
 
   module _ (is_ready : T → Type 0) (home : T → Home) (sees : T → Views → Type 0) (o : ScanOptions) where
-    pub members_set : (members : List T) (i : ℕ) (x d : T) → AreMembers is_ready home o members → i < length members → is_ready x → home x ≡ home (get_or members i d) → AreMembers is_ready home o (slice_set members i x)
-    members_set members i x d are within ready same = record {
-      count = length_set members i x ∙ are.count;
-      ready = All-set is_ready members i x ready are.ready;
-      table = subst AreOfOneTable (sym (map_set home members i x d within same)) are.table;
-      options = All-set (λ m. (home m).options ≡ table_of o) members i x (ap (λ (h : Home). h.options) same ∙ All-get_or (λ m. (home m).options ≡ table_of o) members i d within are.options) are.options;
-    }
+    -- what each did leaves them where they are
+    each_long : (R : ℕ → Home → Views → Views → Type 0) (k : ℕ) (olds news : List T) → Each (λ n. Did is_ready home sees (R n)) k olds news → length news ≡ length olds
+    each_long R k [] [] each = refl
+    each_long R k (old ∷ olds) (new ∷ news) each = ap (λ n. suc n) (each_long R (k + 1) olds news each.1)
+    each_long R k [] (new ∷ news) each = absurd each
+    each_long R k (old ∷ olds) [] each = absurd each
 
-    none_put : (k : ℕ) (members : List T) → All is_ready members → Each (λ n. Did is_ready home sees (λ h. Puts h [])) k members members
-    none_put k [] ready = tt
-    none_put k (m ∷ ms) ready =
-        ((All-head is_ready m ms ready, refl, λ v b. (v, b, refl)), none_put (k + 1) ms (All-tail is_ready m ms ready))
+    each_ready : (R : ℕ → Home → Views → Views → Type 0) (k : ℕ) (olds news : List T) → Each (λ n. Did is_ready home sees (R n)) k olds news → All is_ready news
+    each_ready R k [] [] each = All-nil
+    each_ready R k (old ∷ olds) (new ∷ news) each = All-cons new news each.0.0 (each_ready R (k + 1) olds news each.1)
+    each_ready R k [] (new ∷ news) each = absurd each
+    each_ready R k (old ∷ olds) [] each = absurd each
 
-    pub nothing_put : (objects : List Datum) (members : List T) → All is_ready members → EachPuts is_ready home sees o (take 0 objects) members members
-    nothing_put objects members ready = none_put 0 members ready
+    each_home : (R : ℕ → Home → Views → Views → Type 0) (k : ℕ) (olds news : List T) → Each (λ n. Did is_ready home sees (R n)) k olds news → map home news ≡ map home olds
+    each_home R k [] [] each = refl
+    each_home R k (old ∷ olds) (new ∷ news) each =
+        ap (λ (h : Home). h ∷ map home news) each.0.1 ∙ ap (λ hs. home old ∷ hs) (each_home R (k + 1) olds news each.1)
+    each_home R k [] (new ∷ news) each = absurd each
+    each_home R k (old ∷ olds) [] each = absurd each
 
-    -- a member that did something does one thing more
-    did_more : (R S : Home → Views → Views → Type 0) (t : Datum) (old mid new : T) → ((h : Home) (v u w : Views) → R h v u → PutIn t h u w → S h v w)
-        → Did is_ready home sees R old mid → is_ready new → home new ≡ home mid → Follows (sees mid) (sees new) (PutIn t (home mid)) → Did is_ready home sees S old new
-    did_more R S t old mid new more did ready same put = (
-      ready,
-      same ∙ did.1,
-      λ v b.
-          let f = did.2 v b in
-          let g = put f.0 f.1 in
-          (g.0, g.1, more (home old) v f.0 g.0 f.2 (subst (λ (h : Home). PutIn t h f.0 g.0) did.1 g.2)),
-    )
+    each_options : (R : ℕ → Home → Views → Views → Type 0) (k : ℕ) (olds news : List T) → Each (λ n. Did is_ready home sees (R n)) k olds news → All (λ m. (home m).options ≡ table_of o) olds → All (λ m. (home m).options ≡ table_of o) news
+    each_options R k [] [] each all = All-nil
+    each_options R k (old ∷ olds) (new ∷ news) each all =
+        All-cons new news (ap (λ (h : Home). h.options) each.0.1 ∙ All-head (λ m. (home m).options ≡ table_of o) old olds all)
+        (each_options R (k + 1) olds news each.1 (All-tail (λ m. (home m).options ≡ table_of o) old olds all))
+    each_options R k [] (new ∷ news) each all = absurd each
+    each_options R k (old ∷ olds) [] each all = absurd each
 
-    own_more : (n : ℕ) (front : List Datum) (t : Datum) → is_own o n t ≡ true → filter (is_own o n) (front ++ t ∷ []) ≡ filter (is_own o n) front ++ t ∷ []
-    own_more n front t own = filter-append (is_own o n) front (t ∷ []) ∙ ap (λ l. filter (is_own o n) front ++ l) (rw own refl)
+    -- they are members of the scan still, and each put the objects of its parts in
+    pub members_put : (objects : List Datum) (numbers : List ℕ) (olds news : List T) → numbers ≡ map (worker_of o) objects → AreMembers is_ready home o olds → EachPutsThose is_ready home sees objects numbers 0 olds news → AreMembers is_ready home o news
+    members_put objects numbers olds news is are each =
+        let did : ℕ → Home → Views → Views → Type 0 = λ n h. Puts h (those_of n numbers objects) in
+        record {
+          count = each_long did 0 olds news each ∙ are.count;
+          ready = each_ready did 0 olds news each;
+          table = subst AreOfOneTable (sym (each_home did 0 olds news each)) are.table;
+          options = each_options did 0 olds news each are.options;
+        }
 
-    own_still : (n : ℕ) (front : List Datum) (t : Datum) → is_own o n t ≡ false → filter (is_own o n) (front ++ t ∷ []) ≡ filter (is_own o n) front
-    own_still n front t own = filter-append (is_own o n) front (t ∷ []) ∙ ap (λ l. filter (is_own o n) front ++ l) (none_in own) ∙ append_none (filter (is_own o n) front)
-      where
-        none_in : is_own o n t ≡ false → filter (is_own o n) (t ∷ []) ≡ []
-        none_in e = rw e refl
-
-        append_none : (xs : List Datum) → xs ++ [] ≡ xs
-        append_none [] = refl
-        append_none (x ∷ xs) = ap (λ l. x ∷ l) (append_none xs)
-
-    -- an object is put in by the member in whose parts it stands
-    pub one_put : (objects : List Datum) (i : ℕ) (t : Datum) (place : ℕ) (olds news : List T) (x d : T) → i < length objects → t ≡ get_or objects i t → place < length news → place ≡ worker_of o t
-        → EachPuts is_ready home sees o (take i objects) olds news
-        → is_ready x → home x ≡ home (get_or news place d) → Follows (sees (get_or news place d)) (sees x) (PutIn t (home (get_or news place d)))
-        → EachPuts is_ready home sees o (take (i + 1) objects) olds (slice_set news place x)
-    one_put objects i t place olds news x d there is within mine each ready same put =
-        subst (λ front. EachPuts is_ready home sees o front olds (slice_set news place x)) (sym (take_more objects i t there ∙ ap (λ e. take i objects ++ e ∷ []) (sym is)))
-        (each_set (puts_of (take i objects)) (puts_of (take i objects ++ t ∷ [])) place 0 place olds news x d (omega arith) within each
-        (λ old did. did_more (λ h. Puts h (filter (is_own o place) (take i objects))) (λ h. Puts h (filter (is_own o place) (take i objects ++ t ∷ []))) t old (get_or news place d) x
-        (λ h v u w puts turned. subst (λ ts. Puts h ts v w) (sym (own_more place (take i objects) t (eq-eqb (worker_of o t) place (sym mine)))) (puts_more h (filter (is_own o place) (take i objects)) t v u w puts turned))
-        did ready same put)
-        (λ n old new other did. subst (λ ts. Did is_ready home sees (λ h. Puts h ts) old new) (sym (own_still n (take i objects) t (ne_eqb (worker_of o t) n (λ e. other (sym e ∙ sym mine))))) did))
-      where
-        puts_of : List Datum → ℕ → T → T → Type 0
-        puts_of front n = Did is_ready home sees (λ h. Puts h (filter (is_own o n) front))
+    pub each_put : (objects : List Datum) (numbers : List ℕ) (olds news : List T) → numbers ≡ map (worker_of o) objects → EachPutsThose is_ready home sees objects numbers 0 olds news → EachPuts is_ready home sees o objects olds news
+    each_put objects numbers olds news is each =
+        each_by (λ n. Did is_ready home sees (λ h. Puts h (those_of n numbers objects))) (λ n. Did is_ready home sees (λ h. Puts h (filter (is_own o n) objects))) 0 olds news
+        (λ n old new did. subst (λ ts. Did is_ready home sees (λ h. Puts h ts) old new) (ap (λ ms. those_of n ms objects) is ∙ those_are o n objects) did) each
 
     -- the same with what holds of each before
     each_with : (F : T → Type 0) (P : ℕ → T → T → Type 0) (k : ℕ) (olds news : List T) → All F olds → Each P k olds news → Each (λ n old new. F old × P n old new) k olds news

@@ -1,5 +1,5 @@
 -- What the sessions of a scan do: each puts the objects of its parts in, and then walks through these parts.
-use Rattle.std.specs.Prelude.{ℕ, ◌≡◌, ◌+◌, Some, Option, List, [], ◌∷◌, All, filter, length, map}
+use Rattle.std.specs.Prelude.{ℕ, ◌≡◌, ◌+◌, ◌==◌, if◌then◌else◌, Some, Option, List, [], ◌∷◌, All, filter, length, map}
 use Rattle.term_core.specs.Datum.{Datum}
 use Rattle.mcode.specs.Program.{Program}
 use Rattle.part_core.specs.Acts.Act.{Insert}
@@ -32,6 +32,11 @@ scan_walk h program plan part = record {
   to = part + 1;
 }
 
+-- of objects, each of which has a number beside it, those of one number
+abbrev pub those_of : ℕ → List ℕ → List Datum → List Datum
+those_of n (m ∷ ms) (t ∷ ts) = if m == n then t ∷ those_of n ms ts else those_of n ms ts
+those_of n ms ts = []
+
 -- The session of a worker puts the objects of its parts in, in their order, and then walks through these parts, whose
 -- answers stand in these lists.
 pub record Scans (o : ScanOptions) (program : Program) (plan : Option (List Datum)) (objects : List Datum) (lists : List (List Datum)) (worker : ℕ) (h : Home) (v u : Views) : Type 0 where
@@ -51,6 +56,11 @@ pub record AreMembers {T : Type 0} (is_ready : T → Type 0) (home : T → Home)
 abbrev pub EachPuts : {T : Type 0} → (T → Type 0) → (T → Home) → (T → Views → Type 0) → ScanOptions → List Datum → List T → List T → Type 0
 EachPuts is_ready home sees o objects olds news =
     Each (λ n. Did is_ready home sees (λ h. Puts h (filter (is_own o n) objects))) 0 olds news
+
+-- Each put those objects in that have its number beside them, the first member having this number.
+abbrev pub EachPutsThose : {T : Type 0} → (T → Type 0) → (T → Home) → (T → Views → Type 0) → List Datum → List ℕ → ℕ → List T → List T → Type 0
+EachPutsThose is_ready home sees objects numbers number olds news =
+    Each (λ n. Did is_ready home sees (λ h. Puts h (those_of n numbers objects))) number olds news
 
 -- and then walked through its parts
 abbrev pub EachScans : {T : Type 0} → (T → Type 0) → (T → Home) → (T → Views → Type 0) → ScanOptions → Program → Option (List Datum) → List Datum → List (List Datum) → List T → List T → Type 0

@@ -1,5 +1,6 @@
 //! What the sessions of a scan do.
-ghost use Rattle.std.specs.Prelude.{◌≡◌, ◌<◌, All, List, Some, IfOk, OnOk, flat_map, length};
+ghost use Rattle.std.specs.Prelude.{◌≡◌, ◌<◌, ◌+◌, ◌∷◌, All, List, Some, IfOk, OnOk, flat_map, length, map};
+ghost use Rattle.std.specs.Thread.{IsSync};
 ghost use Rattle.term_core.specs.Datum.{Datum};
 ghost use Rattle.part_core.specs.Acts.Act.{Insert};
 ghost use Rattle.part_core.specs.Acts.Answer.{Replied};
@@ -7,8 +8,9 @@ ghost use Rattle.part_core.specs.Acts.Said.{Nothing};
 ghost use Rattle.tables.specs.Calls.{TurnedByObject};
 ghost use Rattle.tables.specs.Turns.{Follows};
 ghost use Rattle.parallel_select.specs.Parts.{is_share};
+ghost use Rattle.parallel_select.specs.Workers.{Did};
 ghost use Rattle.walks.specs.Query.{plan_of};
-ghost use Rattle.tool_scan.specs.Members.{AreMembers, EachPuts, EachScans};
+ghost use Rattle.tool_scan.specs.Members.{AreMembers, EachPuts, EachPutsThose, EachScans, Puts, those_of};
 ghost use Rattle.tool_scan.specs.Options.{table_of, worker_of, AreAllowed, IsFit};
 
 use crate::options::ScanOptions;
@@ -16,7 +18,7 @@ use parallel_select::select_parts;
 use part_core::key_in;
 use std::alloc::{AllocError, Allocator};
 use std::sync::Wait;
-use std::thread::Threads;
+use std::thread::{Threads, join_mut};
 use tables::{Turns, insert, part_of_key};
 use term_core::Term;
 use walks::Query;
@@ -49,8 +51,104 @@ fn put_object<A: Allocator, T: Turns<A>>(turns: &mut T, object: &Term<A>) -> Res
     }
 }
 
-/// The members put objects in, in their order, each those that stand in its own parts.
-fn put_objects<A: Allocator, T: Turns<A>>(
+/// Of each object the number of the member in whose parts it stands.
+fn members_of<A: Allocator + Copy>(
+    alloc: A,
+    options: ScanOptions,
+    objects: &[Term<A>],
+) -> Result<Vec<u8, A>, AllocError>
+    requires allowed { AreAllowed options }
+    requires fit { All (IsFit options) objects.now }
+    ensures { IfOk result (λ numbers. numbers.items ≡ map (worker_of options) objects.now) }
+{
+    let mut numbers = Vec::new(alloc);
+    numbers.reserve(objects.len())?;
+    for object in objects {
+        numbers.push(member_of(options, object))?;
+    }
+    Ok(numbers)
+}
+
+/// One member puts the objects in that stand in its own parts, in their order.
+// The handle isn't used: what a closure captures is found to be sendable where its type parameters are among that.
+fn put_own<R, A: Allocator, T: Turns<A>>(
+    _rt: &R,
+    number: u8,
+    turns: &mut T,
+    objects: &[Term<A>],
+    numbers: &[u8],
+) -> Result<(), AllocError>
+    requires ready { T.is_ready turns.old }
+    requires numbers { length numbers.now ≡ length objects.now }
+    ensures ready { T.is_ready turns.new }
+    ensures same { T.home turns.new ≡ T.home turns.old }
+    ensures put { OnOk result (Follows (T.sees turns.old) (T.sees turns.new)
+        (Puts (T.home turns.old) (those_of number numbers.now objects.now))) }
+{
+    for (place, object) in objects.iter().enumerate() {
+        if numbers[place] == number {
+            put_object(turns, object)?;
+        }
+    }
+    Ok(())
+}
+
+/// One member puts the objects of its parts in on a thread of its own, and the others do so each on another.
+// A function of its own, so that what the closures require is what it is given.
+#[cycle(puts)]
+fn put_both<R: Threads + Sync, A: Allocator + Copy + Send + Sync, T: Turns<A> + Send>(
+    rt: &R,
+    number: u8,
+    first: &mut T,
+    rest: &mut [T],
+    objects: &[Term<A>],
+    numbers: &[u8],
+) -> Result<(), AllocError>
+    requires first { T.is_ready first.old }
+    requires rest { All T.is_ready rest.old }
+    requires few { number + 1 + length rest.old < 256 }
+    requires numbers { length numbers.now ≡ length objects.now }
+    ensures { OnOk result (EachPutsThose T.is_ready T.home T.sees objects.now numbers.now number (first.old ∷ rest.old) (first.new ∷ rest.new)) }
+{
+    let (one, others) = join_mut(
+        rt,
+        &mut || -> Result<(), AllocError>
+            requires { IsSync R.row × T.is_ready first.now × (length numbers.now ≡ length objects.now) }
+            ensures { OnOk result (Did T.is_ready T.home T.sees (λ h. Puts h (those_of number numbers.entry.now objects.entry.now)) first.entry.now first.exit.now) }
+        { put_own(rt, number, first, objects, numbers) },
+        &mut || -> Result<(), AllocError>
+            requires { IsSync R.row × All T.is_ready rest.now × (number + 1 + length rest.now < 256) × (length numbers.now ≡ length objects.now) }
+            ensures { OnOk result (EachPutsThose T.is_ready T.home T.sees objects.entry.now numbers.entry.now (number + 1) rest.entry.now rest.exit.now) }
+        { put_each(rt, number + 1, rest, objects, numbers) },
+    );
+    one?;
+    others
+}
+
+/// Each member puts the objects of its parts in, on a thread of its own, the first one as the member of this number.
+#[cycle(puts)]
+fn put_each<R: Threads + Sync, A: Allocator + Copy + Send + Sync, T: Turns<A> + Send>(
+    rt: &R,
+    number: u8,
+    members: &mut [T],
+    objects: &[Term<A>],
+    numbers: &[u8],
+) -> Result<(), AllocError>
+    requires ready { All T.is_ready members.old }
+    requires few { number + length members.old < 256 }
+    requires numbers { length numbers.now ≡ length objects.now }
+    ensures { OnOk result (EachPutsThose T.is_ready T.home T.sees objects.now numbers.now number members.old members.new) }
+{
+    match members.split_first_mut() {
+        Some((first, rest)) => put_both(rt, number, first, rest, objects, numbers),
+        None => Ok(()),
+    }
+}
+
+/// The members put objects in, in their order, each those that stand in its own parts, on a thread of its own.
+fn put_objects<R: Threads + Sync, A: Allocator + Copy + Send + Sync, T: Turns<A> + Send>(
+    rt: &R,
+    alloc: A,
     options: ScanOptions,
     members: &mut [T],
     objects: &[Term<A>],
@@ -58,18 +156,15 @@ fn put_objects<A: Allocator, T: Turns<A>>(
     requires members { AreMembers T.is_ready T.home options members.old }
     requires allowed { AreAllowed options }
     requires fit { All (IsFit options) objects.now }
-    ensures members { AreMembers T.is_ready T.home options members.new }
+    ensures members { OnOk result (AreMembers T.is_ready T.home options members.new) }
     ensures put { OnOk result (EachPuts T.is_ready T.home T.sees options objects.now members.old members.new) }
 {
-    for object in objects {
-        let number = usize::from(member_of(options, object));
-        put_object(&mut members[number], object)?;
-    }
-    Ok(())
+    let numbers = members_of(alloc, options, objects)?;
+    put_each(rt, 0, members, objects, numbers.as_slice())
 }
 
-/// The members put objects in, in their order, each those that stand in its own parts; then each walks through its own
-/// parts, on a thread of its own. These are the answers, in the order of the parts.
+/// On a thread of its own each member puts in the objects that stand in its own parts, in their order; then each walks
+/// through these parts, again on a thread of its own. These are the answers, in the order of the parts.
 pub(crate) fn scan_members<
     R: Threads + Wait + Sync,
     A: Allocator + Copy + Send + Sync,
@@ -89,7 +184,7 @@ pub(crate) fn scan_members<
         × (answers.items ≡ flat_map (λ list. list) lists)
         × EachScans T.is_ready T.home T.sees options query.now.code (plan_of query.now (table_of options)) objects.now lists members.old members.new) }
 {
-    put_objects(options, members, objects)?;
+    put_objects(rt, alloc, options, members, objects)?;
     match select_parts(rt, alloc, members, query) {
         Ok(answers) => Ok(answers),
         Err(_) => Err(AllocError),
