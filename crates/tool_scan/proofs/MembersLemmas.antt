@@ -47,7 +47,7 @@ pub those_more : (n : ℕ) (ms : List ℕ) (ts : List Datum) (i m : ℕ) (t : Da
 those_more n ms ts i m t same within is_number is =
     ap (λ (l : List ℕ). those_of n l (take (i + 1) ts)) (take_more ms i m (omega (arith, same, within)) ∙ ap (λ (k : ℕ). take i ms ++ k ∷ []) (sym is_number))
     ∙ ap (λ (l : List Datum). those_of n (take i ms ++ m ∷ []) l) (take_more ts i t within ∙ ap (λ (u : Datum). take i ts ++ u ∷ []) (sym is))
-    ∙ those_push n m t (take i ms) (take i ts) (length-take i ms (omega (arith, same, within)) ∙ sym (length-take i ts (omega (arith, within))))
+    ∙ those_push n m t (take i ms) (take i ts) (length-take-le i ms (omega (arith, same, within)) ∙ sym (length-take-le i ts (omega (arith, within))))
 
 -- those of a worker are those that stand in its parts
 those_are : (o : ScanOptions) (n : ℕ) (ts : List Datum) → those_of n (map (worker_of o) ts) ts ≡ filter (is_own o n) ts
