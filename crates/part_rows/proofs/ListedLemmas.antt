@@ -5,12 +5,24 @@ use Rattle.std.proofs.lemmas.List.{take_more}
 use Rattle.std.proofs.lemmas.List.Concat.{flat_map-append}
 use Rattle.std.proofs.lemmas.List.Elements.{filter_map-append}
 use Rattle.term_core.specs.Datum.{Datum}
+use Rattle.term_core.specs.Datum.Datum.{integer, atom, tuple, map, nil, cons, binary}
+use Rattle.term_core.specs.Limits.{depth}
 use Rattle.mcode.specs.Program.{Program}
 use Rattle.part_core.specs.Acts.{Purpose}
 use Rattle.part_core.specs.Replies.{most_counted}
 use Rattle.part_core.specs.Rows.{Row}
 use Rattle.part_core.specs.Visits.{yields, yield_of_rows}
 use Rattle.part_rows.specs.declared.place.Place.{Place}
+
+-- each term has a depth
+pub deep : (d : Datum) → 0 < depth d
+deep (integer z) = omega arith
+deep (atom cs) = omega arith
+deep (tuple ds) = omega arith
+deep (map es) = omega arith
+deep nil = omega arith
+deep (cons head tail) = omega arith
+deep (binary bs) = omega arith
 
 -- one more place
 more_rows : (purpose : Purpose) (p : Program) (f : Place → Option Row) (places : List Place) (i : ℕ) (place default : Place) → i < length places → place ≡ get_or places i default → yield_of_rows purpose p (filter_map f (take (i + 1) places)) ≡ yield_of_rows purpose p (filter_map f (take i places)) ++ yield_of_rows purpose p (filter_map f (place ∷ []))
