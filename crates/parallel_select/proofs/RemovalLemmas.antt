@@ -1,14 +1,14 @@
 -- What the members of a selection delete together is gone.
 use Rattle.std.proofs.Common.{zero, suc, ◌≡◌, ℕ, ◌+◌, ◌<◌, ◌⊎◌, inl, inr, refl, ap, sym, subst, ◌∙◌, arith, List, [], ◌∷◌, ◌++◌, length}
-use Rattle.std.specs.Prelude.{Bool, true, false, not, if◌then◌else◌, IsTrue, IsFalse, ◌%◌, All, Contains, None, Some, filter, get_or, map, take, min}
+use Rattle.std.specs.Prelude.{Bool, true, false, not, if◌then◌else◌, IsTrue, IsFalse, ◌%◌, All, Contains, None, Some, filter, get_or, map, slice_get, take, min}
 use Rattle.std.proofs.lemmas.List.{take_more}
-use Rattle.std.proofs.lemmas.List.Elements.{All-head, All-tail}
+use Rattle.std.proofs.lemmas.List.Elements.{All-cons, All-head, All-nil, All-tail}
 use Rattle.std.proofs.lemmas.Nat.{mod_below}
 use Rattle.std.proofs.lemmas.Option.{slice_get_within, get_or_from_slice_get}
 use Rattle.term_core.specs.Datum.{Datum}
 use Rattle.term_core.specs.KeyHash.{key_hash}
 use Rattle.mcode.specs.Answer.{answer_of}
-use Rattle.part_core.specs.Acts.{Entry, next_in}
+use Rattle.part_core.specs.Acts.{Entry, History, next_in}
 use Rattle.part_core.specs.Acts.Purpose.{Deletes}
 use Rattle.part_core.specs.Content.{content}
 use Rattle.part_core.specs.Covers.{covers}
@@ -40,17 +40,16 @@ none_taken test (t ∷ ts) none =
     ∙ ap (λ us. t ∷ us) (none_taken test ts (All-tail (λ u. test u ≡ false) t ts none))
 
 none_true : (test : Datum → Bool) (ts : List Datum) → filter test ts ≡ [] → All (λ t. test t ≡ false) ts
-none_true test [] none k d within = absurd (omega (arith, within))
-none_true test (t ∷ ts) none = of (test t) refl
+none_true test [] none = All-nil (λ t. test t ≡ false)
+none_true test (t ∷ ts) none = of (none_true test ts) (test t) refl
   where
     some_there : (us : List Datum) → t ∷ us ≡ [] → ⊥
     some_there us is = omega (arith, ap length is)
 
-    of : (b : Bool) → test t ≡ b → All (λ u. test u ≡ false) (t ∷ ts)
-    of true is = absurd (some_there (filter test ts) (sym (ap (λ (c : Bool). if c then t ∷ filter test ts else filter test ts) is) ∙ none))
-    of false is zero d within = is
-    of false is (suc k) d within =
-        none_true test ts (sym (ap (λ (c : Bool). if c then t ∷ filter test ts else filter test ts) is) ∙ none) k d (omega (arith, within))
+    of : (filter test ts ≡ [] → All (λ u. test u ≡ false) ts) → (b : Bool) → test t ≡ b → All (λ u. test u ≡ false) (t ∷ ts)
+    of rest true is = absurd (some_there (filter test ts) (sym (ap (λ (c : Bool). if c then t ∷ filter test ts else filter test ts) is) ∙ none))
+    of rest false is =
+        All-cons (λ u. test u ≡ false) t ts is (rest (sym (ap (λ (c : Bool). if c then t ∷ filter test ts else filter test ts) is) ∙ none))
 
 -- a key among the marks has a moment there
 marked : (P : Mark → Type 0) (marks : List Mark) (k : Datum) → All P marks → Contains (map (λ (m : Mark). m.key) marks) k → (moment : ℕ) × Contains marks (record { key = k; moment = moment }) × P (record { key = k; moment = moment })
@@ -112,6 +111,7 @@ module _ {A : Type 0} (o : Options) (numbers : ℕ → ℕ) (q : Query A) (worke
       w : Walk
       w = ws.walk (place_of o k)
 
+      log : History
       log = ws.now (place_of o k) (place_of o k)
 
       moment : covers (settings_of o) v.scope (next_in v.said) k ≡ true → IsPartMoment o ws k place
@@ -124,7 +124,7 @@ module _ {A : Type 0} (o : Options) (numbers : ℕ → ℕ) (q : Query A) (worke
         visit = record { scope = v.scope; wanted = v.wanted; said = v.said; made = refl; covered = covered };
       }
 
-      one_more : _ → take (place + 1) log ≡ take place log ++ visit_entry w v.scope v.wanted v.said ∷ []
+      one_more : slice_get log place ≡ Some (visit_entry w v.scope v.wanted v.said) → take (place + 1) log ≡ take place log ++ visit_entry w v.scope v.wanted v.said ∷ []
       one_more stands =
           take_more log place (visit_entry w v.scope v.wanted v.said) (slice_get_within log place (visit_entry w v.scope v.wanted v.said) stands)
           ∙ ap (λ (d : Entry). take place log ++ d ∷ []) (get_or_from_slice_get log place (visit_entry w v.scope v.wanted v.said) (visit_entry w v.scope v.wanted v.said) stands)

@@ -3,3 +3,4 @@ pub mod MembersLemmas
 pub mod AskingLemmas
 pub mod AnswersLemmas
 pub mod ScanLemmas
+mod SharesSent

@@ -1,6 +1,7 @@
 -- What the sessions of a scan do, each by itself.
-use Rattle.std.proofs.Common.{suc, ◌≡◌, ℕ, ◌+◌, ◌<◌, refl, ap, sym, subst, ◌∙◌, arith, List, [], ◌∷◌, ◌++◌, length, map, take, get_or}
-use Rattle.std.specs.Prelude.{Bool, Some, Option, All, ◌==◌, if◌then◌else◌, filter, true, false}
+use Rattle.std.proofs.Common.{suc, ◌≡◌, ◌≢◌, ℕ, ◌+◌, ◌<◌, refl, ap, sym, subst, ◌∙◌, arith, List, [], ◌∷◌, ◌++◌, length, map, take, get_or}
+use Rattle.std.specs.Prelude.{Bool, Some, Option, Result, Ok, Err, OnOk, All, ◌==◌, if◌then◌else◌, filter, true, false}
+use Rattle.std.proofs.lemmas.Bool.{ne_eqb, eq-eqb}
 use Rattle.std.proofs.lemmas.List.{append-nil, length-take-le, take_more}
 use Rattle.std.proofs.lemmas.List.Elements.{All-cons, All-head, All-nil, All-tail}
 use Rattle.term_core.specs.Datum.{Datum}
@@ -42,10 +43,10 @@ those_push n m t (k ∷ ms) (u ∷ ts) same =
     (λ other. rw other (those_push n m t ms ts (omega (arith, same))))
 
 -- one more object, where it has the number or not
-pub those_more : (n : ℕ) (ms : List ℕ) (ts : List Datum) (i m : ℕ) (t : Datum) → length ms ≡ length ts → i < length ts → m ≡ get_or ms i m → t ≡ get_or ts i t
+pub those_more : (n : ℕ) (ms : List ℕ) (ts : List Datum) (i m default : ℕ) (t : Datum) → length ms ≡ length ts → i < length ts → m ≡ get_or ms i default → t ≡ get_or ts i t
     → those_of n (take (i + 1) ms) (take (i + 1) ts) ≡ those_of n (take i ms) (take i ts) ++ (if m == n then t ∷ [] else [])
-those_more n ms ts i m t same within is_number is =
-    ap (λ (l : List ℕ). those_of n l (take (i + 1) ts)) (take_more ms i m (omega (arith, same, within)) ∙ ap (λ (k : ℕ). take i ms ++ k ∷ []) (sym is_number))
+those_more n ms ts i m default t same within is_number is =
+    ap (λ (l : List ℕ). those_of n l (take (i + 1) ts)) (take_more ms i default (omega (arith, same, within)) ∙ ap (λ (k : ℕ). take i ms ++ k ∷ []) (sym is_number))
     ∙ ap (λ (l : List Datum). those_of n (take i ms ++ m ∷ []) l) (take_more ts i t within ∙ ap (λ (u : Datum). take i ts ++ u ∷ []) (sym is))
     ∙ those_push n m t (take i ms) (take i ts) (length-take-le i ms (omega (arith, same, within)) ∙ sym (length-take-le i ts (omega (arith, within))))
 
@@ -62,13 +63,13 @@ module _ {T : Type 0} (is_ready : T → Type 0) (home : T → Home) (sees : T �
   nothing_put h n numbers objects s v b = (v, b, refl)
 
   -- one object more
-  pub one_put : (n : ℕ) (numbers : List ℕ) (objects : List Datum) (i m : ℕ) (t : Datum) (old mid new : T) → length numbers ≡ length objects → i < length objects → m ≡ get_or numbers i m → t ≡ get_or objects i t → (m == n) ≡ true
+  pub one_put : (n : ℕ) (numbers : List ℕ) (objects : List Datum) (i m default : ℕ) (t : Datum) (old mid new : T) → length numbers ≡ length objects → i < length objects → m ≡ get_or numbers i default → t ≡ get_or objects i t → m ≡ n
       → home mid ≡ home old → Follows (sees old) (sees mid) (Puts (home old) (those_of n (take i numbers) (take i objects))) → Follows (sees mid) (sees new) (PutIn t (home mid))
       → Follows (sees old) (sees new) (Puts (home old) (those_of n (take (i + 1) numbers) (take (i + 1) objects)))
-  one_put n numbers objects i m t old mid new same within is_number is own stays so_far put v b =
+  one_put n numbers objects i m default t old mid new same within is_number is own stays so_far put v b =
       let f = so_far v b in
       let g = put f.0 f.1 in
-      let more = those_more n numbers objects i m t same within is_number is ∙ ap (λ (b : Bool). those_of n (take i numbers) (take i objects) ++ (if b then t ∷ [] else [])) own in (
+      let more = those_more n numbers objects i m default t same within is_number is ∙ ap (λ (b : Bool). those_of n (take i numbers) (take i objects) ++ (if b then t ∷ [] else [])) (eq-eqb m n own) in (
         g.0,
         g.1,
         subst (λ ts. Puts (home old) ts v g.0) (sym more)
@@ -76,15 +77,23 @@ module _ {T : Type 0} (is_ready : T → Type 0) (home : T → Home) (sees : T �
       )
 
   -- one object that is another's
-  pub none_put : (n : ℕ) (numbers : List ℕ) (objects : List Datum) (i m : ℕ) (t : Datum) (old mid : T) → length numbers ≡ length objects → i < length objects → m ≡ get_or numbers i m → t ≡ get_or objects i t → (m == n) ≡ false
+  pub none_put : (n : ℕ) (numbers : List ℕ) (objects : List Datum) (i m default : ℕ) (t : Datum) (old mid : T) → length numbers ≡ length objects → i < length objects → m ≡ get_or numbers i default → t ≡ get_or objects i t → m ≢ n
       → Follows (sees old) (sees mid) (Puts (home old) (those_of n (take i numbers) (take i objects)))
       → Follows (sees old) (sees mid) (Puts (home old) (those_of n (take (i + 1) numbers) (take (i + 1) objects)))
-  none_put n numbers objects i m t old mid same within is_number is other so_far v b =
+  none_put n numbers objects i m default t old mid same within is_number is other so_far v b =
       let f = so_far v b in
-      let more = those_more n numbers objects i m t same within is_number is
-          ∙ ap (λ (b : Bool). those_of n (take i numbers) (take i objects) ++ (if b then t ∷ [] else [])) other
+      let more = those_more n numbers objects i m default t same within is_number is
+          ∙ ap (λ (b : Bool). those_of n (take i numbers) (take i objects) ++ (if b then t ∷ [] else [])) (ne_eqb m n other)
           ∙ append-nil (those_of n (take i numbers) (take i objects)) in
       (f.0, f.1, subst (λ ts. Puts (home old) ts v f.0) (sym more) f.2)
+
+  -- one member, and the others behind it, where none was refused
+  pub both_put : {X E : Type 0} (objects : List Datum) (numbers : List ℕ) (number : ℕ) (one : Result X E) (x : X) (others : Result X E) (old new last : T) (olds news lasts : List T) → last ≡ new → lasts ≡ news → one ≡ Ok x
+      → OnOk one (Did is_ready home sees (λ h. Puts h (those_of number numbers objects)) old new) → OnOk others (EachPutsThose is_ready home sees objects numbers (number + 1) olds news)
+      → OnOk others (EachPutsThose is_ready home sees objects numbers number (old ∷ olds) (last ∷ lasts))
+  both_put objects numbers number one x (Ok y) old new last olds news lasts is_last are_last done first rest =
+      rw (is_last, are_last) (subst (λ r. OnOk r (Did is_ready home sees (λ h. Puts h (those_of number numbers objects)) old new)) done first, rest)
+  both_put objects numbers number one x (Err e) old new last olds news lasts is_last are_last done first rest = tt
 
 -- ---- lists of members
 
@@ -98,13 +107,13 @@ module _ {T : Type 0} where
 
   -- what each did first, and then
   each_both : (P Q R : ℕ → T → T → Type 0) (k : ℕ) (olds mids news : List T) → ((n : ℕ) (old mid new : T) → P n old mid → Q n mid new → R n old new) → Each P k olds mids → Each Q k mids news → Each R k olds news
-  each_both P Q R k [] [] [] both first then = tt
-  each_both P Q R k (old ∷ olds) (mid ∷ mids) (new ∷ news) both first then =
-      (both k old mid new first.0 then.0, each_both P Q R (k + 1) olds mids news both first.1 then.1)
-  each_both P Q R k [] (mid ∷ mids) news both first then = absurd first
-  each_both P Q R k (old ∷ olds) [] news both first then = absurd first
-  each_both P Q R k [] [] (new ∷ news) both first then = absurd then
-  each_both P Q R k (old ∷ olds) (mid ∷ mids) [] both first then = absurd then
+  each_both P Q R k [] [] [] both first behind = tt
+  each_both P Q R k (old ∷ olds) (mid ∷ mids) (new ∷ news) both first behind =
+      (both k old mid new first.0 behind.0, each_both P Q R (k + 1) olds mids news both first.1 behind.1)
+  each_both P Q R k [] (mid ∷ mids) news both first behind = absurd first
+  each_both P Q R k (old ∷ olds) [] news both first behind = absurd first
+  each_both P Q R k [] [] (new ∷ news) both first behind = absurd behind
+  each_both P Q R k (old ∷ olds) (mid ∷ mids) [] both first behind = absurd behind
 
   module _ (is_ready : T → Type 0) (home : T → Home) (sees : T → Views → Type 0) (o : ScanOptions) where
     -- what each did leaves them where they are
@@ -115,8 +124,8 @@ module _ {T : Type 0} where
     each_long R k (old ∷ olds) [] each = absurd each
 
     each_ready : (R : ℕ → Home → Views → Views → Type 0) (k : ℕ) (olds news : List T) → Each (λ n. Did is_ready home sees (R n)) k olds news → All is_ready news
-    each_ready R k [] [] each = All-nil
-    each_ready R k (old ∷ olds) (new ∷ news) each = All-cons new news each.0.0 (each_ready R (k + 1) olds news each.1)
+    each_ready R k [] [] each = All-nil _
+    each_ready R k (old ∷ olds) (new ∷ news) each = All-cons is_ready new news each.0.0 (each_ready R (k + 1) olds news each.1)
     each_ready R k [] (new ∷ news) each = absurd each
     each_ready R k (old ∷ olds) [] each = absurd each
 
@@ -128,9 +137,9 @@ module _ {T : Type 0} where
     each_home R k (old ∷ olds) [] each = absurd each
 
     each_options : (R : ℕ → Home → Views → Views → Type 0) (k : ℕ) (olds news : List T) → Each (λ n. Did is_ready home sees (R n)) k olds news → All (λ m. (home m).options ≡ table_of o) olds → All (λ m. (home m).options ≡ table_of o) news
-    each_options R k [] [] each all = All-nil
+    each_options R k [] [] each all = All-nil _
     each_options R k (old ∷ olds) (new ∷ news) each all =
-        All-cons new news (ap (λ (h : Home). h.options) each.0.1 ∙ All-head (λ m. (home m).options ≡ table_of o) old olds all)
+        All-cons (λ m. (home m).options ≡ table_of o) new news (ap (λ (h : Home). h.options) each.0.1 ∙ All-head (λ m. (home m).options ≡ table_of o) old olds all)
         (each_options R (k + 1) olds news each.1 (All-tail (λ m. (home m).options ≡ table_of o) old olds all))
     each_options R k [] (new ∷ news) each all = absurd each
     each_options R k (old ∷ olds) [] each all = absurd each
@@ -150,6 +159,12 @@ module _ {T : Type 0} where
     each_put objects numbers olds news is each =
         each_by (λ n. Did is_ready home sees (λ h. Puts h (those_of n numbers objects))) (λ n. Did is_ready home sees (λ h. Puts h (filter (is_own o n) objects))) 0 olds news
         (λ n old new did. subst (λ ts. Did is_ready home sees (λ h. Puts h ts) old new) (ap (λ ms. those_of n ms objects) is ∙ those_are o n objects) did) each
+
+    -- where none was refused, they are members still, and each put the objects of its parts in
+    pub on_ok_put : {X E : Type 0} (objects : List Datum) (numbers : List ℕ) (r : Result X E) (olds news : List T) → numbers ≡ map (worker_of o) objects → AreMembers is_ready home o olds → OnOk r (EachPutsThose is_ready home sees objects numbers 0 olds news)
+        → OnOk r (AreMembers is_ready home o news) × OnOk r (EachPuts is_ready home sees o objects olds news)
+    on_ok_put objects numbers (Ok x) olds news is are each = (members_put objects numbers olds news is are each, each_put objects numbers olds news is each)
+    on_ok_put objects numbers (Err e) olds news is are each = (tt, tt)
 
     -- the same with what holds of each before
     each_with : (F : T → Type 0) (P : ℕ → T → T → Type 0) (k : ℕ) (olds news : List T) → All F olds → Each P k olds news → Each (λ n old new. F old × P n old new) k olds news
@@ -205,6 +220,6 @@ module _ {T : Type 0} where
         lists_of_first (length mids) mids news are some walked,
         each_both (λ n. Did is_ready home sees (λ h. Puts h (filter (is_own o n) objects))) (λ n mid new. ((home mid).options ≡ table_of o) × answered (length mids) n mid new)
             (λ n. Did is_ready home sees (Scans o program (plan_of query (table_of o)) objects lists n)) 0 olds mids news
-            (λ n old mid new first then. scans_then objects (length mids) n old mid new are.count first then) put
+            (λ n old mid new first behind. scans_then objects (length mids) n old mid new are.count first behind) put
             (each_with (λ m. (home m).options ≡ table_of o) (answered (length mids)) 0 mids news are.options walked),
       )

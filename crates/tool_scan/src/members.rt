@@ -69,24 +69,30 @@ fn members_of<A: Allocator + Copy>(
     Ok(numbers)
 }
 
+/// Objects, and of each the number of the member in whose parts it stands.
+#[derive(Drop)]
+struct Shares<'a, A: Allocator> {
+    objects: &'a [Term<A>],
+    numbers: &'a [u8],
+}
+
 /// One member puts the objects in that stand in its own parts, in their order.
 // The handle isn't used: what a closure captures is found to be sendable where its type parameters are among that.
 fn put_own<R, A: Allocator, T: Turns<A>>(
     _rt: &R,
     number: u8,
     turns: &mut T,
-    objects: &[Term<A>],
-    numbers: &[u8],
+    shares: &Shares<'_, A>,
 ) -> Result<(), AllocError>
     requires ready { T.is_ready turns.old }
-    requires numbers { length numbers.now ≡ length objects.now }
+    requires numbers { length shares.now.numbers.now ≡ length shares.now.objects.now }
     ensures ready { T.is_ready turns.new }
     ensures same { T.home turns.new ≡ T.home turns.old }
     ensures put { OnOk result (Follows (T.sees turns.old) (T.sees turns.new)
-        (Puts (T.home turns.old) (those_of number numbers.now objects.now))) }
+        (Puts (T.home turns.old) (those_of number shares.now.numbers.now shares.now.objects.now))) }
 {
-    for (place, object) in objects.iter().enumerate() {
-        if numbers[place] == number {
+    for (place, object) in shares.objects.iter().enumerate() {
+        if shares.numbers[place] == number {
             put_object(turns, object)?;
         }
     }
@@ -101,25 +107,24 @@ fn put_both<R: Threads + Sync, A: Allocator + Copy + Send + Sync, T: Turns<A> + 
     number: u8,
     first: &mut T,
     rest: &mut [T],
-    objects: &[Term<A>],
-    numbers: &[u8],
+    shares: &Shares<'_, A>,
 ) -> Result<(), AllocError>
     requires first { T.is_ready first.old }
     requires rest { All T.is_ready rest.old }
     requires few { number + 1 + length rest.old < 256 }
-    requires numbers { length numbers.now ≡ length objects.now }
-    ensures { OnOk result (EachPutsThose T.is_ready T.home T.sees objects.now numbers.now number (first.old ∷ rest.old) (first.new ∷ rest.new)) }
+    requires numbers { length shares.now.numbers.now ≡ length shares.now.objects.now }
+    ensures { OnOk result (EachPutsThose T.is_ready T.home T.sees shares.now.objects.now shares.now.numbers.now number (first.old ∷ rest.old) (first.new ∷ rest.new)) }
 {
     let (one, others) = join_mut(
         rt,
         &mut || -> Result<(), AllocError>
-            requires { IsSync R.row × T.is_ready first.now × (length numbers.now ≡ length objects.now) }
-            ensures { OnOk result (Did T.is_ready T.home T.sees (λ h. Puts h (those_of number numbers.entry.now objects.entry.now)) first.entry.now first.exit.now) }
-        { put_own(rt, number, first, objects, numbers) },
+            requires { IsSync R.row × T.is_ready first.now × (length shares.now.numbers.now ≡ length shares.now.objects.now) }
+            ensures { OnOk result (Did T.is_ready T.home T.sees (λ h. Puts h (those_of number shares.entry.now.numbers.now shares.entry.now.objects.now)) first.entry.now first.exit.now) }
+        { put_own(rt, number, first, shares) },
         &mut || -> Result<(), AllocError>
-            requires { IsSync R.row × All T.is_ready rest.now × (number + 1 + length rest.now < 256) × (length numbers.now ≡ length objects.now) }
-            ensures { OnOk result (EachPutsThose T.is_ready T.home T.sees objects.entry.now numbers.entry.now (number + 1) rest.entry.now rest.exit.now) }
-        { put_each(rt, number + 1, rest, objects, numbers) },
+            requires { IsSync R.row × All T.is_ready rest.now × (number + 1 + length rest.now < 256) × (length shares.now.numbers.now ≡ length shares.now.objects.now) }
+            ensures { OnOk result (EachPutsThose T.is_ready T.home T.sees shares.entry.now.objects.now shares.entry.now.numbers.now (number + 1) rest.entry.now rest.exit.now) }
+        { put_each(rt, number + 1, rest, shares) },
     );
     one?;
     others
@@ -131,16 +136,15 @@ fn put_each<R: Threads + Sync, A: Allocator + Copy + Send + Sync, T: Turns<A> + 
     rt: &R,
     number: u8,
     members: &mut [T],
-    objects: &[Term<A>],
-    numbers: &[u8],
+    shares: &Shares<'_, A>,
 ) -> Result<(), AllocError>
     requires ready { All T.is_ready members.old }
     requires few { number + length members.old < 256 }
-    requires numbers { length numbers.now ≡ length objects.now }
-    ensures { OnOk result (EachPutsThose T.is_ready T.home T.sees objects.now numbers.now number members.old members.new) }
+    requires numbers { length shares.now.numbers.now ≡ length shares.now.objects.now }
+    ensures { OnOk result (EachPutsThose T.is_ready T.home T.sees shares.now.objects.now shares.now.numbers.now number members.old members.new) }
 {
     match members.split_first_mut() {
-        Some((first, rest)) => put_both(rt, number, first, rest, objects, numbers),
+        Some((first, rest)) => put_both(rt, number, first, rest, shares),
         None => Ok(()),
     }
 }
@@ -160,7 +164,11 @@ fn put_objects<R: Threads + Sync, A: Allocator + Copy + Send + Sync, T: Turns<A>
     ensures put { OnOk result (EachPuts T.is_ready T.home T.sees options objects.now members.old members.new) }
 {
     let numbers = members_of(alloc, options, objects)?;
-    put_each(rt, 0, members, objects, numbers.as_slice())
+    let shares = Shares {
+        objects,
+        numbers: numbers.as_slice(),
+    };
+    put_each(rt, 0, members, &shares)
 }
 
 /// On a thread of its own each member puts in the objects that stand in its own parts, in their order; then each walks
