@@ -53,6 +53,22 @@ module _ (n : ℕ) where
       let c = apart n hole i in_hole in
       omega arith
 
+  -- a search comes to the hole first where it passes as many cells as the hole is behind
+  module _ (start hole pos : ℕ) (in_start : start < n) (in_hole : hole < n) (in_pos : pos < n) where
+    pub comes_first : 0 < distance n hole pos → distance n hole pos ≤ distance n start pos → distance n start hole < distance n start pos
+    comes_first some far =
+        let a = apart n start hole in_start in
+        let b = apart n start pos in_start in
+        let c = apart n hole pos in_hole in
+        omega arith
+
+    pub comes_not : distance n start pos < distance n hole pos → distance n start pos ≤ distance n start hole
+    comes_not near =
+        let a = apart n start hole in_start in
+        let b = apart n start pos in_start in
+        let c = apart n hole pos in_hole in
+        omega arith
+
   -- the place behind another is a step nearer to what lies ahead
   pub nearer : (pos to e : ℕ) → pos < n → e < n → IsNext n pos to → e ≢ pos → distance n to e + 1 ≡ distance n pos e
   nearer pos to e in_pos in_e next other =

@@ -1,7 +1,7 @@
 //! A row taken out. No mark is left where it stood: the rows behind it whose search passed it move forward, so that
 //! searches stay short however many rows come and go.
 ghost use Rattle.std.specs.Prelude.{◌≡◌, ℕ, ◌+◌, ◌<◌, length, count_by};
-ghost use Rattle.hash_index.specs.Cells.{IsTaken, cell_at, is_free};
+ghost use Rattle.hash_index.specs.Cells.{IsTaken, cell_at, distance, is_free};
 ghost use Rattle.hash_index.specs.Index.{HasIn, Takes};
 ghost use Rattle.hash_index.specs.Kept.{AreFound, AreMoved, AreNear, IsFilled, moved};
 
@@ -18,15 +18,18 @@ fn move_into(cells: &mut [Cell], from: usize, hole: usize)
     cells[from] = free_cell();
 }
 
-/// Moves the row at a place into the hole where a search for it comes to the hole first. Answers where the hole is now.
+/// Moves the row at a place into the hole where a search for it comes to the hole first: where it passes as many cells
+/// as the hole is behind. Answers where the hole is now.
 fn fill(cells: &mut [Cell], hole: usize, pos: usize) -> usize
     requires hole { hole < length cells.old }
     requires pos { pos < length cells.old }
+    requires apart { 0 < distance (length cells.old) hole pos }
     ensures { IsFilled cells.old cells.new hole pos result }
 {
     let count = cells.len();
-    let start = home(count, cells[pos].mixed);
-    if distance(count, start, hole) < distance(count, start, pos) {
+    let behind = distance(count, hole, pos);
+    let passed = distance(count, home(count, cells[pos].mixed), pos);
+    if behind <= passed {
         move_into(cells, pos, hole);
         return pos;
     }
