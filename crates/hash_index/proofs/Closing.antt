@@ -5,7 +5,7 @@ use Rattle.std.specs.List.{count_by}
 use Rattle.hash_index.specs.declared.cell.Cell.{Cell}
 use Rattle.hash_index.specs.Cells.{free, free_cell, is_free, IsTaken, cell_at, IsNext, distance, home}
 use Rattle.hash_index.specs.Index.{Takes}
-use Rattle.hash_index.specs.Kept.{AreFound, AreMoved, IsFilled, moved}
+use Rattle.hash_index.specs.Kept.{AreFound, AreMoved, AreNear, IsFilled, moved}
 use Rattle.hash_index.proofs.Cells.{taken_within, taken_is, not_both, taken_holds, free_there}
 use Rattle.hash_index.proofs.Distances.{apart, home_within, distance_self, distance_within, distance_one, distance_next, next_within}
 use Rattle.hash_index.proofs.Writes.{Writes, writes_set, fewer_free, more_free}
@@ -43,6 +43,31 @@ module _ (n : ℕ) where
       let d = apart n hole pos in_hole in
       let e = apart n hole i in_hole in
       omega arith
+
+  -- a place on the way to another is at least as far before it as the two are apart
+  pub on_the_way : (start hole i : ℕ) → start < n → hole < n → i < n → distance n start hole < distance n start i
+      → distance n hole i ≤ distance n start i
+  on_the_way start hole i in_start in_hole in_i first =
+      let a = apart n start hole in_start in
+      let b = apart n start i in_start in
+      let c = apart n hole i in_hole in
+      omega arith
+
+  -- a search comes to the hole first where it passes as many cells as the hole is behind
+  module _ (start hole pos : ℕ) (in_start : start < n) (in_hole : hole < n) (in_pos : pos < n) where
+    pub comes_first : 0 < distance n hole pos → distance n hole pos ≤ distance n start pos → distance n start hole < distance n start pos
+    comes_first some far =
+        let a = apart n start hole in_start in
+        let b = apart n start pos in_start in
+        let c = apart n hole pos in_hole in
+        omega arith
+
+    pub comes_not : distance n start pos < distance n hole pos → distance n start pos ≤ distance n start hole
+    comes_not near =
+        let a = apart n start hole in_start in
+        let b = apart n start pos in_start in
+        let c = apart n hole pos in_hole in
+        omega arith
 
   -- the place behind another is a step nearer to what lies ahead
   pub nearer : (pos to e : ℕ) → pos < n → e < n → IsNext n pos to → e ≢ pos → distance n to e + 1 ≡ distance n pos e
@@ -84,13 +109,15 @@ takes_from old new pos at found taken is moved = record {
 }
 
 -- ---- how far the walk from the hole has come
-pub record Closes (n : ℕ) (old now : List Cell) (gone hole pos passed : ℕ) : Type 0 where
+pub record Closes (n longest : ℕ) (old now : List Cell) (gone hole pos passed : ℕ) : Type 0 where
   pub count : length now ≡ n
   pub in_hole : hole < n
   pub in_pos : pos < n
   pub empty : cell_at now hole ≡ free_cell
   pub some : 0 < distance n hole pos
   pub nearly : AreFoundBut n now hole (distance n hole pos)
+  pub short : (i : ℕ) → IsTaken (cell_at now i) → way n now i i < longest
+  pub bound : longest ≤ n
   pub moved : AreMoved old now gone
   pub freed : count_by is_free now ≡ count_by is_free old + 1
   -- a free cell that the walk comes to
@@ -104,9 +131,9 @@ no_row : IsTaken free_cell → ⊥
 no_row t = omega arith
 
 -- it begins behind what is taken out
-pub closes_first : (n : ℕ) (old : List Cell) (gone to : ℕ) → length old ≡ n → IsTaken (cell_at old gone) → 0 < count_by is_free old
-    → AreFound old → IsNext n gone to → Closes n old (set old gone free_cell) gone gone to 0
-closes_first n old gone to count taken some found next =
+pub closes_first : (n longest : ℕ) (old : List Cell) (gone to : ℕ) → length old ≡ n → IsTaken (cell_at old gone) → 0 < count_by is_free old
+    → AreFound old → AreNear old longest → IsNext n gone to → Closes n longest old (set old gone free_cell) gone gone to 0
+closes_first n longest old gone to count taken some found near next =
     let in_old : gone < length old = taken_within old gone taken in
     let in_gone : gone < n = subst (λ k. gone < k) count in_old in
     let w = writes_set old gone free_cell in_old in
@@ -144,6 +171,12 @@ closes_first n old gone to count taken some found next =
             found.once i j (subst (λ (c : Cell). IsTaken c) (w.others i apart_i) t)
             (ap (λ (c : Cell). c.at) (sym (w.others i apart_i)) ∙ same ∙ ap (λ (c : Cell). c.at) (w.others j apart_j));
       };
+      short = λ i t.
+          let apart_i = stands i t in
+          let at_i = as_was i i apart_i in
+          let before = near.near i (subst (λ (c : Cell). IsTaken c) (w.others i apart_i) t) in
+          omega arith;
+      bound = subst (λ k. longest ≤ k) count near.within;
       moved = moved_whole old now gone free_cell w no_row;
       freed = more_free old gone free_cell in_old (taken_is (cell_at old gone) taken) refl;
       end = end;
@@ -151,10 +184,10 @@ closes_first n old gone to count taken some found next =
       free_end = ap is_free (w.others end other) ∙ there.2;
       before_end = omega arith;
       ends = let nearer_end = nearer n gone to end in_gone in_end next other in
-          let short = distance_within n gone in_gone end in_end in omega arith;
+          let inside = distance_within n gone in_gone end in_end in omega arith;
     }
 
-module _ (n : ℕ) (old now : List Cell) (gone hole pos passed : ℕ) (s : Closes n old now gone hole pos passed) where
+module _ (n longest : ℕ) (old now : List Cell) (gone hole pos passed : ℕ) (s : Closes n longest old now gone hole pos passed) where
   open_hole : (i : ℕ) → IsTaken (cell_at now i) → i ≢ hole
   open_hole i t is = no_row (subst (λ (c : Cell). IsTaken c) (ap (cell_at now) is ∙ s.empty) t)
 
@@ -168,33 +201,54 @@ module _ (n : ℕ) (old now : List Cell) (gone hole pos passed : ℕ) (s : Close
       let some = s.some in
       omega arith
 
-  -- at a free cell all rows are found
-  pub closes_last : is_free (cell_at now pos) ≡ true → AreFound now
-  closes_last free_pos = record {
+  -- how far a search goes, among as many cells as there are
+  as_passed : (i x : ℕ) → way n now i x ≡ way (length now) now i x
+  as_passed i x = λ k. distance (sym s.count k) (home (sym s.count k) (cell_at now i).mixed) x
+
+  pub closes_near : AreNear now longest
+  closes_near = record {
+    near = λ i t. let by_i = as_passed i i in let less = s.short i t in omega arith;
+    within = subst (λ k. longest ≤ k) (sym s.count) s.bound;
+  }
+
+  -- where no search comes to the hole, all rows are found
+  closes_open : ((i : ℕ) → IsTaken (cell_at now i) → way n now i hole < way n now i i → ⊥) → AreFound now
+  closes_open none = record {
     reached = λ i e t in_e less.
         let e_in : e < n = subst (λ k. e < k) s.count in_e in
-        let by : (x : ℕ) → way n now i x ≡ distance (length now) (home (length now) (cell_at now i).mixed) x
-        = λ x k. distance (sym s.count k) (home (sym s.count k) (cell_at now i).mixed) x in
-        let by_e = by e in
-        let by_i = by i in
+        let by_e = as_passed i e in
+        let by_i = as_passed i i in
         elim (ℕ_discrete e hole) [
           | no other ↦ s.nearly.reached i e t e_in (omega arith) other
-          | yes is ↦ absurd (
-              let first : way n now i hole < way n now i i = subst (λ x. way n now i x < way n now i i) is (omega arith) in
-              let i_in = in_now i t in
-              let start : ℕ = home n (cell_at now i).mixed in
-              let in_start = home_within n (cell_at now i).mixed (omega arith) in
-              let far = s.nearly.behind i t first in
-              let apart_i : i ≢ pos = λ same. not_both (cell_at now pos) free_pos (subst (λ x. IsTaken (cell_at now x)) same t) in
-              let further : distance n hole pos < distance n hole i = elim (dec_lt (distance n hole pos) (distance n hole i)) [
-                | yes l ↦ l
-                | no m ↦ absurd (apart_i (sym (distance_one n hole s.in_hole pos i s.in_pos i_in (omega arith))))
-              ] in
-              not_both (cell_at now pos) free_pos
-              (s.nearly.reached i pos t s.in_pos (between n start hole pos i in_start s.in_hole s.in_pos i_in first further) hole_apart))
+          | yes is ↦ absurd (none i t (subst (λ x. way n now i x < way n now i i) is (omega arith)))
         ];
     once = s.nearly.once;
   }
+
+  -- none does at a free cell
+  pub closes_last : is_free (cell_at now pos) ≡ true → AreFound now
+  closes_last free_pos = closes_open (λ i t first.
+      let i_in = in_now i t in
+      let start : ℕ = home n (cell_at now i).mixed in
+      let in_start = home_within n (cell_at now i).mixed (omega arith) in
+      let far = s.nearly.behind i t first in
+      let apart_i : i ≢ pos = λ same. not_both (cell_at now pos) free_pos (subst (λ x. IsTaken (cell_at now x)) same t) in
+      let further : distance n hole pos < distance n hole i = elim (dec_lt (distance n hole pos) (distance n hole i)) [
+        | yes l ↦ l
+        | no m ↦ absurd (apart_i (sym (distance_one n hole s.in_hole pos i s.in_pos i_in (omega arith))))
+      ] in
+      not_both (cell_at now pos) free_pos
+      (s.nearly.reached i pos t s.in_pos (between n start hole pos i in_start s.in_hole s.in_pos i_in first further) hole_apart))
+
+  -- none does where the hole is as far behind as the longest search goes
+  pub closes_far : longest ≤ distance n hole pos → AreFound now
+  closes_far far = closes_open (λ i t first.
+      let i_in = in_now i t in
+      let in_start = home_within n (cell_at now i).mixed (omega arith) in
+      let behind = s.nearly.behind i t first in
+      let less = s.short i t in
+      let way_to = on_the_way n (home n (cell_at now i).mixed) hole i in_start s.in_hole i_in first in
+      omega arith)
 
   module _ (taken : IsTaken (cell_at now pos)) (to : ℕ) (next : IsNext n pos to) where
     end_apart : s.end ≢ pos
@@ -215,14 +269,14 @@ module _ (n : ℕ) (old now : List Cell) (gone hole pos passed : ℕ) (s : Close
         omega arith
 
     -- the row at pos stays, since its search doesn't come to the hole
-    pub closes_stays : way n now pos pos ≤ way n now pos hole → Closes n old now gone hole to (passed + 1)
+    pub closes_stays : way n now pos pos ≤ way n now pos hole → Closes n longest old now gone hole to (passed + 1)
     closes_stays stays =
         let before : distance n hole pos < distance n hole s.end = elim (dec_lt (distance n hole pos) (distance n hole s.end)) [
           | yes l ↦ l
           | no m ↦ absurd (end_apart (sym (distance_one n hole s.in_hole pos s.end s.in_pos s.in_end
               (let le = s.before_end in omega arith))))
         ] in
-        let short = distance_within n hole s.in_hole s.end s.in_end in
+        let inside = distance_within n hole s.in_hole s.end s.in_end in
         let step : distance n hole to ≡ distance n hole pos + 1 = distance_next n hole s.in_hole pos to s.in_pos next (omega arith) in
         record {
           count = s.count;
@@ -244,6 +298,8 @@ module _ (n : ℕ) (old now : List Cell) (gone hole pos passed : ℕ) (s : Close
                 ];
             once = s.nearly.once;
           };
+          short = s.short;
+          bound = s.bound;
           moved = s.moved;
           freed = s.freed;
           end = s.end;
@@ -314,6 +370,20 @@ module _ (n : ℕ) (old now : List Cell) (gone hole pos passed : ℕ) (s : Close
         ])
       ]
 
+      new_short : (i : ℕ) → IsTaken (cell_at new i) → way n new i i < longest
+      new_short i t = elim (ℕ_discrete i hole) [
+        | yes here ↦
+            let by : way n new i i ≡ way n now pos hole
+            = ap (λ (c : Cell). distance n (home n c.mixed) i) (ap (cell_at new) here ∙ at_hole) ∙ ap (way n now pos) here in
+            let less = s.short pos taken in
+            omega arith
+        | no there ↦
+            let same = elsewhere i (not_pos i t) there in
+            let by : way n new i i ≡ way n now i i = ap (λ (c : Cell). distance n (home n c.mixed) i) same in
+            let less = s.short i (subst (λ (c : Cell). IsTaken c) same t) in
+            omega arith
+      ]
+
       new_once : (i j : ℕ) → IsTaken (cell_at new i) → (cell_at new i).at ≡ (cell_at new j).at → i ≡ j
       new_once i j t same =
           let a = stood i t in
@@ -355,7 +425,7 @@ module _ (n : ℕ) (old now : List Cell) (gone hole pos passed : ℕ) (s : Close
           let freed = s.freed in
           omega arith
 
-      pub closes_moves : Closes n old new gone pos to (passed + 1)
+      pub closes_moves : Closes n longest old new gone pos to (passed + 1)
       closes_moves =
           let step = step_away n pos to s.end s.in_pos s.in_end next end_apart in
           let far = away n pos s.end s.in_pos s.in_end end_apart in
@@ -373,6 +443,8 @@ module _ (n : ℕ) (old now : List Cell) (gone hole pos passed : ℕ) (s : Close
                   omega arith;
               once = new_once;
             };
+            short = new_short;
+            bound = s.bound;
             moved = new_moved;
             freed = new_freed;
             end = s.end;
@@ -382,22 +454,18 @@ module _ (n : ℕ) (old now : List Cell) (gone hole pos passed : ℕ) (s : Close
             ends = go_on;
           }
 
-    pub closes_filled : (after : List Cell) (next_hole : ℕ) → IsFilled now after hole pos next_hole → Closes n old after gone next_hole to (passed + 1)
+    pub closes_filled : (after : List Cell) (next_hole : ℕ) → IsFilled now after hole pos next_hole → Closes n longest old after gone next_hole to (passed + 1)
     closes_filled after next_hole filled = elim filled [
       | inl f ↦
-          let by : (x : ℕ) → way n now pos x ≡ distance (length now) (home (length now) (cell_at now pos).mixed) x
-          = λ x k. distance (sym s.count k) (home (sym s.count k) (cell_at now pos).mixed) x in
-          let by_hole = by hole in
-          let by_pos = by pos in
+          let by_hole = as_passed pos hole in
+          let by_pos = as_passed pos pos in
           let moves = f.0 in
-          let P : List Cell → ℕ → Type 0 = λ cells h. Closes n old cells gone h to (passed + 1) in
+          let P : List Cell → ℕ → Type 0 = λ cells h. Closes n longest old cells gone h to (passed + 1) in
           subst (λ h. P after h) (sym f.2) (subst (λ cells. P cells pos) (sym f.1) (closes_moves (omega arith)))
       | inr f ↦
-          let by : (x : ℕ) → way n now pos x ≡ distance (length now) (home (length now) (cell_at now pos).mixed) x
-          = λ x k. distance (sym s.count k) (home (sym s.count k) (cell_at now pos).mixed) x in
-          let by_hole = by hole in
-          let by_pos = by pos in
+          let by_hole = as_passed pos hole in
+          let by_pos = as_passed pos pos in
           let stays = f.0 in
-          let P : List Cell → ℕ → Type 0 = λ cells h. Closes n old cells gone h to (passed + 1) in
+          let P : List Cell → ℕ → Type 0 = λ cells h. Closes n longest old cells gone h to (passed + 1) in
           subst (λ h. P after h) (sym f.2) (subst (λ cells. P cells hole) (sym f.1) (closes_stays (omega arith)))
     ]

@@ -1,14 +1,16 @@
 -- All rows put into new cells, one after the other.
-use Rattle.std.proofs.Common.{◌≡◌, ℕ, zero, suc, ◌+◌, ◌*◌, ◌/◌, ◌<◌, ◌≤◌, inl, inr, true, List, ◌∷◌, length, drop, replicate, sym, ap, subst, refl, arith, length-drop, Result, Ok, Err}
+use Rattle.std.proofs.Common.{◌≡◌, ℕ, zero, suc, ◌+◌, ◌*◌, ◌/◌, ◌<◌, ◌≤◌, max, inl, inr, true, List, ◌∷◌, length, drop, replicate, sym, ap, subst, refl, arith, length-drop, Result, Ok, Err}
 use native.Mathlib.Decide.{dec_lt}
 use Rattle.std.specs.List.{count_by}
+use Rattle.std.specs.Ordering.{ord_max, nat_cmp}
 use Rattle.std.specs.Result.{OnOk, OnErr}
+use Rattle.std.proofs.lemmas.Bool.Decides.{nat_tests}
 use Rattle.std.proofs.lemmas.List.{get_or-replicate, length-replicate, drop_all}
 use Rattle.std.proofs.lemmas.List.Sums.{sum_by-cons, sum_by-drop_more, count_by-le-length}
 use Rattle.hash_index.specs.declared.cell.Cell.{Cell}
 use Rattle.hash_index.specs.Cells.{free, free_cell, is_free, IsTaken, cell_at}
 use Rattle.hash_index.specs.Index.{cells, HasIn, Puts, AreMixed, AreSame}
-use Rattle.hash_index.specs.Kept.{AreFound, IsKept}
+use Rattle.hash_index.specs.Kept.{AreFound, AreNear, IsKept}
 use Rattle.hash_index.proofs.Cells.{the_cell, one_if, counted, not_counted, taken_within, taken_is, not_both, taken_holds}
 
 -- ---- free cells
@@ -26,6 +28,12 @@ found_free n = record {
   once = λ i j t _. absurd (free_at n i t);
 }
 
+pub near_free : (n : ℕ) → AreNear (replicate n free_cell) 0
+near_free n = record {
+  near = λ i t. absurd (free_at n i t);
+  within = omega arith;
+}
+
 pub all_free : (n : ℕ) → count_by is_free (replicate n free_cell) ≡ n
 all_free zero = refl
 all_free (suc n) =
@@ -37,20 +45,24 @@ all_free (suc n) =
 pub some_free : (n left free : ℕ) → n + left ≡ n / 4 * 3 + free → 0 < n + left → 0 < free
 some_free n left free load some = omega arith
 
-pub kept_free : (cells : List Cell) (left : ℕ) → IsKept cells left → 0 < length cells → 0 < count_by is_free cells
-kept_free cells left kept some = let load = kept.load in omega arith
+pub kept_free : (cells : List Cell) (left longest : ℕ) → IsKept cells left longest → 0 < length cells → 0 < count_by is_free cells
+kept_free cells left longest kept some = let load = kept.load in omega arith
 
-pub kept_room : (cells : List Cell) (left : ℕ) → IsKept cells left → 0 < left → 0 < count_by is_free cells
-kept_room cells left kept some = let load = kept.load in omega arith
+pub kept_room : (cells : List Cell) (left longest : ℕ) → IsKept cells left longest → 0 < left → 0 < count_by is_free cells
+kept_room cells left longest kept some = let load = kept.load in omega arith
 
 -- ---- the rows so far
+pub greater : (m n : ℕ) → ord_max nat_cmp m n ≡ max m n
+greater m n = grind (arith, nat_tests)
+
 free_behind : (old : List Cell) (i : ℕ) → i < length old
     → count_by is_free (drop i old) ≡ one_if (is_free (cell_at old i)) + count_by is_free (drop (i + 1) old)
 free_behind old i within = sum_by-drop_more (λ (x : Cell). one_if (is_free x)) old i free_cell within
 
 module _ (R : Cell → ℕ → Type 0) where
-  pub record Mixing (old now : List Cell) (left i : ℕ) : Type 0 where
+  pub record Mixing (old now : List Cell) (left longest i : ℕ) : Type 0 where
     pub found : AreFound now
+    pub near : AreNear now longest
     pub within : i ≤ length old
     pub load : length now + left ≡ length now / 4 * 3 + count_by is_free now
     pub room : length old < i + left + count_by is_free (drop i old)
@@ -58,9 +70,10 @@ module _ (R : Cell → ℕ → Type 0) where
     pub only : (n a : ℕ) → HasIn now n a → (j : ℕ) × (j < i) × ((cell_at old j).at ≡ a) × R (cell_at old j) n
 
   pub mixing_first : (old : List Cell) (count room : ℕ) → room ≡ count / 4 * 3 → length old < count / 4 * 3 + count_by is_free old
-      → Mixing old (replicate count free_cell) room 0
+      → Mixing old (replicate count free_cell) room 0 0
   mixing_first old count room is enough = record {
     found = found_free count;
+    near = near_free count;
     within = omega arith;
     load = omega (arith, all_free count, length-replicate count free_cell, ap (λ n. n / 4 * 3) (length-replicate count free_cell));
     room = omega arith;
@@ -68,15 +81,16 @@ module _ (R : Cell → ℕ → Type 0) where
     only = λ n a has. absurd (free_at count has.0 (taken_holds (replicate count free_cell) n a has.0 has.1));
   }
 
-  module _ (old now : List Cell) (room i : ℕ) (s : Mixing old now room i) (within : i < length old) where
+  module _ (old now : List Cell) (room longest i : ℕ) (s : Mixing old now room longest i) (within : i < length old) where
     -- a free cell has no row to be put in
-    pub mixing_skip : is_free (cell_at old i) ≡ true → Mixing old now room (i + 1)
+    pub mixing_skip : is_free (cell_at old i) ≡ true → Mixing old now room longest (i + 1)
     mixing_skip free =
         let sum = free_behind old i within in
         let one = counted (cell_at old i) free in
         let enough = s.room in
         record {
           found = s.found;
+          near = s.near;
           within = omega arith;
           load = s.load;
           room = omega arith;
@@ -107,9 +121,10 @@ module _ (R : Cell → ℕ → Type 0) where
           let before = was.1 in
           omega arith
 
-      pub mixing_put : (new : List Cell) (mixed left : ℕ) → R (cell_at old i) mixed → AreFound new → Puts now new mixed (cell_at old i).at
-          → count_by is_free new + 1 ≡ count_by is_free now → length new ≡ length now → left + 1 ≡ room → Mixing old new left (i + 1)
-      mixing_put new mixed left allowed found puts fewer count one =
+      pub mixing_put : (new : List Cell) (mixed left further : ℕ) → R (cell_at old i) mixed → AreFound new → AreNear new further
+          → Puts now new mixed (cell_at old i).at → count_by is_free new + 1 ≡ count_by is_free now → length new ≡ length now
+          → left + 1 ≡ room → Mixing old new left further (i + 1)
+      mixing_put new mixed left further allowed found near puts fewer count one =
           let sum = free_behind old i within in
           let none = not_counted (cell_at old i) (taken_is (cell_at old i) taken) in
           let enough = s.room in
@@ -117,6 +132,7 @@ module _ (R : Cell → ℕ → Type 0) where
           let quarters = ap (λ n. n / 4 * 3) count in
           record {
             found = found;
+            near = near;
             within = omega arith;
             load = omega arith;
             room = omega arith;
@@ -133,7 +149,7 @@ module _ (R : Cell → ℕ → Type 0) where
             ];
           }
 
-  module _ (old now : List Cell) (room i : ℕ) (s : Mixing old now room i) (over : length old ≤ i) where
+  module _ (old now : List Cell) (room longest i : ℕ) (s : Mixing old now room longest i) (over : length old ≤ i) where
     pub mixing_last : AreMixed (λ m a n. R (the_cell m a) n) old now
     mixing_last = record {
       kept = λ m a has.

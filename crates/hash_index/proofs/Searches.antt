@@ -4,7 +4,7 @@ use native.Mathlib.Decide.{dec_lt}
 use Rattle.hash_index.specs.declared.cell.Cell.{Cell}
 use Rattle.hash_index.specs.Cells.{is_free, IsTaken, cell_at, IsNext, distance, home}
 use Rattle.hash_index.specs.Index.{HasIn}
-use Rattle.hash_index.specs.Kept.{AreFound, IsFirstFree}
+use Rattle.hash_index.specs.Kept.{AreFound, AreNear, IsFirstFree}
 use Rattle.hash_index.proofs.Distances.{distance_self, distance_within, distance_one, distance_next, next_within}
 use Rattle.hash_index.proofs.Cells.{taken_within, not_both}
 
@@ -76,17 +76,21 @@ module _ (M : ℕ → Type 0) where
             ])
           ]
 
-    -- a search that has passed all cells has missed all rows, and no cell is free
-    module _ (passed pos : ℕ) (s : Missed cells mixed start passed pos) (over : length cells ≤ passed) where
-      pub missed_all : (at : ℕ) → HasIn cells mixed at → M at
-      missed_all at has =
-          let i = has.0 in
-          let taken : IsTaken (cell_at cells i) = subst (λ (c : Cell). IsTaken c) (sym has.1.cell) has.1.taken in
-          let in_i = taken_within cells i taken in
-          let is : (cell_at cells i).mixed ≡ mixed = ap (λ (c : Cell). c.mixed) has.1.cell in
-          let far = distance_within (length cells) start in_start i in_i in
-          subst M (ap (λ (c : Cell). c.at) has.1.cell) (s.missed i in_i (omega arith) is)
+    -- a search as long as the longest for a row has missed all rows
+    pub missed_all : (passed pos longest : ℕ) → Missed cells mixed start passed pos → longest ≤ passed
+        → start ≡ home (length cells) mixed → AreNear cells longest → (at : ℕ) → HasIn cells mixed at → M at
+    missed_all passed pos longest s over begins near at has =
+        let i = has.0 in
+        let taken : IsTaken (cell_at cells i) = subst (λ (c : Cell). IsTaken c) (sym has.1.cell) has.1.taken in
+        let in_i = taken_within cells i taken in
+        let is : (cell_at cells i).mixed ≡ mixed = ap (λ (c : Cell). c.mixed) has.1.cell in
+        let from : home (length cells) (cell_at cells i).mixed ≡ start = ap (home (length cells)) is ∙ sym begins in
+        let short : distance (length cells) start i < longest
+        = subst (λ h. distance (length cells) h i < longest) from (near.near i taken) in
+        subst M (ap (λ (c : Cell). c.at) has.1.cell) (s.missed i in_i (omega arith) is)
 
+    -- where a search has passed all cells, none is free
+    module _ (passed pos : ℕ) (s : Missed cells mixed start passed pos) (over : length cells ≤ passed) where
       pub none_free : (e : ℕ) → e < length cells → is_free (cell_at cells e) ≡ true → ⊥
       none_free e in_e free =
           let far = distance_within (length cells) start in_start e in_e in

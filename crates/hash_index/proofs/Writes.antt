@@ -1,14 +1,16 @@
 -- A write to one cell, and a row that is put in.
-use Rattle.std.proofs.Common.{◌≡◌, ◌≢◌, ℕ, ◌+◌, ◌<◌, inl, inr, true, false, List, length, set, sym, ap, subst, ◌∙◌, arith, length-set}
+use Rattle.std.proofs.Common.{◌≡◌, ◌≢◌, ℕ, ◌+◌, ◌<◌, max, inl, inr, true, false, List, length, set, sym, ap, subst, ◌∙◌, arith, length-set}
 use native.Mathlib.Decide.{ℕ_discrete}
 use Rattle.std.specs.List.{count_by}
 use Rattle.std.proofs.lemmas.List.{get_or-set_same, get_or-set_other}
 use Rattle.std.proofs.lemmas.List.Sums.{sum_by-set}
+use Rattle.std.proofs.lemmas.Int.{clamps}
 use Rattle.hash_index.specs.declared.cell.Cell.{Cell}
 use Rattle.hash_index.specs.Cells.{free, free_cell, is_free, IsTaken, cell_at, distance, home, passed}
 use Rattle.hash_index.specs.Index.{HasIn, Holds, Passing, Puts}
-use Rattle.hash_index.specs.Kept.{AreFound, IsFirstFree}
+use Rattle.hash_index.specs.Kept.{AreFound, AreNear, IsFirstFree}
 use Rattle.hash_index.proofs.Cells.{the_cell, one_if, counted, not_counted, not_both, taken_holds}
+use Rattle.hash_index.proofs.Distances.{home_within, distance_within}
 
 -- the cell at one place is another, and the other cells are as they were
 pub record Writes (old new : List Cell) (at : ℕ) (cell : Cell) : Type 0 where
@@ -127,3 +129,24 @@ module _ (old new : List Cell) (mixed at pos : ℕ) (low : at < free) (found : A
 
   pub put_passing : Passing new mixed at (distance (length old) (home (length old) mixed) pos)
   put_passing = (pos, held, λ k. distance (sym w.count k) (home (sym w.count k) mixed) pos)
+
+  pub put_within : distance (length old) (home (length old) mixed) pos < length old
+  put_within =
+      distance_within (length old) (home (length old) mixed) (home_within (length old) mixed (let in_pos = first.within in omega arith)) pos first.within
+
+  pub put_near : (far longest : ℕ) → far ≡ distance (length old) (home (length old) mixed) pos → AreNear old longest
+      → AreNear new (max longest (far + 1))
+  put_near far longest is near = record {
+    near = λ i taken. elim (ℕ_discrete i pos) [
+      | yes this ↦
+          let way : passed new i i ≡ distance (length old) (home (length old) mixed) pos
+          = ap (λ (x : ℕ). passed new x x) this ∙ (λ k. distance (w.count k) (home (w.count k) (w.here k).mixed) pos) in
+          omega (arith, clamps)
+      | no that ↦
+          let same = w.others i that in
+          let way = passed_along old new i i i w.count same in
+          let short = near.near i (subst (λ (c : Cell). IsTaken c) same taken) in
+          omega (arith, clamps)
+    ];
+    within = let in_old = near.within in let in_new = put_within in let count = w.count in omega (arith, clamps);
+  }

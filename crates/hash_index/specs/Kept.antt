@@ -9,9 +9,15 @@ pub record AreFound (cells : List Cell) : Type 0 where
       → IsTaken (cell_at cells e)
   pub once : (i j : ℕ) → IsTaken (cell_at cells i) → (cell_at cells i).at ≡ (cell_at cells j).at → i ≡ j
 
--- the invariant: rows are found, and with those that have room they are at most three quarters of the cells
-pub record IsKept (cells : List Cell) (left : ℕ) : Type 0 where
+-- no search for a row looks at more than so many cells
+pub record AreNear (cells : List Cell) (longest : ℕ) : Type 0 where
+  pub near : (i : ℕ) → IsTaken (cell_at cells i) → passed cells i i < longest
+  pub within : longest ≤ length cells
+
+-- the invariant: rows are found, within so many cells, and with those that have room they are at most three quarters of the cells
+pub record IsKept (cells : List Cell) (left longest : ℕ) : Type 0 where
   pub found : AreFound cells
+  pub near : AreNear cells longest
   pub load : length cells + left ≡ length cells / 4 * 3 + count_by is_free cells
 
 -- the first free cell that a search from a place comes to

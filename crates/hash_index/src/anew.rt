@@ -2,7 +2,7 @@
 ghost use Rattle.std.specs.Prelude.{◌≡◌, ℕ, ◌+◌, ◌*◌, ◌/◌, ◌^◌, ◌<◌, ◌≤◌, length, count_by, replicate, IfOk};
 ghost use Rattle.hash_index.specs.Cells.{free_cell, is_free};
 ghost use Rattle.hash_index.specs.Index.{AreMixed, HasIn};
-ghost use Rattle.hash_index.specs.Kept.{AreFound};
+ghost use Rattle.hash_index.specs.Kept.{AreFound, AreNear};
 
 use crate::cell::{Cell, free_cell};
 use crate::search::put_cell;
@@ -43,25 +43,33 @@ pub(crate) fn free_cells<A: Allocator>(alloc: A, count: usize) -> Result<Vec<Cel
     Ok(cells)
 }
 
-/// Puts all rows into free cells, each under the mixed hash that it is to have. Answers how many more have room.
-pub(crate) fn put_all<F: Fn(Cell) -> u32>(cells: &mut [Cell], old: &[Cell], mixed_of: F) -> usize
+/// Puts all rows into free cells, each under the mixed hash that it is to have. Answers how many more have room, and at
+/// how many cells the longest search for a row looks.
+pub(crate) fn put_all<F: Fn(Cell) -> u32>(
+    cells: &mut [Cell],
+    old: &[Cell],
+    mixed_of: F,
+) -> (usize, usize)
     requires callable { (m a : ℕ) → HasIn old.now m a → F.pre mixed_of (record { mixed = m; at = a }) }
     requires free { cells.old ≡ replicate (length cells.old) free_cell }
     requires room { length old.now < length cells.old / 4 * 3 + count_by is_free old.now }
     requires found { AreFound old.now }
     ensures found { AreFound cells.new }
     ensures mixed { AreMixed (λ m a n. F.post mixed_of (record { mixed = m; at = a }) n) old.now cells.new }
-    ensures load { length cells.new + result ≡ length cells.new / 4 * 3 + count_by is_free cells.new }
-    ensures room { 0 < result }
+    ensures load { length cells.new + result.0 ≡ length cells.new / 4 * 3 + count_by is_free cells.new }
+    ensures room { 0 < result.0 }
+    ensures near { AreNear cells.new result.1 }
     ensures count { length cells.new ≡ length cells.old }
 {
     let mut room = most_rows(cells.len());
+    let mut longest = 0;
     for cell in old {
         if !cell.is_free() {
             let mixed = mixed_of(*cell);
-            let _passed = put_cell(cells, mixed, cell.at);
+            let passed = put_cell(cells, mixed, cell.at);
+            longest = longest.max(passed + 1);
             room -= 1;
         }
     }
-    room
+    (room, longest)
 }

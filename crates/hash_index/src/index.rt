@@ -17,6 +17,8 @@ pub struct HashIndex<A: Allocator> {
     cells: Vec<Cell, A>,
     // How many more rows can be put in.
     left: usize,
+    // At how many cells a search looks at most before it has come to its row.
+    longest_probe: usize,
 }
 
 impl<A: Allocator> Model for HashIndex<A> {
@@ -31,7 +33,7 @@ impl<A: Allocator> Model for HashIndex<A> {
 
     ghost view = { λ index. (index.cells.items, index.left) };
 
-    ghost invariant = { λ index. IsKept index.cells.items index.left };
+    ghost invariant = { λ index. IsKept index.cells.items index.left index.longest_probe };
 }
 
 impl<A: Allocator> HashIndex<A> {
@@ -42,6 +44,7 @@ impl<A: Allocator> HashIndex<A> {
         HashIndex {
             cells: Vec::new(alloc),
             left: 0,
+            longest_probe: 0,
         }
     }
 
@@ -53,7 +56,7 @@ impl<A: Allocator> HashIndex<A> {
         ensures found { IfSome result (λ at. Has self.now mixed at × F.post eq at true) }
         ensures absent { IfNone result ((at : ℕ) → Has self.now mixed at → F.post eq at false) }
     {
-        match find_cell(self.cells.as_slice(), mixed, eq) {
+        match find_cell(self.cells.as_slice(), self.longest_probe, mixed, eq) {
             Some(pos) => Some(self.cells[pos].at as usize),
             None => None,
         }
@@ -85,6 +88,7 @@ impl<A: Allocator> HashIndex<A> {
     {
         let passed = put_cell(self.cells.as_mut_slice(), mixed, at as u32);
         self.left -= 1;
+        self.longest_probe = self.longest_probe.max(passed + 1);
         passed
     }
 
@@ -94,7 +98,7 @@ impl<A: Allocator> HashIndex<A> {
         ensures takes { Takes (cells self.old) (cells self.new) at }
         ensures room { room self.new ≡ room self.old + 1 }
     {
-        take_cell(self.cells.as_mut_slice(), mixed, at);
+        take_cell(self.cells.as_mut_slice(), self.longest_probe, mixed, at);
         self.left += 1;
     }
 
@@ -127,8 +131,12 @@ impl<A: Allocator> HashIndex<A> {
     {
         let count = count_anew(self.cells.len(), self.left)?;
         let mut cells = free_cells(*self.cells.allocator(), count)?;
-        let left = put_all(cells.as_mut_slice(), self.cells.as_slice(), mixed_of);
-        *self = HashIndex { cells, left };
+        let (left, longest_probe) = put_all(cells.as_mut_slice(), self.cells.as_slice(), mixed_of);
+        *self = HashIndex {
+            cells,
+            left,
+            longest_probe,
+        };
         Ok(())
     }
 }

@@ -2,7 +2,8 @@
 //!
 //! The one contract: a `HashIndex` has the numbers of rows, each under one mixed hash (`Has` of `specs/Index.antt`).
 //! `find` gives a row under a mixed hash that a closure takes for the one, or says that it takes none; `put`, `take`
-//! and `mix` say which rows are there afterwards, and under which mixed hashes. `put` and `take` take no memory.
+//! and `mix` say which rows are there afterwards, and under which mixed hashes. `put` and `take` take no memory. A search
+//! looks at no more cells than the longest one for a row that is there: an index keeps a bound of that number.
 //!
 //! - `index`: the type, whose calls hand their work to functions over the cells.
 //! - `cell`: a cell, and the way of a search through the cells (`specs/Cells.antt`); `search`: a row looked for, and a

@@ -1,15 +1,22 @@
 //! A row looked for, and a row put in.
-ghost use Rattle.std.specs.Prelude.{◌≡◌, ℕ, ◌+◌, ◌-◌, ◌^◌, ◌<◌, true, false, length, count_by, IfSome, IfNone};
+ghost use Rattle.std.specs.Prelude.{◌≡◌, ℕ, ◌+◌, ◌-◌, ◌^◌, ◌<◌, true, false, length, count_by, max, IfSome, IfNone};
 ghost use Rattle.hash_index.specs.Cells.{cell_at, is_free};
 ghost use Rattle.hash_index.specs.Index.{HasIn, Holds, Passing, Puts};
-ghost use Rattle.hash_index.specs.Kept.{AreFound, IsFirstFree};
+ghost use Rattle.hash_index.specs.Kept.{AreFound, AreNear, IsFirstFree};
 
 use crate::cell::{Cell, distance, home, next};
 
-/// The place of a row under a mixed hash that `eq` takes for the one.
+/// The place of a row under a mixed hash that `eq` takes for the one. A search looks at no more cells than the longest
+/// one for a row does.
 #[inline(always)]
-pub(crate) fn find_cell<F: Fn(usize) -> bool>(cells: &[Cell], mixed: u32, eq: F) -> Option<usize>
+pub(crate) fn find_cell<F: Fn(usize) -> bool>(
+    cells: &[Cell],
+    longest: usize,
+    mixed: u32,
+    eq: F,
+) -> Option<usize>
     requires found { AreFound cells.now }
+    requires near { AreNear cells.now longest }
     requires callable { (at : ℕ) → HasIn cells.now mixed at → F.pre eq at }
     ensures found { IfSome result (λ i. Holds cells.now mixed (cell_at cells.now i).at i
         × F.post eq (cell_at cells.now i).at true) }
@@ -20,7 +27,7 @@ pub(crate) fn find_cell<F: Fn(usize) -> bool>(cells: &[Cell], mixed: u32, eq: F)
         return None;
     }
     let mut pos = home(count, mixed);
-    for _passed in 0..count {
+    for _passed in 0..longest {
         let cell = cells[pos];
         if cell.is_free() {
             return None;
@@ -61,6 +68,8 @@ pub(crate) fn put_cell(cells: &mut [Cell], mixed: u32, at: u32) -> usize
     ensures found { AreFound cells.new }
     ensures puts { Puts cells.old cells.new mixed at }
     ensures passed { Passing cells.new mixed at result }
+    ensures within { result < length cells.old }
+    ensures near { (longest : ℕ) → AreNear cells.old longest → AreNear cells.new (max longest (result + 1)) }
     ensures free { count_by is_free cells.new + 1 ≡ count_by is_free cells.old }
     ensures count { length cells.new ≡ length cells.old }
 {

@@ -2,4 +2,4 @@ use Rattle.hash_index.proofs.Closing.{Closes}
 use Rattle.hash_index.proofs.close.close.Given as goal
 
 abbrev pub invariant-loop-passed : goal.invariant-loop-passed
-invariant-loop-passed l = Closes l.count l.fn.cells l.cells l.fn.gone l.hole l.pos l._passed
+invariant-loop-passed l = Closes l.count l.fn.longest l.fn.cells l.cells l.fn.gone l.hole l.pos l._passed

@@ -1,4 +1,4 @@
-use Rattle.std.proofs.Common.{◌≡◌, ℕ, ◌<◌, true, false, length, get_or, refl, sym, ap, subst, ◌∙◌}
+use Rattle.std.proofs.Common.{◌≡◌, ℕ, ◌<◌, true, false, length, get_or, refl, sym, ap, subst, ◌∙◌, arith}
 use borrow.Author.Rules.{of_calls}
 use Rattle.hash_index.specs.declared.cell.Cell.{Cell}
 use Rattle.hash_index.specs.Cells.{IsTaken, cell_at, is_free, home}
@@ -27,8 +27,11 @@ returns-then-is_free-clause-absent g c =
     let in_start : start < length cells = subst (λ p. p < length cells) c.home-pos.ensures.value c.home-pos.ensures.within in
     let at = read cells c.loop-passed.pos zero_cell c.loop-passed.invariant.within in
     let free : is_free (cell_at cells c.loop-passed.pos) ≡ true = sym (ap is_free at) ∙ sym c.is_free.ensures ∙ c.if-is_free.true in
+    let within = c.requires.near.within in
+    let less = c.loop-passed-test.true in
+    let on : c.loop-passed._passed < length cells = omega arith in
     missed_at_free M cells c.args.mixed start in_start c.loop-passed._passed c.loop-passed.pos c.loop-passed.invariant
-    c.loop-passed-test.true refl c.requires.found free
+    on refl c.requires.found free
 
 pub eq-requires : goal.eq-requires
 eq-requires g c =
@@ -63,7 +66,10 @@ loop-passed-preserved g c =
           (subst (goal.F-post g c.args.eq (get_or cells pos zero_cell).at) w.if-eq.false w.eq.ensures)
       | else-cell-mixed w ↦ λ is. absurd (w.if-cell-mixed.false (ap (λ (x : Cell). x.mixed) at ∙ is))
     ] in
-    missed_next M cells c.args.mixed start in_start c.loop-passed._passed pos c.loop-passed.invariant c.loop-passed-test.true
+    let within = c.requires.near.within in
+    let less = c.loop-passed-test.true in
+    let on : c.loop-passed._passed < length cells = omega arith in
+    missed_next M cells c.args.mixed start in_start c.loop-passed._passed pos c.loop-passed.invariant on
     c.next-pos.result taken miss c.next-pos.ensures
 
 pub returns-clause-absent : goal.returns-clause-absent
@@ -72,4 +78,5 @@ returns-clause-absent g c =
     let M = λ (at : ℕ). goal.F-post g c.args.eq at false in
     let start = home (length cells) c.args.mixed in
     let in_start : start < length cells = subst (λ p. p < length cells) c.home-pos.ensures.value c.home-pos.ensures.within in
-    missed_all M cells c.args.mixed start in_start c.loop-passed._passed c.loop-passed.pos c.loop-passed.invariant c.loop-passed-test.false
+    missed_all M cells c.args.mixed start in_start c.loop-passed._passed c.loop-passed.pos c.args.longest c.loop-passed.invariant
+    c.loop-passed-test.false refl c.requires.near

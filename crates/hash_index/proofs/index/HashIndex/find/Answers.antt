@@ -2,7 +2,7 @@ use Rattle.std.proofs.Common.{◌≡◌, true, List, sym, ap, subst, ◌∙◌}
 use Rattle.hash_index.specs.declared.cell.Cell.{Cell}
 use Rattle.hash_index.specs.Cells.{cell_at}
 use Rattle.hash_index.specs.Index.{cells, HasIn, Holds}
-use Rattle.hash_index.specs.Kept.{AreFound}
+use Rattle.hash_index.specs.Kept.{AreFound, AreNear}
 use Rattle.hash_index.proofs.Cells.{read, taken_within, taken_holds}
 use Rattle.hash_index.proofs.index.HashIndex.find.Goals as goal
 
@@ -12,6 +12,7 @@ find_cell-requires g c =
     let is : c.as_slice.result.now ≡ cells c.args.self.now = value ∙ ap (λ v. v.0) c.self.view_is in
     record {
       found = subst AreFound (sym value) c.self.invariant.found;
+      near = subst (λ (x : List Cell). AreNear x c.self.inside.longest_probe) (sym value) c.self.invariant.near;
       callable = λ at has. c.requires at (subst (λ (x : List Cell). HasIn x c.args.mixed at) is has);
     }
 
