@@ -83,8 +83,8 @@ module _ {T : Type 0} (is_ready : T → Type 0) (home : T → Home) (sees : T �
   none_put n numbers objects i m default t old mid same within is_number is other so_far v b =
       let f = so_far v b in
       let more = those_more n numbers objects i m default t same within is_number is
-          ∙ ap (λ (b : Bool). those_of n (take i numbers) (take i objects) ++ (if b then t ∷ [] else [])) (ne_eqb m n other)
-          ∙ append-nil (those_of n (take i numbers) (take i objects)) in
+      ∙ ap (λ (b : Bool). those_of n (take i numbers) (take i objects) ++ (if b then t ∷ [] else [])) (ne_eqb m n other)
+      ∙ append-nil (those_of n (take i numbers) (take i objects)) in
       (f.0, f.1, subst (λ ts. Puts (home old) ts v f.0) (sym more) f.2)
 
   -- one member, and the others behind it, where none was refused
