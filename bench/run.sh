@@ -2,14 +2,14 @@
 # Times `ets_tool run`, as `rt run` builds it, over inputs that are made here: objects {N,a} in growing numbers, without and
 # with a condition, a term 255 deep, a list of a million integers, a map of 65,535 pairs in falling order, specifications of up to
 # 8,000 nodes and 256 variables, and a long list that a condition looks at. Time and memory are to be linear. Then it times
-# `bench_code`: the largest code verified, with frames at a third of its instructions and at nearly all; and what
+# `bench`: the largest code verified, with frames at a third of its instructions and at nearly all; and what
 # compiling, running and evaluating takes of a short specification over a million pairs, of growing bodies, and of a body that is one
 # long list.
 # usage: bench/run.sh
 set -eu
 top=$(cd "$(dirname "$0")/.." && pwd)
 program=$top/crates/ets_tool/out/ets_tool
-code=$top/crates/bench_code/out/bench_code
+code=$top/crates/bench/out/bench
 for built in "$program" "$code"; do
   [ -x "$built" ] || { echo "bench/run.sh: no program at $built: build it by 'rt run </dev/null' in its crate" >&2; exit 2; }
 done

@@ -1,12 +1,12 @@
 -- Cells: which are free, and which read.
-use Rattle.std.proofs.Common.{◌≡◌, ℕ, suc, ◌+◌, ◌<◌, Bool, true, false, cond, List, [], ◌∷◌, length, get_or, sym, ap, subst, ◌∙◌, refl, arith, true≢false}
+use Rattle.std.proofs.Common.{◌≡◌, ℕ, suc, ◌+◌, ◌<◌, Bool, true, false, cond, if◌then◌else◌, nat_le, List, [], ◌∷◌, length, get_or, sym, ap, subst, ◌∙◌, refl, arith, true≢false}
 use borrow.Author.Tests.{leb-true, leb-false}
 use native.Mathlib.Decide.{dec_lt}
 use Rattle.std.specs.List.{count_by}
 use Rattle.std.proofs.lemmas.List.{get_or_default, get_or_past}
 use Rattle.std.proofs.lemmas.List.Sums.{sum_by-cons}
 use Rattle.hash_index.specs.declared.cell.Cell.{Cell}
-use Rattle.hash_index.specs.Cells.{free, free_cell, is_free, IsTaken, cell_at}
+use Rattle.hash_index.specs.Cells.{free, free_cell, is_free, is_end, IsTaken, IsOf, cell_at}
 use Rattle.hash_index.specs.Index.{Holds}
 
 abbrev pub the_cell : ℕ → ℕ → Cell
@@ -25,6 +25,13 @@ taken_is c t = by (is_free c) refl
 pub not_both : (c : Cell) → is_free c ≡ true → IsTaken c → ⊥
 not_both c e t = true≢false (sym e ∙ taken_is c t)
 
+-- searches go on past a row
+pub taken_goes_on : (c : Cell) → IsTaken c → is_end c ≡ false
+taken_goes_on c t = ap (λ b. if b then nat_le c.mixed 0 else false) (taken_is c t)
+
+pub not_end : (c : Cell) → is_end c ≡ true → is_end c ≡ false → ⊥
+not_end c e on = true≢false (sym e ∙ on)
+
 -- a cell is within where it is taken, since what is past the end reads as free
 pub taken_within : (cells : List Cell) (i : ℕ) → IsTaken (cell_at cells i) → i < length cells
 taken_within cells i t =
@@ -38,11 +45,11 @@ pub read : (cells : List Cell) (i : ℕ) (d : Cell) → i < length cells → get
 read cells i d within = get_or_default cells i d free_cell within
 
 -- a row that is read
-pub holds_read : (cells : List Cell) (i : ℕ) (d : Cell) (mixed : ℕ) → i < length cells → is_free (get_or cells i d) ≡ false
-    → (get_or cells i d).mixed ≡ mixed → Holds cells mixed (get_or cells i d).at i
-holds_read cells i d mixed within free is = record {
-  cell = sym (read cells i d within) ∙ ap (λ (m : ℕ). the_cell m (get_or cells i d).at) is;
-  taken = taken_from (get_or cells i d) free;
+pub holds_read : (cells : List Cell) (i : ℕ) (d : Cell) (mixed : ℕ) → i < length cells → IsOf (get_or cells i d) mixed
+    → Holds cells mixed (get_or cells i d).at i
+holds_read cells i d mixed within of = record {
+  cell = sym (read cells i d within) ∙ ap (λ (m : ℕ). the_cell m (get_or cells i d).at) of.1;
+  taken = of.0;
 }
 
 -- where a row stands, its cell is taken

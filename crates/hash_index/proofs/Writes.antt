@@ -6,10 +6,10 @@ use Rattle.std.proofs.lemmas.List.{get_or-set_same, get_or-set_other}
 use Rattle.std.proofs.lemmas.List.Sums.{sum_by-set}
 use Rattle.std.proofs.lemmas.Int.{clamps}
 use Rattle.hash_index.specs.declared.cell.Cell.{Cell}
-use Rattle.hash_index.specs.Cells.{free, free_cell, is_free, IsTaken, cell_at, distance, home, passed}
+use Rattle.hash_index.specs.Cells.{free, free_cell, is_free, is_end, IsTaken, cell_at, distance, home, passed}
 use Rattle.hash_index.specs.Index.{HasIn, Holds, Passing, Puts}
 use Rattle.hash_index.specs.Kept.{AreFound, AreNear, IsFirstFree}
-use Rattle.hash_index.proofs.Cells.{the_cell, one_if, counted, not_counted, not_both, taken_holds}
+use Rattle.hash_index.proofs.Cells.{the_cell, one_if, counted, not_counted, not_both, taken_goes_on, taken_holds}
 use Rattle.hash_index.proofs.Distances.{home_within, distance_within}
 
 -- the cell at one place is another, and the other cells are as they were
@@ -46,6 +46,14 @@ more_free cells at cell within was now =
     let one = counted cell now in
     omega arith
 
+pub as_free : (cells : List Cell) (at : ℕ) (cell : Cell) → at < length cells → is_free (cell_at cells at) ≡ true
+    → is_free cell ≡ true → count_by is_free (set cells at cell) ≡ count_by is_free cells
+as_free cells at cell within was now =
+    let sum = free_sum cells at cell within in
+    let before = counted (cell_at cells at) was in
+    let one = counted cell now in
+    omega arith
+
 -- the way of a search among as many cells to what stands at a place
 pub passed_along : (old new : List Cell) (i j to : ℕ) → length new ≡ length old → cell_at new i ≡ cell_at old j
     → passed new i to ≡ passed old j to
@@ -72,11 +80,11 @@ module _ (old new : List Cell) (mixed at pos : ℕ) (low : at < free) (found : A
     },
   )
 
-  put_reached : (i e : ℕ) → IsTaken (cell_at new i) → e < length new → passed new i e < passed new i i → IsTaken (cell_at new e)
+  put_reached : (i e : ℕ) → IsTaken (cell_at new i) → e < length new → passed new i e < passed new i i → is_end (cell_at new e) ≡ false
   put_reached i e taken in_e less =
       elim (ℕ_discrete e pos) [
-        | yes here ↦ subst (λ (x : ℕ). IsTaken (cell_at new x)) (sym here) taken_here
-        | no other ↦ subst (λ (c : Cell). IsTaken c) (sym (w.others e other)) (elim (ℕ_discrete i pos) [
+        | yes here ↦ taken_goes_on (cell_at new e) (subst (λ (x : ℕ). IsTaken (cell_at new x)) (sym here) taken_here)
+        | no other ↦ ap is_end (w.others e other) ∙ (elim (ℕ_discrete i pos) [
           | yes this ↦
               let way : (to : ℕ) → passed new pos to ≡ distance (length old) (home (length old) mixed) to
               = λ to k. distance (w.count k) (home (w.count k) (w.here k).mixed) to in
@@ -84,7 +92,7 @@ module _ (old new : List Cell) (mixed at pos : ℕ) (low : at < free) (found : A
               = subst (λ (x : ℕ). passed new x e < passed new x x) this less in
               let at_e = way e in
               let at_p = way pos in
-              first.before e (subst (λ n. e < n) w.count in_e) (omega arith)
+              taken_goes_on (cell_at old e) (first.before e (subst (λ n. e < n) w.count in_e) (omega arith))
           | no that ↦
               let same = w.others i that in
               let at_e = passed_along old new i i e w.count same in

@@ -1,5 +1,5 @@
 -- Cells, and the way that a search takes through them.
-use Rattle.std.specs.Prelude.{◌≡◌, ℕ, ◌+◌, ◌-◌, ◌^◌, ◌<◌, ◌⊎◌, Bool, List, length, slice_index_or, nat_le, bit_and}
+use Rattle.std.specs.Prelude.{◌≡◌, ℕ, ◌+◌, ◌-◌, ◌^◌, ◌<◌, ◌⊎◌, Bool, false, List, length, slice_index_or, nat_le, bit_and}
 use Rattle.std.specs.Prelude.{if◌then◌else◌}
 use Rattle.hash_index.specs.declared.cell.Cell.{Cell}
 
@@ -7,16 +7,29 @@ use Rattle.hash_index.specs.declared.cell.Cell.{Cell}
 abbrev pub free : ℕ
 free = 2 ^ 32 - 1
 
+-- a free cell at which searches end
 abbrev pub free_cell : Cell
 free_cell = record { mixed = 0; at = free }
+
+-- a free cell that searches go on past, since a row behind it may have passed the row that was there
+abbrev pub tombstone : Cell
+tombstone = record { mixed = 1; at = free }
 
 -- no row is at the cell
 abbrev pub is_free : Cell → Bool
 is_free cell = nat_le free cell.at
 
+-- no row is at the cell, and searches end there
+abbrev pub is_end : Cell → Bool
+is_end cell = if is_free cell then nat_le cell.mixed 0 else false
+
 -- a row is at the cell
 abbrev pub IsTaken : Cell → Type 0
 IsTaken cell = cell.at < free
+
+-- a row is at the cell, under a mixed hash
+abbrev pub IsOf : Cell → ℕ → Type 0
+IsOf cell mixed = IsTaken cell × (cell.mixed ≡ mixed)
 
 -- a cell by its place
 abbrev pub cell_at : List Cell → ℕ → Cell

@@ -1,12 +1,12 @@
 -- What holds of the cells of each index, and what holds of them on the way.
-use Rattle.std.specs.Prelude.{◌≡◌, ◌≢◌, ℕ, ◌+◌, ◌*◌, ◌/◌, ◌<◌, ◌≤◌, ◌⊎◌, true, List, length, count_by, set}
+use Rattle.std.specs.Prelude.{◌≡◌, ◌≢◌, ℕ, ◌+◌, ◌*◌, ◌/◌, ◌<◌, ◌≤◌, ◌⊎◌, true, false, List, length, count_by, set}
 use Rattle.hash_index.specs.declared.cell.Cell.{Cell}
-use Rattle.hash_index.specs.Cells.{free_cell, is_free, IsTaken, cell_at, distance, passed}
+use Rattle.hash_index.specs.Cells.{tombstone, is_free, is_end, IsTaken, cell_at, distance, passed}
 
--- no search ends at a free cell before it comes to its row, and no row stands twice
+-- no search ends before it comes to its row, and no row stands twice
 pub record AreFound (cells : List Cell) : Type 0 where
   pub reached : (i e : ℕ) → IsTaken (cell_at cells i) → e < length cells → passed cells i e < passed cells i i
-      → IsTaken (cell_at cells e)
+      → is_end (cell_at cells e) ≡ false
   pub once : (i j : ℕ) → IsTaken (cell_at cells i) → (cell_at cells i).at ≡ (cell_at cells j).at → i ≡ j
 
 -- no search for a row looks at more than so many cells
@@ -29,13 +29,13 @@ pub record IsFirstFree (cells : List Cell) (start pos : ℕ) : Type 0 where
 
 -- what stands at one place is at another, and has left a hole
 abbrev pub moved : List Cell → ℕ → ℕ → List Cell
-moved cells from hole = set (set cells hole (cell_at cells from)) from free_cell
+moved cells from hole = set (set cells hole (cell_at cells from)) from tombstone
 
 -- a row moves into the hole where a search for it comes to the hole first
 abbrev pub IsFilled : List Cell → List Cell → ℕ → ℕ → ℕ → Type 0
 IsFilled old new hole pos next_hole =
-    ((passed old pos hole < passed old pos pos) × (new ≡ moved old pos hole) × (next_hole ≡ pos))
-    ⊎ ((passed old pos pos ≤ passed old pos hole) × (new ≡ old) × (next_hole ≡ hole))
+    (IsTaken (cell_at old pos) × (passed old pos hole < passed old pos pos) × (new ≡ moved old pos hole) × (next_hole ≡ pos))
+    ⊎ ((IsTaken (cell_at old pos) → passed old pos pos ≤ passed old pos hole) × (new ≡ old) × (next_hole ≡ hole))
 
 -- each row stands somewhere still, but for the one that stood at a place
 pub record AreMoved (old new : List Cell) (gone : ℕ) : Type 0 where

@@ -1,6 +1,6 @@
 //! Cells, and the way that a search takes through them.
 ghost use Rattle.std.specs.Prelude.{◌≡◌, ◌<◌};
-ghost use Rattle.hash_index.specs.Cells.{IsNext, distance, free_cell, home, is_free};
+ghost use Rattle.hash_index.specs.Cells.{IsNext, distance, free_cell, home, is_end, is_free, tombstone};
 
 /// The number of a free cell. No row has it.
 const FREE: u32 = u32::MAX;
@@ -14,11 +14,18 @@ pub struct Cell {
     pub at: u32,
 }
 
-/// A cell that is free.
+/// A free cell, at which searches end.
 pub(crate) fn free_cell() -> Cell
     ensures { result ≡ free_cell }
 {
     Cell { mixed: 0, at: FREE }
+}
+
+/// A free cell that searches go on past: a row behind it may have passed the row that was there.
+pub(crate) fn tombstone() -> Cell
+    ensures { result ≡ tombstone }
+{
+    Cell { mixed: 1, at: FREE }
 }
 
 impl Cell {
@@ -27,6 +34,13 @@ impl Cell {
         ensures { result ≡ is_free self }
     {
         self.at == FREE
+    }
+
+    /// Whether searches end at the cell.
+    pub(crate) fn is_end(self) -> bool
+        ensures { result ≡ is_end self }
+    {
+        self.is_free() && self.mixed == 0
     }
 }
 

@@ -1,12 +1,15 @@
-//! A row taken out. No mark is left where it stood: the rows behind it whose search passed it move forward, so that
-//! searches stay short however many rows come and go.
+//! A row taken out. The rows behind it whose search passed it move forward, so that searches stay short however many
+//! rows come and go; where these are very many, a tombstone is left behind the first of them.
 ghost use Rattle.std.specs.Prelude.{◌≡◌, ℕ, ◌+◌, ◌<◌, length, count_by};
 ghost use Rattle.hash_index.specs.Cells.{IsTaken, cell_at, distance, is_free};
 ghost use Rattle.hash_index.specs.Index.{HasIn, Takes};
 ghost use Rattle.hash_index.specs.Kept.{AreFound, AreMoved, AreNear, IsFilled, moved};
 
-use crate::cell::{Cell, distance, free_cell, home, next};
+use crate::cell::{Cell, distance, free_cell, home, next, tombstone};
 use crate::search::find_cell;
+
+/// At how many cells a deletion looks at most.
+const MOST_CLOSED: usize = 48;
 
 /// Moves what stands at one place to another, and leaves a hole.
 fn move_into(cells: &mut [Cell], from: usize, hole: usize)
@@ -15,11 +18,11 @@ fn move_into(cells: &mut [Cell], from: usize, hole: usize)
     ensures { cells.new ≡ moved cells.old from hole }
 {
     cells[hole] = cells[from];
-    cells[from] = free_cell();
+    cells[from] = tombstone();
 }
 
-/// Moves the row at a place into the hole where a search for it comes to the hole first: where it passes as many cells
-/// as the hole is behind. Answers where the hole is now.
+/// Moves the row at a place, if there is one, into the hole where a search for it comes to the hole first: where it
+/// passes as many cells as the hole is behind. Answers where the hole is now.
 fn fill(cells: &mut [Cell], hole: usize, pos: usize) -> usize
     requires hole { hole < length cells.old }
     requires pos { pos < length cells.old }
@@ -27,8 +30,12 @@ fn fill(cells: &mut [Cell], hole: usize, pos: usize) -> usize
     ensures { IsFilled cells.old cells.new hole pos result }
 {
     let count = cells.len();
+    let cell = cells[pos];
+    if cell.is_free() {
+        return hole;
+    }
     let behind = distance(count, hole, pos);
-    let passed = distance(count, home(count, cells[pos].mixed), pos);
+    let passed = distance(count, home(count, cell.mixed), pos);
     if behind <= passed {
         move_into(cells, pos, hole);
         return pos;
@@ -36,11 +43,11 @@ fn fill(cells: &mut [Cell], hole: usize, pos: usize) -> usize
     hole
 }
 
-/// Takes out what stands at a place. The rows behind it close the hole, up to the next free cell, or until the hole is
-/// so far behind that no search is long enough to have passed it.
+/// Takes out what stands at a place. The rows behind it close the hole, up to a cell at which searches end, or until
+/// the hole is so far behind that no search is long enough to have passed it. Where neither comes soon, the hole is a
+/// tombstone from then on, as it was all the while.
 fn close(cells: &mut [Cell], longest: usize, gone: usize)
     requires gone { IsTaken (cell_at cells.old gone) }
-    requires free { 0 < count_by is_free cells.old }
     requires found { AreFound cells.old }
     requires near { AreNear cells.old longest }
     ensures found { AreFound cells.new }
@@ -50,14 +57,12 @@ fn close(cells: &mut [Cell], longest: usize, gone: usize)
     ensures count { length cells.new ≡ length cells.old }
 {
     let count = cells.len();
-    cells[gone] = free_cell();
+    cells[gone] = tombstone();
     let mut hole = gone;
     let mut pos = next(count, gone);
-    for _passed in 0..count {
-        if cells[pos].is_free() {
-            return;
-        }
-        if longest <= distance(count, hole, pos) {
+    for _looked in 1..count.min(MOST_CLOSED) {
+        if cells[pos].is_end() || longest <= distance(count, hole, pos) {
+            cells[hole] = free_cell();
             return;
         }
         hole = fill(cells, hole, pos);
@@ -68,7 +73,6 @@ fn close(cells: &mut [Cell], longest: usize, gone: usize)
 /// Takes a row out that is there under a mixed hash.
 pub(crate) fn take_cell(cells: &mut [Cell], longest: usize, mixed: u32, at: usize)
     requires there { HasIn cells.old mixed at }
-    requires free { 0 < count_by is_free cells.old }
     requires found { AreFound cells.old }
     requires near { AreNear cells.old longest }
     ensures found { AreFound cells.new }

@@ -7,7 +7,8 @@
 //!
 //! - `index`: the type, whose calls hand their work to functions over the cells.
 //! - `cell`: a cell, and the way of a search through the cells (`specs/Cells.antt`); `search`: a row looked for, and a
-//!   row put in; `close`: a row taken out, with the rows behind it moved forward; `anew`: all rows put into new cells.
+//!   row put in; `close`: a row taken out, with the rows behind it moved forward, or a tombstone left in its place;
+//!   `anew`: all rows put into new cells.
 //! - `specs/Kept.antt`: what holds of the cells, and what holds while rows are moved.
 #![tactic(auto)]
 

@@ -30,9 +30,10 @@ pub(crate) fn find_cell<F: Fn(usize) -> bool>(
     for _passed in 0..longest {
         let cell = cells[pos];
         if cell.is_free() {
-            return None;
-        }
-        if cell.mixed == mixed {
+            if cell.is_end() {
+                return None;
+            }
+        } else if cell.mixed == mixed {
             if eq(cell.at as usize) {
                 return Some(pos);
             }

@@ -23,7 +23,8 @@ mixed_of-mixed-requires g c =
     let old = c.args.old.now in
     let i : ℕ = c.loop-cell.cell-index in
     let x : Cell = get_or old i zero_cell in
-    let held = holds_read old i zero_cell x.mixed c.loop-cell-test.true (sym c.is_free.ensures ∙ c.if-not-is_free.true) refl in
+    let held = holds_read old i zero_cell x.mixed c.loop-cell-test.true
+    (taken_from x (sym c.is_free.ensures ∙ c.if-not-is_free.true), refl) in
     let call = c.requires.callable x.mixed x.at (i, held) in
     search (of_calls, call)
 

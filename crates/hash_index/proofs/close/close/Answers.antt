@@ -1,54 +1,66 @@
-use Rattle.std.proofs.Common.{◌≡◌, ◌<◌, length, refl, true, get_or, set, sym, subst, ap, ◌∙◌, arith}
+use Rattle.std.proofs.Common.{◌≡◌, ℕ, ◌+◌, ◌<◌, length, count_by, length-set, refl, true, set, sym, ap, subst, ◌∙◌, arith}
 use Rattle.hash_index.specs.declared.cell.Cell.{Cell}
-use Rattle.hash_index.specs.Cells.{is_free, IsTaken, cell_at}
-use Rattle.hash_index.proofs.Cells.{read, taken_from}
-use Rattle.hash_index.proofs.Closing.{Closes, closes_first, closes_last, closes_far, closes_near, closes_filled}
+use Rattle.hash_index.specs.Cells.{is_end, is_free, IsTaken, cell_at}
+use Rattle.hash_index.specs.Kept.{AreFound, AreMoved, AreNear}
+use Rattle.hash_index.proofs.Cells.{read}
+use Rattle.hash_index.proofs.Closing.{way, Closes, closes_first, none_past_end, none_so_far, closed_found, closed_near, closed_moved, closed_free, some_ahead, closes_filled, lesser}
+use Rattle.hash_index.proofs.close.close.Goals.{then-is_end-via-then-is_end, then-is_end-via-else-is_end+then-longest-distance}
 use Rattle.hash_index.proofs.close.close.Goals as goal
 
 abbrev zero_cell : Cell
 zero_cell = record { mixed = 0; at = 0 }
 
-pub loop-passed-init : goal.loop-passed-init
-loop-passed-init c =
+pub loop-looked-init : goal.loop-looked-init
+loop-looked-init c =
     let old = c.args.cells.now in
-    subst (λ (x : Cell). Closes (length old) c.args.longest old (set old c.args.gone x) c.args.gone c.args.gone c.next-pos.result 0)
-    (sym c.free_cell.ensures)
-    (closes_first (length old) c.args.longest old c.args.gone c.next-pos.result refl c.requires.gone c.requires.free c.requires.found
-    c.requires.near c.next-pos.ensures)
+    subst (λ (x : Cell). Closes (length old) c.args.longest old (set old c.args.gone x) c.args.gone c.args.gone c.next-pos.result 1)
+    (sym c.tombstone.ensures)
+    (closes_first (length old) c.args.longest old c.args.gone c.next-pos.result refl c.requires.gone c.requires.found c.requires.near
+    c.next-pos.ensures)
 
-pub returns-then-is_free : goal.returns-then-is_free
-returns-then-is_free c =
-    let now = c.loop-passed.cells in
-    let s = c.loop-passed.invariant in
-    let at = read now c.loop-passed.pos zero_cell (subst (λ n. c.loop-passed.pos < n) (sym s.count) s.in_pos) in
-    let free : is_free (cell_at now c.loop-passed.pos) ≡ true = sym (ap is_free at) ∙ sym c.is_free.ensures ∙ c.if-is_free.true in
+pub returns-then-is_end : goal.returns-then-is_end
+returns-then-is_end c =
+    let n = length c.args.cells.now in
+    let old = c.args.cells.now in
+    let now = c.loop-looked.cells in
+    let hole = c.loop-looked.hole in
+    let pos = c.loop-looked.pos in
+    let looked = c.loop-looked._looked in
+    let s = c.loop-looked.invariant in
+    let on = lesser n 48 looked c.min-looked-end.result c.min-looked-end.ensures c.loop-looked-test.true in
+    let none : (i : ℕ) → IsTaken (cell_at now i) → way n now i hole < way n now i i → ⊥ = elim c.then-is_end.branch [
+      | then-is_end-via-then-is_end w ↦
+          let at = read now pos zero_cell (subst (λ k. pos < k) (sym s.count) s.in_pos) in
+          let ends : is_end (cell_at now pos) ≡ true = sym (ap is_end at) ∙ sym c.is_end.ensures ∙ w.if-is_end.true in
+          none_past_end n c.args.longest old now c.args.gone hole pos looked s on ends
+      | then-is_end-via-else-is_end+then-longest-distance w ↦
+          let far = w.distance.ensures in
+          let as_far = w.if-longest-distance.true in
+          none_so_far n c.args.longest old now c.args.gone hole pos looked s on (omega (arith, s.count))
+    ] in
+    let is = sym c.free_cell.ensures in
     record {
-      found = closes_last (length c.args.cells.now) c.args.longest c.args.cells.now now c.args.gone c.loop-passed.hole c.loop-passed.pos
-          c.loop-passed._passed s free;
-      near = closes_near (length c.args.cells.now) c.args.longest c.args.cells.now now c.args.gone c.loop-passed.hole c.loop-passed.pos
-          c.loop-passed._passed s;
-      moved = s.moved;
-      free = s.freed;
-      count = s.count;
+      found = subst (λ (x : Cell). AreFound (set now hole x)) is (closed_found n c.args.longest old now c.args.gone hole pos looked s none);
+      near = subst (λ (x : Cell). AreNear (set now hole x) c.args.longest) is (closed_near n c.args.longest old now c.args.gone hole pos looked s none);
+      moved = subst (λ (x : Cell). AreMoved old (set now hole x) c.args.gone) is (closed_moved n c.args.longest old now c.args.gone hole pos looked s none);
+      free = subst (λ (x : Cell). count_by is_free (set now hole x) ≡ count_by is_free old + 1) is
+          (closed_free n c.args.longest old now c.args.gone hole pos looked s none);
+      count = length-set now hole c.free_cell.result ∙ s.count;
     }
 
-pub returns-then-longest-distance-clause-found : goal.returns-then-longest-distance-clause-found
-returns-then-longest-distance-clause-found c =
-    let far = c.distance.ensures in
-    let as_far = c.if-longest-distance.true in
-    closes_far (length c.args.cells.now) c.args.longest c.args.cells.now c.loop-passed.cells c.args.gone c.loop-passed.hole
-    c.loop-passed.pos c.loop-passed._passed c.loop-passed.invariant (omega arith)
+pub fill-hole-requires-clause-apart : goal.fill-hole-requires-clause-apart
+fill-hole-requires-clause-apart c =
+    let n = length c.args.cells.now in
+    let looked = c.loop-looked._looked in
+    let on = lesser n 48 looked c.min-looked-end.result c.min-looked-end.ensures c.loop-looked-test.true in
+    some_ahead n c.args.longest c.args.cells.now c.loop-looked.cells c.args.gone c.loop-looked.hole c.loop-looked.pos looked
+    c.loop-looked.invariant on
 
-pub loop-passed-preserved : goal.loop-passed-preserved
-loop-passed-preserved c =
-    let now = c.loop-passed.cells in
-    let s = c.loop-passed.invariant in
-    let at = read now c.loop-passed.pos zero_cell (subst (λ n. c.loop-passed.pos < n) (sym s.count) s.in_pos) in
-    let taken : IsTaken (cell_at now c.loop-passed.pos) = subst (λ (x : Cell). IsTaken x) at
-    (taken_from (get_or now c.loop-passed.pos zero_cell) (sym c.is_free.ensures ∙ c.if-is_free.false)) in
-    closes_filled (length c.args.cells.now) c.args.longest c.args.cells.now now c.args.gone c.loop-passed.hole c.loop-passed.pos
-    c.loop-passed._passed s taken c.next-pos-in-loop-passed.result c.next-pos-in-loop-passed.ensures c.fill-hole.new.cells
+pub loop-looked-preserved : goal.loop-looked-preserved
+loop-looked-preserved c =
+    let n = length c.args.cells.now in
+    let looked = c.loop-looked._looked in
+    let on = lesser n 48 looked c.min-looked-end.result c.min-looked-end.ensures c.loop-looked-test.true in
+    closes_filled n c.args.longest c.args.cells.now c.loop-looked.cells c.args.gone c.loop-looked.hole c.loop-looked.pos looked
+    c.loop-looked.invariant on c.next-pos-in-loop-looked.result c.next-pos-in-loop-looked.ensures c.fill-hole.new.cells
     c.fill-hole.result c.fill-hole.ensures
-
-pub returns : goal.returns
-returns c = let ends = c.loop-passed.invariant.ends in let over = c.loop-passed-test.false in absurd (omega arith)

@@ -4,7 +4,7 @@ use Rattle.hash_index.proofs.Closing.{takes_from}
 use Rattle.hash_index.proofs.close.take_cell.Goals as goal
 
 pub close-requires : goal.close-requires
-close-requires c = record { gone = c.in-Some.ensures.found.0.taken; free = c.requires.free; found = c.requires.found; near = c.requires.near }
+close-requires c = record { gone = c.in-Some.ensures.found.0.taken; found = c.requires.found; near = c.requires.near }
 
 pub unreachable-requires : goal.unreachable-requires
 unreachable-requires c = let post = c.in-None.ensures.absent c.args.at c.requires.there in search (rules, post)

@@ -1,6 +1,0 @@
-use denote.Param.Send.{sendable}
-use Rattle.kit_members.proofs.SentLemmas.{refused_part_send}
-use Rattle.tests_commands.proofs.requests.Case.is_right.Goals as goal
-
-pub run_request-ended-requires-send-P : goal.run_request-ended-requires-send-P
-run_request-ended-requires-send-P g c κs within = search (sendable, refused_part_send) depth 40

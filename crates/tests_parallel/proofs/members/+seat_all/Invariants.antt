@@ -1,5 +1,0 @@
-use Rattle.std.proofs.Common.{length}
-use Rattle.tests_parallel.proofs.members.+seat_all.Given as goal
-
-abbrev pub decreases-seat_all : goal.decreases-seat_all
-decreases-seat_all g l = length l.sessions.now

@@ -1,0 +1,18 @@
+use Rattle.std.proofs.Common.{◌≡◌, arith}
+use Rattle.std.proofs.lemmas.List.Elements.{All-rest}
+use Rattle.tests_walks.proofs.members.+seat_locals.Goals as goal
+
+pub seat_locals-requires : goal.seat_locals-requires
+seat_locals-requires g t c κs within = (
+  omega (arith, c.in-Some.ensures.cases.1, c.decreases),
+  (
+    within,
+    (
+      c.requires.sessions,
+      (
+        All-rest (λ t. t.options ≡ c.args.options) c.in-Some.first.now c.in-Some.rest.now c.args.tables.now c.in-Some.ensures.cases.0 c.requires.opened,
+        c.seat_local.ensures,
+      ),
+    ),
+  ),
+)
