@@ -14,7 +14,7 @@
 //!   own refusals.
 //! - `opening`: options of tables that can't be opened, with memory and without.
 //! - `readers`: what is read of readers that fail, give one byte at a time or are interrupted; `writers`: what is
-//!   written to writers that fail, or hold all back until they are flushed.
+//!   written to writers that fail, or hold all back until they are flushed; `streams`: each command over each of them.
 //! - `fault_texts`: what each refusal is called, enum by enum.
 #![tactic(auto)]
 
@@ -36,6 +36,8 @@ mod readers;
 mod requests;
 #[cfg(test)]
 mod scans;
+#[cfg(test)]
+mod streams;
 #[cfg(test)]
 mod sweeps;
 #[cfg(test)]

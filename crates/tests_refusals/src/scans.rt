@@ -1,4 +1,5 @@
 //! Scans with each request for memory refused in turn, by one session and by several.
+use crate::sweeps::Written;
 use kit_alloc::{Failing, SweepOutcome, sweep};
 use part_plain::PlainPart;
 use std::alloc::Global;
@@ -20,12 +21,14 @@ const fn lines_of(kind: ScanKind) -> &'static str {
     }
 }
 
-/// Whether a scan ends with all lines, or for want of memory with a beginning of them.
+/// Whether a scan ends with all lines, or for want of memory with a beginning of them: one by one session with no fewer
+/// than before. What several sessions ask for comes in an order of its own each time.
 fn is_right<H: Threads + Wait + Sync>(
     rt: &H,
     alloc: Global,
     heap: &Failing<Global>,
     options: ScanOptions,
+    so_far: &mut Written,
 ) -> bool {
     let mut reader = INPUT.as_bytes();
     let mut written = Vec::new(alloc);
@@ -39,44 +42,55 @@ fn is_right<H: Threads + Wait + Sync>(
     let lines = lines_of(options.kind).as_bytes();
     match ended {
         Ok(()) => written.as_slice() == lines,
-        Err(ToolFault::Memory) => heap.was_refused() && lines.starts_with(written.as_slice()),
+        Err(ToolFault::Memory) => {
+            let goes_on = so_far.goes_on(written.as_slice()) || options.workers > 1;
+            heap.was_refused() && lines.starts_with(written.as_slice()) && goes_on
+        }
         Err(_) => false,
     }
 }
 
-/// How a sweep over the requests of a scan of such a table by so many workers ends.
+/// How a sweep over the requests of a scan of such a table by so many workers ends, and how many lines it wrote with the
+/// last refused.
 fn swept<H: Threads + Wait + Sync>(
     rt: &H,
     alloc: Global,
     kind: ScanKind,
     workers: u8,
-) -> SweepOutcome {
+) -> (SweepOutcome, usize) {
     let options = ScanOptions {
         kind,
         keypos: 1,
         parts: 2,
         workers,
     };
-    sweep(alloc, 4_000, |heap| is_right(rt, alloc, heap, options))
+    let mut so_far = Written { lines: 0 };
+    let outcome = sweep(alloc, 4_000, |heap| {
+        is_right(rt, alloc, heap, options, &mut so_far)
+    });
+    (outcome, so_far.lines)
 }
 
 #[test]
 fn each_request_refused_in_turn(rt: HostRuntime) {
     for workers in [1, 2, 3] {
-        let outcome = swept(&rt, rt.alloc(), ScanKind::Set, workers);
-        assert!(rt; outcome.is_complete(), "{outcome:?}");
+        let (outcome, lines) = swept(&rt, rt.alloc(), ScanKind::Set, workers);
+        assert!(rt;
+            outcome.is_complete() && (workers > 1 || lines == 3),
+            "{outcome:?} {lines}"
+        );
     }
 }
 
 #[test]
 fn each_request_for_a_bag_refused_in_turn(rt: HostRuntime) {
-    let outcome = swept(&rt, rt.alloc(), ScanKind::Bag, 2);
+    let (outcome, _lines) = swept(&rt, rt.alloc(), ScanKind::Bag, 2);
     assert!(rt; outcome.is_complete(), "{outcome:?}");
 }
 
 #[test]
 fn each_request_for_a_duplicate_bag_refused_in_turn(rt: HostRuntime) {
-    let outcome = swept(&rt, rt.alloc(), ScanKind::DuplicateBag, 2);
+    let (outcome, _lines) = swept(&rt, rt.alloc(), ScanKind::DuplicateBag, 2);
     assert!(rt; outcome.is_complete(), "{outcome:?}");
 }
 
