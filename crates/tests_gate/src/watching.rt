@@ -16,16 +16,13 @@ use std::thread::{Threads, join};
 use tables::{Options, Session, Table, Turns, member};
 use term_core::Term;
 
-/// A part which raises a flag at each operation, and looks whether another's is up.
+/// A part which raises a flag at each operation, and looks whether the other part's is up.
 #[derive(Drop)]
-pub(crate) struct Watching<P> {
+struct Watching<P> {
     part: P,
     mine: Arc<AtomicBool>,
     others: Arc<AtomicBool>,
-    // It keeps its session for a while then.
-    lingers: bool,
-    // Whether it was up at each operation, if there was one.
-    pub(crate) has_met: Option<bool>,
+    has_met: bool,
 }
 
 impl<P: Part<Global> + Drop> Part<Global> for Watching<P> {
@@ -55,11 +52,7 @@ impl<P: Part<Global> + Drop> Part<Global> for Watching<P> {
         op: &mut PartOp<'a, Global>,
     ) -> Result<Reply<Global>, Fault> {
         self.mine.store(true, Ordering::SeqCst);
-        let is_up = is_raised(&self.others);
-        self.has_met = Some(is_up && self.has_met != Some(false));
-        if self.lingers {
-            is_raised(&AtomicBool::new(false));
-        }
+        self.has_met = is_raised(&self.others);
         self.part.apply(session, op)
     }
 
@@ -73,12 +66,11 @@ impl<P: Part<Global> + Drop> Part<Global> for Watching<P> {
 }
 
 /// A part that watches another, in its opening state.
-pub(crate) fn part_that_watches<P: Part<Global> + Drop>(
+fn part_that_watches<P: Part<Global> + Drop>(
     alloc: Global,
     options: Options,
     mine: &Arc<AtomicBool>,
     others: &Arc<AtomicBool>,
-    lingers: bool,
 ) -> Option<Watching<P>>
     ensures { IfSome result (λ w. (P.settings w.part ≡ settings_of options) × P.is_after w.part []) }
 {
@@ -94,8 +86,7 @@ pub(crate) fn part_that_watches<P: Part<Global> + Drop>(
         part,
         mine: mine.clone().ok()?,
         others: others.clone().ok()?,
-        lingers,
-        has_met: None,
+        has_met: false,
     })
 }
 
@@ -109,15 +100,15 @@ fn watching_parts<P: Part<Global> + Drop>(
     let one = Arc::new(alloc, AtomicBool::new(false)).ok()?;
     let other = Arc::new(alloc, AtomicBool::new(false)).ok()?;
     let mut parts = Vec::new(alloc);
-    let first = part_that_watches(alloc, options, &one, &other, false)?;
+    let first = part_that_watches(alloc, options, &one, &other)?;
     parts.push(first).ok()?;
-    let second = part_that_watches(alloc, options, &other, &one, false)?;
+    let second = part_that_watches(alloc, options, &other, &one)?;
     parts.push(second).ok()?;
     Some(parts)
 }
 
 /// Asks for a key.
-pub(crate) fn asked<R: Wait, P: Part<Global> + Drop>(
+fn asked<R: Wait, P: Part<Global> + Drop>(
     rt: &R,
     table: &Table<P>,
     session: &mut Session<P>,
@@ -175,7 +166,7 @@ fn both_asked<R: Threads + Wait + Sync, P: Part<Global> + Drop + Send>(
 fn have_met<R: Threads + Wait + Sync, P: Part<Global> + Drop + Send>(
     rt: &R,
     alloc: Global,
-) -> Option<[bool; 2]> {
+) -> Option<(bool, bool)> {
     let options = Options {
         name: 1,
         kind: TableKind::Set,
@@ -196,10 +187,10 @@ fn have_met<R: Threads + Wait + Sync, P: Part<Global> + Drop + Send>(
     let mut closed = table.close(second);
     let last = closed.next_part()?.ok()?;
     let first = closed.next_part()?.ok()?;
-    Some([last.has_met?, first.has_met?])
+    Some((last.has_met, first.has_met))
 }
 
 #[test]
 fn two_parts_are_turned_at_the_same_time(rt: HostRuntime) {
-    assert!(rt; have_met::<_, PlainPart<Global>>(&rt, rt.alloc()) == Some([true, true]));
+    assert!(rt; have_met::<_, PlainPart<Global>>(&rt, rt.alloc()) == Some((true, true)));
 }
