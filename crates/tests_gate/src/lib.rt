@@ -5,10 +5,11 @@
 //!
 //! - `objects`: what is put in. `pairs`: two sessions of a table.
 //! - `steps`: what sessions do, one on a thread behind the other and side by side.
-//! - `watching`: parts that look for each other, so that their turns must be made at the same time.
+//! - `watching`: parts that look for each other, so that their turns must be made at the same time. `waiting`: a
+//!   session that waits for a part until it is put back.
 //! - `walking`: a walk whose table another session empties meanwhile, and a visit out of place.
 //! - `leaving`: dead rows while sessions fix, and when the last of them leaves.
-//! - `refusals`: memory refused in turn, and calls that take none.
+//! - `refusals`: memory refused in turn, and calls that take none. `selecting`: the same of a whole walk.
 #![tactic(auto)]
 
 #[cfg(test)]
@@ -20,7 +21,11 @@ mod pairs;
 #[cfg(test)]
 mod refusals;
 #[cfg(test)]
+mod selecting;
+#[cfg(test)]
 mod steps;
+#[cfg(test)]
+mod waiting;
 #[cfg(test)]
 mod walking;
 #[cfg(test)]

@@ -1,19 +1,24 @@
 //! Memory refused in turn where tables are opened and objects put in, and calls that take none.
 ghost use Rattle.std.specs.Prelude.{◌≡◌, All, [], IfSome};
 ghost use Rattle.tables.specs.Options.{settings_of};
+ghost use Rattle.tables.specs.Sessions.{IsOpened};
 
 use crate::objects::object;
 use crate::pairs::last_two;
+use gate::Closed;
 use kit_alloc::{Failing, sweep};
 use part_core::{Fault, OpenFault, Part, TableKind};
-use part_plain::PlainPart;
+use part_hash::HashPart;
 use std::alloc::{Allocator, Global};
 use std::sync::Wait;
-use tables::{Options, Table, Turns, delete, delete_object, fix, insert, member, unfix};
+use tables::{Options, Session, Table, Turns, delete, delete_object, fix, insert, member, unfix};
 use term_core::Term;
 
 /// How often a sweep runs at most.
 const RUNS: u64 = 1_000;
+
+/// More fixes than a session may have.
+const MOST_FIXES: u32 = 70_000;
 
 /// What a set of two parts is opened with.
 const OPTIONS: Options = Options {
@@ -24,12 +29,12 @@ const OPTIONS: Options = Options {
     sessions: 3,
 };
 
-/// A set of plain parts.
-type Plain<'h> = Table<PlainPart<&'h Failing<Global>>, &'h Failing<Global>>;
+/// A set of hashed parts.
+type Hashed<'h> = Table<HashPart<&'h Failing<Global>>, &'h Failing<Global>>;
 
 /// Whether a table is opened, or refused for want of memory where a request was refused.
 fn is_opened(heap: &Failing<Global>) -> bool {
-    match Plain::open(heap, OPTIONS) {
+    match Hashed::open(heap, OPTIONS) {
         Ok(_opened) => !heap.was_refused(),
         Err(fault) => fault == OpenFault::Memory && heap.was_refused(),
     }
@@ -66,7 +71,7 @@ fn is_opened_over(heap: &Failing<Global>) -> bool {
     let Some(parts) = two_parts(heap, OPTIONS) else {
         return heap.was_refused();
     };
-    match Plain::over(heap, OPTIONS, parts) {
+    match Hashed::over(heap, OPTIONS, parts) {
         Ok(_opened) => !heap.was_refused(),
         Err(fault) => fault == OpenFault::Memory && heap.was_refused(),
     }
@@ -99,7 +104,7 @@ fn is_put_by<'h, R: Wait>(
     heap: &'h Failing<Global>,
     key: &Term<&'h Failing<Global>>,
 ) -> bool {
-    let Ok((table, sessions)) = Plain::open(heap, OPTIONS) else {
+    let Ok((table, sessions)) = Hashed::open(heap, OPTIONS) else {
         return heap.was_refused();
     };
     let Some((mut session, _other)) = last_two(&table, sessions) else {
@@ -115,6 +120,20 @@ fn is_put_at<R: Wait>(rt: &R, heap: &Failing<Global>) -> bool {
     is_put_by(rt, heap, &key)
 }
 
+/// How often a session fixes its table before it is refused, and why.
+fn most_fixes<A: Allocator, T: Turns<A>>(turns: &mut T) -> Option<(u32, Fault)>
+    requires { T.is_ready turns.old }
+    ensures ready { T.is_ready turns.new }
+    ensures same { T.home turns.new ≡ T.home turns.old }
+{
+    for fixes in 0..MOST_FIXES {
+        if let Err(fault) = fix(turns) {
+            return Some((fixes, fault));
+        }
+    }
+    None
+}
+
 /// Whether calls are answered right that take no memory: `{1}` is there, and so is the object.
 fn is_answered<A: Allocator, T: Turns<A>>(turns: &mut T, object: &Term<A>, key: &Term<A>) -> bool
     requires { T.is_ready turns.old }
@@ -127,8 +146,17 @@ fn is_answered<A: Allocator, T: Turns<A>>(turns: &mut T, object: &Term<A>, key: 
     let is_object_deleted = delete_object(turns, object).is_ok();
     let is_fixed = fix(turns).is_ok();
     let is_released = unfix(turns).is_ok();
-    let is_refused = unfix(turns) == Err(Fault::NotFixed);
-    was_there && is_deleted && is_object_deleted && is_fixed && is_released && is_refused
+    let is_unfixed = unfix(turns) == Err(Fault::NotFixed);
+    let is_no_object = delete_object(turns, key) == Err(Fault::TooSmall);
+    let is_refused = is_unfixed && is_no_object;
+    let is_limited = most_fixes(turns) == Some((65_535, Fault::FixLimit));
+    was_there
+        && is_deleted
+        && is_object_deleted
+        && is_fixed
+        && is_released
+        && is_refused
+        && is_limited
 }
 
 /// Puts `{1}` and `{2}` in.
@@ -167,7 +195,7 @@ fn is_spare_with<'h, R: Wait>(
     object: &Term<&'h Failing<Global>>,
     key: &Term<&'h Failing<Global>>,
 ) -> Option<(bool, u64)> {
-    let Ok((table, sessions)) = Plain::open(heap, OPTIONS) else {
+    let Ok((table, sessions)) = Hashed::open(heap, OPTIONS) else {
         return None;
     };
     let (mut session, _other) = last_two(&table, sessions)?;
@@ -182,19 +210,49 @@ fn is_spare<R: Wait>(rt: &R, heap: &Failing<Global>) -> Option<(bool, u64)> {
     is_spare_with(rt, heap, &two, &key)
 }
 
-/// Whether two sessions meet, one leaves and a part comes out where the table is closed with the other, and how many
-/// requests there were before that.
+/// How many parts come out, none where one is lost.
+fn parts_out<A: Allocator, P: Part<A> + Drop>(closed: Closed<P, A>) -> Option<usize> {
+    let mut closed = closed;
+    for parts in 0..3 {
+        match closed.next_part() {
+            Some(Ok(_part)) => {}
+            Some(Err(_)) => return None,
+            None => return Some(parts),
+        }
+    }
+    None
+}
+
+/// A session puts an object into each part and fixes them.
+fn put_and_fixed<R: Wait, A: Allocator + Copy, P: Part<A> + Drop>(
+    rt: &R,
+    heap: A,
+    table: &Table<P, A>,
+    session: Session<P, A>,
+) -> Option<Session<P, A>>
+    requires { IsOpened table.now.options table.now.gates.items session.number session.passes.items }
+    ensures { IfSome result (λ s. IsOpened table.now.options table.now.gates.items s.number s.passes.items) }
+{
+    let mut session = session;
+    let mut at = table.at(rt, &mut session);
+    put_both(heap, &mut at)?;
+    fix(&mut at).ok()?;
+    Some(session)
+}
+
+/// Whether two sessions meet, one leaves with its fixes, and both parts come out where the table is closed with the
+/// other; and how many requests there were before that.
 fn is_closed<R: Wait>(rt: &R, heap: &Failing<Global>) -> Option<(bool, u64)> {
-    let Ok((table, sessions)) = Plain::open(heap, OPTIONS) else {
+    let Ok((table, sessions)) = Hashed::open(heap, OPTIONS) else {
         return None;
     };
-    let (mut first, mut second) = last_two(&table, sessions)?;
+    let (first, mut second) = last_two(&table, sessions)?;
+    let mut first = put_and_fixed(rt, heap, &table, first)?;
     let before = heap.requests();
     table.meet(&mut first, &mut second);
     table.leave(rt, first);
-    let mut closed = table.close(second);
-    let is_out = matches!(closed.next_part(), Some(Ok(_)));
-    Some((is_out, before))
+    let are_out = parts_out(table.close(second)) == Some(2);
+    Some((are_out, before))
 }
 
 /// Whether all is right also where each request is refused from those calls on.

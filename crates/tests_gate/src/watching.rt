@@ -16,13 +16,16 @@ use std::thread::{Threads, join};
 use tables::{Options, Session, Table, Turns, member};
 use term_core::Term;
 
-/// A part which raises a flag at each operation, and looks whether the other part's is up.
+/// A part which raises a flag at each operation, and looks whether another's is up.
 #[derive(Drop)]
-struct Watching<P> {
+pub(crate) struct Watching<P> {
     part: P,
     mine: Arc<AtomicBool>,
     others: Arc<AtomicBool>,
-    has_met: bool,
+    // It keeps its session for a while then.
+    lingers: bool,
+    // Whether it was up at each operation, if there was one.
+    pub(crate) has_met: Option<bool>,
 }
 
 impl<P: Part<Global> + Drop> Part<Global> for Watching<P> {
@@ -52,7 +55,11 @@ impl<P: Part<Global> + Drop> Part<Global> for Watching<P> {
         op: &mut PartOp<'a, Global>,
     ) -> Result<Reply<Global>, Fault> {
         self.mine.store(true, Ordering::SeqCst);
-        self.has_met = is_raised(&self.others);
+        let is_up = is_raised(&self.others);
+        self.has_met = Some(is_up && self.has_met != Some(false));
+        if self.lingers {
+            is_raised(&AtomicBool::new(false));
+        }
         self.part.apply(session, op)
     }
 
@@ -66,11 +73,12 @@ impl<P: Part<Global> + Drop> Part<Global> for Watching<P> {
 }
 
 /// A part that watches another, in its opening state.
-fn part_that_watches<P: Part<Global> + Drop>(
+pub(crate) fn part_that_watches<P: Part<Global> + Drop>(
     alloc: Global,
     options: Options,
     mine: &Arc<AtomicBool>,
     others: &Arc<AtomicBool>,
+    lingers: bool,
 ) -> Option<Watching<P>>
     ensures { IfSome result (λ w. (P.settings w.part ≡ settings_of options) × P.is_after w.part []) }
 {
@@ -86,7 +94,8 @@ fn part_that_watches<P: Part<Global> + Drop>(
         part,
         mine: mine.clone().ok()?,
         others: others.clone().ok()?,
-        has_met: false,
+        lingers,
+        has_met: None,
     })
 }
 
@@ -100,15 +109,15 @@ fn watching_parts<P: Part<Global> + Drop>(
     let one = Arc::new(alloc, AtomicBool::new(false)).ok()?;
     let other = Arc::new(alloc, AtomicBool::new(false)).ok()?;
     let mut parts = Vec::new(alloc);
-    let first = part_that_watches(alloc, options, &one, &other)?;
+    let first = part_that_watches(alloc, options, &one, &other, false)?;
     parts.push(first).ok()?;
-    let second = part_that_watches(alloc, options, &other, &one)?;
+    let second = part_that_watches(alloc, options, &other, &one, false)?;
     parts.push(second).ok()?;
     Some(parts)
 }
 
 /// Asks for a key.
-fn asked<R: Wait, P: Part<Global> + Drop>(
+pub(crate) fn asked<R: Wait, P: Part<Global> + Drop>(
     rt: &R,
     table: &Table<P>,
     session: &mut Session<P>,
@@ -166,7 +175,7 @@ fn both_asked<R: Threads + Wait + Sync, P: Part<Global> + Drop + Send>(
 fn have_met<R: Threads + Wait + Sync, P: Part<Global> + Drop + Send>(
     rt: &R,
     alloc: Global,
-) -> Option<(bool, bool)> {
+) -> Option<[bool; 2]> {
     let options = Options {
         name: 1,
         kind: TableKind::Set,
@@ -187,10 +196,10 @@ fn have_met<R: Threads + Wait + Sync, P: Part<Global> + Drop + Send>(
     let mut closed = table.close(second);
     let last = closed.next_part()?.ok()?;
     let first = closed.next_part()?.ok()?;
-    Some((last.has_met, first.has_met))
+    Some([last.has_met?, first.has_met?])
 }
 
 #[test]
 fn two_parts_are_turned_at_the_same_time(rt: HostRuntime) {
-    assert!(rt; have_met::<_, PlainPart<Global>>(&rt, rt.alloc()) == Some((true, true)));
+    assert!(rt; have_met::<_, PlainPart<Global>>(&rt, rt.alloc()) == Some([true, true]));
 }
