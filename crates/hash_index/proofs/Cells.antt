@@ -6,11 +6,15 @@ use Rattle.std.specs.List.{count_by}
 use Rattle.std.proofs.lemmas.List.{get_or_default, get_or_past}
 use Rattle.std.proofs.lemmas.List.Sums.{sum_by-cons}
 use Rattle.hash_index.specs.declared.cell.Cell.{Cell}
-use Rattle.hash_index.specs.Cells.{free, free_cell, is_free, is_end, IsTaken, IsOf, cell_at}
+use Rattle.hash_index.specs.Cells.{free, free_cell, is_free, is_end, IsTaken, cell_at}
 use Rattle.hash_index.specs.Index.{Holds}
 
 abbrev pub the_cell : ℕ → ℕ → Cell
 the_cell mixed at = record { mixed = mixed; at = at }
+
+-- a row is at the cell, under a mixed hash
+abbrev pub IsOf : Cell → ℕ → Type 0
+IsOf cell mixed = IsTaken cell × (cell.mixed ≡ mixed)
 
 pub taken_from : (c : Cell) → is_free c ≡ false → IsTaken c
 taken_from c e = leb-false free c.at e

@@ -2,11 +2,11 @@
 use Rattle.std.proofs.Common.{◌≡◌, ℕ, ◌+◌, ◌<◌, ◌≤◌, true, List, length, sym, ap, subst, ◌∙◌, arith}
 use native.Mathlib.Decide.{dec_lt}
 use Rattle.hash_index.specs.declared.cell.Cell.{Cell}
-use Rattle.hash_index.specs.Cells.{is_free, is_end, IsTaken, IsOf, cell_at, IsNext, distance, home}
+use Rattle.hash_index.specs.Cells.{is_free, is_end, IsTaken, cell_at, IsNext, distance, home}
 use Rattle.hash_index.specs.Index.{HasIn}
 use Rattle.hash_index.specs.Kept.{AreFound, AreNear, IsFirstFree}
 use Rattle.hash_index.proofs.Distances.{distance_self, distance_within, distance_one, distance_next, next_within}
-use Rattle.hash_index.proofs.Cells.{taken_within, taken_goes_on, not_both, not_end}
+use Rattle.hash_index.proofs.Cells.{IsOf, taken_within, taken_goes_on, not_both, not_end}
 
 -- P holds of the cells that were passed
 module _ (P : Cell → Type 0) where

@@ -27,10 +27,6 @@ is_end cell = if is_free cell then nat_le cell.mixed 0 else false
 abbrev pub IsTaken : Cell → Type 0
 IsTaken cell = cell.at < free
 
--- a row is at the cell, under a mixed hash
-abbrev pub IsOf : Cell → ℕ → Type 0
-IsOf cell mixed = IsTaken cell × (cell.mixed ≡ mixed)
-
 -- a cell by its place
 abbrev pub cell_at : List Cell → ℕ → Cell
 cell_at cells i = slice_index_or cells i free_cell

@@ -9,7 +9,7 @@ use crate::cell::{Cell, distance, free_cell, home, next, tombstone};
 use crate::search::find_cell;
 
 /// At how many cells a deletion looks at most.
-const MOST_CLOSED: usize = 48;
+const MOST_CLOSED: usize = 40;
 
 /// Moves what stands at one place to another, and leaves a hole.
 fn move_into(cells: &mut [Cell], from: usize, hole: usize)

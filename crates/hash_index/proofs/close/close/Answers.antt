@@ -27,7 +27,7 @@ returns-then-is_end c =
     let pos = c.loop-looked.pos in
     let looked = c.loop-looked._looked in
     let s = c.loop-looked.invariant in
-    let on = lesser n 48 looked c.min-looked-end.result c.min-looked-end.ensures c.loop-looked-test.true in
+    let on = lesser n 40 looked c.min-looked-end.result c.min-looked-end.ensures c.loop-looked-test.true in
     let none : (i : ℕ) → IsTaken (cell_at now i) → way n now i hole < way n now i i → ⊥ = elim c.then-is_end.branch [
       | then-is_end-via-then-is_end w ↦
           let at = read now pos zero_cell (subst (λ k. pos < k) (sym s.count) s.in_pos) in
@@ -52,7 +52,7 @@ pub fill-hole-requires-clause-apart : goal.fill-hole-requires-clause-apart
 fill-hole-requires-clause-apart c =
     let n = length c.args.cells.now in
     let looked = c.loop-looked._looked in
-    let on = lesser n 48 looked c.min-looked-end.result c.min-looked-end.ensures c.loop-looked-test.true in
+    let on = lesser n 40 looked c.min-looked-end.result c.min-looked-end.ensures c.loop-looked-test.true in
     some_ahead n c.args.longest c.args.cells.now c.loop-looked.cells c.args.gone c.loop-looked.hole c.loop-looked.pos looked
     c.loop-looked.invariant on
 
@@ -60,7 +60,7 @@ pub loop-looked-preserved : goal.loop-looked-preserved
 loop-looked-preserved c =
     let n = length c.args.cells.now in
     let looked = c.loop-looked._looked in
-    let on = lesser n 48 looked c.min-looked-end.result c.min-looked-end.ensures c.loop-looked-test.true in
+    let on = lesser n 40 looked c.min-looked-end.result c.min-looked-end.ensures c.loop-looked-test.true in
     closes_filled n c.args.longest c.args.cells.now c.loop-looked.cells c.args.gone c.loop-looked.hole c.loop-looked.pos looked
     c.loop-looked.invariant on c.next-pos-in-loop-looked.result c.next-pos-in-loop-looked.ensures c.fill-hole.new.cells
     c.fill-hole.result c.fill-hole.ensures

@@ -1,9 +1,9 @@
 use Rattle.std.proofs.Common.{◌≡◌, ℕ, ◌<◌, true, false, length, get_or, refl, sym, ap, subst, ◌∙◌, arith}
 use borrow.Author.Rules.{of_calls}
 use Rattle.hash_index.specs.declared.cell.Cell.{Cell}
-use Rattle.hash_index.specs.Cells.{IsOf, cell_at, is_end, home}
+use Rattle.hash_index.specs.Cells.{cell_at, is_end, home}
 use Rattle.hash_index.specs.Index.{Holds}
-use Rattle.hash_index.proofs.Cells.{read, taken_from, not_both, holds_read}
+use Rattle.hash_index.proofs.Cells.{IsOf, read, taken_from, not_both, holds_read}
 use Rattle.hash_index.proofs.Searches.{Missed, missed_start, missed_next, missed_at_end, missed_all}
 use Rattle.hash_index.proofs.search.find_cell.Goals.{then-is_free+else-is_end, else-is_free+then-cell-mixed+else-eq, else-is_free+else-cell-mixed}
 use Rattle.hash_index.proofs.search.find_cell.Goals as goal

@@ -1,5 +1,6 @@
 use Rattle.std.proofs.Common.{false}
-use Rattle.hash_index.specs.Cells.{home, IsOf}
+use Rattle.hash_index.specs.Cells.{home}
+use Rattle.hash_index.proofs.Cells.{IsOf}
 use Rattle.hash_index.proofs.Searches.{Missed}
 use Rattle.hash_index.proofs.search.find_cell.Given as goal
 
