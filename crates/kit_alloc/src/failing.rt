@@ -65,7 +65,15 @@ impl<B: Allocator> Failing<B> {
     /// Whether a request was refused by the plan. That the inner allocator refused one does not
     /// count.
     pub fn was_refused(&self) -> bool {
-        self.gate.was_refused()
+        self.gate.refused() != 0
+    }
+
+    /// How many blocks were given and have not come back, if the inner allocator refused none.
+    pub fn blocks(&self) -> u64 {
+        self.gate
+            .requests()
+            .saturating_sub(self.gate.refused())
+            .saturating_sub(self.gate.returned())
     }
 }
 
@@ -80,6 +88,7 @@ unsafe impl<B: Allocator> Allocator for Failing<B> {
     }
 
     unsafe fn deallocate(&self, ptr: *mut u8, size: usize, align: usize) {
+        self.gate.counts_returned();
         self.inner.deallocate(ptr, size, align);
     }
 }

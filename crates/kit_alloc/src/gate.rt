@@ -2,14 +2,15 @@ ghost use Rattle.std.specs.Prelude.{◌≡◌};
 ghost use Rattle.kit_alloc.specs.Plan.{IsAnswer};
 
 use crate::plan::Plan;
-use std::sync::atomic::{AtomicBool, AtomicU64, Ordering};
+use std::sync::atomic::{AtomicU64, Ordering};
 
-// Counts the requests of an allocator, from any thread, and says which are refused.
+// Counts the requests of an allocator and what is given back, from any thread, and says which requests are refused.
 #[derive(Drop)]
 pub(crate) struct Gate {
     plan: Plan,
     requests: AtomicU64,
-    refused: AtomicBool,
+    refused: AtomicU64,
+    returned: AtomicU64,
 }
 
 impl Gate {
@@ -19,7 +20,8 @@ impl Gate {
         Gate {
             plan,
             requests: AtomicU64::new(0),
-            refused: AtomicBool::new(false),
+            refused: AtomicU64::new(0),
+            returned: AtomicU64::new(0),
         }
     }
 
@@ -40,7 +42,7 @@ impl Gate {
             .saturating_add(1);
         let refuses = self.plan.refuses(request);
         if refuses {
-            self.refused.store(true, Ordering::SeqCst);
+            self.refused.fetch_add(1, Ordering::SeqCst);
         }
         refuses
     }
@@ -49,7 +51,15 @@ impl Gate {
         self.requests.load(Ordering::SeqCst)
     }
 
-    pub(crate) fn was_refused(&self) -> bool {
+    pub(crate) fn refused(&self) -> u64 {
         self.refused.load(Ordering::SeqCst)
+    }
+
+    pub(crate) fn counts_returned(&self) {
+        self.returned.fetch_add(1, Ordering::SeqCst);
+    }
+
+    pub(crate) fn returned(&self) -> u64 {
+        self.returned.load(Ordering::SeqCst)
     }
 }

@@ -10,8 +10,11 @@
 //! - `walking`: a walk whose table another session empties meanwhile, and a visit out of place.
 //! - `leaving`: dead rows while sessions fix, and when the last of them leaves.
 //! - `refusals`: memory refused in turn, and calls that take none. `selecting`: the same of a whole walk.
+//! - `leaks`: what is let go in the middle of things.
 #![tactic(auto)]
 
+#[cfg(test)]
+mod leaks;
 #[cfg(test)]
 mod leaving;
 #[cfg(test)]

@@ -224,7 +224,7 @@ fn parts_out<A: Allocator, P: Part<A> + Drop>(closed: Closed<P, A>) -> Option<us
 }
 
 /// A session puts an object into each part and fixes them.
-fn put_and_fixed<R: Wait, A: Allocator + Copy, P: Part<A> + Drop>(
+pub(crate) fn put_and_fixed<R: Wait, A: Allocator + Copy, P: Part<A> + Drop>(
     rt: &R,
     heap: A,
     table: &Table<P, A>,
@@ -273,13 +273,13 @@ fn is_closed_without<R: Wait>(rt: &R, alloc: Global) -> Option<bool> {
 
 #[test]
 fn each_request_of_opening_may_be_refused(rt: HostRuntime) {
-    assert!(rt; sweep(rt.alloc(), RUNS, |heap| is_opened(heap)).is_complete());
-    assert!(rt; sweep(rt.alloc(), RUNS, |heap| is_opened_over(heap)).is_complete());
+    assert!(rt; sweep(rt.alloc(), RUNS, |heap| is_opened(heap) && heap.blocks() == 0).is_complete());
+    assert!(rt; sweep(rt.alloc(), RUNS, |heap| is_opened_over(heap) && heap.blocks() == 0).is_complete());
 }
 
 #[test]
 fn each_request_of_an_insert_may_be_refused(rt: HostRuntime) {
-    assert!(rt; sweep(rt.alloc(), RUNS, |heap| is_put_at(&rt, heap)).is_complete());
+    assert!(rt; sweep(rt.alloc(), RUNS, |heap| is_put_at(&rt, heap) && heap.blocks() == 0).is_complete());
 }
 
 #[test]

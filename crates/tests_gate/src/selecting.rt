@@ -80,7 +80,7 @@ fn keeps_its_fix<R: Wait, A: Allocator + Copy, P: Part<A> + Drop>(
 }
 
 /// The query of all keys.
-fn keys_query<A: Allocator + Copy>(heap: A) -> Option<Query<A>> {
+pub(crate) fn keys_query<A: Allocator + Copy>(heap: A) -> Option<Query<A>> {
     let term = term_of(heap, b"[{{'$1'},[],[{{'$1'}}]}].")?;
     Query::from_spec(heap, &read_spec(heap, &term).ok()?, 1).ok()
 }
@@ -137,5 +137,5 @@ fn is_right<R: Wait>(rt: &R, heap: &Failing<Global>) -> bool {
 
 #[test]
 fn each_request_of_a_walk_may_be_refused(rt: HostRuntime) {
-    assert!(rt; sweep(rt.alloc(), RUNS, |heap| is_right(&rt, heap)).is_complete());
+    assert!(rt; sweep(rt.alloc(), RUNS, |heap| is_right(&rt, heap) && heap.blocks() == 0).is_complete());
 }

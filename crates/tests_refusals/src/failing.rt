@@ -233,3 +233,21 @@ fn length_elsewhere<R: Threads>(rt: &R, alloc: Global) -> Option<usize> {
 fn frees_a_block_in_another_thread(rt: HostRuntime) {
     assert!(rt; length_elsewhere(&rt, rt.alloc()) == Some(9));
 }
+
+/// How many blocks two vecs have that grew, how many when one is gone, and how many when both are; none for want of
+/// memory.
+fn blocks_of_two(alloc: Global) -> Option<[u64; 3]> {
+    let heap = Failing::counting(alloc);
+    let first = up_to(&heap, 9).ok()?;
+    let second = up_to(&heap, 9).ok()?;
+    let of_both = heap.blocks();
+    drop(first);
+    let of_one = heap.blocks();
+    drop(second);
+    Some([of_both, of_one, heap.blocks()])
+}
+
+#[test]
+fn counts_the_blocks_that_have_not_come_back(rt: HostRuntime) {
+    assert!(rt; blocks_of_two(rt.alloc()) == Some([2, 1, 0]));
+}

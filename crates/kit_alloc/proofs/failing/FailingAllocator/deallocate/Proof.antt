@@ -1,4 +1,4 @@
--- It gives the block back to the inner allocator. Assumes `Logic`.
+-- It counts the block, and gives it back to the inner allocator. Assumes `Logic`.
 use Rattle.std.proofs.Common.{◌≡◌, ℕ, ◌^◌, ◌<◌, List, [], ◌∷◌, refl, w64}
 use seplogic.Ra.Ura.{Ura}
 use mir.Syntax.{Ty, Fn}
@@ -14,7 +14,7 @@ use contract.BorrowLft.{◌⊑◌, ⊑_trans}
 use contract.Monad.{Fun, fact}
 use contract.Running.{tables, tables_of}
 use sound.WpLaws.{fm_of, WpFn-mono}
-use types.Kit.{Item, ‵, raw, ◌⊛◌, later, given, ◌$◌, ◌∵◌, !, qed, by, move, keep, use1, split, split3, join, learn, fsplit, fjoin, feq_i, suffices, await, done}
+use types.Kit.{Item, ‵, raw, ◌⊛◌, later, given, ◌$◌, ◌∵◌, !, qed, by, move, keep, use1, use2, split, split3, join, learn, fsplit, fjoin, feq_i, suffices, await, done}
 use types.Run.{stop, fld, addr, no_more, and_then, of_opd, unit_lit, returns, enter}
 use types.ByLocal.{alloc_all, pass_all, free_all, look_at, get, through, sets, lands_as}
 use denote.Builtin.{usize, RawPtr}
@@ -30,10 +30,13 @@ use denote.Triple.Call.{calls_at}
 use denote.Triple.Clauses.{Ended, Clauses}
 use denote.Triple.Spec.{triple_of}
 use denote.Triple.Statement.{Contract, Triple}
-use denote.Triple.Table.{entered}
+use denote.Triple.Table.{entered, cited}
 use denote.Triple.Walked.{Stays, stay_dropped, walk_of, ends_at, walked, Goes-dropped, walk_Meets}
 use Rattle.std.proofs.alloc.Calls.{Al, seen, token, gives_key, Gives, at_gives, Gives-goes, Gives-Gives}
-use Rattle.kit_alloc.proofs.FailingLayout.{args, self, Handle, inner_place}
+use Rattle.kit_alloc.proofs.GateCall.{Notes, at_notes, Notes-goes, Notes-gives}
+use Rattle.kit_alloc.proofs.FailingLayout.{args, self, Handle, inner_place, gate_place}
+use Rattle.kit_alloc.proofs.gate.Gate.counts_returned.Symbol as notes_symbol
+use Rattle.kit_alloc.proofs.gate.Gate.counts_returned.Met as notes_met
 use Rattle.kit_alloc.specs.contracts.failing.FailingAllocator.deallocate as f
 use Rattle.kit_alloc.specs.contracts.failing.FailingAllocator.deallocate.Key as key
 use Rattle.kit_alloc.proofs.failing.FailingAllocator.deallocate.Statement.{statement}
@@ -49,7 +52,7 @@ module _ (Z : Al) where
   abbrev stayed : Stays ended.signature.params ended.kept
   stayed = (stay_dropped (self Z) yes, (stay_dropped (plain (λ _. RawPtr)) yes, (stay_dropped (plain (λ _. usize)) yes, (stay_dropped (plain (λ _. usize)) yes, tt))))
 
-module _ (Z : Al) {M : Type 1} {𝓤 : Ura M} (𝓛 : Logic 𝓤) (at_mem : Memory → SProp 𝓤) (run : Routine → Fun 𝓤) (𝓣 : Tables 𝓤 𝓛.H) (gives : Triple 𝓤 (𝓣.C (gives_key Z)) (Gives Z 𝓛 at_mem run)) where
+module _ (Z : Al) {M : Type 1} {𝓤 : Ura M} (𝓛 : Logic 𝓤) (at_mem : Memory → SProp 𝓤) (run : Routine → Fun 𝓤) (𝓣 : Tables 𝓤 𝓛.H) (gives : Triple 𝓤 (𝓣.C (gives_key Z)) (Gives Z 𝓛 at_mem run)) (notes : Triple 𝓤 (𝓣.C notes_symbol.name) (Notes 𝓛 at_mem run)) where
   open 𝓛 use {H}
 
   abbrev clauses : Clauses 𝓤 (ended Z)
@@ -78,12 +81,20 @@ module _ (Z : Al) {M : Type 1} {𝓤 : Ura M} (𝓛 : Logic 𝓤) (at_mem : Memo
     walk fn fa (block_ptr b o) =
         let inner : Z.row.Denot = r.now.inner in
         let p : ℕ × ℕ = inner_place Z r in
+        let c : ℕ × ℕ = gate_place Z r in
+        let z : (Notes 𝓛 at_mem run).Ghost = at_notes 𝓛 at_mem run κ₁ q₁ c r.now.gate in
         let x : Ptr = block_ptr b o in
         let y : (Gives Z 𝓛 at_mem run).Ghost = at_gives Z 𝓛 at_mem run κ₁ q₁ p inner b o n a τ in
         qed 𝓛 (params x ∷ (raw (fact 𝓤 (κ₂ ⊑ Z.row.lives)) ⊛ raw (fact 𝓤 Said) ⊛ ‵ (fsep (froom τ b o) (token Z inner τ x))) ∷ []) ∵
         move ! (1 ∷ []) $ split3 ! $ heard ! (κ₂ ⊑ Z.row.lives) (λ lives. heard ! Said (λ said. move ! (1 ∷ []) $
-        split ! $ split ! $ move ! (2 ∷ []) $ fsplit ! $ fsplit ! $ move ! (1 ∷ []) $ unhide ! $ fsplit ! $ fsplit ! $ use1 𝓛 (‵ (seen Z κ₁ p inner)) (id⊢ 𝓤 _) $ move ! (1 ∷ []) $ fsplit ! $ keep ! (2 ∷ 6 ∷ 7 ∷ 8 ∷ []) $
+        split ! $ split ! $ move ! (2 ∷ []) $ fsplit ! $ fsplit ! $ move ! (1 ∷ []) $ unhide ! $ fsplit ! $ fsplit ! $ use1 𝓛 (‵ (seen Z κ₁ p inner)) (id⊢ 𝓤 _) $ move ! (1 ∷ []) $ fsplit ! $ keep ! (0 ∷ 6 ∷ 2 ∷ 7 ∷ 8 ∷ []) $
         enter ! 𝓣.C 𝓣.Λ (here Z) (passed x) _ $ alloc_all ! (λ l. pass_all ! refl ((tt, tt), ((tt, tt), ((tt, record { fits = fn }), ((tt, record { fits = fa }), tt)))) $
+        -- [the `&` to `gate`; its lifetime's token; the `&` to `inner`; the other token; the block with its token]
+        sets ! (addr ! (through ! refl (fld ! refl (stop !)))) refl (tt, tt) $
+        use2 𝓛 (raw ((Notes 𝓛 at_mem run).pre z)) (Notes-goes 𝓛 at_mem run κ₁ q₁ c r.now.gate) $
+        calls_at ! (fm_of 𝓤 H 𝓛.laws 𝓣) (Notes 𝓛 at_mem run) notes z (and_then ! (get ! refl) (no_more !)) (λ u.
+        use1 𝓛 (later (given (u ≡ vunit) (‵ (flft κ₁ q₁)))) (Notes-gives 𝓛 at_mem run κ₁ q₁ c r.now.gate u) $ await ! tt $ learn ! (λ noted.
+        lands_as ! noted refl (tt, tt) $ move ! (1 ∷ []) $
         -- [the `&` to `inner`; its lifetime's token; the other one's; the block with its token]
         sets ! (addr ! (through ! refl (fld ! refl (stop !)))) refl (tt, tt) $
         join ! $ move ! (2 ∷ []) $ fsplit ! $ move ! (1 ∷ 2 ∷ []) $ join ! $ move ! (1 ∷ 0 ∷ []) $ join ! $
@@ -93,7 +104,7 @@ module _ (Z : Al) {M : Type 1} {𝓤 : Ura M} (𝓛 : Logic 𝓤) (at_mem : Memo
         lands_as ! is_unit refl (tt, tt) $ sets ! (of_opd ! (unit_lit !)) refl (tt, tt) $ returns ! (look_at ! 0 refl) $ free_all ! refl $
         suffices ! _ (ends_at 𝓛 (ended Z) (stayed Z) clauses (bound x) vunit tt (tt, (tt, (tt, (tt, tt)))) (tt, (tt, (tt, (tt, tt))))) $
         nothing ! $ feq_i ! (List Val) (vunit ∷ []) (vunit ∷ []) refl $ nothing ! $ nothing ! $ fjoin ! $ nothing ! $ fjoin ! $ nothing ! $ fjoin ! $ nothing ! $ fjoin ! $ join ! $
-        move ! (2 ∷ 3 ∷ []) $ join ! $ join ! $ done !)))))
+        move ! (2 ∷ 3 ∷ []) $ join ! $ join ! $ done !)))))))
 
 pub deallocate_spec : {M : Type 1} → statement M
 unfolding tables_of
@@ -104,4 +115,4 @@ deallocate_spec 𝓤 𝓛 𝓜 𝓡 wired Y laws g d drops met _ =
     entered 𝓤 𝓛.H (triple_of 𝓛 (f.signature Y) (f.spec Y g d drops 𝓛 𝓜.mem 𝓡.returns)) 𝓣.C 𝓣.Λ (key.name (args Z)) (here Z) (code.unfolded 𝓤 𝓛.H 𝓜 𝓡 wired (Y, tt) d drops)
     (walk_Meets 𝓛 (ended Z) (stayed Z) (Goes-dropped 𝓛 2 (self Z) yes (λ κs x f. refl), (Goes-dropped 𝓛 2 (plain (λ _. RawPtr)) yes (λ κs x f. refl), (Goes-dropped 𝓛 2 (plain (λ _. usize)) yes (λ κs x f. refl), (Goes-dropped 𝓛 2 (plain (λ _. usize)) yes (λ κs x f. refl), tt)))) c (WpFn 𝓤 𝓛.H 𝓣.C 𝓣.Λ (here Z)) (WpFn-mono 𝓤 𝓛.H 𝓛.laws 𝓣 (here Z))
     (walked 𝓛 (ended Z) (stayed Z) c (WpFn 𝓤 𝓛.H 𝓣.C 𝓣.Λ (here Z)) (λ κs. (shr_vals, (rawptr_vals, (uint_vals w64, (uint_vals w64, tt))))) (λ κs. ((λ r vs s. s.0), (rawptr_Tells, (uint_Tells w64, (uint_Tells w64, tt)))))
-    (λ κs qs bounds a τ are. walk Z 𝓛 𝓜.mem 𝓡.returns 𝓣 (met.deallocate drops) κs.0 κs.1.0 qs.0 qs.1.0 bounds.0 a.0 a.1.1.0 a.1.1.1.0 τ are.1.1.0.1 are.1.1.1.0.1 a.1.0)))
+    (λ κs qs bounds a τ are. walk Z 𝓛 𝓜.mem 𝓡.returns 𝓣 (met.deallocate drops) (cited 𝓤 𝓛.H _ 𝓜 𝓡 𝓡.env notes_symbol.name (𝓡.env notes_symbol.name) refl (notes_met.met 𝓤 𝓛 𝓜 𝓡 (code.calls-kit_alloc::gate::Gate::counts_returned 𝓡.env wired))) κs.0 κs.1.0 qs.0 qs.1.0 bounds.0 a.0 a.1.1.0 a.1.1.1.0 τ are.1.1.0.1 are.1.1.1.0.1 a.1.0)))
