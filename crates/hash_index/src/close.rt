@@ -6,7 +6,7 @@ ghost use Rattle.hash_index.specs.Index.{HasIn, Takes};
 ghost use Rattle.hash_index.specs.Kept.{AreFound, AreMoved, AreNear, IsFilled, moved};
 
 use crate::cell::{Cell, distance, free_cell, home, next, tombstone};
-use crate::search::find_cell;
+use crate::search::place_of;
 
 /// At how many cells a deletion looks at most.
 const MOST_CLOSED: usize = 40;
@@ -81,8 +81,6 @@ pub(crate) fn take_cell(cells: &mut [Cell], longest: usize, mixed: u32, at: usiz
     ensures free { count_by is_free cells.new ≡ count_by is_free cells.old + 1 }
     ensures count { length cells.new ≡ length cells.old }
 {
-    match find_cell(cells, longest, mixed, |row| row == at) {
-        Some(pos) => close(cells, longest, pos),
-        None => unreachable!(),
-    }
+    let gone = place_of(cells, longest, mixed, at);
+    close(cells, longest, gone);
 }

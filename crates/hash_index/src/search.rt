@@ -43,6 +43,24 @@ pub(crate) fn find_cell<F: Fn(usize) -> bool>(
     None
 }
 
+/// The place of a row that is there under a mixed hash. Its number alone tells the row from others.
+pub(crate) fn place_of(cells: &[Cell], longest: usize, mixed: u32, at: usize) -> usize
+    requires there { HasIn cells.now mixed at }
+    requires found { AreFound cells.now }
+    requires near { AreNear cells.now longest }
+    ensures { Holds cells.now mixed at result }
+{
+    let count = cells.len();
+    let mut pos = home(count, mixed);
+    for _looked in 0..longest {
+        if cells[pos].at as usize == at {
+            return pos;
+        }
+        pos = next(count, pos);
+    }
+    unreachable!()
+}
+
 /// The first free place from one on.
 fn free_from(cells: &[Cell], start: usize) -> usize
     requires start { start < length cells.now }

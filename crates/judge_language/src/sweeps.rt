@@ -10,8 +10,8 @@ use mcode::Code;
 use mspec_reader::read_spec;
 use mspec_syntax::SpecFault;
 use std::alloc::{Allocator, Global};
-use term_core::Term;
-use verifier::verify;
+use term_core::{Refused, Term};
+use verifier::{BodyFault, Fault, verify};
 
 /// The code of a text.
 fn code<A: Allocator + Copy>(heap: A, given: &[u8]) -> Option<Code<A>> {
@@ -43,11 +43,34 @@ fn budget<A: Allocator + Copy>(alloc: Global, heap: A, given: &[u8]) -> Option<V
     codes::budget(alloc, heap, &code(heap, given)?)
 }
 
-/// What the verifier says of code.
-fn verdict<A: Allocator + Copy>(alloc: Global, heap: A, given: &[u8]) -> Option<Vec<u8>> {
-    match verify(heap, code(heap, given)?) {
+/// What the verifier says of code that came back: why it is refused, and where memory was wanted, what comes of it once
+/// more.
+fn once_more<A: Allocator + Copy>(
+    alloc: Global,
+    heap: A,
+    refused: Refused<Code<A>, BodyFault>,
+    parts: &Parts<A>,
+) -> Option<Vec<u8>> {
+    let Refused { value: code, fault } = refused;
+    if !is_code(&code, parts) {
+        return word(alloc, "other_code");
+    }
+    if fault.fault != Fault::Memory {
+        return codes::refused(alloc, fault);
+    }
+    match verify(heap, code) {
         Ok(verified) => accepted(alloc, &verified),
-        Err(refused) => codes::refused(alloc, refused.fault),
+        Err(again) => codes::refused(alloc, again.fault),
+    }
+}
+
+/// What the verifier says of code. Where it wants memory, the code comes back and is verified again.
+fn verdict<A: Allocator + Copy>(alloc: Global, heap: A, given: &[u8]) -> Option<Vec<u8>> {
+    let term = term_of(heap, given)?;
+    let parts = parts_of(heap, &term)?;
+    match verify(heap, code_of(heap, &term)?) {
+        Ok(verified) => accepted(alloc, &verified),
+        Err(refused) => once_more(alloc, heap, refused, &parts),
     }
 }
 

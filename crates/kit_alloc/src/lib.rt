@@ -1,5 +1,6 @@
 //! An allocator for tests, which refuses the requests that its plan names: one, each from one on,
-//! or none. A test runs its code with request 1, 2, 3, .. refused, and looks at what comes of it.
+//! or none. A test runs its code with request 1, 2, 3, .. refused, alone and with all behind it, and
+//! looks at what comes of it.
 //! It also says how many blocks have not come back, so that a test sees what leaks.
 //!
 //! Proved: a block comes from the inner allocator and goes back to it, which requests a plan

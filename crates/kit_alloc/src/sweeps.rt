@@ -7,11 +7,11 @@ use std::alloc::Allocator;
 /// How a sweep ended.
 #[derive(Clone, Copy, Debug, PartialEq, Eq)]
 pub enum SweepOutcome {
-    /// Each run behaved well, and in the last one no request was refused.
+    /// Each run behaved well, and in the last one that refuses a request alone none was refused.
     Complete { runs: u64 },
     /// Each run behaved well, and a request was refused in each: there are more requests to refuse.
     OutOfRuns,
-    /// The run with this request refused did not behave well.
+    /// A run with this request refused, alone or with all behind it, did not behave well.
     Misbehaved { request: u64 },
 }
 
@@ -23,9 +23,10 @@ impl SweepOutcome {
     }
 }
 
-/// Calls `run` with an allocator over `inner` that refuses request 1, then with one that refuses
-/// request 2, and so on, until a call meets no refusal, or answers that it did not behave well, or
-/// `runs` calls were made.
+/// Calls `run` with an allocator over `inner` that refuses request 1 alone, and with one that
+/// refuses each request from 1 on; then so with request 2, and so on, until the first call of two
+/// meets no refusal, or one answers that it did not behave well, or `runs` times two calls were
+/// made.
 pub fn sweep<B: Allocator + Copy, F: FnMut(&Failing<B>) -> bool>(
     inner: B,
     runs: u64,
@@ -36,11 +37,15 @@ pub fn sweep<B: Allocator + Copy, F: FnMut(&Failing<B>) -> bool>(
 {
     for earlier in 0..runs {
         let request = earlier + 1;
-        let heap = Failing::refusing_nth(inner, request);
-        if !run(&heap) {
+        let alone = Failing::refusing_nth(inner, request);
+        if !run(&alone) {
             return SweepOutcome::Misbehaved { request };
         }
-        if !heap.was_refused() {
+        let onward = Failing::refusing_from(inner, request);
+        if !run(&onward) {
+            return SweepOutcome::Misbehaved { request };
+        }
+        if !alone.was_refused() {
             return SweepOutcome::Complete { runs: request };
         }
     }

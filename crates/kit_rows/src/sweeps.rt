@@ -20,13 +20,14 @@ pub trait Calls {
     ) -> Option<Vec<u8>>;
 }
 
-/// Whether the same comes of a call or memory is wanted, whichever request is refused.
+/// Whether the same comes of a call or memory is wanted, whichever request is refused, and no block is left then.
 fn is_swept<C: Calls>(alloc: Global, call: &str, given: &[u8], wanted: &[u8]) -> bool {
     sweep(alloc, C::MOST_REQUESTS, |heap: &Failing<Global>| {
-        match C::outcome(alloc, heap, call, given) {
+        let is_right = match C::outcome(alloc, heap, call, given) {
             Some(out) => out.as_slice() == wanted,
             None => heap.was_refused(),
-        }
+        };
+        is_right && heap.blocks() == 0
     })
     .is_complete()
 }

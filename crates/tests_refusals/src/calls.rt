@@ -30,9 +30,12 @@ fn is_right<A: Allocator + Copy>(alloc: Global, heap: A, case: Case) -> Option<b
 
 /// How a sweep over the requests of calls ends.
 fn swept(alloc: Global, case: Case) -> SweepOutcome {
-    sweep(alloc, 2_000, |heap| match is_right(alloc, heap, case) {
-        Some(is_right) => is_right,
-        None => heap.was_refused(),
+    sweep(alloc, 2_000, |heap| {
+        let is_right = match is_right(alloc, heap, case) {
+            Some(is_right) => is_right,
+            None => heap.was_refused(),
+        };
+        is_right && heap.blocks() == 0
     })
 }
 

@@ -171,7 +171,7 @@ fn swept(alloc: Global) -> (SweepOutcome, bool, Plan) {
 
 #[test]
 fn sweeps_until_no_request_is_refused(rt: HostRuntime) {
-    assert!(rt; swept(rt.alloc()) == (SweepOutcome::Complete { runs: 4 }, true, Plan::Once(4)));
+    assert!(rt; swept(rt.alloc()) == (SweepOutcome::Complete { runs: 4 }, true, Plan::From(4)));
 }
 
 /// How a sweep over three requests ends that has at most so many runs.
@@ -192,18 +192,27 @@ fn sweeps_no_further_than_told(rt: HostRuntime) {
     }
 }
 
-/// How sweeps end over code that hides each refusal, and over code that misses the third request.
-fn misbehaved(alloc: Global) -> (SweepOutcome, SweepOutcome) {
+/// How sweeps end over code that hides each refusal, over code that misses the third request where that is refused
+/// alone, and over code that misses the second where all behind it are refused, too.
+fn misbehaved(alloc: Global) -> [SweepOutcome; 3] {
     let hidden = sweep(alloc, 100, |heap| sum_or_zero(heap) == 6);
-    let third = sweep(alloc, 100, |heap| four_requests(heap)[2]);
-    (hidden, third)
+    let third = sweep(alloc, 100, |heap| match heap.plan() {
+        Plan::Once(_) => four_requests(heap)[2],
+        Plan::From(_) | Plan::Never => true,
+    });
+    let second = sweep(alloc, 100, |heap| match heap.plan() {
+        Plan::From(first) => first != 2,
+        Plan::Once(_) | Plan::Never => true,
+    });
+    [hidden, third, second]
 }
 
 #[test]
 fn stops_at_the_first_run_that_does_not_behave_well(rt: HostRuntime) {
-    let (hidden, third) = misbehaved(rt.alloc());
+    let [hidden, third, second] = misbehaved(rt.alloc());
     assert!(rt; hidden == SweepOutcome::Misbehaved { request: 1 });
     assert!(rt; third == SweepOutcome::Misbehaved { request: 3 });
+    assert!(rt; second == SweepOutcome::Misbehaved { request: 2 });
     assert!(rt; !third.is_complete() && !SweepOutcome::OutOfRuns.is_complete());
 }
 

@@ -38,6 +38,7 @@ fn swept_run(alloc: Global) -> (SweepOutcome, usize) {
         let mut written = Vec::new(alloc);
         let ended = tool_run(heap, &mut reader, &mut written);
         is_right_or_out_of_memory(ended, heap, written.as_slice(), MADE_LINES, &mut so_far)
+            && heap.blocks() == 0
     });
     (result, so_far.lines)
 }
@@ -59,6 +60,7 @@ fn swept_test(alloc: Global) -> (SweepOutcome, usize) {
         let mut written = Vec::new(alloc);
         let ended = tool_test(heap, &mut reader, &mut written);
         is_right_or_out_of_memory(ended, heap, written.as_slice(), lines, &mut so_far)
+            && heap.blocks() == 0
     });
     (result, so_far.lines)
 }

@@ -86,7 +86,7 @@ impl<'a> Case<'a> {
     ) -> Result<(), (SweepOutcome, usize)> {
         let mut so_far = Written { lines: 0 };
         let outcome = sweep(alloc, 4_000, |heap| {
-            self.is_right(rt, alloc, heap, &mut so_far)
+            self.is_right(rt, alloc, heap, &mut so_far) && heap.blocks() == 0
         });
         let lines = lines_in(self.lines.as_bytes());
         if outcome.is_complete() && so_far.lines == lines.saturating_sub(1) {

@@ -66,7 +66,7 @@ fn swept<H: Threads + Wait + Sync>(
     };
     let mut so_far = Written { lines: 0 };
     let outcome = sweep(alloc, 4_000, |heap| {
-        is_right(rt, alloc, heap, options, &mut so_far)
+        is_right(rt, alloc, heap, options, &mut so_far) && heap.blocks() == 0
     });
     (outcome, so_far.lines)
 }

@@ -1,4 +1,4 @@
-use Rattle.std.proofs.Common.{rules, of_calls, refl}
+use Rattle.std.proofs.Common.{rules, of_calls, refl, inl, inr}
 use Rattle.kit_alloc.specs.Sweeps.RunWell.{none, another}
 use Rattle.kit_alloc.proofs.SweepLemmas.{Runs-call}
 use Rattle.kit_alloc.proofs.sweeps.sweep.Goals as goal
@@ -8,15 +8,29 @@ loop-earlier-init g c = (c.requires, none)
 
 pub returns-then-not-run : goal.returns-then-not-run
 returns-then-not-run g c =
-    let made = c.refusing_nth-heap.ensures in
-    (_, _, _, refl, search rules, c.loop-earlier.invariant.1, Runs-call g.F.FnMut c.run.ensures c.if-not-run.true made.inner made.plan)
+    let made = c.refusing_nth-alone.ensures in
+    (_, _, _, refl, search rules, c.loop-earlier.invariant.1, inl (Runs-call g.F.FnMut c.run.ensures c.if-not-run.true made.inner made.plan))
+
+pub returns-then-not-run-2 : goal.returns-then-not-run-2
+returns-then-not-run-2 g c =
+    let made = c.refusing_nth-alone.ensures in
+    let onward = c.refusing_from-onward.ensures in
+    (_, _, _, refl, search rules, c.loop-earlier.invariant.1,
+    inr (_, Runs-call g.F.FnMut c.run.ensures c.if-not-run.false made.inner made.plan,
+        Runs-call g.F.FnMut c.run-in-loop-earlier.ensures c.if-not-run-2.true onward.inner onward.plan))
 
 pub returns-then-not-was_refused : goal.returns-then-not-was_refused
 returns-then-not-was_refused g c =
-    let made = c.refusing_nth-heap.ensures in
-    (search rules, search rules, (_, another _ _ _ c.loop-earlier.invariant.1 (Runs-call g.F.FnMut c.run.ensures c.if-not-run.false made.inner made.plan)))
+    let made = c.refusing_nth-alone.ensures in
+    let onward = c.refusing_from-onward.ensures in
+    (search rules, search rules, (_, another _ _ _ _ c.loop-earlier.invariant.1
+        (Runs-call g.F.FnMut c.run.ensures c.if-not-run.false made.inner made.plan)
+        (Runs-call g.F.FnMut c.run-in-loop-earlier.ensures c.if-not-run-2.false onward.inner onward.plan)))
 
 pub loop-earlier-preserved : goal.loop-earlier-preserved
 loop-earlier-preserved g c =
-    let made = c.refusing_nth-heap.ensures in
-    (search (of_calls, rules), another _ _ _ c.loop-earlier.invariant.1 (Runs-call g.F.FnMut c.run.ensures c.if-not-run.false made.inner made.plan))
+    let made = c.refusing_nth-alone.ensures in
+    let onward = c.refusing_from-onward.ensures in
+    (search (of_calls, rules), another _ _ _ _ c.loop-earlier.invariant.1
+        (Runs-call g.F.FnMut c.run.ensures c.if-not-run.false made.inner made.plan)
+        (Runs-call g.F.FnMut c.run-in-loop-earlier.ensures c.if-not-run-2.false onward.inner onward.plan))
