@@ -2,8 +2,7 @@
 ghost use Rattle.std.specs.Prelude.{◌≡◌};
 
 use crate::objects::object;
-use crate::pairs::last_two;
-use crate::refusals::put_and_fixed;
+use crate::pairs::{last_two, put_and_fixed};
 use crate::selecting::keys_query;
 use gate::Closed;
 use kit_alloc::{Failing, sweep};

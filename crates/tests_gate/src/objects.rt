@@ -1,6 +1,9 @@
 //! The objects that tests put in.
+ghost use Rattle.std.specs.Prelude.{◌≡◌};
+
 use kit_rows::put;
 use std::alloc::Allocator;
+use tables::{Turns, insert};
 use term_core::Term;
 
 /// The object `{Key}`.
@@ -11,4 +14,16 @@ pub(crate) fn object<A: Allocator + Copy>(heap: A, key: i64) -> Option<Term<A>> 
     } else {
         None
     }
+}
+
+/// Puts `{1}` and `{2}` in.
+pub(crate) fn put_both<A: Allocator + Copy, T: Turns<A>>(heap: A, turns: &mut T) -> Option<()>
+    requires { T.is_ready turns.old }
+    ensures ready { T.is_ready turns.new }
+    ensures same { T.home turns.new ≡ T.home turns.old }
+{
+    let one = object(heap, 1)?;
+    insert(turns, one).ok()?;
+    let two = object(heap, 2)?;
+    insert(turns, two).ok()
 }

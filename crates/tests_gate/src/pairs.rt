@@ -3,9 +3,11 @@ ghost use Rattle.std.specs.Prelude.{IfSome};
 ghost use Rattle.tables.specs.Opened.{AllOpened};
 ghost use Rattle.tables.specs.Sessions.{IsOpened};
 
+use crate::objects::put_both;
 use part_core::Part;
 use std::alloc::Allocator;
-use tables::{Session, Table};
+use std::sync::Wait;
+use tables::{Session, Table, fix};
 
 /// The last two of its sessions, the last behind the other; the rest are let go.
 pub(crate) fn last_two<A: Allocator, P: Part<A> + Drop>(
@@ -19,4 +21,21 @@ pub(crate) fn last_two<A: Allocator, P: Part<A> + Drop>(
     let second = sessions.pop()?;
     let first = sessions.pop()?;
     Some((first, second))
+}
+
+/// A session puts an object into each of two parts and fixes them.
+pub(crate) fn put_and_fixed<R: Wait, A: Allocator + Copy, P: Part<A> + Drop>(
+    rt: &R,
+    heap: A,
+    table: &Table<P, A>,
+    session: Session<P, A>,
+) -> Option<Session<P, A>>
+    requires { IsOpened table.now.options table.now.gates.items session.number session.passes.items }
+    ensures { IfSome result (λ s. IsOpened table.now.options table.now.gates.items s.number s.passes.items) }
+{
+    let mut session = session;
+    let mut at = table.at(rt, &mut session);
+    put_both(heap, &mut at)?;
+    fix(&mut at).ok()?;
+    Some(session)
 }

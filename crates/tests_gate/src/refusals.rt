@@ -1,17 +1,16 @@
 //! Memory refused in turn where tables are opened and objects put in, and calls that take none.
 ghost use Rattle.std.specs.Prelude.{◌≡◌, All, [], IfSome};
 ghost use Rattle.tables.specs.Options.{settings_of};
-ghost use Rattle.tables.specs.Sessions.{IsOpened};
 
-use crate::objects::object;
-use crate::pairs::last_two;
+use crate::objects::{object, put_both};
+use crate::pairs::{last_two, put_and_fixed};
 use gate::Closed;
 use kit_alloc::{Failing, sweep};
 use part_core::{Fault, OpenFault, Part, TableKind};
 use part_hash::HashPart;
 use std::alloc::{Allocator, Global};
 use std::sync::Wait;
-use tables::{Options, Session, Table, Turns, delete, delete_object, fix, insert, member, unfix};
+use tables::{Options, Table, Turns, delete, delete_object, fix, insert, member, unfix};
 use term_core::Term;
 
 /// How often a sweep runs at most.
@@ -159,18 +158,6 @@ fn is_answered<A: Allocator, T: Turns<A>>(turns: &mut T, object: &Term<A>, key: 
         && is_limited
 }
 
-/// Puts `{1}` and `{2}` in.
-fn put_both<A: Allocator + Copy, T: Turns<A>>(heap: A, turns: &mut T) -> Option<()>
-    requires { T.is_ready turns.old }
-    ensures ready { T.is_ready turns.new }
-    ensures same { T.home turns.new ≡ T.home turns.old }
-{
-    let one = object(heap, 1)?;
-    insert(turns, one).ok()?;
-    let two = object(heap, 2)?;
-    insert(turns, two).ok()
-}
-
 /// Puts both in; then whether calls are answered right that take no memory, and how many requests there were before
 /// them.
 fn answered_at<'h, T: Turns<&'h Failing<Global>>>(
@@ -221,23 +208,6 @@ fn parts_out<A: Allocator, P: Part<A> + Drop>(closed: Closed<P, A>) -> Option<us
         }
     }
     None
-}
-
-/// A session puts an object into each part and fixes them.
-pub(crate) fn put_and_fixed<R: Wait, A: Allocator + Copy, P: Part<A> + Drop>(
-    rt: &R,
-    heap: A,
-    table: &Table<P, A>,
-    session: Session<P, A>,
-) -> Option<Session<P, A>>
-    requires { IsOpened table.now.options table.now.gates.items session.number session.passes.items }
-    ensures { IfSome result (λ s. IsOpened table.now.options table.now.gates.items s.number s.passes.items) }
-{
-    let mut session = session;
-    let mut at = table.at(rt, &mut session);
-    put_both(heap, &mut at)?;
-    fix(&mut at).ok()?;
-    Some(session)
 }
 
 /// Whether two sessions meet, one leaves with its fixes, and both parts come out where the table is closed with the

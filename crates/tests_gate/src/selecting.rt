@@ -1,9 +1,7 @@
 //! A whole walk at a table whose parts have gates, with each request for memory refused in turn.
-ghost use Rattle.std.specs.Prelude.{◌≡◌, IfSome};
 ghost use Rattle.tables.specs.Sessions.{IsOpened};
 
-use crate::objects::object;
-use crate::pairs::last_two;
+use crate::pairs::{last_two, put_and_fixed};
 use kit_alloc::{Failing, sweep};
 use kit_rows::term_of;
 use mspec_reader::read_spec;
@@ -11,7 +9,7 @@ use part_core::{Part, TableKind};
 use part_hash::HashPart;
 use std::alloc::{AllocError, Allocator, Global};
 use std::sync::Wait;
-use tables::{Options, Session, Table, Turns, fix, insert};
+use tables::{Options, Session, Table, Turns};
 use walk_laws::select_at;
 use walks::Query;
 
@@ -26,33 +24,6 @@ const OPTIONS: Options = Options {
     parts: 2,
     sessions: 2,
 };
-
-/// Puts 1 and 2 in, and fixes the table.
-fn put_and_fixed<A: Allocator + Copy, T: Turns<A>>(heap: A, turns: &mut T) -> Option<()>
-    requires { T.is_ready turns.old }
-    ensures ready { T.is_ready turns.new }
-    ensures same { T.home turns.new ≡ T.home turns.old }
-{
-    insert(turns, object(heap, 1)?).ok()?;
-    insert(turns, object(heap, 2)?).ok()?;
-    fix(turns).ok()
-}
-
-/// A session does so.
-fn prepared<R: Wait, A: Allocator + Copy, P: Part<A> + Drop>(
-    rt: &R,
-    heap: A,
-    table: &Table<P, A>,
-    session: Session<P, A>,
-) -> Option<Session<P, A>>
-    requires { IsOpened table.now.options table.now.gates.items session.number session.passes.items }
-    ensures { IfSome result (λ s. IsOpened table.now.options table.now.gates.items s.number s.passes.items) }
-{
-    let mut session = session;
-    let mut at = table.at(rt, &mut session);
-    put_and_fixed(heap, &mut at)?;
-    Some(session)
-}
 
 /// Whether a session fixes each part once.
 fn is_fixed_once<A: Allocator, T: Turns<A>>(turns: &T) -> bool
@@ -122,7 +93,7 @@ fn walked_at<R: Wait>(rt: &R, heap: &Failing<Global>) -> Option<(usize, bool, bo
         return None;
     };
     let (session, _other) = last_two(&table, sessions)?;
-    let session = prepared(rt, heap, &table, session)?;
+    let session = put_and_fixed(rt, heap, &table, session)?;
     let query = keys_query(heap)?;
     walked(rt, heap, &table, session, &query)
 }
