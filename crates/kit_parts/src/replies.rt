@@ -79,7 +79,7 @@ fn reply_text<A: Allocator>(alloc: Global, reply: &Reply<A>) -> Option<Vec<u8>> 
 }
 
 /// The text of what an operation is answered.
-pub(crate) fn answer_text<A: Allocator>(
+pub fn answer_text<A: Allocator>(
     alloc: Global,
     answer: &Result<Reply<A>, Fault>,
 ) -> Option<Vec<u8>> {

@@ -8,11 +8,13 @@ use part_core::{Fault, OpenFault, Part, PartOp, Reply, TableKind};
 use std::alloc::{AllocError, Allocator};
 use term_core::Term;
 
-/// Who asks, and whether a request for memory may be refused.
+/// Who asks, whether a request for memory may be refused, and whether that is the end.
 #[derive(Clone, Copy)]
 pub(crate) struct Turn {
     pub(crate) session: u8,
     pub(crate) is_scarce: bool,
+    /// What is refused for want of memory isn't asked for again.
+    pub(crate) is_cut: bool,
 }
 
 /// What a part is made for.
@@ -94,7 +96,7 @@ fn done<'a, A: Allocator, P: Part<A>>(
     }
 }
 
-/// Does an operation, and asks for it once more where it is refused.
+/// Does an operation, and asks for it once more where it is refused, but for want of memory where that is the end.
 pub(crate) fn answer<'a, A: Allocator, P: Part<A>>(
     part: &mut P,
     turn: Turn,
@@ -106,7 +108,13 @@ pub(crate) fn answer<'a, A: Allocator, P: Part<A>>(
 {
     match done(part, turn, op) {
         Ok(reply) => Ok(reply),
-        Err(_) => done(part, turn, op),
+        Err(fault) => {
+            if turn.is_cut && fault == Fault::Memory {
+                Err(fault)
+            } else {
+                done(part, turn, op)
+            }
+        }
     }
 }
 
