@@ -5,12 +5,14 @@
 //! tests.
 //!
 //! - `plays`: a table of objects, a query, and calls that are asked again; `refusals`: the calls with each request
-//!   refused in turn.
+//!   refused in turn; `deletions`: the numbers of refused deletions; `writers`: pieces between which sessions write.
 //! - `lists`: lists of objects.
 //! - `seats`: members of a selection that wait for each other. `members`: what members come to, over tables of both
 //!   sorts; `selections`: the tests of that; `refused_members`: the same with each request refused in turn.
 #![tactic(auto)]
 
+#[cfg(test)]
+mod deletions;
 #[cfg(test)]
 mod lists;
 #[cfg(test)]
@@ -25,3 +27,5 @@ mod refused_members;
 mod seats;
 #[cfg(test)]
 mod selections;
+#[cfg(test)]
+mod writers;

@@ -23,11 +23,13 @@ const KEYS: &str = "{0,a}. {1,b}. {16,c}. {32,d}. {3,e}. {48,f}.";
 const SECOND: &str = "[{{'_','$1'},[],['$1']}].";
 /// Objects with a key of at least 16 answer true.
 const LARGE: &str = "[{{'$1','_'},[{'>=','$1',16}],[true]}].";
+/// The same, by a tuple that is made of each key.
+const LARGE_MADE: &str = "[{{'$1','_'},[{'=<',{{16}},{{'$1'}}}],[true]}].";
 /// Keys that are named, one of them twice, and one that isn't there.
 const NAMED: &str =
     "[{{32,'$1'},[],['$1']},{{5,'$1'},[],['$1']},{{0,'$1'},[],['$1']},{{32,'_'},[],[again]}].";
 
-const SET_CASES: [Case<'static>; 5] = [
+const SET_CASES: [Case<'static>; 8] = [
     Case {
         play: Play {
             kind: TableKind::Set,
@@ -35,6 +37,7 @@ const SET_CASES: [Case<'static>; 5] = [
             objects: KEYS,
             specification: SECOND,
             call: Call::Pieces(2),
+            fixes: 0,
         },
         wanted: "[a,c]\n[d,f]\n[b,e]\n",
     },
@@ -45,6 +48,7 @@ const SET_CASES: [Case<'static>; 5] = [
             objects: KEYS,
             specification: NAMED,
             call: Call::Pieces(1),
+            fixes: 0,
         },
         wanted: "[d]\n[a]\n",
     },
@@ -55,6 +59,7 @@ const SET_CASES: [Case<'static>; 5] = [
             objects: KEYS,
             specification: SECOND,
             call: Call::Select,
+            fixes: 0,
         },
         wanted: "[a,c,d,f,b,e]",
     },
@@ -65,6 +70,7 @@ const SET_CASES: [Case<'static>; 5] = [
             objects: KEYS,
             specification: LARGE,
             call: Call::Count,
+            fixes: 0,
         },
         wanted: "3",
     },
@@ -75,6 +81,40 @@ const SET_CASES: [Case<'static>; 5] = [
             objects: KEYS,
             specification: LARGE,
             call: Call::Delete,
+            fixes: 0,
+        },
+        wanted: "3",
+    },
+    Case {
+        play: Play {
+            kind: TableKind::Set,
+            parts: 2,
+            objects: KEYS,
+            specification: SECOND,
+            call: Call::Select,
+            fixes: 1,
+        },
+        wanted: "[a,c,d,f,b,e]",
+    },
+    Case {
+        play: Play {
+            kind: TableKind::Set,
+            parts: 2,
+            objects: KEYS,
+            specification: LARGE_MADE,
+            call: Call::Count,
+            fixes: 1,
+        },
+        wanted: "3",
+    },
+    Case {
+        play: Play {
+            kind: TableKind::Set,
+            parts: 2,
+            objects: KEYS,
+            specification: LARGE_MADE,
+            call: Call::Delete,
+            fixes: 1,
         },
         wanted: "3",
     },
@@ -88,6 +128,7 @@ const ORDERED_CASES: [Case<'static>; 4] = [
             objects: KEYS,
             specification: SECOND,
             call: Call::Pieces(4),
+            fixes: 0,
         },
         wanted: "[a,b,e,c]\n[d,f]\n",
     },
@@ -98,6 +139,7 @@ const ORDERED_CASES: [Case<'static>; 4] = [
             objects: KEYS,
             specification: NAMED,
             call: Call::Pieces(1),
+            fixes: 0,
         },
         wanted: "[a]\n[d]\n",
     },
@@ -108,6 +150,7 @@ const ORDERED_CASES: [Case<'static>; 4] = [
             objects: KEYS,
             specification: SECOND,
             call: Call::Select,
+            fixes: 0,
         },
         wanted: "[a,b,e,c,d,f]",
     },
@@ -118,6 +161,7 @@ const ORDERED_CASES: [Case<'static>; 4] = [
             objects: KEYS,
             specification: LARGE,
             call: Call::Delete,
+            fixes: 0,
         },
         wanted: "3",
     },
