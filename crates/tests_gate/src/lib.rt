@@ -9,8 +9,8 @@
 //!   session that waits for a part until it is put back.
 //! - `walking`: a walk whose table another session empties meanwhile, and a visit out of place.
 //! - `leaving`: dead rows while sessions fix, and when the last of them leaves.
-//! - `refusals`: memory refused in turn, and calls that take none. `selecting`: the same of a whole walk.
-//! - `leaks`: what is let go in the middle of things.
+//! - `refusals`: memory refused in turn, and calls that take none. `selecting`: the same of a whole walk. `putting`: the
+//!   same of objects put in, over all sorts of parts. `leaks`: what is let go in the middle of things.
 #![tactic(auto)]
 
 #[cfg(test)]
@@ -21,6 +21,8 @@ mod leaving;
 mod objects;
 #[cfg(test)]
 mod pairs;
+#[cfg(test)]
+mod putting;
 #[cfg(test)]
 mod refusals;
 #[cfg(test)]
