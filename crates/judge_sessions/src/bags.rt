@@ -195,9 +195,14 @@ impl<'a> BagReplay<'a> {
         Ok(())
     }
 
+    /// Whether an object was put in, by the session itself before now.
+    fn was_put_before(&self, object: Object) -> bool {
+        was_put(self.all, object) && (object.session != self.number || object.sequence < self.next)
+    }
+
     /// An object that others may write, too, was there at some moment since the walk began, or is there now.
     fn may_be_there(&self, object: Object, since: u32) -> Result<(), Wrong> {
-        if !was_put(self.all, object) {
+        if !self.was_put_before(object) {
             return Err(Wrong::NeverPut(object));
         }
         match self.gone_at(object) {
@@ -316,7 +321,7 @@ impl<'a> BagReplay<'a> {
         let Ok(others) = self.others(object) else {
             return Err(Wrong::NoMemory);
         };
-        if !self.is_own(object.key) && object.sequence < self.next && was_put(self.all, object) {
+        if !self.is_own(object.key) && self.was_put_before(object) {
             self.is_gone(object);
         }
         self.set_there(object.key, others)
@@ -341,6 +346,9 @@ impl<'a> BagReplay<'a> {
             self.may_be_there(object, begun)?;
             1
         };
+        if most == 0 {
+            return Err(Wrong::NotItsOwn(object.key));
+        }
         if most <= times(self.walked.as_slice(), object) {
             return Err(Wrong::MetTwice(object.key));
         }

@@ -34,7 +34,8 @@ impl Taken {
                 *is_taken = true;
                 Ok(())
             }
-            _ => Err(Wrong::TakenTwice(object)),
+            Some(_) => Err(Wrong::TakenTwice(object)),
+            None => Err(Wrong::NeverPut(object)),
         }
     }
 

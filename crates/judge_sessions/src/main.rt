@@ -1,6 +1,7 @@
 //! Sessions on threads of their own make random calls at one table, and what they were answered is judged.
 //!
-//! Standard input has a row for each run, `{Seed,Kind,Parts,Sessions,Members,Calls}.`; of each a line is printed. A
+//! Standard input has a row for each run, `{Seed,Kind,Parts,Sessions,Members,Calls}.`, and for each history that is
+//! judged in the place of a run's, `{history,Said,Name,Kind,Sessions,Parts}.`; of each a line is printed. A
 //! session writes at keys of its own, at keys at which all write, and at keys at which all write by `insert_new` and
 //! `take` alone. What it was answered at its own keys is what a replay of its own calls gives, walks in pieces, counts
 //! and deletions by queries among them. At the others it never meets an object that was not put in there, and none
@@ -8,13 +9,14 @@
 //! objects as were put in and not taken, each in its key's part.
 //!
 //! - `keys`: keys and objects; `event`: what is recorded; `worker`, `walking`: the calls of a session.
-//! - `runs`: a table and its sessions on threads.
+//! - `runs`: a table and its sessions on threads; `history`: what a row says that sessions recorded.
 //! - `replay`: one session's record judged, `bags`: that of a session at a bag, where keys have lists of objects; `judge`:
 //!   all of them; `wrong`: what can be wrong.
 #![tactic(auto)]
 
 mod bags;
 mod event;
+mod history;
 mod judge;
 mod keys;
 mod replay;
@@ -23,7 +25,8 @@ mod walking;
 mod worker;
 mod wrong;
 
-use kit_rows::{fields, is_atom, number, short};
+use history::judged_history;
+use kit_rows::{elements, fields, is_atom, name, number};
 use part_core::TableKind;
 use part_hash::HashPart;
 use part_order::OrderPart;
@@ -36,6 +39,7 @@ use std::thread::Threads;
 use tables::Options;
 use term_core::Term;
 use term_text::read_terms;
+use wrong::Failure;
 
 /// The kind of table that a term names.
 fn kind_of(term: &Term) -> Option<TableKind> {
@@ -71,6 +75,38 @@ fn run_of(row: &Term) -> Option<Run> {
     })
 }
 
+/// Writes what is wrong, if anything is.
+fn write_judged(judged: &Result<(), Failure>, lines: &mut String) {
+    match judged {
+        Ok(()) => writeln!(lines, "each answer is one that turns allow").ok(),
+        Err(failure) => writeln!(lines, "{failure:?}").ok(),
+    };
+}
+
+/// Whether a history that was judged so is what a word says.
+fn is_as_said(judged: &Result<(), Failure>, said: &Term) -> bool {
+    match judged {
+        Ok(()) => is_atom(said, "right"),
+        Err(failure) => failure.is_of_answers() && is_atom(said, "wrong"),
+    }
+}
+
+/// Judges a history, and writes what came of it; whether that is what its row says, none where the row is none.
+fn write_history(alloc: Global, row: &Term, lines: &mut String) -> Option<bool> {
+    let [word, said, title, kind, sessions, parts] = fields(row)? else {
+        return None;
+    };
+    if !is_atom(word, "history") {
+        return None;
+    }
+    let kind = kind_of(kind)?;
+    let title = name(alloc, title)?;
+    let judged = judged_history(alloc, kind, elements(sessions)?, elements(parts)?)?;
+    write!(lines, "history of {kind:?}, {title}: ").ok();
+    write_judged(&judged, lines);
+    Some(is_as_said(&judged, said))
+}
+
 /// Makes a run, and writes what came of it; false where it isn't right.
 fn write_run<R: Threads + Wait + Sync>(
     rt: &R,
@@ -95,20 +131,25 @@ fn write_run<R: Threads + Wait + Sync>(
         run.seed, run.members, run.calls,
     )
     .ok();
-    match judged {
-        Ok(()) => {
-            writeln!(lines, "each answer is one that turns allow").ok();
-            true
-        }
-        Err(failure) => {
-            writeln!(lines, "{failure:?}").ok();
-            false
-        }
+    write_judged(&judged, lines);
+    judged.is_ok()
+}
+
+/// Makes the run or judges the history of a row, and writes what came of it; false where that isn't right.
+fn write_row<R: Threads + Wait + Sync>(
+    rt: &R,
+    alloc: Global,
+    row: &Term,
+    lines: &mut String,
+) -> bool {
+    match run_of(row) {
+        Some(run) => write_run(rt, alloc, run, lines),
+        None => write_history(alloc, row, lines).unwrap_or(false),
     }
 }
 
-/// Makes all runs of standard input.
-fn write_all_runs<R: Threads + Wait + Sync>(
+/// Goes through all rows of standard input.
+fn write_all_rows<R: Threads + Wait + Sync>(
     rt: &R,
     alloc: Global,
     rows: &[Term],
@@ -116,10 +157,7 @@ fn write_all_runs<R: Threads + Wait + Sync>(
 ) -> bool {
     let mut are_right = true;
     for row in rows {
-        match run_of(row) {
-            Some(run) => are_right = write_run(rt, alloc, run, lines) && are_right,
-            None => are_right = false,
-        }
+        are_right = write_row(rt, alloc, row, lines) && are_right;
     }
     are_right
 }
@@ -130,7 +168,7 @@ fn main(rt: HostRuntime) -> ExitCode {
     let mut lines = String::new(alloc);
     rt.stdin().read_to_end(&mut text).ok();
     let are_right = match read_terms(alloc, text.as_slice()) {
-        Ok(rows) => write_all_runs(&rt, alloc, rows.as_slice(), &mut lines),
+        Ok(rows) => write_all_rows(&rt, alloc, rows.as_slice(), &mut lines),
         Err(_) => false,
     };
     rt.stdout().write_all(lines.as_bytes()).ok();

@@ -131,6 +131,11 @@ impl<'a> Replay<'a> {
         }
     }
 
+    /// Whether an object was put in, by the session itself before now.
+    fn was_put_before(&self, object: Object) -> bool {
+        was_put(self.all, object) && (object.session != self.number || object.sequence < self.next)
+    }
+
     /// The object that is at a key now: another that was there, and the session's own older ones, never come back.
     fn is_there(&mut self, key: u32, now: Option<Object>) -> Result<(), Wrong> {
         let known = self.known(key)?;
@@ -159,7 +164,7 @@ impl<'a> Replay<'a> {
             return Err(Wrong::NotItsOwn(key));
         }
         if let Some(object) = now {
-            if object.key != key || !was_put(self.all, object) {
+            if object.key != key || !self.was_put_before(object) {
                 return Err(Wrong::NeverPut(object));
             }
             if object.sequence < least_of(self.least.as_slice(), object.session, key) {
@@ -195,7 +200,7 @@ impl<'a> Replay<'a> {
 
     /// The session deletes an object of its own, where it is there.
     fn removes_object(&mut self, object: Object) -> Result<(), Wrong> {
-        if self.next <= object.sequence || !was_put(self.all, object) {
+        if !self.was_put_before(object) {
             return Ok(());
         }
         let known = self.known(object.key)?;
@@ -276,7 +281,7 @@ impl<'a> Replay<'a> {
         if owner(key) == Some(self.number) {
             return self.looks(key, Some(object));
         }
-        if !was_put(self.all, object) {
+        if !self.was_put_before(object) {
             return Err(Wrong::NeverPut(object));
         }
         if object.sequence < least_of(self.begun.as_slice(), object.session, key) {

@@ -110,8 +110,8 @@ fn put_left(object: Object, part: u8, parts: u8, left: &mut [Vec<Object>]) -> Re
     keep_left(object, left)
 }
 
-/// Puts the objects of a part by their keys.
-fn put_all_left(
+/// Puts the objects of a part, which is one of so many, by their keys.
+pub(crate) fn put_all_left(
     objects: &[Term],
     part: u8,
     parts: u8,

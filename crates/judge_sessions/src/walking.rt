@@ -25,7 +25,7 @@ fn query(alloc: Global, specification: &str) -> Option<Query> {
 }
 
 /// Records the answers of a piece.
-fn record_piece(worker: &mut Worker, answers: &[Term]) -> Option<()> {
+pub(crate) fn record_piece(worker: &mut Worker, answers: &[Term]) -> Option<()> {
     for answer in answers {
         worker.record(Event::Walked(Object::of_term(answer)?))?;
     }
@@ -43,6 +43,13 @@ fn record_all(worker: &mut Worker, answers: &[Term]) -> Option<()> {
         worker.record(Event::Found(object.key, Some(object)))?;
     }
     Some(())
+}
+
+/// Records a walk that was made at once.
+pub(crate) fn record_whole(worker: &mut Worker, answers: &[Term]) -> Option<()> {
+    worker.record(Event::Begun)?;
+    record_all(worker, answers)?;
+    worker.record(Event::Ended)
 }
 
 /// All objects, in pieces; between two pieces the session writes where others write, too.
@@ -194,10 +201,8 @@ fn ask<R: Threads + Wait + Sync, T: Turns<Global>, M: Turns<Global> + Send>(
     let query = asking.query(alloc, worker.number)?;
     match asking {
         Asking::Whole => {
-            worker.record(Event::Begun)?;
             let answers = selected(rt, alloc, turns, members, &query)?;
-            record_all(worker, answers.as_slice())?;
-            worker.record(Event::Ended)
+            record_whole(worker, answers.as_slice())
         }
         Asking::Count => {
             let count = counted(rt, turns, members, &query)?;

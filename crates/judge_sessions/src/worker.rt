@@ -101,7 +101,7 @@ impl Worker {
     }
 
     /// Records what was taken at a key.
-    fn record_taken(&mut self, key: u32, taken: &[Term]) -> Option<()> {
+    pub(crate) fn record_taken(&mut self, key: u32, taken: &[Term]) -> Option<()> {
         if self.holds_many {
             self.record_items(taken)?;
             self.record(Event::TakenAll(key))

@@ -5,7 +5,7 @@ use std::alloc::AllocError;
 /// An answer that no history of turns allows.
 #[derive(Clone, Copy, Debug, PartialEq, Eq)]
 pub(crate) enum Wrong {
-    /// An object that no session put in there.
+    /// An object that no session put in there, or that this one hadn't yet.
     NeverPut(Object),
     /// One that was replaced or removed before, as far as the session could know.
     CameBack(Object),
@@ -44,10 +44,20 @@ pub(crate) enum Failure {
     Answered(u8, Wrong),
     /// What is wrong with what is left, or with all answers together.
     Left(Wrong),
-    /// The table can't be opened, or there is no memory.
+    /// The table can't be opened, what is left is no object, or there is no memory.
     Refused,
     /// A part never came back.
     Lost,
+}
+
+impl Failure {
+    /// Whether it is in what was answered or is left: what was to be judged was judged.
+    pub(crate) fn is_of_answers(&self) -> bool {
+        match self {
+            Failure::Answered(_, _) | Failure::Left(_) => true,
+            Failure::Refused | Failure::Lost => false,
+        }
+    }
 }
 
 impl From<AllocError> for Failure {
