@@ -127,7 +127,7 @@ fn write_run<R: Threads + Wait + Sync>(
     } = run.options;
     write!(
         lines,
-        "seed {}: {sessions} sessions, {} of them members, {} calls each, {kind:?} of {parts} parts: ",
+        "seed {}: {sessions} sessions, {} of them members, {} calls each at most, {kind:?} of {parts} parts: ",
         run.seed, run.members, run.calls,
     )
     .ok();

@@ -17,6 +17,8 @@ use walks::{Query, Step, first, next, select_limit, select_more};
 
 /// The most pieces of a walk, and the most keys of a tour.
 const MOST: u32 = 1_000_000;
+/// The most of a walk that is abandoned.
+const FEW: u32 = 8;
 
 /// The query of a specification.
 fn query(alloc: Global, specification: &str) -> Option<Query> {
@@ -52,26 +54,38 @@ pub(crate) fn record_whole(worker: &mut Worker, answers: &[Term]) -> Option<()> 
     worker.record(Event::Ended)
 }
 
-/// All objects, in pieces; between two pieces the session writes where others write, too.
+/// How many pieces or keys a walk goes on for: of four walks one is abandoned.
+fn walk_length(worker: &mut Worker) -> u32 {
+    if worker.below(4) == 0 {
+        worker.below(FEW)
+    } else {
+        MOST
+    }
+}
+
+/// All objects, in pieces; between two pieces the session writes where others write, too. A walk that is abandoned drops
+/// its continuation, and its end isn't recorded.
 fn pieces<T: Turns<Global>>(alloc: Global, turns: &mut T, worker: &mut Worker) -> Option<()>
     requires { T.is_ready turns.old }
     ensures ready { T.is_ready turns.new }
     ensures same { T.home turns.new ≡ T.home turns.old }
 {
+    worker.record(Event::Begun)?;
+    let most = walk_length(worker);
     let limit = u64::from(worker.below(50)).saturating_add(1);
     let all = query(alloc, "[{'$1',[],['$1']}].")?;
     let mut step = select_limit(alloc, turns, all, limit).ok()?;
-    for _piece in 0..MOST {
+    for _piece in 0..most {
         match step {
             Step::Piece(answers, walk) => {
                 record_piece(worker, answers.as_slice())?;
                 worker.call_at_shared_key(alloc, turns)?;
                 step = select_more(alloc, turns, walk).ok()?;
             }
-            Step::End(_query) => return Some(()),
+            Step::End(_query) => return worker.record(Event::Ended),
         }
     }
-    None
+    if most < MOST { Some(()) } else { None }
 }
 
 /// The number that a key is, if there is a key.
@@ -95,32 +109,40 @@ fn key_behind<T: Turns<Global>>(turns: &mut T, last: Option<u32>) -> Option<Opti
     number_of(next(turns, &key).ok()?)
 }
 
-/// All keys, one behind the other, by `first` and `next`.
-fn tour<T: Turns<Global>>(turns: &mut T, worker: &mut Worker) -> Option<()>
+/// All keys, one behind the other, by `first` and `next`, or so many of them; whether there are no more.
+fn tour<T: Turns<Global>>(turns: &mut T, worker: &mut Worker, most: u32) -> Option<bool>
     requires { T.is_ready turns.old }
     ensures ready { T.is_ready turns.new }
     ensures same { T.home turns.new ≡ T.home turns.old }
 {
     let mut last = None;
-    for _key in 0..MOST {
+    for _key in 0..most {
         last = key_behind(turns, last)?;
         match last {
             Some(key) => worker.record(Event::Met(key))?,
-            None => return Some(()),
+            None => return Some(true),
         }
     }
-    None
+    Some(false)
 }
 
-/// A tour through the table while it is fixed.
+/// A tour through the table while it is fixed. One that is abandoned leaves it fixed.
 fn fixed_tour<T: Turns<Global>>(turns: &mut T, worker: &mut Worker) -> Option<()>
     requires { T.is_ready turns.old }
     ensures ready { T.is_ready turns.new }
     ensures same { T.home turns.new ≡ T.home turns.old }
 {
+    worker.record(Event::Begun)?;
     fix(turns).ok()?;
-    tour(turns, worker)?;
-    unfix(turns).ok()
+    let most = walk_length(worker);
+    if tour(turns, worker, most)? {
+        unfix(turns).ok()?;
+        worker.record(Event::Ended)
+    } else if most < MOST {
+        worker.record(Event::Fixed)
+    } else {
+        None
+    }
 }
 
 /// The query of a session's objects at its own keys, or of those whose sequence numbers have a parity.
@@ -255,16 +277,8 @@ pub(crate) fn walk<R: Threads + Wait + Sync, T: Turns<Global>, M: Turns<Global> 
         3 => Asking::Remove(worker.below(2)),
         4 => Asking::Named(worker.own_key()),
         5 => Asking::Whole,
-        6 => {
-            worker.record(Event::Begun)?;
-            pieces(alloc, turns, worker)?;
-            return worker.record(Event::Ended);
-        }
-        7 => {
-            worker.record(Event::Begun)?;
-            fixed_tour(turns, worker)?;
-            return worker.record(Event::Ended);
-        }
+        6 => return pieces(alloc, turns, worker),
+        7 => return fixed_tour(turns, worker),
         8 => Asking::CountAll,
         _ => Asking::Clear,
     };

@@ -110,6 +110,15 @@ impl Worker {
         }
     }
 
+    /// How many calls the session makes of so many: of four that are alone one leaves early, behind half of them.
+    fn share(&mut self, calls: u32, is_alone: bool) -> u32 {
+        if is_alone && self.below(4) == 0 {
+            self.below(calls).max(calls / 2)
+        } else {
+            calls
+        }
+    }
+
     /// A new object at a key.
     fn object(&mut self, key: u32) -> Object {
         let sequence = self.sequence;
@@ -329,7 +338,8 @@ impl Worker {
         }
     }
 
-    /// Makes so many random calls; walks are made by members, where there are any.
+    /// Makes so many random calls, or fewer where it has no members, and leaves early; walks are made by members, where
+    /// there are any.
     pub(crate) fn run<R: Threads + Wait + Sync, T: Turns<Global>, M: Turns<Global> + Send>(
         &mut self,
         rt: &R,
@@ -343,6 +353,7 @@ impl Worker {
         ensures ready { T.is_ready turns.new }
         ensures same { T.home turns.new ≡ T.home turns.old }
     {
+        let calls = self.share(calls, members.is_empty());
         for _call in 0..calls {
             if self.below(CALLS_OF_A_WALK) == 0 {
                 walk(rt, alloc, turns, members, self)?;
