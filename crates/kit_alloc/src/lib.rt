@@ -22,4 +22,4 @@ mod sweeps;
 
 pub use failing::Failing;
 pub use plan::Plan;
-pub use sweeps::{SweepOutcome, sweep};
+pub use sweeps::{SweepOutcome, sweep, sweep_onward};

@@ -1,17 +1,18 @@
-ghost use Rattle.std.specs.Prelude.{◌↔◌, IsTrue};
-ghost use Rattle.kit_alloc.specs.Sweeps.{IsComplete, SweepsTo};
+ghost use Rattle.std.specs.Prelude.{◌≡◌, ◌↔◌, IsTrue};
+ghost use Rattle.kit_alloc.specs.Sweeps.{IsComplete, SweepsTo, plan_by};
 
 use crate::failing::Failing;
+use crate::plan::Plan;
 use std::alloc::Allocator;
 
 /// How a sweep ended.
 #[derive(Clone, Copy, Debug, PartialEq, Eq)]
 pub enum SweepOutcome {
-    /// Each run behaved well, and in the last one that refuses a request alone none was refused.
+    /// Each run behaved well, and in the last one no request was refused.
     Complete { runs: u64 },
     /// Each run behaved well, and a request was refused in each: there are more requests to refuse.
     OutOfRuns,
-    /// A run with this request refused, alone or with all behind it, did not behave well.
+    /// The run with this request refused did not behave well.
     Misbehaved { request: u64 },
 }
 
@@ -23,31 +24,74 @@ impl SweepOutcome {
     }
 }
 
-/// Calls `run` with an allocator over `inner` that refuses request 1 alone, and with one that
-/// refuses each request from 1 on; then so with request 2, and so on, until the first call of two
-/// meets no refusal, or one answers that it did not behave well, or `runs` times two calls were
-/// made.
-pub fn sweep<B: Allocator + Copy, F: FnMut(&Failing<B>) -> bool>(
+/// Which requests the runs of a sweep refuse.
+#[derive(Clone, Copy)]
+enum Refusals {
+    /// One alone.
+    Alone,
+    /// Each from one on.
+    Onward,
+}
+
+impl Refusals {
+    /// The plan of the run of this number.
+    fn plan(self, request: u64) -> Plan
+        ensures { result ≡ plan_by self request }
+    {
+        match self {
+            Refusals::Alone => Plan::Once(request),
+            Refusals::Onward => Plan::From(request),
+        }
+    }
+}
+
+/// Calls `run` with allocators over `inner`, by the plan of request 1, then by that of request 2,
+/// and so on, until a call meets no refusal, or answers that it did not behave well, or `runs`
+/// calls were made.
+fn swept<B: Allocator + Copy, F: FnMut(&Failing<B>) -> bool>(
     inner: B,
     runs: u64,
+    refusals: Refusals,
     mut run: F,
 ) -> SweepOutcome
     requires { F.IsAlwaysCallable run }
-    ensures { SweepsTo F.FnMut inner run runs result }
+    ensures { SweepsTo F.FnMut inner (plan_by refusals) run runs result }
 {
     for earlier in 0..runs {
         let request = earlier + 1;
-        let alone = Failing::refusing_nth(inner, request);
-        if !run(&alone) {
+        let heap = Failing::new(inner, refusals.plan(request));
+        if !run(&heap) {
             return SweepOutcome::Misbehaved { request };
         }
-        let onward = Failing::refusing_from(inner, request);
-        if !run(&onward) {
-            return SweepOutcome::Misbehaved { request };
-        }
-        if !alone.was_refused() {
+        if !heap.was_refused() {
             return SweepOutcome::Complete { runs: request };
         }
     }
     SweepOutcome::OutOfRuns
+}
+
+/// Calls `run` with an allocator over `inner` that refuses request 1, then with one that refuses
+/// request 2, and so on, until a call meets no refusal, or answers that it did not behave well, or
+/// `runs` calls were made.
+pub fn sweep<B: Allocator + Copy, F: FnMut(&Failing<B>) -> bool>(
+    inner: B,
+    runs: u64,
+    run: F,
+) -> SweepOutcome
+    requires { F.IsAlwaysCallable run }
+    ensures { SweepsTo F.FnMut inner (plan_by Refusals.Alone) run runs result }
+{
+    swept(inner, runs, Refusals::Alone, run)
+}
+
+/// The same, where with a request each behind it is refused, too.
+pub fn sweep_onward<B: Allocator + Copy, F: FnMut(&Failing<B>) -> bool>(
+    inner: B,
+    runs: u64,
+    run: F,
+) -> SweepOutcome
+    requires { F.IsAlwaysCallable run }
+    ensures { SweepsTo F.FnMut inner (plan_by Refusals.Onward) run runs result }
+{
+    swept(inner, runs, Refusals::Onward, run)
 }

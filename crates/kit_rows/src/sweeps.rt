@@ -1,7 +1,7 @@
 //! Calls with each request for memory refused in turn.
 use crate::outcome::word;
 use crate::texts::text;
-use kit_alloc::{Failing, sweep};
+use kit_alloc::{Failing, sweep, sweep_onward};
 use std::alloc::{Allocator, Global};
 use term_core::Term;
 
@@ -20,16 +20,30 @@ pub trait Calls {
     ) -> Option<Vec<u8>>;
 }
 
-/// Whether the same comes of a call or memory is wanted, whichever request is refused, and no block is left then.
+/// Whether the same comes of a call or memory is wanted, where it may be refused, and no block is left then.
+fn is_right<C: Calls>(
+    alloc: Global,
+    heap: &Failing<Global>,
+    call: &str,
+    given: &[u8],
+    wanted: &[u8],
+) -> bool {
+    let is_right = match C::outcome(alloc, heap, call, given) {
+        Some(out) => out.as_slice() == wanted,
+        None => heap.was_refused(),
+    };
+    is_right && heap.blocks() == 0
+}
+
+/// Whether it is so whichever request is refused, alone and with all behind it.
 fn is_swept<C: Calls>(alloc: Global, call: &str, given: &[u8], wanted: &[u8]) -> bool {
-    sweep(alloc, C::MOST_REQUESTS, |heap: &Failing<Global>| {
-        let is_right = match C::outcome(alloc, heap, call, given) {
-            Some(out) => out.as_slice() == wanted,
-            None => heap.was_refused(),
-        };
-        is_right && heap.blocks() == 0
-    })
-    .is_complete()
+    let alone = sweep(alloc, C::MOST_REQUESTS, |heap: &Failing<Global>| {
+        is_right::<C>(alloc, heap, call, given, wanted)
+    });
+    let onward = sweep_onward(alloc, C::MOST_REQUESTS, |heap: &Failing<Global>| {
+        is_right::<C>(alloc, heap, call, given, wanted)
+    });
+    alone.is_complete() && onward.is_complete()
 }
 
 /// What comes of a call, with memory and with each request refused in turn.

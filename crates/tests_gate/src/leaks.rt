@@ -5,7 +5,7 @@ use crate::objects::object;
 use crate::pairs::{last_two, put_and_fixed};
 use crate::selecting::keys_query;
 use gate::Closed;
-use kit_alloc::{Failing, sweep};
+use kit_alloc::{Failing, sweep, sweep_onward};
 use part_core::{Part, TableKind};
 use part_hash::HashPart;
 use std::alloc::{Allocator, Global};
@@ -99,22 +99,41 @@ fn is_clean(heap: &Failing<Global>, came: Option<bool>) -> bool {
     is_right && heap.blocks() == 0
 }
 
+/// What is let go.
+#[derive(Clone, Copy)]
+enum LetGo {
+    Table,
+    LocalTable,
+    ClosedTable,
+}
+
+/// Whether nothing leaks.
+fn is_kept<R: Wait>(rt: &R, heap: &Failing<Global>, let_go: LetGo) -> bool {
+    match let_go {
+        LetGo::Table => is_clean(heap, is_table_let_go(rt, heap)),
+        LetGo::LocalTable => is_clean(heap, is_local_table_let_go(heap)),
+        LetGo::ClosedTable => is_clean(heap, is_closed_table_let_go(rt, heap)),
+    }
+}
+
+/// Whether it is so with each request refused in turn, alone and with all behind it.
+fn is_swept<R: Wait>(rt: &R, alloc: Global, let_go: LetGo) -> bool {
+    let alone = sweep(alloc, RUNS, |heap| is_kept(rt, heap, let_go));
+    let onward = sweep_onward(alloc, RUNS, |heap| is_kept(rt, heap, let_go));
+    alone.is_complete() && onward.is_complete()
+}
+
 #[test]
 fn a_table_that_is_never_closed_leaks_nothing(rt: HostRuntime) {
-    let ended = sweep(rt.alloc(), RUNS, |heap| is_clean(heap, is_table_let_go(&rt, heap)));
-    assert!(rt; ended.is_complete());
+    assert!(rt; is_swept(&rt, rt.alloc(), LetGo::Table));
 }
 
 #[test]
 fn a_table_on_one_thread_leaks_nothing(rt: HostRuntime) {
-    let ended = sweep(rt.alloc(), RUNS, |heap| is_clean(heap, is_local_table_let_go(heap)));
-    assert!(rt; ended.is_complete());
+    assert!(rt; is_swept(&rt, rt.alloc(), LetGo::LocalTable));
 }
 
 #[test]
 fn a_closed_table_that_is_let_go_leaks_nothing(rt: HostRuntime) {
-    let ended = sweep(rt.alloc(), RUNS, |heap| {
-        is_clean(heap, is_closed_table_let_go(&rt, heap))
-    });
-    assert!(rt; ended.is_complete());
+    assert!(rt; is_swept(&rt, rt.alloc(), LetGo::ClosedTable));
 }

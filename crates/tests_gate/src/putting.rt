@@ -404,7 +404,7 @@ fn first_wrong<R: Wait>(
     for (number, case) in CASES.iter().enumerate() {
         let case = *case;
         let outcome = sweep(alloc, RUNS, |heap: &Failing<Global>| {
-            is_right(rt, alloc, heap, has_gates, table, case)
+            is_right(rt, alloc, heap, has_gates, table, case) && heap.blocks() == 0
         });
         if !outcome.is_complete() {
             return Some(number);

@@ -5,7 +5,7 @@ ghost use Rattle.tables.specs.Options.{settings_of};
 use crate::objects::{object, put_both};
 use crate::pairs::{last_two, put_and_fixed};
 use gate::Closed;
-use kit_alloc::{Failing, sweep};
+use kit_alloc::{Failing, sweep, sweep_onward};
 use part_core::{Fault, OpenFault, Part, TableKind};
 use part_hash::HashPart;
 use std::alloc::{Allocator, Global};
@@ -243,13 +243,58 @@ fn is_closed_without<R: Wait>(rt: &R, alloc: Global) -> Option<bool> {
 
 #[test]
 fn each_request_of_opening_may_be_refused(rt: HostRuntime) {
-    assert!(rt; sweep(rt.alloc(), RUNS, |heap| is_opened(heap) && heap.blocks() == 0).is_complete());
-    assert!(rt; sweep(rt.alloc(), RUNS, |heap| is_opened_over(heap) && heap.blocks() == 0).is_complete());
+    assert!(rt;
+        sweep(
+            rt.alloc(),
+            RUNS,
+            |heap| is_opened(heap) && heap.blocks() == 0
+        )
+        .is_complete()
+    );
+    assert!(rt;
+        sweep_onward(
+            rt.alloc(),
+            RUNS,
+            |heap| is_opened(heap) && heap.blocks() == 0
+        )
+        .is_complete()
+    );
+    assert!(rt;
+        sweep(
+            rt.alloc(),
+            RUNS,
+            |heap| is_opened_over(heap) && heap.blocks() == 0
+        )
+        .is_complete()
+    );
+    assert!(rt;
+        sweep_onward(
+            rt.alloc(),
+            RUNS,
+            |heap| is_opened_over(heap) && heap.blocks() == 0
+        )
+        .is_complete()
+    );
 }
 
 #[test]
 fn each_request_of_an_insert_may_be_refused(rt: HostRuntime) {
-    assert!(rt; sweep(rt.alloc(), RUNS, |heap| is_put_at(&rt, heap) && heap.blocks() == 0).is_complete());
+    assert!(rt;
+        sweep(
+            rt.alloc(),
+            RUNS,
+            |heap| is_put_at(&rt, heap) && heap.blocks() == 0
+        )
+        .is_complete()
+    );
+    assert!(rt;
+        sweep_onward(
+            rt.alloc(),
+            RUNS,
+            |heap| is_put_at(&rt, heap) && heap.blocks() == 0
+        )
+        .is_complete()
+    );
 }
 
 #[test]

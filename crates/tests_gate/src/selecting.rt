@@ -108,5 +108,12 @@ fn is_right<R: Wait>(rt: &R, heap: &Failing<Global>) -> bool {
 
 #[test]
 fn each_request_of_a_walk_may_be_refused(rt: HostRuntime) {
-    assert!(rt; sweep(rt.alloc(), RUNS, |heap| is_right(&rt, heap) && heap.blocks() == 0).is_complete());
+    assert!(rt;
+        sweep(
+            rt.alloc(),
+            RUNS,
+            |heap| is_right(&rt, heap) && heap.blocks() == 0
+        )
+        .is_complete()
+    );
 }

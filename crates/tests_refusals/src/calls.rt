@@ -1,6 +1,6 @@
 //! Calls with each request for memory refused in turn.
 use crate::{functions, text};
-use kit_alloc::{SweepOutcome, sweep};
+use kit_alloc::{Failing, sweep, sweep_onward};
 use std::alloc::{Allocator, Global};
 
 /// Calls that take memory.
@@ -28,15 +28,20 @@ fn is_right<A: Allocator + Copy>(alloc: Global, heap: A, case: Case) -> Option<b
     }
 }
 
-/// How a sweep over the requests of calls ends.
-fn swept(alloc: Global, case: Case) -> SweepOutcome {
-    sweep(alloc, 2_000, |heap| {
-        let is_right = match is_right(alloc, heap, case) {
-            Some(is_right) => is_right,
-            None => heap.was_refused(),
-        };
-        is_right && heap.blocks() == 0
-    })
+/// Whether it is right or memory was refused, and no block is left then.
+fn is_clean(alloc: Global, heap: &Failing<Global>, case: Case) -> bool {
+    let is_right = match is_right(alloc, heap, case) {
+        Some(is_right) => is_right,
+        None => heap.was_refused(),
+    };
+    is_right && heap.blocks() == 0
+}
+
+/// Whether it is so with each request refused in turn, alone and with all behind it.
+fn is_swept(alloc: Global, case: Case) -> bool {
+    let alone = sweep(alloc, 2_000, |heap| is_clean(alloc, heap, case));
+    let onward = sweep_onward(alloc, 2_000, |heap| is_clean(alloc, heap, case));
+    alone.is_complete() && onward.is_complete()
 }
 
 #[test]
@@ -44,7 +49,6 @@ fn each_request_is_refused_in_turn(rt: HostRuntime) {
     let alloc = rt.alloc();
     for case in CASES {
         assert!(rt; is_right(alloc, alloc, case) == Some(true), "{case:?}");
-        let outcome = swept(alloc, case);
-        assert!(rt; outcome.is_complete(), "{case:?} {outcome:?}");
+        assert!(rt; is_swept(alloc, case), "{case:?}");
     }
 }

@@ -1,5 +1,5 @@
 //! The allocator that refuses chosen requests, and sweeps over them.
-use kit_alloc::{Failing, Plan, SweepOutcome, sweep};
+use kit_alloc::{Failing, Plan, SweepOutcome, sweep, sweep_onward};
 use std::alloc::{AllocError, Allocator, Global};
 use std::thread::{self, Threads};
 
@@ -156,8 +156,8 @@ fn tells_its_refusals_from_those_of_the_inner_allocator(rt: HostRuntime) {
     assert!(rt; came == ([true, false, false, false], (4, 4), (false, true)));
 }
 
-/// How a sweep over three requests ends, whether that is complete, and the plan of its last run.
-fn swept(alloc: Global) -> (SweepOutcome, bool, Plan) {
+/// How a sweep over three requests ends, and the plan of its last run.
+fn swept(alloc: Global) -> (SweepOutcome, Plan) {
     let mut last = Plan::Never;
     let outcome = sweep(alloc, 100, |heap| {
         last = heap.plan();
@@ -166,12 +166,29 @@ fn swept(alloc: Global) -> (SweepOutcome, bool, Plan) {
             Err(AllocError) => heap.was_refused(),
         }
     });
-    (outcome, outcome.is_complete(), last)
+    (outcome, last)
+}
+
+/// The same where all requests behind one are refused, too.
+fn swept_onward(alloc: Global) -> (SweepOutcome, Plan) {
+    let mut last = Plan::Never;
+    let outcome = sweep_onward(alloc, 100, |heap| {
+        last = heap.plan();
+        match sum_of_three(heap) {
+            Ok(sum) => sum == 6,
+            Err(AllocError) => heap.was_refused(),
+        }
+    });
+    (outcome, last)
 }
 
 #[test]
 fn sweeps_until_no_request_is_refused(rt: HostRuntime) {
-    assert!(rt; swept(rt.alloc()) == (SweepOutcome::Complete { runs: 4 }, true, Plan::From(4)));
+    let (outcome, last) = swept(rt.alloc());
+    assert!(rt; outcome == SweepOutcome::Complete { runs: 4 } && last == Plan::Once(4));
+    assert!(rt; outcome.is_complete());
+    let (outcome, last) = swept_onward(rt.alloc());
+    assert!(rt; outcome == SweepOutcome::Complete { runs: 4 } && last == Plan::From(4));
 }
 
 /// How a sweep over three requests ends that has at most so many runs.
@@ -192,18 +209,12 @@ fn sweeps_no_further_than_told(rt: HostRuntime) {
     }
 }
 
-/// How sweeps end over code that hides each refusal, over code that misses the third request where that is refused
-/// alone, and over code that misses the second where all behind it are refused, too.
+/// How sweeps end over code that hides each refusal, over code that misses the third request, and over code that misses
+/// the second where all behind it are refused, too.
 fn misbehaved(alloc: Global) -> [SweepOutcome; 3] {
     let hidden = sweep(alloc, 100, |heap| sum_or_zero(heap) == 6);
-    let third = sweep(alloc, 100, |heap| match heap.plan() {
-        Plan::Once(_) => four_requests(heap)[2],
-        Plan::From(_) | Plan::Never => true,
-    });
-    let second = sweep(alloc, 100, |heap| match heap.plan() {
-        Plan::From(first) => first != 2,
-        Plan::Once(_) | Plan::Never => true,
-    });
+    let third = sweep(alloc, 100, |heap| four_requests(heap)[2]);
+    let second = sweep_onward(alloc, 100, |heap| heap.plan() != Plan::From(2));
     [hidden, third, second]
 }
 

@@ -1,7 +1,7 @@
 //! Queries with each request for memory refused in turn. Each answer here takes memory, so that the last request is one
 //! for the last line.
 use crate::sweeps::Written;
-use kit_alloc::{Failing, SweepOutcome, sweep};
+use kit_alloc::{Failing, SweepOutcome, sweep, sweep_onward};
 use std::alloc::{Allocator, Global};
 use tool_io::ToolFault;
 use tool_query::{tool_run, tool_test};
@@ -30,23 +30,34 @@ fn is_right_or_out_of_memory<B: Allocator>(
     }
 }
 
+/// Whether `run` answers right or is out of memory, and no block is left then.
+fn is_run(alloc: Global, heap: &Failing<Global>, so_far: &mut Written) -> bool {
+    let mut reader = MADE.as_bytes();
+    let mut written = Vec::new(alloc);
+    let ended = tool_run(heap, &mut reader, &mut written);
+    is_right_or_out_of_memory(ended, heap, written.as_slice(), MADE_LINES, so_far)
+        && heap.blocks() == 0
+}
+
 /// How a sweep over the requests of `run` ends, and how many lines it wrote with the last refused.
 fn swept_run(alloc: Global) -> (SweepOutcome, usize) {
     let mut so_far = Written { lines: 0 };
-    let result = sweep(alloc, 2_000, |heap| {
-        let mut reader = MADE.as_bytes();
-        let mut written = Vec::new(alloc);
-        let ended = tool_run(heap, &mut reader, &mut written);
-        is_right_or_out_of_memory(ended, heap, written.as_slice(), MADE_LINES, &mut so_far)
-            && heap.blocks() == 0
-    });
+    let result = sweep(alloc, 2_000, |heap| is_run(alloc, heap, &mut so_far));
     (result, so_far.lines)
+}
+
+/// How it ends where all behind one are refused, too.
+fn swept_run_onward(alloc: Global) -> SweepOutcome {
+    let mut so_far = Written { lines: 0 };
+    sweep_onward(alloc, 2_000, |heap| is_run(alloc, heap, &mut so_far))
 }
 
 #[test]
 fn each_request_refused_in_turn(rt: HostRuntime) {
     let (result, lines) = swept_run(rt.alloc());
     assert!(rt; result.is_complete() && lines == 2, "{result:?} {lines}");
+    let onward = swept_run_onward(rt.alloc());
+    assert!(rt; onward.is_complete(), "{onward:?}");
 }
 
 /// The same of `test`.

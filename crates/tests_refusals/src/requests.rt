@@ -1,7 +1,7 @@
 //! Commands of the program with each request for memory refused in turn.
 use crate::queries::{MADE, MADE_LINES};
 use crate::sweeps::{Written, lines_in};
-use kit_alloc::{Failing, SweepOutcome, sweep};
+use kit_alloc::{Failing, SweepOutcome, sweep, sweep_onward};
 use kit_streams::FILE;
 use part_plain::PlainPart;
 use std::alloc::Global;
@@ -77,8 +77,24 @@ impl<'a> Case<'a> {
             && tells_no_memory(told.as_slice())
     }
 
-    /// Whether it does with each request refused in turn, and with the last refused writes all lines but the last; else
-    /// how that went.
+    /// Whether it does with each request refused in turn and all behind it; else how that went.
+    fn tried_onward<H: Threads + Wait + Sync>(
+        self,
+        rt: &H,
+        alloc: Global,
+    ) -> Result<(), (SweepOutcome, usize)> {
+        let mut so_far = Written { lines: 0 };
+        let outcome = sweep_onward(alloc, 4_000, |heap| {
+            self.is_right(rt, alloc, heap, &mut so_far) && heap.blocks() == 0
+        });
+        if outcome.is_complete() {
+            return Ok(());
+        }
+        Err((outcome, so_far.lines))
+    }
+
+    /// Whether it does with each request refused in turn, and with the last refused writes all lines but the last; and
+    /// with each refused and all behind it. Else how that went.
     fn tried<H: Threads + Wait + Sync>(
         self,
         rt: &H,
@@ -89,10 +105,10 @@ impl<'a> Case<'a> {
             self.is_right(rt, alloc, heap, &mut so_far) && heap.blocks() == 0
         });
         let lines = lines_in(self.lines.as_bytes());
-        if outcome.is_complete() && so_far.lines == lines.saturating_sub(1) {
-            return Ok(());
+        if !outcome.is_complete() || so_far.lines != lines.saturating_sub(1) {
+            return Err((outcome, so_far.lines));
         }
-        Err((outcome, so_far.lines))
+        self.tried_onward(rt, alloc)
     }
 }
 

@@ -1,6 +1,6 @@
 //! Scans with each request for memory refused in turn, by one session and by several.
 use crate::sweeps::Written;
-use kit_alloc::{Failing, SweepOutcome, sweep};
+use kit_alloc::{Failing, SweepOutcome, sweep, sweep_onward};
 use part_plain::PlainPart;
 use std::alloc::Global;
 use std::sync::Wait;
@@ -50,6 +50,30 @@ fn is_right<H: Threads + Wait + Sync>(
     }
 }
 
+/// What a table of such a kind is scanned with by so many workers.
+fn options_of(kind: ScanKind, workers: u8) -> ScanOptions {
+    ScanOptions {
+        kind,
+        keypos: 1,
+        parts: 2,
+        workers,
+    }
+}
+
+/// How a sweep over the requests of such a scan ends where all behind one are refused, too.
+fn swept_onward<H: Threads + Wait + Sync>(
+    rt: &H,
+    alloc: Global,
+    kind: ScanKind,
+    workers: u8,
+) -> SweepOutcome {
+    let options = options_of(kind, workers);
+    let mut so_far = Written { lines: 0 };
+    sweep_onward(alloc, 4_000, |heap| {
+        is_right(rt, alloc, heap, options, &mut so_far) && heap.blocks() == 0
+    })
+}
+
 /// How a sweep over the requests of a scan of such a table by so many workers ends, and how many lines it wrote with the
 /// last refused.
 fn swept<H: Threads + Wait + Sync>(
@@ -58,12 +82,7 @@ fn swept<H: Threads + Wait + Sync>(
     kind: ScanKind,
     workers: u8,
 ) -> (SweepOutcome, usize) {
-    let options = ScanOptions {
-        kind,
-        keypos: 1,
-        parts: 2,
-        workers,
-    };
+    let options = options_of(kind, workers);
     let mut so_far = Written { lines: 0 };
     let outcome = sweep(alloc, 4_000, |heap| {
         is_right(rt, alloc, heap, options, &mut so_far) && heap.blocks() == 0
@@ -79,6 +98,8 @@ fn each_request_refused_in_turn(rt: HostRuntime) {
             outcome.is_complete() && (workers > 1 || lines == 3),
             "{outcome:?} {lines}"
         );
+        let onward = swept_onward(&rt, rt.alloc(), ScanKind::Set, workers);
+        assert!(rt; onward.is_complete(), "{onward:?}");
     }
 }
 

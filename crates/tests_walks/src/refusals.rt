@@ -181,10 +181,13 @@ fn is_right<P: Part<A> + Drop, A: Allocator + Copy>(
 /// in turn.
 fn holds_at_sets(alloc: Global, case: Case<'_>) -> bool {
     let outcome = sweep(alloc, MOST_REQUESTS, |heap: &Failing<Global>| {
-        match is_right::<HashPart<&Failing<Global>>, &Failing<Global>>(alloc, heap, case) {
+        let is_right = match is_right::<HashPart<&Failing<Global>>, &Failing<Global>>(
+            alloc, heap, case,
+        ) {
             Some(is_right) => is_right,
             None => heap.was_refused(),
-        }
+        };
+        is_right && heap.blocks() == 0
     });
     outcome.is_complete()
         && is_right::<HashPart<Global>, Global>(alloc, alloc, case) == Some(true)
@@ -194,10 +197,13 @@ fn holds_at_sets(alloc: Global, case: Case<'_>) -> bool {
 /// Whether a case is right at an ordered set, also with each request refused in turn.
 fn holds_at_ordered_sets(alloc: Global, case: Case<'_>) -> bool {
     let outcome = sweep(alloc, MOST_REQUESTS, |heap: &Failing<Global>| {
-        match is_right::<OrderPart<&Failing<Global>>, &Failing<Global>>(alloc, heap, case) {
+        let is_right = match is_right::<OrderPart<&Failing<Global>>, &Failing<Global>>(
+            alloc, heap, case,
+        ) {
             Some(is_right) => is_right,
             None => heap.was_refused(),
-        }
+        };
+        is_right && heap.blocks() == 0
     });
     outcome.is_complete() && is_right::<OrderPart<Global>, Global>(alloc, alloc, case) == Some(true)
 }

@@ -216,7 +216,7 @@ fn holds_at(alloc: Global, heap: &Failing<Global>, is_hashed: bool, kind: TableK
 /// Whether it is so with each request refused in turn.
 fn holds(alloc: Global, is_hashed: bool, kind: TableKind) -> bool {
     sweep(alloc, MOST_REQUESTS, |heap: &Failing<Global>| {
-        holds_at(alloc, heap, is_hashed, kind)
+        holds_at(alloc, heap, is_hashed, kind) && heap.blocks() == 0
     })
     .is_complete()
 }
