@@ -3,7 +3,7 @@ use mir.Syntax.{Dict, Lifetime}
 use base.Fml.{Lft}
 use denote.RattleType.{RattleType}
 use denote.Ref.{ShrRef}
-use denote.Param.Send.{IsSend, IsSync, Frees, sendable}
+use denote.Param.Send.{IsSend, IsSync, Frees, sendable, struct_send}
 use denote.Struct.Struct.{Struct}
 use denote.Struct.Declared.{shape}
 use Rattle.std.proofs.CrossingOver.{crosses}
@@ -15,8 +15,8 @@ use Rattle.std.specs.contracts.prelude.RefAllocator.TheImpl.{ghosts as lent_ghos
 use Rattle.kit_alloc.specs.contracts.failing.Failing.{the_row as failing_row}
 use Rattle.kit_alloc.specs.contracts.failing.FailingAllocator.TheImpl.{ghosts as failing_ghosts}
 use Rattle.kit_alloc.proofs.failing.FailingAllocator.TheSendSync as failing
+use Rattle.slab.specs.contracts.Slab.{the_row as slab_row}
 use Rattle.slab.proofs.Slab.TheSendSync as slab
-use Rattle.slab.proofs.Entry.TheSendSync as entry
 use Rattle.hash_index.specs.contracts.index.HashIndex.{the_row as index_row}
 use Rattle.hash_index.proofs.index.HashIndex.TheSendSync as index
 use Rattle.part_engine.proofs.SendLemmas.{term_send, part_send}
@@ -53,8 +53,11 @@ module _ (A : RattleType) (g : Ghosts A.Denot) (s : IsSend A) (y : IsSync A) (f 
   index_send : IsSend (index_row A g)
   index_send = index.the_send A g s f
 
+  slab_send : IsSend (slab_row (hash_row A g) A g)
+  slab_send = slab.the_send (hash_row A g) A g row_send s f
+
   store_send : IsSend (Struct (shape (store_type A g)))
-  store_send = search (sendable, crosses, row_send, slot_send, index_send, slab.the_send, entry.the_send, s, f) depth 40
+  store_send = struct_send (shape (store_type A g)) (slab_send, (index_send, (search (sendable), (search (sendable, crosses, slot_send), (search (sendable), (search (sendable, crosses), (search (sendable), tt)))))))
 
   hash_rows_send : IsSend (hash_rows A g)
   hash_rows_send = search (sendable, store_send) depth 40
