@@ -7,13 +7,13 @@ use Rattle.part_core.proofs.KeyLemmas.{by_test}
 use Rattle.tables.specs.declared.options.Options.{Options}
 use Rattle.walks.specs.declared.continuation.Continuation.{Continuation}
 use Rattle.tool_script.specs.Held.{Held, held_by}
-use Rattle.tool_script.specs.Continuations.{held_of, IsPlace, AreHeld, own_by, spent_by}
+use Rattle.tool_script.specs.Continuations.{held_of, IsPlace, AreHeld, AreLetGo, own_by, spent_by}
 
 -- ---- tables that are opened and closed
 
 place_opened : {A : Type 0} (n : ℕ) (o : Options) (c : Option (Continuation A)) (held : Option Held) → o.name ≡ n → IsPlace None n c held → IsPlace (Some o) (n + 1) c held
 place_opened n o None None named is = tt
-place_opened n o None (Some held) named is = absurd is
+place_opened n o None (Some held) named is = (omega (arith, is.0), λ same. absurd (omega (arith, is.0, named, same)))
 place_opened n o (Some c) None named is = absurd is
 place_opened n o (Some c) (Some held) named is =
     record { earlier = omega (arith, is.earlier); table = is.table; own = λ same. absurd (omega (arith, is.earlier, named, same)) }
@@ -28,7 +28,7 @@ held_opened n o (c ∷ cs) (held ∷ walks) named are =
 
 place_closed : {A : Type 0} (n : ℕ) (o : Option Options) (c : Option (Continuation A)) (held : Option Held) → IsPlace o n c held → IsPlace None n c held
 place_closed n o None None is = tt
-place_closed n o None (Some held) is = absurd is
+place_closed n o None (Some held) is = (is.0, tt)
 place_closed n o (Some c) None is = absurd is
 place_closed n o (Some c) (Some held) is = record { earlier = is.earlier; table = is.table; own = tt }
 
@@ -37,6 +37,23 @@ held_closed n o [] [] are = tt
 held_closed n o [] (held ∷ walks) are = absurd are
 held_closed n o (c ∷ cs) [] are = absurd are
 held_closed n o (c ∷ cs) (held ∷ walks) are = (place_closed n o c held are.0, held_closed n o cs walks are.1)
+
+let_go_place : {A : Type 0} (n : ℕ) (o : Option Options) (c : Option (Continuation A)) (held : Option Held) → IsPlace o n c held → IsPlace {A = A} None n None held
+let_go_place n o c None is = tt
+let_go_place n o None (Some held) is = (is.0, tt)
+let_go_place n o (Some c) (Some held) is = (subst (λ k. k < n) (sym is.table) is.earlier, tt)
+
+-- they may all be let go then
+pub held_let_go : {A : Type 0} (n : ℕ) (o : Option Options) (cs new : List (Option (Continuation A))) (walks : List (Option Held)) → AreHeld o n cs walks → AreLetGo cs new → AreHeld None n new walks
+held_let_go n o [] [] [] are gone = tt
+held_let_go n o [] (d ∷ new) walks are gone = absurd (omega (arith, gone.0))
+held_let_go n o [] [] (held ∷ walks) are gone = absurd are
+held_let_go n o (c ∷ cs) [] walks are gone = absurd (omega (arith, gone.0))
+held_let_go n o (c ∷ cs) (d ∷ new) [] are gone = absurd are
+held_let_go n o (c ∷ cs) (d ∷ new) (held ∷ walks) are gone =
+    let none : d ≡ None = gone.1 0 (omega arith) in
+    let rest : AreLetGo cs new = (omega (arith, gone.0), λ i less. gone.1 (suc i) (omega (arith, less))) in
+    (subst (λ x. IsPlace None n x held) (sym none) (let_go_place n o c held are.0), held_let_go n o cs new walks are.1 rest)
 
 -- ---- places
 
@@ -76,7 +93,10 @@ mapped f false x = refl
 -- of the table that is open, what is held is what the continuation says
 pub own_is : {A : Type 0} (o : Options) (count n : ℕ) (c : Option (Continuation A)) (held : Option Held) → IsPlace (Some o) count c held → held_by o.name n held ≡ option_map (held_of o) (own_by o.name n c)
 own_is o count n None None is = refl
-own_is o count n None (Some held) is = absurd is
+own_is o count n None (Some held) is =
+    by_test (held.table == o.name) (held_by o.name n (Some held) ≡ None)
+    (λ here. absurd (is.1 (sym (eqb-true held.table o.name here))))
+    (λ there. rw there refl)
 own_is o count n (Some c) None is = absurd is
 own_is o count n (Some c) (Some held) is =
     by_test (c.table == o.name) (held_by o.name n (Some held) ≡ option_map (held_of o) (own_by o.name n (Some c)))

@@ -16,14 +16,14 @@ use Rattle.tool_script.specs.declared.script.Current.TheVariants as current
 use Rattle.tool_script.specs.declared.script.Script as script_type
 use Rattle.tool_script.specs.Command.{Selection}
 use Rattle.tool_script.specs.Command.Command.{Open, Walk, Close}
-use Rattle.tool_script.specs.Continuations.{AreHeld}
+use Rattle.tool_script.specs.Continuations.{AreHeld, AreLetGo}
 use Rattle.tool_script.specs.Course.{Takes}
 use Rattle.tool_script.specs.Opened.{IsOpen}
 use Rattle.tool_script.specs.Replied.{course, script_with}
-use Rattle.tool_script.specs.Script.{OpenTable, ScriptState, newly_opened, number_within, opening_of, options_with, session_number}
+use Rattle.tool_script.specs.Script.{OpenTable, ScriptState, error, newly_opened, number_within, opening_of, options_with, session_number}
 use Rattle.tool_script.specs.Scripts.{HasState, HasTable, open_options}
 use Rattle.tool_script.specs.Walks.{selecting_by}
-use Rattle.tool_script.proofs.ContinuationLemmas.{held_closed, held_opened}
+use Rattle.tool_script.proofs.ContinuationLemmas.{held_closed, held_let_go, held_opened}
 use Rattle.tool_script.proofs.CourseLemmas.{takes_in}
 use Rattle.tool_script.proofs.OptionLemmas.{options_named}
 
@@ -35,6 +35,10 @@ set_there o t (Some u) there = (u, refl, there)
 pub ordered_there : {S O A : Type 0} (s : Ghosts S A) {o : Ghosts O A} (t : open_type.OpenTable O A o) (state : Option OpenTable) → HasTable {S = S} {O = O} {A = A} {s = s} {o = o} (current.Ordered t) state → (there : OpenTable) × (state ≡ Some there) × IsOpen t there
 ordered_there s t None there = absurd there
 ordered_there s t (Some u) there = (u, refl, there)
+
+not_there : {S O A : Type 0} (s : Ghosts S A) (o : Ghosts O A) (state : Option OpenTable) → HasTable {S = S} {O = O} {A = A} {s = s} {o = o} current.NoTable state → state ≡ None
+not_there s o None there = refl
+not_there s o (Some u) there = absurd there
 
 none_there : (state : Option OpenTable) → is_some state ≡ false → state ≡ None
 none_there None none = refl
@@ -54,16 +58,27 @@ module _ {S O A : Type 0} {s : Ghosts S A} {o : Ghosts O A} where
       }
 
   -- the table is closed
-  pub closed_step : (old new : script_type.Script S O A s o) (st : ScriptState) (t : OpenTable) (objects : List Datum)
+  pub closed_step : (old new : script_type.Script S O A s o) (st : ScriptState) (t : OpenTable) (objects : List Datum) (cs : List (Option (Continuation A)))
       → HasState old st → st.current ≡ Some t → objects ≡ table_objects t.table
-      → new.current ≡ current.NoTable → new.count ≡ old.count → new.walks.items ≡ old.walks.items
+      → new.current ≡ current.NoTable → new.count ≡ old.count → new.walks.items ≡ cs → AreLetGo old.walks.items cs
       → Takes (course st st.current Close) (cells objects nil) (HasState new)
-  closed_step old new st t objects has there are now_is count_is walks_is =
+  closed_step old new st t objects cs has there are now_is count_is walks_is gone =
       subst (λ x. Takes (course st x Close) (cells objects nil) (HasState new)) (sym there) (
         ap (λ xs. cells xs nil) are,
-        has_state new (record { current = None; count = st.count; walks = st.walks }) current.NoTable old.count old.walks.items now_is count_is walks_is has.count tt tt
-            (held_closed old.count (open_options old.current) old.walks.items st.walks has.walks),
+        has_state new (record { current = None; count = st.count; walks = st.walks }) current.NoTable old.count cs now_is count_is walks_is has.count tt tt
+            (held_let_go old.count (open_options old.current) old.walks.items cs st.walks has.walks gone),
       )
+
+  -- there is none to be closed
+  pub unopened_step : (old new : script_type.Script S O A s o) (st : ScriptState) (cs : List (Option (Continuation A))) → HasState old st
+      → old.current ≡ current.NoTable → new.current ≡ current.NoTable → new.count ≡ old.count → new.walks.items ≡ cs → AreLetGo old.walks.items cs
+      → Takes (course st st.current Close) (error 65) (HasState new)
+  unopened_step old new st cs has was now_is count_is walks_is gone =
+      let there : HasTable {S = S} {O = O} {A = A} {s = s} {o = o} current.NoTable st.current = subst (λ x. HasTable x st.current) was has.current in
+      let state : HasState new st =
+      has_state new st current.NoTable old.count cs now_is count_is walks_is has.count there tt
+      (held_let_go old.count (open_options old.current) old.walks.items cs st.walks has.walks gone) in
+      subst (λ x. Takes (course st x Close) (error 65) (HasState new)) (sym (not_there s o st.current there)) (refl, state)
 
   -- a table is opened
   pub opened_step : (old new : script_type.Script S O A s o) (st : ScriptState) (kind : TableKind) (keypos parts sessions : ℤ) (p : Options) (now : Current S O A s o)

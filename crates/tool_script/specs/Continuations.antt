@@ -1,5 +1,5 @@
 -- The walks that can go on, in memory.
-use Rattle.std.specs.Prelude.{ℕ, ℤ, pos, ◌≡◌, ◌<◌, ◌==◌, ◌&&◌, ◌++◌, if◌then◌else◌}
+use Rattle.std.specs.Prelude.{ℕ, ℤ, pos, ◌≡◌, ◌≢◌, ◌<◌, ◌==◌, ◌&&◌, ◌++◌, if◌then◌else◌}
 use Rattle.std.specs.Prelude.{Option, Some, None, IfSome, get_or, set, List, [], ◌∷◌, length}
 use Rattle.term_core.specs.Datum.{Datum}
 use Rattle.mcode.specs.Answer.{answer_of}
@@ -34,9 +34,10 @@ pub record IsHeld {A : Type 0} (open_options : Option Options) (count : ℕ) (c 
     pub table : held.table ≡ c.table
     pub own : IfSome open_options (λ o. o.name ≡ c.table → (held ≡ held_of o c) × IsWithin o c.query c.at)
 
--- there is a walk in each place where there is a continuation
+-- There is a walk in each place where there is a continuation. One of a table that is closed may have been let go.
 abbrev pub IsPlace : {A : Type 0} → Option Options → ℕ → Option (Continuation A) → Option Held → Type 0
 IsPlace open_options count None None = Unit {0}
+IsPlace open_options count None (Some held) = (held.table < count) × IfSome open_options (λ o. o.name ≢ held.table)
 IsPlace open_options count (Some c) (Some held) = IsHeld open_options count c held
 IsPlace open_options count c held = ⊥
 
@@ -47,6 +48,12 @@ AreHeld open_options count [] [] = Unit {0}
 AreHeld open_options count (c ∷ cs) (held ∷ walks) =
     IsPlace open_options count c held × AreHeld open_options count cs walks
 AreHeld open_options count cs walks = ⊥
+
+-- ---- all are let go
+
+-- their places stay, and are empty
+abbrev pub AreLetGo : {A : Type 0} → (old new : List (Option (Continuation A))) → Type 0
+AreLetGo old new = (length new ≡ length old) × ((i : ℕ) → i < length old → get_or new i None ≡ None)
 
 -- ---- what goes on is taken out of its place, and kept in a new one
 

@@ -2,7 +2,7 @@
 use crate::command::{Ask, Command, Selection};
 use crate::open::{OpenTable, options_in};
 use crate::reply::CommandReply;
-use crate::walk::Walks;
+use crate::walk::{Walks, let_go};
 use part_core::{OpenFault, Part, TableKind};
 use std::alloc::{AllocError, Allocator, Global};
 use std::mem;
@@ -112,12 +112,13 @@ impl<S: Part<A> + Drop, O: Part<A> + Drop, A: Allocator + Copy> Script<S, O, A> 
         Ok(CommandReply::Flag(true))
     }
 
-    /// Closes the table.
+    /// Closes the table, and lets its walks go, which can't go on any more.
     fn close(&mut self) -> Result<CommandReply<A>, AllocError>
         ensures count { self.new.count ≡ self.old.count }
         ensures answered { IfOk result (λ reply.
             IsStep self.old self.new Close (reply_term reply)) }
     {
+        let_go(self.walks.as_mut_slice());
         match mem::replace(&mut self.current, Current::NoTable) {
             Current::Unordered(table) => Ok(CommandReply::Objects(table.close(self.alloc)?)),
             Current::Ordered(table) => Ok(CommandReply::Objects(table.close(self.alloc)?)),

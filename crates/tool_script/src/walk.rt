@@ -6,7 +6,7 @@ ghost use Rattle.tables.specs.declared.options.Options.{Options};
 ghost use Rattle.walks.specs.Query.{plan_of};
 ghost use Rattle.tool_script.specs.Command.Selection.{Select, SelectLimit, SelectMore, SelectCount, SelectDelete};
 ghost use Rattle.tool_script.specs.Commands.{selection_of};
-ghost use Rattle.tool_script.specs.Continuations.{IsKept, own_at, own_by, spent_at, spent_by};
+ghost use Rattle.tool_script.specs.Continuations.{AreLetGo, IsKept, own_at, own_by, spent_at, spent_by};
 ghost use Rattle.tool_script.specs.Replies.{reply_term};
 ghost use Rattle.tool_script.specs.State.{IsDone, IsSelected};
 ghost use Rattle.tool_script.specs.Verdict.{IsMeant};
@@ -28,6 +28,15 @@ use walks::{
 
 /// The walks that can go on, by the numbers of their continuations; none in the place of one that is spent.
 pub(crate) type Walks<A> = Vec<Option<Continuation<A>>, A>;
+
+/// Lets all walks go. Their numbers stay taken.
+pub(crate) fn let_go<A: Allocator>(walks: &mut [Option<Continuation<A>>])
+    ensures { AreLetGo walks.old walks.new }
+{
+    for place in 0..walks.len() {
+        walks[place] = None;
+    }
+}
 
 /// What a specification asks of the objects of a table with this `keypos`.
 fn query_of<A: Allocator + Copy>(
