@@ -1,7 +1,7 @@
-//! Rows that are played, once with memory, again with each request for memory refused in turn and asked for again, and
-//! up to the step in which it is refused.
-use kit_parts::{Cut, Options, Setting, byte, cut, kind_of, made, open_fault_text, steps_text};
-use kit_rows::{Calls, canonical, elements, short, swept, word, written};
+//! Rows that are played, once with memory, and again with each request for memory refused in turn and asked for again;
+//! and rows that are played up to the step in which it is refused.
+use kit_parts::{Cut, Options, Setting, byte, cut_steps, kind_of, made, open_fault_text, steps_text};
+use kit_rows::{Calls, elements, short, swept, word, written};
 use part_core::{OpenFault, Part, TableKind};
 use part_hash::HashPart;
 use part_order::OrderPart;
@@ -18,13 +18,22 @@ fn places(kind: &str) -> usize {
     if at_hashed(kind) == kind { 1 } else { 2 }
 }
 
-/// In how many forms a row is played: behind the others, where it has steps, once at each part up to a step that is
-/// refused.
+/// The call of a row that is cut.
+fn cut_call(kind: &str) -> Option<&'static str> {
+    match kind {
+        "cut_set" => Some("set"),
+        "cut_bag" => Some("bag"),
+        "cut_duplicate_bag" => Some("duplicate_bag"),
+        "cut_ordered_set" => Some("ordered_set"),
+        _ => None,
+    }
+}
+
+/// In how many forms a row is played at each of its parts.
 pub(crate) fn forms(kind: &str) -> usize {
-    if place_of(kind).is_some() {
-        (FORMS + 1).saturating_mul(places(kind))
-    } else {
-        FORMS.saturating_mul(places(kind))
+    match cut_call(kind) {
+        Some(call) => places(call),
+        None => FORMS.saturating_mul(places(kind)),
     }
 }
 
@@ -193,7 +202,7 @@ fn cut_at<A: Allocator + Copy, P: Part<A> + Drop>(
     };
     match made::<A, P>(heap, options, false) {
         Ok(mut part) => {
-            let cut = cut(alloc, heap, &mut part, setting, steps, most);
+            let cut = cut_steps(alloc, heap, &mut part, setting, steps, most);
             drop(part);
             cut
         }
@@ -290,11 +299,11 @@ impl Calls for CutCalls {
     }
 }
 
-/// What comes of a row that is cut at each request in turn: what it wants, where its part looks as before.
-fn came_cut(alloc: Global, call: &str, parts: &[Term], given: &[u8]) -> Option<Vec<u8>> {
+/// What comes of a row with memory, where its part looks as before with each request refused in turn.
+fn came_cut(alloc: Global, call: &str, given: &[u8]) -> Option<Vec<u8>> {
     let came = swept::<CutCalls>(alloc, call, given)?;
     if came.as_slice() == KEPT.as_bytes() {
-        canonical(alloc, parts.last()?)
+        outcome_of(alloc, alloc, call, given, false)
     } else {
         Some(came)
     }
@@ -320,16 +329,14 @@ impl Calls for PartCalls {
 pub(crate) fn came(alloc: Global, kind: &str, parts: &[Term], forms: usize) -> Option<Vec<u8>> {
     let given = written(alloc, parts)?;
     let given = given.as_slice();
-    match forms.checked_sub(FORMS.saturating_mul(places(kind))) {
-        Some(0) => came_cut(alloc, kind, parts, given),
-        Some(_) => came_cut(alloc, at_hashed(kind), parts, given),
-        None => {
-            let call = if forms < FORMS { kind } else { at_hashed(kind) };
-            if forms % FORMS == 0 {
-                outcome_of(alloc, alloc, call, given, false)
-            } else {
-                swept::<PartCalls>(alloc, call, given)
-            }
-        }
+    if let Some(call) = cut_call(kind) {
+        let call = if forms == 0 { call } else { at_hashed(call) };
+        return came_cut(alloc, call, given);
+    }
+    let call = if forms < FORMS { kind } else { at_hashed(kind) };
+    if forms % FORMS == 0 {
+        outcome_of(alloc, alloc, call, given, false)
+    } else {
+        swept::<PartCalls>(alloc, call, given)
     }
 }

@@ -192,7 +192,7 @@ fn made<A: Allocator + Copy, P: Part<A>>(
 }
 
 /// Makes the steps of a row, at most so many, up to one that is refused for want of memory.
-pub fn cut<A: Allocator + Copy, P: Part<A>>(
+pub fn cut_steps<A: Allocator + Copy, P: Part<A>>(
     alloc: Global,
     heap: A,
     part: &mut P,

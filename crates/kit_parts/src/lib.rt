@@ -18,7 +18,7 @@ mod replies;
 mod steps;
 mod turns;
 
-pub use cuts::{Cut, cut};
+pub use cuts::{Cut, cut_steps};
 pub use operations::{byte, kind_of};
 pub use replies::{answer_text, open_fault_text};
 pub use steps::{Setting, steps_text};

@@ -38,7 +38,7 @@ enum Sort {
 
 /// What came of an object that is put in.
 #[derive(Clone, Copy, PartialEq, Eq)]
-enum Put {
+enum Came {
     /// It is in.
     In,
     /// It was refused, came back, and is in now.
@@ -267,7 +267,7 @@ fn put_once<A: Allocator, T: Turns<A>>(
     query: &Query<A>,
     object: &Term<A>,
     case: Case,
-) -> Option<Put>
+) -> Option<Came>
     requires { T.is_ready turns.old }
     ensures ready { T.is_ready turns.new }
 {
@@ -276,39 +276,44 @@ fn put_once<A: Allocator, T: Turns<A>>(
     }
     let before = looked(alloc, turns, query)?;
     let Err(refused) = put_in(turns, object.copy().ok()?, case.is_new) else {
-        return Some(Put::In);
+        return Some(Came::In);
     };
     let before = before.as_slice();
     if is_back(alloc, turns, query, object, refused, before, case.is_new)? {
-        Some(Put::Again)
+        Some(Came::Again)
     } else {
-        Some(Put::Wrong)
+        Some(Came::Wrong)
     }
 }
 
 /// What a case wants.
 #[derive(Drop)]
-struct Given<A: Allocator> {
+struct Wanted<A: Allocator> {
     objects: Vec<Term<A>, A>,
     object: Term<A>,
     query: Query<A>,
 }
 
 /// The same of what is read.
-fn put<A: Allocator, T: Turns<A>>(alloc: Global, turns: &mut T, given: &Given<A>, case: Case) -> Put
+fn put<A: Allocator, T: Turns<A>>(
+    alloc: Global,
+    turns: &mut T,
+    given: &Wanted<A>,
+    case: Case,
+) -> Came
     requires { T.is_ready turns.old }
     ensures ready { T.is_ready turns.new }
 {
     match put_once(alloc, turns, &given.query, &given.object, case) {
         Some(put) => put,
-        None => Put::Wrong,
+        None => Came::Wrong,
     }
 }
 
 /// It is read.
-fn given<A: Allocator + Copy>(alloc: Global, heap: A, case: Case) -> Option<Given<A>> {
+fn given<A: Allocator + Copy>(alloc: Global, heap: A, case: Case) -> Option<Wanted<A>> {
     let text = text_of(alloc, case.rows)?;
-    Some(Given {
+    Some(Wanted {
         objects: read_terms(heap, text.as_bytes()).ok()?,
         object: term_of(heap, case.object.as_bytes())?,
         query: query_of(heap)?,
@@ -321,7 +326,7 @@ fn put_alone<A: Allocator + Copy, P: Part<A> + Drop>(
     heap: A,
     kind: TableKind,
     case: Case,
-) -> Option<Put> {
+) -> Option<Came> {
     let given = given(alloc, heap, case)?;
     let mut table = LocalTable::<P, A>::open(heap, options(kind)).ok()?;
     let mut at = table.at(0);
@@ -336,7 +341,7 @@ fn put_at<R: Wait, A: Allocator + Copy, P: Part<A> + Drop>(
     heap: A,
     kind: TableKind,
     case: Case,
-) -> Option<Put> {
+) -> Option<Came> {
     let given = given(alloc, heap, case)?;
     let (table, _others, session) = opened::<R, A, P>(
         rt,
@@ -357,7 +362,7 @@ fn put_by<R: Wait, A: Allocator + Copy, P: Part<A> + Drop>(
     has_gates: bool,
     kind: TableKind,
     case: Case,
-) -> Option<Put> {
+) -> Option<Came> {
     if has_gates {
         put_at::<R, A, P>(rt, alloc, heap, kind, case)
     } else {
@@ -387,9 +392,9 @@ fn is_right<R: Wait>(
         ),
     };
     match came {
-        Some(Put::In) => true,
-        Some(Put::Again) => heap.was_refused(),
-        Some(Put::Wrong) => false,
+        Some(Came::In) => true,
+        Some(Came::Again) => heap.was_refused(),
+        Some(Came::Wrong) => false,
         None => heap.was_refused(),
     }
 }
