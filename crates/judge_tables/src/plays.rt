@@ -1,6 +1,8 @@
 //! Rows that are played, once with memory, and again with each request for memory refused in turn and asked for again;
 //! and rows that are played up to the step in which it is refused.
-use kit_parts::{Cut, Options, Setting, byte, cut_steps, kind_of, made, open_fault_text, steps_text};
+use kit_parts::{
+    Cut, Options, Setting, byte, cut_steps, kind_of, made, open_fault_text, steps_text,
+};
 use kit_rows::{Calls, elements, short, swept, word, written};
 use part_core::{OpenFault, Part, TableKind};
 use part_hash::HashPart;
