@@ -3,11 +3,11 @@
 ghost use Rattle.std.specs.Prelude.{◌≡◌, ◌<◌};
 
 use crate::operations::code_of;
-use crate::replies::answer_text;
+use crate::replies::visit_text;
 use crate::steps::{Setting, step_once};
 use crate::turns::{Turn, answer};
 use kit_rows::{Outcome, fields, number, term_of};
-use part_core::{Cursor, Look, Part, PartOp, Reply, Scope};
+use part_core::{Cursor, Look, Part, PartOp, Scope};
 use std::alloc::{Allocator, Global};
 use term_core::Term;
 use verifier::Verified;
@@ -54,11 +54,8 @@ fn seen<'a, A: Allocator, P: Part<A>>(
     };
     let mut op = PartOp::Visit(look);
     let answer = answer(part, turn, &mut op);
-    let text = answer_text(alloc, &answer)?;
-    match answer {
-        Ok(Reply::Found(_answers, next)) => Some((text, next)),
-        _ => None,
-    }
+    drop(op);
+    visit_text(alloc, answer)
 }
 
 /// The visits of a walk through a part.

@@ -20,6 +20,6 @@ mod turns;
 
 pub use cuts::{Cut, cut_steps};
 pub use operations::{byte, kind_of};
-pub use replies::{answer_text, open_fault_text};
+pub use replies::{open_fault_text, visit_text};
 pub use steps::{Setting, steps_text};
 pub use turns::{Options, made};

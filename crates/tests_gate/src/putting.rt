@@ -5,10 +5,10 @@ ghost use Rattle.std.specs.Prelude.{◌≡◌, ◌<◌};
 
 use kit_alloc::{Failing, sweep};
 use kit_members::{opened, put_all};
-use kit_parts::answer_text;
+use kit_parts::visit_text;
 use kit_rows::{Outcome, term_of};
 use mspec_reader::read_spec;
-use part_core::{Cursor, Fault, Look, Part, PartOp, Reply, Scope, TableKind};
+use part_core::{Cursor, Fault, Look, Part, PartOp, Scope, TableKind};
 use part_hash::HashPart;
 use part_order::OrderPart;
 use part_plain::PlainPart;
@@ -164,15 +164,12 @@ fn seen<'a, A: Allocator, T: Turns<A>>(
         wanted: 1,
     };
     let mut op = PartOp::Visit(look);
-    let answer = match turns.turn(part, &mut op) {
-        Ok(reply) => Ok(reply),
-        Err(_) => turns.turn(part, &mut op),
-    };
-    let text = answer_text(alloc, &answer)?;
-    match answer {
-        Ok(Reply::Found(_answers, next)) => Some((text, next)),
-        _ => None,
+    let mut answer = turns.turn(part, &mut op);
+    if answer.is_err() {
+        answer = turns.turn(part, &mut op);
     }
+    drop(op);
+    visit_text(alloc, answer)
 }
 
 /// The visits of a walk through a part: its objects by classes, and how many classes there are.
