@@ -22,8 +22,6 @@ mod objects;
 #[cfg(test)]
 mod pairs;
 #[cfg(test)]
-mod putting;
-#[cfg(test)]
 mod refusals;
 #[cfg(test)]
 mod selecting;

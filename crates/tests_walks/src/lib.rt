@@ -5,14 +5,12 @@
 //! tests.
 //!
 //! - `plays`: a table of objects, a query, and calls that are asked again; `refusals`: the calls with each request
-//!   refused in turn; `deletions`: the numbers of refused deletions; `writers`: pieces between which sessions write.
+//!   refused in turn.
 //! - `lists`: lists of objects.
 //! - `seats`: members of a selection that wait for each other. `members`: what members come to, over tables of both
 //!   sorts; `selections`: the tests of that; `refused_members`: the same with each request refused in turn.
 #![tactic(auto)]
 
-#[cfg(test)]
-mod deletions;
 #[cfg(test)]
 mod lists;
 #[cfg(test)]
@@ -27,5 +25,3 @@ mod refused_members;
 mod seats;
 #[cfg(test)]
 mod selections;
-#[cfg(test)]
-mod writers;

@@ -109,25 +109,15 @@ fn requests(alloc: Global, text: &str) -> Option<u64> {
     Some(heap.requests())
 }
 
-/// Whether a list is refused where the request of this number is, and answered right when it is asked again; none where
-/// its answers are wrong, or it is refused though no request is, or answered though one is.
+/// Whether a list is refused where the request of this number is; none where its answers are wrong, or it is refused
+/// though no request is, or answered though one is.
 fn is_refused<R: Threads + Sync>(rt: &R, alloc: Global, text: &str, request: u64) -> Option<bool> {
     let heap = Failing::refusing_nth(alloc, request);
     let code = code(&heap)?;
     let objects = objects(&heap, text)?;
     match run_list(rt, &heap, &code, objects.as_slice()) {
-        Ok(answers)
-            if !heap.was_refused()
-                && answers.len() == objects.len()
-                && are_even(answers.as_slice()) => { Some(false) }
-        Err(AllocError) if heap.was_refused() => {
-            let again = run_list(rt, &heap, &code, objects.as_slice()).ok()?;
-            if again.len() == objects.len() && are_even(again.as_slice()) {
-                Some(true)
-            } else {
-                None
-            }
-        }
+        Ok(answers) if !heap.was_refused() && are_even(answers.as_slice()) => Some(false),
+        Err(AllocError) if heap.was_refused() => Some(true),
         _ => None,
     }
 }

@@ -10,7 +10,7 @@ use kit_rows::{digits, listed, numbered, term_of, word};
 use mspec_reader::read_spec;
 use parallel_select::{count_parts, delete_parts, select_parts};
 use part_core::{Part, TableKind};
-use std::alloc::{Allocator, Global};
+use std::alloc::Global;
 use std::sync::Wait;
 use std::sync::atomic::AtomicBool;
 use std::thread::Threads;
@@ -154,11 +154,11 @@ fn called_at<R: Threads + Wait + Sync, P: Part<Global> + Drop + Send>(
 }
 
 /// Sessions of a table, and one more behind them.
-fn put_back<A: Allocator + Copy, P: Part<A> + Drop>(
-    _table: &Table<P, A>,
-    mut sessions: Vec<Session<P, A>, A>,
-    last: Session<P, A>,
-) -> Option<Vec<Session<P, A>, A>>
+fn put_back<P: Part<Global> + Drop>(
+    _table: &Table<P>,
+    mut sessions: Vec<Session<P>>,
+    last: Session<P>,
+) -> Option<Vec<Session<P>>>
     requires { All (λ s. IsOpened _table.now.options _table.now.gates.items s.number s.passes.items) sessions.items
         × IsOpened _table.now.options _table.now.gates.items last.number last.passes.items }
     ensures { IfSome result (λ all. All (λ s. IsOpened _table.now.options _table.now.gates.items s.number s.passes.items) all.items) }
@@ -168,15 +168,15 @@ fn put_back<A: Allocator + Copy, P: Part<A> + Drop>(
 }
 
 /// A table with objects and its sessions, so many of them.
-pub(crate) fn set_with_objects<R: Wait, A: Allocator + Copy, P: Part<A> + Drop>(
+fn set_with_objects<R: Wait, P: Part<Global> + Drop>(
     rt: &R,
-    heap: A,
-    options: Options,
-    objects: &[Term<A>],
-) -> Option<(Table<P, A>, Vec<Session<P, A>, A>)>
+    alloc: Global,
+    members: u8,
+    objects: &[Term],
+) -> Option<(Table<P>, Vec<Session<P>>)>
     ensures { IfSome result (λ made. All (λ s. IsOpened made.0.options made.0.gates.items s.number s.passes.items) made.1.items) }
 {
-    let (table, sessions, last) = opened::<R, A, P>(rt, heap, options, objects)?;
+    let (table, sessions, last) = opened::<R, Global, P>(rt, alloc, options(members), objects)?;
     let all = put_back(&table, sessions, last)?;
     Some((table, all))
 }
@@ -193,12 +193,7 @@ pub(crate) fn asked<P: Part<Global> + Drop + Send, R: Threads + Wait + Sync>(
     call: Call,
 ) -> Option<Vec<u8>> {
     let objects = read_terms(alloc, objects.as_bytes()).ok()?;
-    let (table, mut sessions) = set_with_objects::<R, Global, P>(
-        rt,
-        alloc,
-        options(members),
-        objects.as_slice(),
-    )?;
+    let (table, mut sessions) = set_with_objects::<R, P>(rt, alloc, members, objects.as_slice())?;
     called_at(
         rt,
         alloc,
@@ -218,12 +213,7 @@ pub(crate) fn deleted_and_counted<P: Part<Global> + Drop + Send, R: Threads + Wa
     query: &Query,
 ) -> Option<(Vec<u8>, Vec<u8>)> {
     let objects = read_terms(alloc, objects.as_bytes()).ok()?;
-    let (table, mut sessions) = set_with_objects::<R, Global, P>(
-        rt,
-        alloc,
-        options(3),
-        objects.as_slice(),
-    )?;
+    let (table, mut sessions) = set_with_objects::<R, P>(rt, alloc, 3, objects.as_slice())?;
     let (one, others) = sessions.split_first_mut()?;
     let deleted = called_at(rt, alloc, &table, others, None, query, Call::Delete)?;
     let counted = called_at(

@@ -5,7 +5,7 @@ use kit_rows::{digits, listed, term_of, word};
 use mspec_reader::read_spec;
 use part_core::{Part, TableKind};
 use std::alloc::{Allocator, Global};
-use tables::{LocalTable, Options, Turns, fix, insert};
+use tables::{LocalTable, Options, Turns, insert};
 use term_core::Term;
 use term_text::read_terms;
 use walks::{
@@ -36,12 +36,10 @@ pub(crate) struct Play<'a> {
     pub(crate) objects: &'a str,
     pub(crate) specification: &'a str,
     pub(crate) call: Call,
-    /// How often the session fixes each part before it.
-    pub(crate) fixes: u16,
 }
 
 /// An empty table of one session.
-pub(crate) fn opened<P: Part<A> + Drop, A: Allocator + Copy>(
+fn opened<P: Part<A> + Drop, A: Allocator + Copy>(
     heap: A,
     play: Play<'_>,
 ) -> Option<LocalTable<P, A>>
@@ -69,32 +67,14 @@ fn put_all<A: Allocator + Copy, T: Turns<A>>(session: &mut T, objects: &[Term<A>
     Some(())
 }
 
-/// Puts the objects of a play in, and fixes the table as often as it says.
-pub(crate) fn prepared<A: Allocator + Copy, T: Turns<A>>(
-    heap: A,
-    session: &mut T,
-    play: Play<'_>,
-) -> Option<()>
-    requires { T.is_ready session.old }
-    ensures ready { T.is_ready session.new }
-    ensures same { T.home session.new ≡ T.home session.old }
-{
-    let objects = read_terms(heap, play.objects.as_bytes()).ok()?;
-    put_all(session, objects.as_slice())?;
-    for _fix in 0..play.fixes {
-        fix(session).ok()?;
-    }
-    Some(())
-}
-
 /// The query of a specification.
-pub(crate) fn query_of<A: Allocator + Copy>(heap: A, specification: &str) -> Option<Query<A>> {
+fn query_of<A: Allocator + Copy>(heap: A, specification: &str) -> Option<Query<A>> {
     let term = term_of(heap, specification.as_bytes())?;
     Query::from_spec(heap, &read_spec(heap, &term).ok()?, 1).ok()
 }
 
 /// A walk in pieces is begun.
-pub(crate) fn begun<A: Allocator + Copy, T: Turns<A>>(
+fn begun<A: Allocator + Copy, T: Turns<A>>(
     heap: A,
     session: &mut T,
     query: Query<A>,
@@ -111,7 +91,7 @@ pub(crate) fn begun<A: Allocator + Copy, T: Turns<A>>(
 }
 
 /// It is carried on.
-pub(crate) fn gone_on<A: Allocator + Copy, T: Turns<A>>(
+fn gone_on<A: Allocator + Copy, T: Turns<A>>(
     heap: A,
     session: &mut T,
     walk: Continuation<A>,
@@ -127,11 +107,7 @@ pub(crate) fn gone_on<A: Allocator + Copy, T: Turns<A>>(
 }
 
 /// Puts the line of a piece at the end.
-pub(crate) fn put_piece<A: Allocator>(
-    alloc: Global,
-    piece: &[Term<A>],
-    lines: &mut Vec<u8>,
-) -> Option<()> {
+fn put_piece<A: Allocator>(alloc: Global, piece: &[Term<A>], lines: &mut Vec<u8>) -> Option<()> {
     lines
         .extend_from_slice(listed(alloc, piece)?.as_slice())
         .ok()?;
@@ -164,28 +140,12 @@ fn pieces<A: Allocator + Copy, T: Turns<A>>(
     None
 }
 
-/// Whether the session fixes each part so often.
-pub(crate) fn fixes_each<A: Allocator, T: Turns<A>>(session: &T, fixes: u16) -> bool
-    requires { T.is_ready session.now }
-{
-    for part in 0..session.options().parts {
-        if session.fixes(part) != fixes {
-            return false;
-        }
-    }
-    true
-}
-
-/// What comes of a call that leaves a fix behind.
-const LEFT: &str = "a fix is left";
-
 /// All answers of a query.
-pub(crate) fn all<A: Allocator + Copy, T: Turns<A>>(
+fn all<A: Allocator + Copy, T: Turns<A>>(
     alloc: Global,
     heap: A,
     session: &mut T,
     query: &Query<A>,
-    fixes: u16,
 ) -> Option<Vec<u8>>
     requires { T.is_ready session.old }
     ensures ready { T.is_ready session.new }
@@ -193,81 +153,70 @@ pub(crate) fn all<A: Allocator + Copy, T: Turns<A>>(
 {
     match select(heap, session, query) {
         Ok(answers) => listed(alloc, answers.as_slice()),
-        Err(_) => {
-            if !fixes_each(session, fixes) {
-                return word(alloc, LEFT);
-            }
-            listed(alloc, select(heap, session, query).ok()?.as_slice())
-        }
+        Err(_) => listed(alloc, select(heap, session, query).ok()?.as_slice()),
     }
 }
 
 /// How many objects answer true.
-fn counted<A: Allocator, T: Turns<A>>(
-    alloc: Global,
-    session: &mut T,
-    query: &Query<A>,
-    fixes: u16,
-) -> Option<Vec<u8>>
+fn counted<A: Allocator, T: Turns<A>>(session: &mut T, query: &Query<A>) -> Option<u64>
     requires { T.is_ready session.old }
     ensures ready { T.is_ready session.new }
     ensures same { T.home session.new ≡ T.home session.old }
 {
     match select_count(session, query) {
-        Ok(count) => digits(alloc, count),
-        Err(_) => {
-            if !fixes_each(session, fixes) {
-                return word(alloc, LEFT);
-            }
-            digits(alloc, select_count(session, query).ok()?)
-        }
+        Ok(count) => Some(count),
+        Err(_) => select_count(session, query).ok(),
     }
 }
 
 /// How many objects are deleted, those of a refused call among them.
-fn deleted<A: Allocator, T: Turns<A>>(
-    alloc: Global,
-    session: &mut T,
-    query: &Query<A>,
-    fixes: u16,
-) -> Option<Vec<u8>>
+fn deleted<A: Allocator, T: Turns<A>>(session: &mut T, query: &Query<A>) -> Option<u64>
     requires { T.is_ready session.old }
     ensures ready { T.is_ready session.new }
     ensures same { T.home session.new ≡ T.home session.old }
 {
     match select_delete(session, query) {
-        Ok(count) => digits(alloc, count),
+        Ok(count) => Some(count),
         Err(refused) => {
-            if !fixes_each(session, fixes) {
-                return word(alloc, LEFT);
-            }
             let rest = select_delete(session, query).ok()?;
-            digits(alloc, rest.saturating_add(refused.value))
+            Some(rest.saturating_add(refused.value))
         }
     }
 }
 
-/// What comes of the call that is played; none where it is refused once more.
+/// Whether the session fixes no part.
+fn is_unfixed<A: Allocator, T: Turns<A>>(session: &T) -> bool
+    requires { T.is_ready session.now }
+{
+    for part in 0..session.options().parts {
+        if session.fixes(part) != 0 {
+            return false;
+        }
+    }
+    true
+}
+
+/// What comes of the call that is played.
 fn called<A: Allocator + Copy, T: Turns<A>>(
     alloc: Global,
     heap: A,
     session: &mut T,
-    query: Query<A>,
     play: Play<'_>,
 ) -> Option<Vec<u8>>
     requires { T.is_ready session.old }
     ensures ready { T.is_ready session.new }
     ensures same { T.home session.new ≡ T.home session.old }
 {
+    let query = query_of(heap, play.specification)?;
     match play.call {
         Call::Pieces(limit) => pieces(alloc, heap, session, query, limit),
-        Call::Select => all(alloc, heap, session, &query, play.fixes),
-        Call::Count => counted(alloc, session, &query, play.fixes),
-        Call::Delete => deleted(alloc, session, &query, play.fixes),
+        Call::Select => all(alloc, heap, session, &query),
+        Call::Count => digits(alloc, counted(session, &query)?),
+        Call::Delete => digits(alloc, deleted(session, &query)?),
     }
 }
 
-/// The same, with the objects put in before, and a word where it is refused once more or a fix is left behind.
+/// The same, with the objects put in before, and a mark where a fix is left behind.
 fn played_in<A: Allocator + Copy, T: Turns<A>>(
     alloc: Global,
     heap: A,
@@ -276,15 +225,13 @@ fn played_in<A: Allocator + Copy, T: Turns<A>>(
 ) -> Option<Vec<u8>>
     requires { T.is_ready session.old }
 {
-    let query = query_of(heap, play.specification)?;
-    prepared(heap, session, play)?;
-    let Some(came) = called(alloc, heap, session, query, play) else {
-        return word(alloc, "it is refused once more");
-    };
-    if fixes_each(session, play.fixes) {
+    let objects = read_terms(heap, play.objects.as_bytes()).ok()?;
+    put_all(session, objects.as_slice())?;
+    let came = called(alloc, heap, session, play)?;
+    if is_unfixed(session) {
         Some(came)
     } else {
-        word(alloc, LEFT)
+        word(alloc, "a fix is left")
     }
 }
 

@@ -23,13 +23,11 @@ const KEYS: &str = "{0,a}. {1,b}. {16,c}. {32,d}. {3,e}. {48,f}.";
 const SECOND: &str = "[{{'_','$1'},[],['$1']}].";
 /// Objects with a key of at least 16 answer true.
 const LARGE: &str = "[{{'$1','_'},[{'>=','$1',16}],[true]}].";
-/// The same, by a tuple that is made of each key.
-const LARGE_MADE: &str = "[{{'$1','_'},[{'=<',{{16}},{{'$1'}}}],[true]}].";
 /// Keys that are named, one of them twice, and one that isn't there.
 const NAMED: &str =
     "[{{32,'$1'},[],['$1']},{{5,'$1'},[],['$1']},{{0,'$1'},[],['$1']},{{32,'_'},[],[again]}].";
 
-const SET_CASES: [Case<'static>; 8] = [
+const SET_CASES: [Case<'static>; 5] = [
     Case {
         play: Play {
             kind: TableKind::Set,
@@ -37,7 +35,6 @@ const SET_CASES: [Case<'static>; 8] = [
             objects: KEYS,
             specification: SECOND,
             call: Call::Pieces(2),
-            fixes: 0,
         },
         wanted: "[a,c]\n[d,f]\n[b,e]\n",
     },
@@ -48,7 +45,6 @@ const SET_CASES: [Case<'static>; 8] = [
             objects: KEYS,
             specification: NAMED,
             call: Call::Pieces(1),
-            fixes: 0,
         },
         wanted: "[d]\n[a]\n",
     },
@@ -59,7 +55,6 @@ const SET_CASES: [Case<'static>; 8] = [
             objects: KEYS,
             specification: SECOND,
             call: Call::Select,
-            fixes: 0,
         },
         wanted: "[a,c,d,f,b,e]",
     },
@@ -70,7 +65,6 @@ const SET_CASES: [Case<'static>; 8] = [
             objects: KEYS,
             specification: LARGE,
             call: Call::Count,
-            fixes: 0,
         },
         wanted: "3",
     },
@@ -81,40 +75,6 @@ const SET_CASES: [Case<'static>; 8] = [
             objects: KEYS,
             specification: LARGE,
             call: Call::Delete,
-            fixes: 0,
-        },
-        wanted: "3",
-    },
-    Case {
-        play: Play {
-            kind: TableKind::Set,
-            parts: 2,
-            objects: KEYS,
-            specification: SECOND,
-            call: Call::Select,
-            fixes: 1,
-        },
-        wanted: "[a,c,d,f,b,e]",
-    },
-    Case {
-        play: Play {
-            kind: TableKind::Set,
-            parts: 2,
-            objects: KEYS,
-            specification: LARGE_MADE,
-            call: Call::Count,
-            fixes: 1,
-        },
-        wanted: "3",
-    },
-    Case {
-        play: Play {
-            kind: TableKind::Set,
-            parts: 2,
-            objects: KEYS,
-            specification: LARGE_MADE,
-            call: Call::Delete,
-            fixes: 1,
         },
         wanted: "3",
     },
@@ -128,7 +88,6 @@ const ORDERED_CASES: [Case<'static>; 4] = [
             objects: KEYS,
             specification: SECOND,
             call: Call::Pieces(4),
-            fixes: 0,
         },
         wanted: "[a,b,e,c]\n[d,f]\n",
     },
@@ -139,7 +98,6 @@ const ORDERED_CASES: [Case<'static>; 4] = [
             objects: KEYS,
             specification: NAMED,
             call: Call::Pieces(1),
-            fixes: 0,
         },
         wanted: "[a]\n[d]\n",
     },
@@ -150,7 +108,6 @@ const ORDERED_CASES: [Case<'static>; 4] = [
             objects: KEYS,
             specification: SECOND,
             call: Call::Select,
-            fixes: 0,
         },
         wanted: "[a,b,e,c,d,f]",
     },
@@ -161,7 +118,6 @@ const ORDERED_CASES: [Case<'static>; 4] = [
             objects: KEYS,
             specification: LARGE,
             call: Call::Delete,
-            fixes: 0,
         },
         wanted: "3",
     },
@@ -181,13 +137,10 @@ fn is_right<P: Part<A> + Drop, A: Allocator + Copy>(
 /// in turn.
 fn holds_at_sets(alloc: Global, case: Case<'_>) -> bool {
     let outcome = sweep(alloc, MOST_REQUESTS, |heap: &Failing<Global>| {
-        let is_right = match is_right::<HashPart<&Failing<Global>>, &Failing<Global>>(
-            alloc, heap, case,
-        ) {
+        match is_right::<HashPart<&Failing<Global>>, &Failing<Global>>(alloc, heap, case) {
             Some(is_right) => is_right,
             None => heap.was_refused(),
-        };
-        is_right && heap.blocks() == 0
+        }
     });
     outcome.is_complete()
         && is_right::<HashPart<Global>, Global>(alloc, alloc, case) == Some(true)
@@ -197,13 +150,10 @@ fn holds_at_sets(alloc: Global, case: Case<'_>) -> bool {
 /// Whether a case is right at an ordered set, also with each request refused in turn.
 fn holds_at_ordered_sets(alloc: Global, case: Case<'_>) -> bool {
     let outcome = sweep(alloc, MOST_REQUESTS, |heap: &Failing<Global>| {
-        let is_right = match is_right::<OrderPart<&Failing<Global>>, &Failing<Global>>(
-            alloc, heap, case,
-        ) {
+        match is_right::<OrderPart<&Failing<Global>>, &Failing<Global>>(alloc, heap, case) {
             Some(is_right) => is_right,
             None => heap.was_refused(),
-        };
-        is_right && heap.blocks() == 0
+        }
     });
     outcome.is_complete() && is_right::<OrderPart<Global>, Global>(alloc, alloc, case) == Some(true)
 }
