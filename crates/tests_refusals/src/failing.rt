@@ -214,7 +214,9 @@ fn sweeps_no_further_than_told(rt: HostRuntime) {
 fn misbehaved(alloc: Global) -> [SweepOutcome; 3] {
     let hidden = sweep(alloc, 100, |heap| sum_or_zero(heap) == 6);
     let third = sweep(alloc, 100, |heap| four_requests(heap)[2]);
-    let second = sweep_onward(alloc, 100, |heap| heap.plan() != Plan::From(2));
+    let second = sweep_onward(alloc, 100, |heap| {
+        four_requests(heap)[3] || heap.plan() != Plan::From(2)
+    });
     [hidden, third, second]
 }
 
