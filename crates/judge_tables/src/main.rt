@@ -5,8 +5,7 @@
 //! `stdin` has the rows, those of parts first, and at the head of each of the two the form of its kinds. The judge is
 //! proved once, and rows cost nothing but their run.
 //!
-//! - `plays`: rows of parts, with memory and with each request refused in turn (`PartCalls`), and rows that are cut at
-//!   the step which is refused (`CutCalls`).
+//! - `plays`: rows of parts, with memory and with each request refused in turn: `PartCalls` says which part plays a row.
 //! - `scripts`: rows of scripts.
 //!
 //! The steps of a row of parts, turns, operations and replies are in `kit_parts`.

@@ -8,18 +8,15 @@
 //!
 //! - `steps`: the steps of a row, one after the other; `turns`: one operation, which is handed back where it is
 //!   refused.
-//! - `cuts`: steps up to one that is refused for want of memory, and how the part looks then.
 //! - `operations`: an operation that a term says; `replies`: what a part answers, as a text.
 #![tactic(auto)]
 
-mod cuts;
 mod operations;
 mod replies;
 mod steps;
 mod turns;
 
-pub use cuts::{Cut, cut_steps};
 pub use operations::{byte, kind_of};
-pub use replies::{open_fault_text, visit_text};
+pub use replies::open_fault_text;
 pub use steps::{Setting, steps_text};
 pub use turns::{Options, made};

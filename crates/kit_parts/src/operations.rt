@@ -144,15 +144,6 @@ pub(crate) fn keyed<'a, A: Allocator + Copy>(
     }
 }
 
-/// Whether an operation that was refused has the object in it that it was to put in.
-pub(crate) fn is_back<A: Allocator>(op: &PartOp<'_, A>, object: &Term<A>) -> bool {
-    match op {
-        PartOp::Insert(put) => put.as_ref() == Some(object),
-        PartOp::InsertNew(put) => put.as_ref() == Some(object),
-        _ => true,
-    }
-}
-
 /// The visit of a name.
 pub(crate) fn visit<'a, A: Allocator>(
     name: &str,

@@ -93,17 +93,3 @@ pub(crate) fn answer_text<A: Allocator>(
 pub fn open_fault_text(alloc: Global, fault: OpenFault) -> Option<Vec<u8>> {
     numbered(alloc, "error", usize::from(fault.number()))
 }
-
-/// The text of what a visit that answers found, and where the next one is; none where it was refused.
-pub fn visit_text<A: Allocator>(
-    alloc: Global,
-    answer: Result<Reply<A>, Fault>,
-) -> Option<(Vec<u8>, Option<Cursor<A>>)> {
-    let text = answer_text(alloc, &answer)?;
-    let reply = answer.ok()?;
-    match reply {
-        Reply::Found(_answers, next) => Some((text, next)),
-        Reply::Counted(_count, _next) => None,
-        Reply::Done | Reply::Flag(_) | Reply::Objects(_) | Reply::AtKey(_) => None,
-    }
-}

@@ -4,11 +4,11 @@ ghost use Rattle.part_core.specs.Acts.{IsAsked};
 ghost use Rattle.part_core.specs.Ops.{act_of};
 
 use crate::operations::{
-    bare, byte, code_of, cursor_of, is_back, keyed, name_of, named_key, visit, wanted_of,
+    bare, byte, code_of, cursor_of, keyed, name_of, named_key, visit, wanted_of,
 };
 use crate::replies::{answer_text, objects_text};
 use crate::turns::{Turn, answer, objects};
-use kit_rows::{Outcome, canonical, fields, is_atom, number, word};
+use kit_rows::{Outcome, canonical, fields, is_atom, number};
 use part_core::{Part, PartOp, Scope};
 use std::alloc::{Allocator, Global};
 use term_core::Term;
@@ -26,25 +26,6 @@ fn came_of<'a, A: Allocator, P: Part<A>>(
     ensures { P.settings part.new ≡ P.settings part.old }
 {
     let answer = answer(part, turn, &mut op);
-    answer_text(alloc, &answer)
-}
-
-/// What comes of an operation on an object or a key, and whether an object that was refused came back.
-fn came_at<'a, A: Allocator, P: Part<A>>(
-    alloc: Global,
-    part: &mut P,
-    turn: Turn,
-    mut op: PartOp<'a, A>,
-    operand: &Term<A>,
-) -> Option<Vec<u8>>
-    requires session { turn.session < (P.settings part.old).sessions }
-    requires asked { IsAsked (act_of op) }
-    ensures { P.settings part.new ≡ P.settings part.old }
-{
-    let answer = answer(part, turn, &mut op);
-    if answer.is_err() && !is_back(&op, operand) {
-        return word(alloc, "another_came_back");
-    }
     answer_text(alloc, &answer)
 }
 
@@ -129,7 +110,7 @@ fn came<A: Allocator + Copy, P: Part<A>>(
         None => came_of(alloc, part, turn, bare(name_of(op)?)?),
         Some([tag, operand]) => {
             let op = keyed(name_of(tag)?, operand)?;
-            came_at(alloc, part, turn, op, operand)
+            came_of(alloc, part, turn, op)
         }
         Some(op) => visited(alloc, heap, part, turn, op),
     }
@@ -142,12 +123,10 @@ pub struct Setting {
     pub sessions: u8,
     /// Whether a request for memory may be refused.
     pub is_scarce: bool,
-    /// Whether the row ends with a step that is refused for it.
-    pub is_cut: bool,
 }
 
 /// A step with the reply that came.
-pub(crate) fn step_once<A: Allocator + Copy, P: Part<A>>(
+fn step_once<A: Allocator + Copy, P: Part<A>>(
     alloc: Global,
     heap: A,
     part: &mut P,
@@ -167,7 +146,6 @@ pub(crate) fn step_once<A: Allocator + Copy, P: Part<A>>(
     let turn = Turn {
         session,
         is_scarce: setting.is_scarce,
-        is_cut: setting.is_cut,
     };
     let reply = came(alloc, heap, part, turn, op)?;
     let out = Outcome::tuple(alloc).number(usize::from(session)).term(op);

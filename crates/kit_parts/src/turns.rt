@@ -8,13 +8,11 @@ use part_core::{Fault, OpenFault, Part, PartOp, Reply, TableKind};
 use std::alloc::{AllocError, Allocator};
 use term_core::Term;
 
-/// Who asks, whether a request for memory may be refused, and whether that is the end.
+/// Who asks, and whether a request for memory may be refused.
 #[derive(Clone, Copy)]
 pub(crate) struct Turn {
     pub(crate) session: u8,
     pub(crate) is_scarce: bool,
-    /// What is refused for want of memory isn't asked for again.
-    pub(crate) is_cut: bool,
 }
 
 /// What a part is made for.
@@ -96,7 +94,7 @@ fn done<'a, A: Allocator, P: Part<A>>(
     }
 }
 
-/// Does an operation, and asks for it once more where it is refused, but for want of memory where that is the end.
+/// Does an operation, and asks for it once more where it is refused.
 pub(crate) fn answer<'a, A: Allocator, P: Part<A>>(
     part: &mut P,
     turn: Turn,
@@ -108,13 +106,7 @@ pub(crate) fn answer<'a, A: Allocator, P: Part<A>>(
 {
     match done(part, turn, op) {
         Ok(reply) => Ok(reply),
-        Err(fault) => {
-            if turn.is_cut && fault == Fault::Memory {
-                Err(fault)
-            } else {
-                done(part, turn, op)
-            }
-        }
+        Err(_) => done(part, turn, op),
     }
 }
 
