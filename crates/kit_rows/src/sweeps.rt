@@ -35,15 +35,20 @@ fn is_right<C: Calls>(
     is_right && heap.blocks() == 0
 }
 
-/// Whether it is so whichever request is refused, alone and with all behind it.
+/// Whether it is so whichever request is refused.
 fn is_swept<C: Calls>(alloc: Global, call: &str, given: &[u8], wanted: &[u8]) -> bool {
-    let alone = sweep(alloc, C::MOST_REQUESTS, |heap: &Failing<Global>| {
+    sweep(alloc, C::MOST_REQUESTS, |heap: &Failing<Global>| {
         is_right::<C>(alloc, heap, call, given, wanted)
-    });
-    let onward = sweep_onward(alloc, C::MOST_REQUESTS, |heap: &Failing<Global>| {
+    })
+    .is_complete()
+}
+
+/// Whether it is so where with a request all behind it are refused.
+fn is_swept_onward<C: Calls>(alloc: Global, call: &str, given: &[u8], wanted: &[u8]) -> bool {
+    sweep_onward(alloc, C::MOST_REQUESTS, |heap: &Failing<Global>| {
         is_right::<C>(alloc, heap, call, given, wanted)
-    });
-    alone.is_complete() && onward.is_complete()
+    })
+    .is_complete()
 }
 
 /// What comes of a call, with memory and with each request refused in turn.
@@ -56,13 +61,23 @@ pub fn swept<C: Calls>(alloc: Global, call: &str, given: &[u8]) -> Option<Vec<u8
     }
 }
 
+/// The same, and with each refused and all behind it.
+fn swept_onward<C: Calls>(alloc: Global, call: &str, given: &[u8]) -> Option<Vec<u8>> {
+    let out = swept::<C>(alloc, call, given)?;
+    if is_swept_onward::<C>(alloc, call, given, out.as_slice()) {
+        Some(out)
+    } else {
+        word(alloc, "another_without_memory")
+    }
+}
+
 /// What comes of a row of a text and of what is wanted, whose kind is `swept_` and what is called.
 pub fn swept_row<C: Calls>(alloc: Global, kind: &str, parts: &[Term]) -> Option<Vec<u8>> {
     let [given, _] = parts else {
         return None;
     };
     if kind.starts_with("swept_") {
-        swept::<C>(alloc, kind, text(alloc, given)?.as_slice())
+        swept_onward::<C>(alloc, kind, text(alloc, given)?.as_slice())
     } else {
         None
     }

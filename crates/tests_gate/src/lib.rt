@@ -9,12 +9,9 @@
 //!   session that waits for a part until it is put back.
 //! - `walking`: a walk whose table another session empties meanwhile, and a visit out of place.
 //! - `leaving`: dead rows while sessions fix, and when the last of them leaves.
-//! - `refusals`: memory refused in turn, and calls that take none. `selecting`: the same of a whole walk. `putting`: the
-//!   same of objects put in, over all sorts of parts. `leaks`: what is let go in the middle of things.
+//! - `refusals`: memory refused in turn, and calls that take none. `selecting`: the same of a whole walk.
 #![tactic(auto)]
 
-#[cfg(test)]
-mod leaks;
 #[cfg(test)]
 mod leaving;
 #[cfg(test)]

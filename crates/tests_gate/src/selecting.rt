@@ -51,7 +51,7 @@ fn keeps_its_fix<R: Wait, A: Allocator + Copy, P: Part<A> + Drop>(
 }
 
 /// The query of all keys.
-pub(crate) fn keys_query<A: Allocator + Copy>(heap: A) -> Option<Query<A>> {
+fn keys_query<A: Allocator + Copy>(heap: A) -> Option<Query<A>> {
     let term = term_of(heap, b"[{{'$1'},[],[{{'$1'}}]}].")?;
     Query::from_spec(heap, &read_spec(heap, &term).ok()?, 1).ok()
 }
