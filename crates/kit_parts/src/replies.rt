@@ -67,7 +67,7 @@ fn key_text<A: Allocator>(alloc: Global, key: Option<&Term<A>>) -> Option<Vec<u8
 }
 
 /// The text of a reply.
-fn reply_text<A: Allocator>(alloc: Global, reply: &Reply<A>) -> Option<Vec<u8>> {
+pub(crate) fn reply_text<A: Allocator>(alloc: Global, reply: &Reply<A>) -> Option<Vec<u8>> {
     match reply {
         Reply::Done => word(alloc, "done"),
         Reply::Flag(value) => word(alloc, truth_name(*value)),
