@@ -66,7 +66,7 @@ fn selected(alloc: Global, specification: &Spec, objects: &[Term]) -> Option<Vec
 /// The code file of a specification, as it might be sent.
 fn sent(alloc: Global, specification: &Spec) -> Option<Vec<u8>> {
     let code = compile(alloc, specification).ok()?;
-    encode(alloc, &code).ok()
+    encode(alloc, code.code()).ok()
 }
 
 /// The code of a file: only code that is verified can be run.

@@ -36,7 +36,7 @@ pub(crate) fn objects_text<A: Allocator>(alloc: Global, objects: &[Term<A>]) -> 
 }
 
 /// The text of what a visit found.
-fn found_text<A: Allocator>(
+pub(crate) fn found_text<A: Allocator>(
     alloc: Global,
     answers: &[Term<A>],
     next: Option<&Cursor<A>>,

@@ -5,7 +5,7 @@ ghost use Rattle.part_core.specs.Acts.{IsAsked};
 ghost use Rattle.part_core.specs.Ops.{act_of};
 
 use crate::operations::{code_of, visit};
-use crate::replies::{answer_text, objects_text, reply_text};
+use crate::replies::{answer_text, found_text, objects_text, reply_text};
 use crate::turns::{Turn, answer, objects, takes_no_memory};
 use kit_rows::{Outcome, term_of, word};
 use part_core::{Cursor, Fault, Part, PartOp, Reply, Scope};
@@ -39,11 +39,16 @@ fn visited_from<A: Allocator + Copy, P: Part<A>>(
     let answer = answer(part, turn, &mut op);
     drop(op);
     let reply = answer.ok()?;
-    let text = reply_text(alloc, &reply)?;
     match reply {
-        Reply::Found(_answers, next) => Some((text, next)),
-        Reply::Done | Reply::Flag(_) | Reply::Objects(_) | Reply::AtKey(_) | Reply::Counted(_, _) =>
-            None,
+        Reply::Found(answers, next) => {
+            let text = found_text(alloc, answers.as_slice(), next.as_ref())?;
+            Some((text, next))
+        }
+        Reply::Counted(_count, _next) => None,
+        Reply::AtKey(_key) => None,
+        Reply::Objects(_objects) => None,
+        Reply::Flag(_is) => None,
+        Reply::Done => None,
     }
 }
 
