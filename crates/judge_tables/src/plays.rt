@@ -1,7 +1,5 @@
 //! Rows that are played, once with memory and again with each request for memory refused in turn.
-use kit_parts::{
-    Options, Setting, byte, kind_of, made, open_fault_text, steps_text, watching_code,
-};
+use kit_parts::{Options, Setting, byte, kind_of, made, open_fault_text, steps_text};
 use kit_rows::{Calls, elements, short, swept, word, written};
 use part_core::{OpenFault, Part, TableKind};
 use part_hash::HashPart;
@@ -29,21 +27,9 @@ fn at_hashed(kind: &str) -> &str {
         "set" => "hashed_set",
         "bag" => "hashed_bag",
         "duplicate_bag" => "hashed_duplicate_bag",
-        "watched_set" => "watched_hashed_set",
-        "watched_bag" => "watched_hashed_bag",
-        "watched_duplicate_bag" => "watched_hashed_duplicate_bag",
         "make_set" => "make_hashed_set",
         _ => kind,
     }
-}
-
-/// How a row is played.
-#[derive(Clone, Copy)]
-struct Form {
-    /// A request for memory may be refused.
-    is_scarce: bool,
-    /// The part is looked at before each operation and where it refuses.
-    is_watched: bool,
 }
 
 /// The steps of a row with the replies that came, or the fault where the part isn't made.
@@ -51,20 +37,14 @@ fn played<A: Allocator + Copy, P: Part<A> + Drop>(
     alloc: Global,
     heap: A,
     options: Options,
-    form: Form,
+    is_scarce: bool,
     steps: &[Term<A>],
 ) -> Option<Vec<u8>> {
-    let code = if form.is_watched {
-        Some(watching_code(heap)?)
-    } else {
-        None
-    };
     let setting = Setting {
         sessions: options.sessions,
-        is_scarce: form.is_scarce,
-        watch: code.as_ref(),
+        is_scarce,
     };
-    match made::<A, P>(heap, options, form.is_scarce) {
+    match made::<A, P>(heap, options, is_scarce) {
         Ok(mut part) => {
             let steps = steps_text(alloc, heap, &mut part, setting, steps);
             drop(part);
@@ -96,7 +76,7 @@ fn steps_row<A: Allocator + Copy, P: Part<A> + Drop>(
     heap: A,
     kind: TableKind,
     row: &[Term<A>],
-    form: Form,
+    is_scarce: bool,
 ) -> Option<Vec<u8>> {
     let [keypos, parts, sessions, steps] = row else {
         return None;
@@ -107,7 +87,7 @@ fn steps_row<A: Allocator + Copy, P: Part<A> + Drop>(
         parts: byte(parts)?,
         sessions: byte(sessions)?,
     };
-    played::<A, P>(alloc, heap, options, form, elements(steps)?)
+    played::<A, P>(alloc, heap, options, is_scarce, elements(steps)?)
 }
 
 /// What comes of a row of options for a part.
@@ -154,27 +134,19 @@ fn place_of(call: &str) -> Option<Place> {
     }
 }
 
-/// The same, and whether the part is looked at.
-fn play_of(call: &str) -> Option<(Place, bool)> {
-    match call.strip_prefix("watched_") {
-        Some(kind) => Some((place_of(kind)?, true)),
-        None => Some((place_of(call)?, false)),
-    }
-}
-
 /// What comes of a row of steps at a part.
 fn played_at<A: Allocator + Copy>(
     alloc: Global,
     heap: A,
     place: Place,
     row: &[Term<A>],
-    form: Form,
+    is_scarce: bool,
 ) -> Option<Vec<u8>> {
     match place {
-        Place::Plain(kind) => steps_row::<A, PlainPart<A>>(alloc, heap, kind, row, form),
-        Place::Hashed(kind) => steps_row::<A, HashPart<A>>(alloc, heap, kind, row, form),
+        Place::Plain(kind) => steps_row::<A, PlainPart<A>>(alloc, heap, kind, row, is_scarce),
+        Place::Hashed(kind) => steps_row::<A, HashPart<A>>(alloc, heap, kind, row, is_scarce),
         Place::Ordered => {
-            steps_row::<A, OrderPart<A>>(alloc, heap, TableKind::OrderedSet, row, form)
+            steps_row::<A, OrderPart<A>>(alloc, heap, TableKind::OrderedSet, row, is_scarce)
         }
     }
 }
@@ -193,14 +165,7 @@ fn outcome_of<A: Allocator + Copy>(
         "make_set" => options_row::<A, PlainPart<A>>(alloc, heap, row, is_scarce),
         "make_hashed_set" => options_row::<A, HashPart<A>>(alloc, heap, row, is_scarce),
         "make_ordered_set" => options_row::<A, OrderPart<A>>(alloc, heap, row, is_scarce),
-        _ => {
-            let (place, is_watched) = play_of(call)?;
-            let form = Form {
-                is_scarce,
-                is_watched,
-            };
-            played_at(alloc, heap, place, row, form)
-        }
+        _ => played_at(alloc, heap, place_of(call)?, row, is_scarce),
     }
 }
 
