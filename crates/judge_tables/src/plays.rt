@@ -1,6 +1,9 @@
 //! Rows that are played, once with memory and again with each request for memory refused in turn.
-use kit_parts::{Options, Setting, byte, kind_of, made, open_fault_text, steps_text};
-use kit_rows::{Calls, elements, short, swept, word, written};
+use kit_alloc::Failing;
+use kit_parts::{
+    Options, Setting, byte, kind_of, made, open_fault_text, steps_text, watching_code,
+};
+use kit_rows::{elements, short, word, written};
 use part_core::{OpenFault, Part, TableKind};
 use part_hash::HashPart;
 use part_order::OrderPart;
@@ -27,9 +30,21 @@ fn at_hashed(kind: &str) -> &str {
         "set" => "hashed_set",
         "bag" => "hashed_bag",
         "duplicate_bag" => "hashed_duplicate_bag",
+        "watched_set" => "watched_hashed_set",
+        "watched_bag" => "watched_hashed_bag",
+        "watched_duplicate_bag" => "watched_hashed_duplicate_bag",
         "make_set" => "make_hashed_set",
         _ => kind,
     }
+}
+
+/// How a row is played.
+#[derive(Clone, Copy)]
+struct Form {
+    /// A request for memory may be refused.
+    is_scarce: bool,
+    /// The part is looked at before each operation and where it refuses.
+    is_watched: bool,
 }
 
 /// The steps of a row with the replies that came, or the fault where the part isn't made.
@@ -37,14 +52,20 @@ fn played<A: Allocator + Copy, P: Part<A> + Drop>(
     alloc: Global,
     heap: A,
     options: Options,
-    is_scarce: bool,
+    form: Form,
     steps: &[Term<A>],
 ) -> Option<Vec<u8>> {
+    let code = if form.is_watched {
+        Some(watching_code(heap)?)
+    } else {
+        None
+    };
     let setting = Setting {
         sessions: options.sessions,
-        is_scarce,
+        is_scarce: form.is_scarce,
+        watch: code.as_ref(),
     };
-    match made::<A, P>(heap, options, is_scarce) {
+    match made::<A, P>(heap, options, form.is_scarce) {
         Ok(mut part) => {
             let steps = steps_text(alloc, heap, &mut part, setting, steps);
             drop(part);
@@ -76,7 +97,7 @@ fn steps_row<A: Allocator + Copy, P: Part<A> + Drop>(
     heap: A,
     kind: TableKind,
     row: &[Term<A>],
-    is_scarce: bool,
+    form: Form,
 ) -> Option<Vec<u8>> {
     let [keypos, parts, sessions, steps] = row else {
         return None;
@@ -87,7 +108,7 @@ fn steps_row<A: Allocator + Copy, P: Part<A> + Drop>(
         parts: byte(parts)?,
         sessions: byte(sessions)?,
     };
-    played::<A, P>(alloc, heap, options, is_scarce, elements(steps)?)
+    played::<A, P>(alloc, heap, options, form, elements(steps)?)
 }
 
 /// What comes of a row of options for a part.
@@ -134,19 +155,27 @@ fn place_of(call: &str) -> Option<Place> {
     }
 }
 
+/// The same, and whether the part is looked at.
+fn play_of(call: &str) -> Option<(Place, bool)> {
+    match call.strip_prefix("watched_") {
+        Some(kind) => Some((place_of(kind)?, true)),
+        None => Some((place_of(call)?, false)),
+    }
+}
+
 /// What comes of a row of steps at a part.
 fn played_at<A: Allocator + Copy>(
     alloc: Global,
     heap: A,
     place: Place,
     row: &[Term<A>],
-    is_scarce: bool,
+    form: Form,
 ) -> Option<Vec<u8>> {
     match place {
-        Place::Plain(kind) => steps_row::<A, PlainPart<A>>(alloc, heap, kind, row, is_scarce),
-        Place::Hashed(kind) => steps_row::<A, HashPart<A>>(alloc, heap, kind, row, is_scarce),
+        Place::Plain(kind) => steps_row::<A, PlainPart<A>>(alloc, heap, kind, row, form),
+        Place::Hashed(kind) => steps_row::<A, HashPart<A>>(alloc, heap, kind, row, form),
         Place::Ordered => {
-            steps_row::<A, OrderPart<A>>(alloc, heap, TableKind::OrderedSet, row, is_scarce)
+            steps_row::<A, OrderPart<A>>(alloc, heap, TableKind::OrderedSet, row, form)
         }
     }
 }
@@ -165,23 +194,65 @@ fn outcome_of<A: Allocator + Copy>(
         "make_set" => options_row::<A, PlainPart<A>>(alloc, heap, row, is_scarce),
         "make_hashed_set" => options_row::<A, HashPart<A>>(alloc, heap, row, is_scarce),
         "make_ordered_set" => options_row::<A, OrderPart<A>>(alloc, heap, row, is_scarce),
-        _ => played_at(alloc, heap, place_of(call)?, row, is_scarce),
+        _ => {
+            let (place, is_watched) = play_of(call)?;
+            let form = Form {
+                is_scarce,
+                is_watched,
+            };
+            played_at(alloc, heap, place, row, form)
+        }
     }
 }
 
-/// The rows with one request for memory refused.
-struct PartCalls;
+/// The most requests for memory that one row makes behind the reading of its text.
+const MOST_REQUESTS: u64 = 20_000;
 
-impl Calls for PartCalls {
-    const MOST_REQUESTS: u64 = 20_000;
+/// How many requests for memory the reading of a row's text makes.
+fn requests_to_read(alloc: Global, given: &[u8]) -> Option<u64> {
+    let heap = Failing::counting(alloc);
+    read_terms(&heap, given).ok()?;
+    Some(heap.requests())
+}
 
-    fn outcome<A: Allocator + Copy>(
-        alloc: Global,
-        heap: A,
-        call: &str,
-        given: &[u8],
-    ) -> Option<Vec<u8>> {
-        outcome_of(alloc, heap, call, given, true)
+/// Whether the same comes of a row over an allocator that refuses a request, or memory is wanted where it did, and no
+/// block is left then.
+fn is_right(
+    alloc: Global,
+    heap: &Failing<Global>,
+    call: &str,
+    given: &[u8],
+    wanted: &[u8],
+) -> bool {
+    let is_right = match outcome_of(alloc, heap, call, given, true) {
+        Some(out) => out.as_slice() == wanted,
+        None => heap.was_refused(),
+    };
+    is_right && heap.blocks() == 0
+}
+
+/// Whether it is so whichever request behind the first ones is refused.
+fn is_swept(alloc: Global, call: &str, given: &[u8], first: u64, wanted: &[u8]) -> bool {
+    for request in 1..MOST_REQUESTS {
+        let heap = Failing::refusing_nth(alloc, first.saturating_add(request));
+        if !is_right(alloc, &heap, call, given, wanted) {
+            return false;
+        }
+        if !heap.was_refused() {
+            return true;
+        }
+    }
+    false
+}
+
+/// What comes of a row, with memory and with each request refused in turn that isn't made to read it.
+fn swept(alloc: Global, call: &str, given: &[u8]) -> Option<Vec<u8>> {
+    let out = outcome_of(alloc, alloc, call, given, true)?;
+    let first = requests_to_read(alloc, given)?;
+    if is_swept(alloc, call, given, first, out.as_slice()) {
+        Some(out)
+    } else {
+        word(alloc, "another_without_memory")
     }
 }
 
@@ -192,6 +263,6 @@ pub(crate) fn came(alloc: Global, kind: &str, parts: &[Term], forms: usize) -> O
     if forms % FORMS == 0 {
         outcome_of(alloc, alloc, call, given.as_slice(), false)
     } else {
-        swept::<PartCalls>(alloc, call, given.as_slice())
+        swept(alloc, call, given.as_slice())
     }
 }

@@ -8,6 +8,7 @@
 //!
 //! - `steps`: the steps of a row, one after the other; `turns`: one operation, which is handed back where it is
 //!   refused.
+//! - `watching`: the same at a part that is looked at, which has to be as it was where it refuses.
 //! - `operations`: an operation that a term says; `replies`: what a part answers, as a text.
 #![tactic(auto)]
 
@@ -15,8 +16,10 @@ mod operations;
 mod replies;
 mod steps;
 mod turns;
+mod watching;
 
 pub use operations::{byte, kind_of};
 pub use replies::open_fault_text;
 pub use steps::{Setting, steps_text};
 pub use turns::{Options, made};
+pub use watching::watching_code;

@@ -36,7 +36,7 @@ pub(crate) fn objects_text<A: Allocator>(alloc: Global, objects: &[Term<A>]) -> 
 }
 
 /// The text of what a visit found.
-fn found_text<A: Allocator>(
+pub(crate) fn found_text<A: Allocator>(
     alloc: Global,
     answers: &[Term<A>],
     next: Option<&Cursor<A>>,
@@ -67,7 +67,7 @@ fn key_text<A: Allocator>(alloc: Global, key: Option<&Term<A>>) -> Option<Vec<u8
 }
 
 /// The text of a reply.
-fn reply_text<A: Allocator>(alloc: Global, reply: &Reply<A>) -> Option<Vec<u8>> {
+pub(crate) fn reply_text<A: Allocator>(alloc: Global, reply: &Reply<A>) -> Option<Vec<u8>> {
     match reply {
         Reply::Done => word(alloc, "done"),
         Reply::Flag(value) => word(alloc, truth_name(*value)),

@@ -8,6 +8,7 @@ use crate::operations::{
 };
 use crate::replies::{answer_text, objects_text};
 use crate::turns::{Turn, answer, objects};
+use crate::watching::watched;
 use kit_rows::{Outcome, canonical, fields, is_atom, number};
 use part_core::{Part, PartOp, Scope};
 use std::alloc::{Allocator, Global};
@@ -15,25 +16,32 @@ use term_core::Term;
 use verifier::Verified;
 
 /// What comes of an operation.
-fn came_of<'a, A: Allocator, P: Part<A>>(
+fn came_of<'w, 'a, A: Allocator + Copy, P: Part<A>>(
     alloc: Global,
+    heap: A,
     part: &mut P,
-    turn: Turn,
+    turn: Turn<'w, A>,
     mut op: PartOp<'a, A>,
 ) -> Option<Vec<u8>>
     requires session { turn.session < (P.settings part.old).sessions }
     requires asked { IsAsked (act_of op) }
     ensures { P.settings part.new ≡ P.settings part.old }
 {
-    let answer = answer(part, turn, &mut op);
-    answer_text(alloc, &answer)
+    match turn.watch {
+        Some(code) => watched(alloc, heap, part, turn, code, &mut op),
+        None => {
+            let answer = answer(part, turn, &mut op);
+            answer_text(alloc, &answer)
+        }
+    }
 }
 
 /// What comes of a visit by code, in a scope.
-fn visited_in<'a, A: Allocator, P: Part<A>>(
+fn visited_in<'w, 'a, A: Allocator + Copy, P: Part<A>>(
     alloc: Global,
+    heap: A,
     part: &mut P,
-    turn: Turn,
+    turn: Turn<'w, A>,
     name: &str,
     code: &'a Verified<A>,
     scope: Scope<'a, A>,
@@ -43,7 +51,7 @@ fn visited_in<'a, A: Allocator, P: Part<A>>(
     requires wanted { 0 < wanted }
     ensures { P.settings part.new ≡ P.settings part.old }
 {
-    came_of(alloc, part, turn, visit(name, code, scope, wanted)?)
+    came_of(alloc, heap, part, turn, visit(name, code, scope, wanted)?)
 }
 
 /// What comes of a visit that a term says: its name, a specification, a place and the number of answers that is wanted.
@@ -51,7 +59,7 @@ fn visited<A: Allocator + Copy, P: Part<A>>(
     alloc: Global,
     heap: A,
     part: &mut P,
-    turn: Turn,
+    turn: Turn<'_, A>,
     op: &[Term<A>],
 ) -> Option<Vec<u8>>
     requires { turn.session < (P.settings part.old).sessions }
@@ -64,14 +72,24 @@ fn visited<A: Allocator + Copy, P: Part<A>>(
     let code = code_of(heap, specification)?;
     let wanted = wanted_of(wanted)?;
     if is_atom(place, "begin") {
-        return visited_in(alloc, part, turn, name, &code, Scope::Begin, wanted);
+        return visited_in(alloc, heap, part, turn, name, &code, Scope::Begin, wanted);
     }
     if let Some(key) = named_key(place) {
-        return visited_in(alloc, part, turn, name, &code, Scope::Named(key), wanted);
+        return visited_in(
+            alloc,
+            heap,
+            part,
+            turn,
+            name,
+            &code,
+            Scope::Named(key),
+            wanted,
+        );
     }
     let cursor = cursor_of(place)?;
     visited_in(
         alloc,
+        heap,
         part,
         turn,
         name,
@@ -86,7 +104,7 @@ fn all_objects<A: Allocator + Copy, P: Part<A>>(
     alloc: Global,
     heap: A,
     part: &P,
-    turn: Turn,
+    turn: Turn<'_, A>,
 ) -> Option<Vec<u8>> {
     let objects = objects(heap, part, turn).ok()?;
     objects_text(alloc, objects.as_slice())
@@ -97,7 +115,7 @@ fn came<A: Allocator + Copy, P: Part<A>>(
     alloc: Global,
     heap: A,
     part: &mut P,
-    turn: Turn,
+    turn: Turn<'_, A>,
     op: &Term<A>,
 ) -> Option<Vec<u8>>
     requires { turn.session < (P.settings part.old).sessions }
@@ -107,22 +125,24 @@ fn came<A: Allocator + Copy, P: Part<A>>(
         return all_objects(alloc, heap, part, turn);
     }
     match fields(op) {
-        None => came_of(alloc, part, turn, bare(name_of(op)?)?),
+        None => came_of(alloc, heap, part, turn, bare(name_of(op)?)?),
         Some([tag, operand]) => {
             let op = keyed(name_of(tag)?, operand)?;
-            came_of(alloc, part, turn, op)
+            came_of(alloc, heap, part, turn, op)
         }
         Some(op) => visited(alloc, heap, part, turn, op),
     }
 }
 
-/// Where a row is: who may ask, and whether a request for memory may be refused.
+/// Where a row is: who may ask, whether a request for memory may be refused, and whether the part is looked at.
 #[derive(Clone, Copy)]
-pub struct Setting {
+pub struct Setting<'w, A: Allocator + Copy> {
     /// How many sessions use the part, numbered from 0.
     pub sessions: u8,
     /// Whether a request for memory may be refused.
     pub is_scarce: bool,
+    /// What a look at the part asks, where what is refused has to leave all as it was.
+    pub watch: Option<&'w Verified<A>>,
 }
 
 /// A step with the reply that came.
@@ -130,7 +150,7 @@ fn step_once<A: Allocator + Copy, P: Part<A>>(
     alloc: Global,
     heap: A,
     part: &mut P,
-    setting: Setting,
+    setting: Setting<'_, A>,
     step: &Term<A>,
 ) -> Option<Vec<u8>>
     requires { (P.settings part.old).sessions ≡ setting.sessions }
@@ -146,6 +166,7 @@ fn step_once<A: Allocator + Copy, P: Part<A>>(
     let turn = Turn {
         session,
         is_scarce: setting.is_scarce,
+        watch: setting.watch,
     };
     let reply = came(alloc, heap, part, turn, op)?;
     let out = Outcome::tuple(alloc).number(usize::from(session)).term(op);
@@ -157,7 +178,7 @@ fn step_often<A: Allocator + Copy, P: Part<A>>(
     alloc: Global,
     heap: A,
     part: &mut P,
-    setting: Setting,
+    setting: Setting<'_, A>,
     count: u32,
     step: &Term<A>,
 ) -> Option<Vec<u8>>
@@ -181,7 +202,7 @@ fn step_text<A: Allocator + Copy, P: Part<A>>(
     alloc: Global,
     heap: A,
     part: &mut P,
-    setting: Setting,
+    setting: Setting<'_, A>,
     step: &Term<A>,
 ) -> Option<Vec<u8>>
     requires { (P.settings part.old).sessions ≡ setting.sessions }
@@ -198,7 +219,7 @@ pub fn steps_text<A: Allocator + Copy, P: Part<A>>(
     alloc: Global,
     heap: A,
     part: &mut P,
-    setting: Setting,
+    setting: Setting<'_, A>,
     steps: &[Term<A>],
 ) -> Option<Vec<u8>>
     requires { (P.settings part.old).sessions ≡ setting.sessions }

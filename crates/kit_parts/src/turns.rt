@@ -7,12 +7,14 @@ ghost use Rattle.part_core.specs.Ops.{act_of};
 use part_core::{Fault, OpenFault, Part, PartOp, Reply, TableKind};
 use std::alloc::{AllocError, Allocator};
 use term_core::Term;
+use verifier::Verified;
 
-/// Who asks, and whether a request for memory may be refused.
+/// Who asks, whether a request for memory may be refused, and what a look at the part asks, where it is looked at.
 #[derive(Clone, Copy)]
-pub(crate) struct Turn {
+pub(crate) struct Turn<'w, A: Allocator + Copy> {
     pub(crate) session: u8,
     pub(crate) is_scarce: bool,
+    pub(crate) watch: Option<&'w Verified<A>>,
 }
 
 /// What a part is made for.
@@ -62,7 +64,7 @@ pub fn made<A: Allocator + Copy, P: Part<A>>(
 }
 
 /// Whether an operation is one that takes no memory.
-fn takes_no_memory<A: Allocator>(op: &PartOp<'_, A>) -> bool {
+pub(crate) fn takes_no_memory<A: Allocator>(op: &PartOp<'_, A>) -> bool {
     match op {
         PartOp::Member(_) | PartOp::Delete(_) | PartOp::DeleteObject(_) => true,
         PartOp::Fix | PartOp::Unfix | PartOp::Release => true,
@@ -71,9 +73,9 @@ fn takes_no_memory<A: Allocator>(op: &PartOp<'_, A>) -> bool {
 }
 
 /// Does an operation, again where one request for memory was refused that it may make.
-fn done<'a, A: Allocator, P: Part<A>>(
+fn done<'a, A: Allocator + Copy, P: Part<A>>(
     part: &mut P,
-    turn: Turn,
+    turn: Turn<'_, A>,
     op: &mut PartOp<'a, A>,
 ) -> Result<Reply<A>, Fault>
     requires session { turn.session < (P.settings part.old).sessions }
@@ -95,9 +97,9 @@ fn done<'a, A: Allocator, P: Part<A>>(
 }
 
 /// Does an operation, and asks for it once more where it is refused.
-pub(crate) fn answer<'a, A: Allocator, P: Part<A>>(
+pub(crate) fn answer<'a, A: Allocator + Copy, P: Part<A>>(
     part: &mut P,
-    turn: Turn,
+    turn: Turn<'_, A>,
     op: &mut PartOp<'a, A>,
 ) -> Result<Reply<A>, Fault>
     requires session { turn.session < (P.settings part.old).sessions }
@@ -114,7 +116,7 @@ pub(crate) fn answer<'a, A: Allocator, P: Part<A>>(
 pub(crate) fn objects<A: Allocator + Copy, P: Part<A>>(
     heap: A,
     part: &P,
-    turn: Turn,
+    turn: Turn<'_, A>,
 ) -> Result<Vec<Term<A>, A>, AllocError> {
     match part.objects(heap) {
         Ok(objects) => Ok(objects),

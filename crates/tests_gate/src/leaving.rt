@@ -5,6 +5,7 @@ ghost use Rattle.tables.specs.Sessions.{IsOpened};
 
 use crate::objects::object;
 use crate::pairs::last_two;
+use crate::refusals::most_fixes;
 use part_core::{Part, TableKind};
 use part_hash::HashPart;
 use std::alloc::Global;
@@ -28,6 +29,8 @@ enum Step {
     /// Puts the keys 1 and 2 in.
     Put,
     Fix,
+    /// Fixes as often as it may.
+    FixMost,
     Unfix,
     /// Deletes the key 1.
     Delete,
@@ -58,6 +61,32 @@ fn behind<T: Turns<Global>>(turns: &mut T, key: &Term) -> u8
     }
 }
 
+/// Whether a session fixes each part so often.
+fn is_fixed<T: Turns<Global>>(turns: &T, fixes: u32) -> bool
+    requires { T.is_ready turns.now }
+{
+    for part in 0..turns.options().parts {
+        if u32::from(turns.fixes(part)) != fixes {
+            return false;
+        }
+    }
+    true
+}
+
+/// The number of the refusal of a fix that is one too many, which leaves those that there are.
+fn limit<T: Turns<Global>>(turns: &mut T) -> Option<u8>
+    requires { T.is_ready turns.old }
+    ensures ready { T.is_ready turns.new }
+    ensures same { T.home turns.new ≡ T.home turns.old }
+{
+    let (fixes, fault) = most_fixes(turns)?;
+    if is_fixed(turns, fixes) {
+        Some(fault.number())
+    } else {
+        None
+    }
+}
+
 /// Makes a step at a key, and says the number of a refusal, or 0.
 fn made<T: Turns<Global>>(alloc: Global, turns: &mut T, step: Step, key: &Term) -> Option<u8>
     requires { T.is_ready turns.old }
@@ -73,6 +102,7 @@ fn made<T: Turns<Global>>(alloc: Global, turns: &mut T, step: Step, key: &Term) 
             fix(turns).ok()?;
             Some(0)
         }
+        Step::FixMost => limit(turns),
         Step::Unfix => {
             unfix(turns).ok()?;
             Some(0)
@@ -135,13 +165,33 @@ fn answers_behind_a_dead_row<R: Wait, P: Part<Global> + Drop>(
     Some([while_fixed?, afterwards?])
 }
 
-/// The same at a hashed part, behind the key that is deleted.
-fn answers_of_a_hashed_part<R: Wait>(rt: &R, alloc: Global) -> Option<[u8; 2]> {
+/// The second fixes as often as it may, deletes a key and leaves: what its last fix is answered, and what the first is
+/// behind the dead row, before that and afterwards.
+fn answers_of_the_most_fixes<R: Wait, P: Part<Global> + Drop>(
+    rt: &R,
+    alloc: Global,
+    key: &Term,
+) -> Option<[u8; 3]> {
+    let (table, first, second) = opened::<P>(alloc)?;
+    let (first, _) = stepped(rt, alloc, &table, first, Step::Put, key);
+    let (second, limit) = stepped(rt, alloc, &table, second, Step::FixMost, key);
+    let (second, _) = stepped(rt, alloc, &table, second, Step::Delete, key);
+    let (first, while_fixed) = stepped(rt, alloc, &table, first, Step::Next, key);
+    table.leave(rt, second);
+    let (first, afterwards) = stepped(rt, alloc, &table, first, Step::Next, key);
+    table.leave(rt, first);
+    Some([limit?, while_fixed?, afterwards?])
+}
+
+/// Both at hashed parts, behind the key that is deleted.
+fn answers_of_hashed_parts<R: Wait>(rt: &R, alloc: Global) -> Option<([u8; 2], [u8; 3])> {
     let key = Term::int(1);
-    answers_behind_a_dead_row::<_, HashPart<Global>>(rt, alloc, &key)
+    let one_each = answers_behind_a_dead_row::<_, HashPart<Global>>(rt, alloc, &key)?;
+    let the_most = answers_of_the_most_fixes::<_, HashPart<Global>>(rt, alloc, &key)?;
+    Some((one_each, the_most))
 }
 
 #[test]
 fn a_session_that_leaves_releases_its_fixes(rt: HostRuntime) {
-    assert!(rt; answers_of_a_hashed_part(&rt, rt.alloc()) == Some([0, 53]));
+    assert!(rt; answers_of_hashed_parts(&rt, rt.alloc()) == Some(([0, 53], [51, 0, 53])));
 }

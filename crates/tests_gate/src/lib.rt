@@ -9,15 +9,20 @@
 //!   session that waits for a part until it is put back.
 //! - `walking`: a walk whose table another session empties meanwhile, and a visit out of place.
 //! - `leaving`: dead rows while sessions fix, and when the last of them leaves.
-//! - `refusals`: memory refused in turn, and calls that take none. `selecting`: the same of a whole walk.
+//! - `refusals`: memory refused in turn, and calls that take none. `selecting`: the same of a whole walk. `putting`: the
+//!   same of objects put in one after the other. `leaks`: what is let go in the middle of its life.
 #![tactic(auto)]
 
+#[cfg(test)]
+mod leaks;
 #[cfg(test)]
 mod leaving;
 #[cfg(test)]
 mod objects;
 #[cfg(test)]
 mod pairs;
+#[cfg(test)]
+mod putting;
 #[cfg(test)]
 mod refusals;
 #[cfg(test)]

@@ -1,5 +1,5 @@
-//! Two sessions of a table.
-ghost use Rattle.std.specs.Prelude.{IfSome};
+//! Two sessions of a table, and a table on one thread.
+ghost use Rattle.std.specs.Prelude.{◌<◌, IfSome};
 ghost use Rattle.tables.specs.Opened.{AllOpened};
 ghost use Rattle.tables.specs.Sessions.{IsOpened};
 
@@ -7,7 +7,7 @@ use crate::objects::put_both;
 use part_core::Part;
 use std::alloc::Allocator;
 use std::sync::Wait;
-use tables::{Session, Table, fix};
+use tables::{LocalTable, Options, Session, Table, fix};
 
 /// The last two of its sessions, the last behind the other; the rest are let go.
 pub(crate) fn last_two<A: Allocator, P: Part<A> + Drop>(
@@ -38,4 +38,15 @@ pub(crate) fn put_and_fixed<R: Wait, A: Allocator + Copy, P: Part<A> + Drop>(
     put_both(heap, &mut at)?;
     fix(&mut at).ok()?;
     Some(session)
+}
+
+/// A table on one thread, without objects.
+pub(crate) fn local_table<A: Allocator + Copy, P: Part<A> + Drop>(
+    heap: A,
+    options: Options,
+) -> Option<LocalTable<P, A>>
+    requires { 0 < options.sessions }
+    ensures { IfSome result (λ table. 0 < table.options.sessions) }
+{
+    LocalTable::open(heap, options).ok()
 }

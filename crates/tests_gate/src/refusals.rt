@@ -120,7 +120,7 @@ fn is_put_at<R: Wait>(rt: &R, heap: &Failing<Global>) -> bool {
 }
 
 /// How often a session fixes its table before it is refused, and why.
-fn most_fixes<A: Allocator, T: Turns<A>>(turns: &mut T) -> Option<(u32, Fault)>
+pub(crate) fn most_fixes<A: Allocator, T: Turns<A>>(turns: &mut T) -> Option<(u32, Fault)>
     requires { T.is_ready turns.old }
     ensures ready { T.is_ready turns.new }
     ensures same { T.home turns.new ≡ T.home turns.old }

@@ -4,13 +4,16 @@
 //! It has no code of its own. What a test here calls is proved in its own crate once, and not a second time with its
 //! tests.
 //!
-//! - `plays`: a table of objects, a query, and calls that are asked again; `refusals`: the calls with each request
-//!   refused in turn.
+//! - `watch`: what is seen of calls whose requests are refused; `plays`: a table, its objects, and what is asked of it.
+//! - With each request refused in turn: `refusals`, whole walks; `deletions`, what refused ones say; `writers`, walks
+//!   in pieces, between which another session writes.
 //! - `lists`: lists of objects.
 //! - `seats`: members of a selection that wait for each other. `members`: what members come to, over tables of both
 //!   sorts; `selections`: the tests of that; `refused_members`: the same with each request refused in turn.
 #![tactic(auto)]
 
+#[cfg(test)]
+mod deletions;
 #[cfg(test)]
 mod lists;
 #[cfg(test)]
@@ -25,3 +28,7 @@ mod refused_members;
 mod seats;
 #[cfg(test)]
 mod selections;
+#[cfg(test)]
+mod watch;
+#[cfg(test)]
+mod writers;

@@ -1,7 +1,8 @@
 //! The answers on lists of objects: each object's at its place, as a run of its own gives it, of few objects and of
 //! many; and with each request for memory refused in turn.
+use crate::watch::Watch;
 use compiler::compile;
-use kit_alloc::Failing;
+use kit_alloc::{Failing, Plan};
 use machine::run;
 use mspec_reader::read_spec;
 use parallel_select::run_list;
@@ -109,25 +110,62 @@ fn requests(alloc: Global, text: &str) -> Option<u64> {
     Some(heap.requests())
 }
 
-/// Whether a list is refused where the request of this number is; none where its answers are wrong, or it is refused
-/// though no request is, or answered though one is.
-fn is_refused<R: Threads + Sync>(rt: &R, alloc: Global, text: &str, request: u64) -> Option<bool> {
-    let heap = Failing::refusing_nth(alloc, request);
-    let code = code(&heap)?;
-    let objects = objects(&heap, text)?;
-    match run_list(rt, &heap, &code, objects.as_slice()) {
-        Ok(answers) if !heap.was_refused() && are_even(answers.as_slice()) => Some(false),
-        Err(AllocError) if heap.was_refused() => Some(true),
-        _ => None,
+/// Whether a list is answered, and its answers are right; none where it is refused.
+fn are_right<'h, R: Threads + Sync>(
+    rt: &R,
+    heap: &'h Failing<Global>,
+    watch: &mut Watch<'_>,
+    code: &Verified<&'h Failing<Global>>,
+    objects: &[Term<&'h Failing<Global>>],
+) -> Option<bool> {
+    match run_list(rt, heap, code, objects) {
+        Ok(answers) => {
+            watch.ended(false);
+            Some(answers.len() == objects.len() && are_even(answers.as_slice()))
+        }
+        Err(AllocError) => {
+            watch.ended(true);
+            None
+        }
     }
 }
 
-/// With how many requests for memory so many objects are answered, where each is refused in turn.
-fn refusals<R: Threads + Sync>(rt: &R, alloc: Global, count: usize) -> Option<u64> {
+/// Whether a list is refused, exactly where a request is, and its answers are right, at once or when it is asked for
+/// again; none where they aren't, or there is no memory for the code and the objects.
+fn is_refused<R: Threads + Sync>(rt: &R, heap: &Failing<Global>, text: &str) -> Option<bool> {
+    let code = code(heap)?;
+    let objects = objects(heap, text)?;
+    let mut watch = Watch::new(heap);
+    let first = are_right(rt, heap, &mut watch, &code, objects.as_slice());
+    let second = match first {
+        Some(_) => first,
+        None => are_right(rt, heap, &mut watch, &code, objects.as_slice()),
+    };
+    let is_right = match second {
+        Some(are_right) => are_right && watch.is_right(),
+        None => watch.stops(),
+    };
+    if is_right { Some(first == None) } else { None }
+}
+
+/// With how many requests for memory so many objects are answered, where each is refused in turn, alone or with all
+/// behind it.
+fn refusals<R: Threads + Sync>(rt: &R, alloc: Global, count: usize, onward: bool) -> Option<u64> {
     let text = text_of(alloc, count)?;
     let before = requests(alloc, text.as_str())?;
     for request in 1..MOST_REQUESTS {
-        if !is_refused(rt, alloc, text.as_str(), before.saturating_add(request))? {
+        let first = before.saturating_add(request);
+        let plan = if onward {
+            Plan::From(first)
+        } else {
+            Plan::Once(first)
+        };
+        let heap = Failing::new(alloc, plan);
+        let is_refused = is_refused(rt, &heap, text.as_str())?;
+        if heap.blocks() != 0 {
+            return None;
+        }
+        if !is_refused {
             return Some(request - 1);
         }
     }
@@ -146,9 +184,11 @@ fn answers_each_object_at_its_place(rt: HostRuntime) {
 
 #[test]
 fn is_refused_where_memory_is(rt: HostRuntime) {
-    // The answers of few objects are one run.
-    assert!(rt; refusals(&rt, rt.alloc(), 3) == Some(1));
-    // Those of many are several, which are put together.
-    let many = refusals(&rt, rt.alloc(), 5_000);
-    assert!(rt; many.is_some_and(|requests| requests > 3));
+    for onward in [false, true] {
+        // The answers of few objects are one run.
+        assert!(rt; refusals(&rt, rt.alloc(), 3, onward) == Some(1));
+        // Those of many are several, which are put together.
+        let many = refusals(&rt, rt.alloc(), 5_000, onward);
+        assert!(rt; many.is_some_and(|requests| requests > 3));
+    }
 }

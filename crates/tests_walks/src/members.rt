@@ -6,8 +6,7 @@ ghost use Rattle.parallel_select.specs.Workers.{AreOfOneTable};
 
 use crate::seats::Seat;
 use kit_members::opened;
-use kit_rows::{digits, listed, numbered, term_of, word};
-use mspec_reader::read_spec;
+use kit_rows::{digits, listed, numbered, word};
 use parallel_select::{count_parts, delete_parts, select_parts};
 use part_core::{Part, TableKind};
 use std::alloc::Global;
@@ -41,12 +40,6 @@ pub(crate) fn options(sessions: u8) -> Options
         parts: 2,
         sessions,
     }
-}
-
-/// The query of a specification.
-pub(crate) fn query_of(alloc: Global, specification: &str) -> Option<Query> {
-    let term = term_of(alloc, specification.as_bytes())?;
-    Query::from_spec(alloc, &read_spec(alloc, &term).ok()?, 1).ok()
 }
 
 /// What comes of a call: the answers, the number, or the number of its refusal.

@@ -1,61 +1,59 @@
-//! Calls of walks with each request for memory refused in turn: asked again, each gives what it gives undisturbed.
-use crate::plays::{Call, Play, played};
-use kit_alloc::{Failing, sweep};
+//! Whole walks that answer or count, with each request for memory refused in turn, alone and with all behind it: the
+//! fixes of the session are as they were, and asked again a walk gives what it gives undisturbed.
+ghost use Rattle.std.specs.Prelude.{◌≡◌};
+
+use crate::plays::{Play, fixes_below, opened, prepared, query_of};
+use crate::watch::Watch;
+use kit_alloc::{Failing, sweep, sweep_onward};
+use kit_rows::{digits, listed};
 use part_core::{Part, TableKind};
 use part_hash::HashPart;
 use part_order::OrderPart;
-use part_plain::PlainPart;
 use std::alloc::{Allocator, Global};
+use tables::Turns;
+use walks::{Query, select, select_count};
 
-/// The most requests of a play.
+/// The most requests of a walk and its table.
 const MOST_REQUESTS: u64 = 20_000;
 
-/// What is played at which table, and what comes of it.
-#[derive(Clone, Copy, Debug)]
-struct Case<'a> {
-    play: Play<'a>,
-    wanted: &'a str,
+/// A whole walk.
+#[derive(Clone, Copy)]
+enum Call {
+    /// All answers.
+    Select,
+    /// How many objects answer true.
+    Count,
+}
+
+/// What is asked of which table, and what comes of it.
+#[derive(Clone, Copy)]
+struct Case {
+    play: Play,
+    call: Call,
+    wanted: &'static str,
 }
 
 /// Keys of three classes, two of them in one, in two parts.
 const KEYS: &str = "{0,a}. {1,b}. {16,c}. {32,d}. {3,e}. {48,f}.";
 /// Each object's second element.
 const SECOND: &str = "[{{'_','$1'},[],['$1']}].";
-/// Objects with a key of at least 16 answer true.
-const LARGE: &str = "[{{'$1','_'},[{'>=','$1',16}],[true]}].";
+/// Objects with a key of at least 16 answer true, by a tuple that is made of each key.
+const LARGE: &str = "[{{'$1','_'},[{'=<',{{16}},{{'$1'}}}],[true]}].";
 /// Keys that are named, one of them twice, and one that isn't there.
 const NAMED: &str =
     "[{{32,'$1'},[],['$1']},{{5,'$1'},[],['$1']},{{0,'$1'},[],['$1']},{{32,'_'},[],[again]}].";
 
-const SET_CASES: [Case<'static>; 5] = [
+/// The session fixes one of two parts, both, and that of an ordered set, or none.
+const CASES: [Case; 5] = [
     Case {
         play: Play {
             kind: TableKind::Set,
             parts: 2,
             objects: KEYS,
             specification: SECOND,
-            call: Call::Pieces(2),
+            fixed: 1,
         },
-        wanted: "[a,c]\n[d,f]\n[b,e]\n",
-    },
-    Case {
-        play: Play {
-            kind: TableKind::Set,
-            parts: 2,
-            objects: KEYS,
-            specification: NAMED,
-            call: Call::Pieces(1),
-        },
-        wanted: "[d]\n[a]\n",
-    },
-    Case {
-        play: Play {
-            kind: TableKind::Set,
-            parts: 2,
-            objects: KEYS,
-            specification: SECOND,
-            call: Call::Select,
-        },
+        call: Call::Select,
         wanted: "[a,c,d,f,b,e]",
     },
     Case {
@@ -64,8 +62,9 @@ const SET_CASES: [Case<'static>; 5] = [
             parts: 2,
             objects: KEYS,
             specification: LARGE,
-            call: Call::Count,
+            fixed: 1,
         },
+        call: Call::Count,
         wanted: "3",
     },
     Case {
@@ -73,33 +72,11 @@ const SET_CASES: [Case<'static>; 5] = [
             kind: TableKind::Set,
             parts: 2,
             objects: KEYS,
-            specification: LARGE,
-            call: Call::Delete,
-        },
-        wanted: "3",
-    },
-];
-
-const ORDERED_CASES: [Case<'static>; 4] = [
-    Case {
-        play: Play {
-            kind: TableKind::OrderedSet,
-            parts: 1,
-            objects: KEYS,
-            specification: SECOND,
-            call: Call::Pieces(4),
-        },
-        wanted: "[a,b,e,c]\n[d,f]\n",
-    },
-    Case {
-        play: Play {
-            kind: TableKind::OrderedSet,
-            parts: 1,
-            objects: KEYS,
             specification: NAMED,
-            call: Call::Pieces(1),
+            fixed: 2,
         },
-        wanted: "[a]\n[d]\n",
+        call: Call::Select,
+        wanted: "[d,a]",
     },
     Case {
         play: Play {
@@ -107,8 +84,9 @@ const ORDERED_CASES: [Case<'static>; 4] = [
             parts: 1,
             objects: KEYS,
             specification: SECOND,
-            call: Call::Select,
+            fixed: 0,
         },
+        call: Call::Select,
         wanted: "[a,b,e,c,d,f]",
     },
     Case {
@@ -117,61 +95,130 @@ const ORDERED_CASES: [Case<'static>; 4] = [
             parts: 1,
             objects: KEYS,
             specification: LARGE,
-            call: Call::Delete,
+            fixed: 1,
         },
+        call: Call::Count,
         wanted: "3",
     },
 ];
 
-/// Whether what comes of a case is right, none where there is no memory for the table and the query.
-fn is_right<P: Part<A> + Drop, A: Allocator + Copy>(
+/// What a walk answers or counts, none where it is refused.
+fn asked<A: Allocator + Copy, T: Turns<A>>(
     alloc: Global,
     heap: A,
-    case: Case<'_>,
+    watch: &mut Watch<'_>,
+    session: &mut T,
+    query: &Query<A>,
+    call: Call,
+) -> Option<Vec<u8>>
+    requires { T.is_ready session.old }
+    ensures ready { T.is_ready session.new }
+    ensures same { T.home session.new ≡ T.home session.old }
+{
+    match call {
+        Call::Select => match select(heap, session, query) {
+            Ok(answers) => {
+                watch.ended(false);
+                listed(alloc, answers.as_slice())
+            }
+            Err(_) => {
+                watch.ended(true);
+                None
+            }
+        },
+        Call::Count => match select_count(session, query) {
+            Ok(count) => {
+                watch.ended(false);
+                digits(alloc, count)
+            }
+            Err(_) => {
+                watch.ended(true);
+                None
+            }
+        },
+    }
+}
+
+/// The same, with a look at the fixes of the session behind it.
+fn asked_and_released<A: Allocator + Copy, T: Turns<A>>(
+    alloc: Global,
+    heap: A,
+    watch: &mut Watch<'_>,
+    session: &mut T,
+    query: &Query<A>,
+    case: Case,
+) -> Option<Vec<u8>>
+    requires { T.is_ready session.old }
+    ensures ready { T.is_ready session.new }
+    ensures same { T.home session.new ≡ T.home session.old }
+{
+    let came = asked(alloc, heap, watch, session, query, case.call);
+    watch.sees(fixes_below(session, case.play.fixed));
+    came
+}
+
+/// Whether what comes of a case is right; none where there is no memory for the query and the objects.
+fn is_right_by<A: Allocator + Copy, T: Turns<A>>(
+    alloc: Global,
+    heap: A,
+    counts: &Failing<Global>,
+    session: &mut T,
+    case: Case,
+) -> Option<bool>
+    requires { T.is_ready session.old }
+{
+    let query = query_of(heap, case.play.specification)?;
+    prepared(heap, session, case.play)?;
+    let mut watch = Watch::new(counts);
+    if let Some(came) = asked_and_released(alloc, heap, &mut watch, session, &query, case) {
+        return Some(watch.is_right() && came.as_slice() == case.wanted.as_bytes());
+    }
+    match asked_and_released(alloc, heap, &mut watch, session, &query, case) {
+        Some(came) => Some(watch.is_right() && came.as_slice() == case.wanted.as_bytes()),
+        None => Some(watch.stops()),
+    }
+}
+
+/// The same, none where there is no memory for the table.
+fn is_right_at<P: Part<A> + Drop, A: Allocator + Copy>(
+    alloc: Global,
+    heap: A,
+    counts: &Failing<Global>,
+    case: Case,
 ) -> Option<bool> {
-    let came = played::<P, A>(alloc, heap, case.play)?;
-    Some(came.as_slice() == case.wanted.as_bytes())
+    let mut table = opened::<P, A>(heap, case.play)?;
+    let mut session = table.at(0);
+    is_right_by(alloc, heap, counts, &mut session, case)
 }
 
-/// Whether a case is right at sets of hashed and of plain parts, and at those of hashed parts with each request refused
-/// in turn.
-fn holds_at_sets(alloc: Global, case: Case<'_>) -> bool {
-    let outcome = sweep(alloc, MOST_REQUESTS, |heap: &Failing<Global>| {
-        match is_right::<HashPart<&Failing<Global>>, &Failing<Global>>(alloc, heap, case) {
-            Some(is_right) => is_right,
-            None => heap.was_refused(),
-        }
-    });
-    outcome.is_complete()
-        && is_right::<HashPart<Global>, Global>(alloc, alloc, case) == Some(true)
-        && is_right::<PlainPart<Global>, Global>(alloc, alloc, case) == Some(true)
-}
-
-/// Whether a case is right at an ordered set, also with each request refused in turn.
-fn holds_at_ordered_sets(alloc: Global, case: Case<'_>) -> bool {
-    let outcome = sweep(alloc, MOST_REQUESTS, |heap: &Failing<Global>| {
-        match is_right::<OrderPart<&Failing<Global>>, &Failing<Global>>(alloc, heap, case) {
-            Some(is_right) => is_right,
-            None => heap.was_refused(),
-        }
-    });
-    outcome.is_complete() && is_right::<OrderPart<Global>, Global>(alloc, alloc, case) == Some(true)
-}
-
-/// The first of these cases that doesn't hold at sets.
-fn first_wrong(alloc: Global, cases: &[Case<'_>]) -> Option<usize> {
-    for (place, case) in cases.iter().enumerate() {
-        if !holds_at_sets(alloc, *case) {
-            return Some(place);
-        }
+/// Whether what comes of a case is right, by an allocator that may refuse, and no block is left.
+fn is_right(alloc: Global, heap: &Failing<Global>, case: Case) -> bool {
+    let is_right = if case.play.kind.is_ordered() {
+        is_right_at::<OrderPart<&Failing<Global>>, &Failing<Global>>(alloc, heap, heap, case)
+    } else {
+        is_right_at::<HashPart<&Failing<Global>>, &Failing<Global>>(alloc, heap, heap, case)
+    };
+    match is_right {
+        Some(is_right) => is_right && heap.blocks() == 0,
+        None => heap.was_refused() && heap.blocks() == 0,
     }
-    None
 }
 
-/// The first of these cases that doesn't hold at ordered sets.
-fn first_wrong_ordered(alloc: Global, cases: &[Case<'_>]) -> Option<usize> {
+/// Whether it is right with each request refused in turn.
+fn holds(alloc: Global, case: Case) -> bool {
+    let alone = sweep(alloc, MOST_REQUESTS, |heap: &Failing<Global>| {
+        is_right(alloc, heap, case)
+    });
+    let onward = sweep_onward(alloc, MOST_REQUESTS, |heap: &Failing<Global>| {
+        is_right(alloc, heap, case)
+    });
+    alone.is_complete() && onward.is_complete()
+}
+
+/// The first of these cases that doesn't hold.
+fn first_wrong(alloc: Global, cases: &[Case]) -> Option<usize> {
     for (place, case) in cases.iter().enumerate() {
-        if !holds_at_ordered_sets(alloc, *case) {
+        if !holds(alloc, *case) {
             return Some(place);
         }
     }
@@ -179,13 +226,7 @@ fn first_wrong_ordered(alloc: Global, cases: &[Case<'_>]) -> Option<usize> {
 }
 
 #[test]
-fn sets_asked_again_answer_as_undisturbed(rt: HostRuntime) {
-    let wrong = first_wrong(rt.alloc(), &SET_CASES);
-    assert!(rt; wrong == None, "{wrong:?}");
-}
-
-#[test]
-fn ordered_sets_asked_again_answer_as_undisturbed(rt: HostRuntime) {
-    let wrong = first_wrong_ordered(rt.alloc(), &ORDERED_CASES);
+fn walks_asked_again_answer_as_undisturbed(rt: HostRuntime) {
+    let wrong = first_wrong(rt.alloc(), &CASES);
     assert!(rt; wrong == None, "{wrong:?}");
 }

@@ -1,75 +1,89 @@
-//! Selections with each request for memory refused in turn: the fixes of their own are released, and what a deletion
-//! says that it took is what is gone.
+//! Selections by members with each request for memory refused in turn, alone and with all behind it, at hashed parts
+//! behind gates: no member keeps a fix, what a refused deletion says is gone is gone, and asked again a call gives what
+//! it gives undisturbed.
 ghost use Rattle.std.specs.Prelude.{◌≡◌, All, IfSome, map};
 ghost use Rattle.tables.specs.Sessions.{IsOpened};
 ghost use Rattle.parallel_select.specs.Workers.{AreOfOneTable};
 
+use crate::deletions::{gone_of, marks};
 use crate::members::Call;
-use kit_alloc::Failing;
-use kit_members::{members_of, opened};
-use mspec_reader::read_spec;
+use crate::plays::{fixes_below, query_of};
+use crate::watch::Watch;
+use kit_alloc::{Failing, sweep, sweep_onward};
+use kit_members::{members_of, put_all};
+use kit_rows::listed;
 use parallel_select::{SelectFault, count_parts, delete_parts, select_parts};
 use part_core::{Part, TableKind};
-use part_plain::PlainPart;
+use part_hash::HashPart;
 use std::alloc::{Allocator, Global};
 use std::sync::Wait;
 use std::test::*;
 use std::thread::Threads;
 use tables::{Options, Session, Table, Turns};
+use term_core::Term;
 use term_text::read_terms;
-use walks::{Query, select_count};
-
-/// The memory of a run.
-type Heap<'h> = &'h Failing<Global>;
-/// A set of plain parts.
-type Plain<'h> = Table<PlainPart<Heap<'h>>, Heap<'h>>;
-/// A session of it.
-type PlainSession<'h> = Session<PlainPart<Heap<'h>>, Heap<'h>>;
+use walks::Query;
 
 /// The objects of the set.
 const OBJECTS: &[u8] = b"{1}. {2}. {3}. {4}. {5}. {6}. {7}. {8}. {9}. {10}.";
 /// How many they are.
 const COUNT: u64 = 10;
 /// Its parts.
-const PARTS: u8 = 4;
-/// Each object answers true.
-const ALL: &[u8] = b"[{{'$1'},[],[true]}].";
-/// The most requests for memory that a call makes.
-const MOST_REQUESTS: u64 = 1_000;
+const PARTS: u8 = 8;
+/// Each object's key, in a tuple that is made.
+const KEY: &str = "[{{'$1'},[],[{{'$1'}}]}].";
+/// The answers in the order of the table: an integer is in the part of its remainder, and there in the class of its
+/// quotient.
+const ANSWERS: &str = "[{8},{1},{9},{2},{10},{3},{4},{5},{6},{7}]";
+/// Each object answers true, by a tuple that is made of its key.
+const ALL: &str = "[{{'$1'},[{'=<',{{0}},{{'$1'}}}],[true]}].";
+/// The most requests for memory of a call and its table.
+const MOST_REQUESTS: u64 = 20_000;
 
 /// What came of a call.
-#[derive(Clone, Copy)]
-struct Came {
-    /// How many objects it answered, counted or deleted.
-    count: u64,
-    /// It was refused for want of memory.
-    refused: bool,
+#[derive(Drop)]
+enum Came {
+    /// The text of its answers.
+    Answers(Vec<u8>),
+    /// How many objects it counted.
+    Counted(u64),
+    /// How many objects it deleted.
+    Deleted(u64),
+    /// It was refused for want of memory, and says that it deleted so many.
+    Refused(u64),
 }
 
-/// What came of a run.
-#[derive(Clone, Copy)]
-struct Run {
-    /// How many requests for memory there were before its call.
-    before: u64,
-    /// The call was refused.
-    refused: bool,
+impl Came {
+    /// How many objects it says are gone.
+    fn gone(&self) -> u64 {
+        match self {
+            Came::Answers(_) => 0,
+            Came::Counted(_) => 0,
+            Came::Deleted(count) => *count,
+            Came::Refused(count) => *count,
+        }
+    }
+
+    /// Whether it was refused.
+    fn is_refused(&self) -> bool {
+        matches!(self, Came::Refused(_))
+    }
+
+    /// Whether these are all objects, those among them that were gone before.
+    fn is_whole(&self, before: u64) -> bool {
+        match self {
+            Came::Answers(text) => text.as_slice() == ANSWERS.as_bytes(),
+            Came::Counted(count) => *count == COUNT,
+            Came::Deleted(count) => count.saturating_add(before) == COUNT,
+            Came::Refused(_) => false,
+        }
+    }
 }
 
-/// That all these objects were found.
-fn found(count: u64) -> Option<Came> {
-    Some(Came {
-        count,
-        refused: false,
-    })
-}
-
-/// That a call was refused for want of memory behind so many objects; none where it was for another reason.
-fn stopped(count: u64, fault: SelectFault) -> Option<Came> {
+/// That a call was refused for want of memory; none where it was for another reason.
+fn refused(gone: u64, fault: SelectFault) -> Option<Came> {
     match fault {
-        SelectFault::Memory => Some(Came {
-            count,
-            refused: true,
-        }),
+        SelectFault::Memory => Some(Came::Refused(gone)),
         SelectFault::BadOptions => None,
     }
 }
@@ -77,6 +91,7 @@ fn stopped(count: u64, fault: SelectFault) -> Option<Came> {
 /// What comes of a call.
 fn called<R: Threads + Wait + Sync, A: Allocator + Copy + Send + Sync, T: Turns<A> + Send>(
     rt: &R,
+    alloc: Global,
     heap: A,
     members: &mut [T],
     query: &Query<A>,
@@ -84,34 +99,23 @@ fn called<R: Threads + Wait + Sync, A: Allocator + Copy + Send + Sync, T: Turns<
 ) -> Option<Came>
     requires ready { All T.is_ready members.old }
     requires table { AreOfOneTable (map T.home members.old) }
-    ensures { All T.is_ready members.new }
+    ensures ready { All T.is_ready members.new }
+    ensures same { map T.home members.new ≡ map T.home members.old }
 {
     match call {
         Call::Select => match select_parts(rt, heap, members, query) {
-            Ok(answers) => found(answers.len() as u64),
-            Err(fault) => stopped(0, fault),
+            Ok(answers) => Some(Came::Answers(listed(alloc, answers.as_slice())?)),
+            Err(fault) => refused(0, fault),
         },
         Call::Count => match count_parts(rt, members, query) {
-            Ok(count) => found(count),
-            Err(fault) => stopped(0, fault),
+            Ok(count) => Some(Came::Counted(count)),
+            Err(fault) => refused(0, fault),
         },
         Call::Delete => match delete_parts(rt, members, query) {
-            Ok(count) => found(count),
-            Err(refused) => stopped(refused.value, refused.fault),
+            Ok(count) => Some(Came::Deleted(count)),
+            Err(stopped) => refused(stopped.value, stopped.fault),
         },
     }
-}
-
-/// Whether a session fixes no part.
-fn fixes_nothing<A: Allocator, T: Turns<A>>(turns: &T) -> bool
-    requires { T.is_ready turns.now }
-{
-    for part in 0..turns.options().parts {
-        if turns.fixes(part) != 0 {
-            return false;
-        }
-    }
-    true
 }
 
 /// Whether no member fixes a part.
@@ -119,58 +123,152 @@ fn fix_nothing<A: Allocator, T: Turns<A>>(members: &[T]) -> bool
     requires { All T.is_ready members.now }
 {
     for place in 0..members.len() {
-        if !fixes_nothing::<A, T>(&members[place]) {
+        if !fixes_below::<A, T>(&members[place], 0) {
             return false;
         }
     }
     true
 }
 
-/// The same; none where a member fixes a part behind it.
+/// How many of these objects are gone, as the first member finds; none without a member.
+fn gone<A: Allocator, T: Turns<A>>(
+    alloc: Global,
+    members: &mut [T],
+    objects: &[Term<A>],
+) -> Option<u64>
+    requires ready { All T.is_ready members.old }
+    ensures ready { All T.is_ready members.new }
+    ensures same { map T.home members.new ≡ map T.home members.old }
+{
+    if members.is_empty() {
+        return None;
+    }
+    let marks = marks(alloc, &mut members[0], objects)?;
+    Some(gone_of(marks.as_slice()))
+}
+
+/// What comes of a call behind which as many objects are gone as it says, with those that were gone before, and no
+/// member fixes a part.
 fn called_and_released<
     R: Threads + Wait + Sync,
     A: Allocator + Copy + Send + Sync,
     T: Turns<A> + Send,
->(rt: &R, heap: A, members: &mut [T], query: &Query<A>, call: Call) -> Option<Came>
+>(
+    rt: &R,
+    alloc: Global,
+    heap: A,
+    watch: &mut Watch<'_>,
+    members: &mut [T],
+    query: &Query<A>,
+    objects: &[Term<A>],
+    call: Call,
+    before: u64,
+) -> Option<Came>
+    requires ready { All T.is_ready members.old }
+    requires table { AreOfOneTable (map T.home members.old) }
+    ensures ready { All T.is_ready members.new }
+    ensures same { map T.home members.new ≡ map T.home members.old }
+{
+    let came = called(rt, alloc, heap, members, query, call)?;
+    watch.ended(came.is_refused());
+    watch.sees(fix_nothing::<A, T>(members));
+    let gone = gone(alloc, members, objects)?;
+    watch.sees(came.gone().saturating_add(before) == gone);
+    Some(came)
+}
+
+/// Whether a call is right, once more where it is refused; none where it is refused for another reason.
+fn is_right_again<R: Threads + Wait + Sync, A: Allocator + Copy + Send + Sync, T: Turns<A> + Send>(
+    rt: &R,
+    alloc: Global,
+    heap: A,
+    watch: &mut Watch<'_>,
+    members: &mut [T],
+    query: &Query<A>,
+    objects: &[Term<A>],
+    call: Call,
+) -> Option<bool>
     requires ready { All T.is_ready members.old }
     requires table { AreOfOneTable (map T.home members.old) }
 {
-    let came = called(rt, heap, members, query, call)?;
-    if fix_nothing::<A, T>(members) {
-        Some(came)
-    } else {
-        None
+    let first = called_and_released(rt, alloc, heap, watch, members, query, objects, call, 0)?;
+    if !first.is_refused() {
+        return Some(watch.is_right() && first.is_whole(0));
+    }
+    let before = first.gone();
+    let second = called_and_released(
+        rt, alloc, heap, watch, members, query, objects, call, before,
+    )?;
+    if second.is_refused() {
+        return Some(watch.stops());
+    }
+    Some(watch.is_right() && second.is_whole(before))
+}
+
+/// The first member puts the objects in; none where there is no memory for them.
+fn filled<A: Allocator + Copy, T: Turns<A>>(members: &mut [T], objects: &[Term<A>]) -> Option<()>
+    requires ready { All T.is_ready members.old }
+    ensures ready { All T.is_ready members.new }
+    ensures same { map T.home members.new ≡ map T.home members.old }
+{
+    if members.is_empty() {
+        return None;
+    }
+    put_all(&mut members[0], objects)
+}
+
+/// Whether a call is right at the objects, which the first member puts in before; none where there is no memory for
+/// them.
+fn is_right_by<R: Threads + Wait + Sync, A: Allocator + Copy + Send + Sync, T: Turns<A> + Send>(
+    rt: &R,
+    alloc: Global,
+    heap: A,
+    counts: &Failing<Global>,
+    members: &mut [T],
+    query: &Query<A>,
+    objects: &[Term<A>],
+    call: Call,
+) -> Option<bool>
+    requires ready { All T.is_ready members.old }
+    requires table { AreOfOneTable (map T.home members.old) }
+{
+    filled(members, objects)?;
+    let mut watch = Watch::new(counts);
+    match is_right_again(rt, alloc, heap, &mut watch, members, query, objects, call) {
+        Some(is_right) => Some(is_right),
+        None => Some(false),
     }
 }
 
 /// The same by sessions of a table.
-fn called_by<R: Threads + Wait + Sync, A: Allocator + Copy + Send + Sync, P: Part<A> + Drop + Send>(
+fn is_right_in<
+    R: Threads + Wait + Sync,
+    A: Allocator + Copy + Send + Sync,
+    P: Part<A> + Drop + Send,
+>(
     rt: &R,
     alloc: Global,
     heap: A,
+    counts: &Failing<Global>,
     table: &Table<P, A>,
     sessions: &mut [Session<P, A>],
     query: &Query<A>,
+    objects: &[Term<A>],
     call: Call,
-) -> Option<Came>
+) -> Option<bool>
     requires { All (λ s. IsOpened table.now.options table.now.gates.items s.number s.passes.items) sessions.old }
 {
     let mut members = members_of(rt, alloc, table, sessions)?;
-    called_and_released(rt, heap, members.as_mut_slice(), query, call)
-}
-
-/// How many objects a session counts.
-fn left<'h, R: Wait>(
-    rt: &R,
-    table: &Plain<'h>,
-    session: PlainSession<'h>,
-    query: &Query<Heap<'h>>,
-) -> Option<u64>
-    requires { IsOpened table.now.options table.now.gates.items session.number session.passes.items }
-{
-    let mut session = session;
-    let mut at = table.at(rt, &mut session);
-    select_count(&mut at, query).ok()
+    is_right_by(
+        rt,
+        alloc,
+        heap,
+        counts,
+        members.as_mut_slice(),
+        query,
+        objects,
+        call,
+    )
 }
 
 /// What the set is opened with.
@@ -184,97 +282,89 @@ fn options(sessions: u8) -> Options {
     }
 }
 
-/// The set with its objects, sessions for so many members, and one more session.
-fn set_with_objects<'h, R: Wait>(
-    rt: &R,
-    heap: Heap<'h>,
+/// The specification of a call.
+fn specification_of(call: Call) -> &'static str {
+    match call {
+        Call::Select => KEY,
+        Call::Count => ALL,
+        Call::Delete => ALL,
+    }
+}
+
+/// The set without objects, and sessions for so many members.
+fn opened<A: Allocator + Copy, P: Part<A> + Drop>(
+    heap: A,
     members: u8,
-) -> Option<(Plain<'h>, Vec<PlainSession<'h>, Heap<'h>>, PlainSession<'h>)>
-    ensures { IfSome result (λ made. All (λ s. IsOpened made.0.options made.0.gates.items s.number s.passes.items) made.1.items
-        × IsOpened made.0.options made.0.gates.items made.2.number made.2.passes.items) }
+) -> Option<(Table<P, A>, Vec<Session<P, A>, A>)>
+    ensures { IfSome result (λ made. All (λ s. IsOpened made.0.options made.0.gates.items s.number s.passes.items) made.1.items) }
 {
+    let Ok((table, sessions)) = Table::<P, A>::open(heap, options(members)) else {
+        return None;
+    };
+    Some((table, sessions))
+}
+
+/// Whether a call by so many members is right; none where there is no memory for the table, its objects and the query.
+fn is_right_at<
+    R: Threads + Wait + Sync,
+    A: Allocator + Copy + Send + Sync,
+    P: Part<A> + Drop + Send,
+>(
+    rt: &R,
+    alloc: Global,
+    heap: A,
+    counts: &Failing<Global>,
+    members: u8,
+    call: Call,
+) -> Option<bool> {
+    let query = query_of(heap, specification_of(call))?;
     let objects = read_terms(heap, OBJECTS).ok()?;
-    opened(
+    let (table, mut sessions) = opened::<A, P>(heap, members)?;
+    is_right_in(
         rt,
+        alloc,
         heap,
-        options(members.saturating_add(1)),
+        counts,
+        &table,
+        sessions.as_mut_slice(),
+        &query,
         objects.as_slice(),
+        call,
     )
 }
 
-/// The query that finds each object.
-fn query_in(heap: Heap<'_>) -> Option<Query<Heap<'_>>> {
-    let terms = read_terms(heap, ALL).ok()?;
-    let specification = read_spec(heap, terms.first()?).ok()?;
-    Query::from_spec(heap, &specification, 1).ok()
-}
-
-/// Makes a call by so many members. There is none where it is refused without reason, or the objects that it found, or
-/// took before it was refused, and those that are left aren't all.
-fn make_run<R: Threads + Wait + Sync>(
+/// Whether a call is right by an allocator that may refuse, and no block is left.
+fn is_right<R: Threads + Wait + Sync>(
     rt: &R,
     alloc: Global,
     heap: &Failing<Global>,
     members: u8,
     call: Call,
-) -> Option<Run> {
-    let query = query_in(heap)?;
-    let (table, mut sessions, other) = set_with_objects(rt, heap, members)?;
-    let before = heap.requests();
-    let came = called_by(
-        rt,
-        alloc,
-        heap,
-        &table,
-        sessions.as_mut_slice(),
-        &query,
-        call,
-    )?;
-    let is_all = if came.refused {
-        came.count.saturating_add(left(rt, &table, other, &query)?) == COUNT
-    } else {
-        came.count == COUNT
-    };
-    if is_all && came.refused == heap.was_refused() {
-        Some(Run {
-            before,
-            refused: came.refused,
-        })
-    } else {
-        None
+) -> bool {
+    match is_right_at::<R, &Failing<Global>, HashPart<&Failing<Global>>>(
+        rt, alloc, heap, heap, members, call,
+    ) {
+        Some(is_right) => is_right && heap.blocks() == 0,
+        None => heap.was_refused() && heap.blocks() == 0,
     }
 }
 
-/// How many requests for memory a call makes, each of which was refused in turn.
-fn refusals<R: Threads + Wait + Sync>(
-    rt: &R,
-    alloc: Global,
-    members: u8,
-    call: Call,
-) -> Option<u64> {
-    let whole = make_run(rt, alloc, &Failing::counting(alloc), members, call)?;
-    for request in 1..MOST_REQUESTS {
-        let heap = Failing::refusing_nth(alloc, whole.before.saturating_add(request));
-        if !make_run(rt, alloc, &heap, members, call)?.refused {
-            return Some(request - 1);
-        }
-    }
-    None
-}
-
-/// Whether each call by so many members makes a request for each part at least.
-fn are_refused<R: Threads + Wait + Sync>(rt: &R, alloc: Global, members: u8) -> Option<bool> {
-    for call in [Call::Select, Call::Count, Call::Delete] {
-        if refusals(rt, alloc, members, call)? < u64::from(PARTS) {
-            return Some(false);
-        }
-    }
-    Some(true)
+/// Whether it is so with each request refused in turn.
+fn holds<R: Threads + Wait + Sync>(rt: &R, alloc: Global, members: u8, call: Call) -> bool {
+    let alone = sweep(alloc, MOST_REQUESTS, |heap: &Failing<Global>| {
+        is_right(rt, alloc, heap, members, call)
+    });
+    let onward = sweep_onward(alloc, MOST_REQUESTS, |heap: &Failing<Global>| {
+        is_right(rt, alloc, heap, members, call)
+    });
+    alone.is_complete() && onward.is_complete()
 }
 
 #[test]
 fn each_request_of_a_selection_may_be_refused(rt: HostRuntime) {
-    for members in [1, 2, 4] {
-        assert!(rt; are_refused(&rt, rt.alloc(), members) == Some(true));
+    for members in [1, 2, 4, 16] {
+        assert!(rt; holds(&rt, rt.alloc(), members, Call::Select), "{members}");
+        assert!(rt; holds(&rt, rt.alloc(), members, Call::Count), "{members}");
+        assert!(rt; holds(&rt, rt.alloc(), members, Call::Delete), "{members}");
     }
 }

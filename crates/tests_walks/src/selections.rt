@@ -1,9 +1,9 @@
 //! Selections by one member and by several: the same answers, refused numbers of members, deletions, and members that
 //! wait for each other.
-use crate::members::{Call, asked, asked_alone, deleted_and_counted, query_of};
+use crate::members::{Call, asked, asked_alone, deleted_and_counted};
+use crate::plays::query_of;
 use part_core::Part;
 use part_hash::HashPart;
-use part_plain::PlainPart;
 use std::alloc::Global;
 use std::sync::Wait;
 use std::test::*;
@@ -72,14 +72,13 @@ fn are_deleted<P: Part<Global> + Drop + Send, R: Threads + Wait + Sync>(
 
 #[test]
 fn members_answer_in_the_order_of_the_parts(rt: HostRuntime) {
-    assert!(rt; all_come_to::<PlainPart<Global>, _>(&rt, rt.alloc()) == Some(true));
     assert!(rt; all_come_to::<HashPart<Global>, _>(&rt, rt.alloc()) == Some(true));
 }
 
 #[test]
 fn other_numbers_of_members_are_refused(rt: HostRuntime) {
-    assert!(rt; are_refused::<PlainPart<Global>, _>(&rt, rt.alloc(), 0) == Some(true));
-    assert!(rt; are_refused::<PlainPart<Global>, _>(&rt, rt.alloc(), 17) == Some(true));
+    assert!(rt; are_refused::<HashPart<Global>, _>(&rt, rt.alloc(), 0) == Some(true));
+    assert!(rt; are_refused::<HashPart<Global>, _>(&rt, rt.alloc(), 17) == Some(true));
 }
 
 #[test]
@@ -90,8 +89,8 @@ fn members_delete_all_objects(rt: HostRuntime) {
 #[test]
 fn members_work_side_by_side(rt: HostRuntime) {
     // Each waits for the other once: on one thread one of them waits in vain.
-    let first = comes_to::<PlainPart<Global>, _>(&rt, rt.alloc(), 2, Some(0), ANSWERS);
+    let first = comes_to::<HashPart<Global>, _>(&rt, rt.alloc(), 2, Some(0), ANSWERS);
     assert!(rt; first == Some(true));
-    let second = comes_to::<PlainPart<Global>, _>(&rt, rt.alloc(), 2, Some(1), ANSWERS);
+    let second = comes_to::<HashPart<Global>, _>(&rt, rt.alloc(), 2, Some(1), ANSWERS);
     assert!(rt; second == Some(true));
 }

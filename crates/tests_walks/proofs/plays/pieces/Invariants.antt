@@ -1,6 +1,0 @@
-use Rattle.std.proofs.Common.{◌≡◌}
-use Rattle.tests_walks.proofs.plays.pieces.Given as goal
-
-abbrev pub invariant-loop-piece : goal.invariant-loop-piece
-invariant-loop-piece g l =
-    g.T.Turns.is_ready l.session × (g.T.Turns.home l.session ≡ g.T.Turns.home l.initial.session)

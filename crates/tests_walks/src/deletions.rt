@@ -1,0 +1,284 @@
+//! Deletions with each request for memory refused in turn, alone and with all behind it: the number of a refused one is
+//! that of the objects of whole visits, which are gone, it leaves the fixes of its session as they were, and asked
+//! again it deletes the rest.
+ghost use Rattle.std.specs.Prelude.{◌≡◌};
+
+use crate::plays::{Play, fixes_below, opened, prepared, query_of};
+use crate::watch::Watch;
+use kit_alloc::{Failing, sweep, sweep_onward};
+use kit_rows::{digits, fields};
+use part_core::{Part, TableKind};
+use part_hash::HashPart;
+use part_order::OrderPart;
+use std::alloc::{Allocator, Global};
+use tables::{Turns, member};
+use term_core::Term;
+use walks::{Query, select_delete};
+
+/// The most requests of a deletion and its table.
+const MOST_REQUESTS: u64 = 20_000;
+
+/// The objects of two parts: four in one class, and one in each of two.
+const OBJECTS: &str = "{0,a}. {16,b}. {32,c}. {48,d}. {1,e}. {3,f}.";
+/// Each object answers true, by a tuple that is made of its key.
+const ALL: &str = "[{{'$1','_'},[{'=<',{{0}},{{'$1'}}}],[true]}].";
+/// So do those of three keys that are named; one more isn't there.
+const NAMED: &str = "[{{32,'$1'},[{'=<',{{0}},{{'$1'}}}],[true]},{{5,'_'},[],[true]},
+    {{1,'$1'},[{'=<',{{0}},{{'$1'}}}],[true]},{{0,'$1'},[{'=<',{{0}},{{'$1'}}}],[true]}].";
+
+/// A deletion, what refused ones leave, and what one leaves in the end: how many objects they say are gone, and of each
+/// object whether it is left or gone, as `+` or `-`.
+#[derive(Clone, Copy)]
+struct Case {
+    play: Play,
+    stages: &'static str,
+    end: &'static str,
+}
+
+/// The session fixes one of two parts, or none.
+const CASES: [Case; 3] = [
+    Case {
+        play: Play {
+            kind: TableKind::Set,
+            parts: 2,
+            objects: OBJECTS,
+            specification: ALL,
+            fixed: 1,
+        },
+        stages: "0++++++ 4----++ 5-----+ ",
+        end: "6------ ",
+    },
+    Case {
+        play: Play {
+            kind: TableKind::Set,
+            parts: 2,
+            objects: OBJECTS,
+            specification: NAMED,
+            fixed: 0,
+        },
+        stages: "0++++++ 1++-+++ 2++-+-+ ",
+        end: "3-+-+-+ ",
+    },
+    Case {
+        play: Play {
+            kind: TableKind::OrderedSet,
+            parts: 1,
+            objects: OBJECTS,
+            specification: ALL,
+            fixed: 0,
+        },
+        stages: "0++++++ ",
+        end: "6------ ",
+    },
+];
+
+/// Whether there is an object with the key of this one.
+fn is_left<A: Allocator, T: Turns<A>>(session: &mut T, object: &Term<A>) -> Option<bool>
+    requires { T.is_ready session.old }
+    ensures ready { T.is_ready session.new }
+    ensures same { T.home session.new ≡ T.home session.old }
+{
+    Some(member(session, fields(object)?.first()?))
+}
+
+/// Of each of these objects whether it is left or gone, as `+` or `-`. It takes no memory of the table's allocator.
+pub(crate) fn marks<A: Allocator, T: Turns<A>>(
+    alloc: Global,
+    session: &mut T,
+    objects: &[Term<A>],
+) -> Option<Vec<u8>>
+    requires { T.is_ready session.old }
+    ensures ready { T.is_ready session.new }
+    ensures same { T.home session.new ≡ T.home session.old }
+{
+    let mut marks = Vec::new(alloc);
+    for object in objects {
+        let mark = if is_left(session, object)? {
+            b'+'
+        } else {
+            b'-'
+        };
+        marks.push(mark).ok()?;
+    }
+    Some(marks)
+}
+
+/// How many objects are gone by these marks.
+pub(crate) fn gone_of(marks: &[u8]) -> u64 {
+    let mut gone: u64 = 0;
+    for mark in marks {
+        if *mark == b'-' {
+            gone = gone.saturating_add(1);
+        }
+    }
+    gone
+}
+
+/// How a deletion that says so many leaves its session and these objects.
+fn stage<A: Allocator, T: Turns<A>>(
+    alloc: Global,
+    watch: &mut Watch<'_>,
+    session: &mut T,
+    objects: &[Term<A>],
+    fixed: u8,
+    count: u64,
+) -> Option<Vec<u8>>
+    requires { T.is_ready session.old }
+    ensures ready { T.is_ready session.new }
+    ensures same { T.home session.new ≡ T.home session.old }
+{
+    watch.sees(fixes_below(session, fixed));
+    let marks = marks(alloc, session, objects)?;
+    let mut stage = digits(alloc, count)?;
+    stage.extend_from_slice(marks.as_slice()).ok()?;
+    stage.push(b' ').ok()?;
+    Some(stage)
+}
+
+/// A deletion: how many objects it says, and whether it was refused.
+fn deleted<A: Allocator, T: Turns<A>>(
+    watch: &mut Watch<'_>,
+    session: &mut T,
+    query: &Query<A>,
+) -> (u64, bool)
+    requires { T.is_ready session.old }
+    ensures ready { T.is_ready session.new }
+    ensures same { T.home session.new ≡ T.home session.old }
+{
+    let (count, is_refused) = match select_delete(session, query) {
+        Ok(count) => (count, false),
+        Err(refused) => (refused.value, true),
+    };
+    watch.ended(is_refused);
+    (count, is_refused)
+}
+
+/// Puts a stage behind others, where the last isn't the same.
+fn put_stage(stage: &[u8], stages: &mut Vec<u8>) -> Option<()> {
+    if stages.as_slice().ends_with(stage) {
+        return Some(());
+    }
+    stages.extend_from_slice(stage).ok()
+}
+
+/// Whether a deletion is right at these objects. A stage at which it is refused is put behind those before; refused
+/// again, it has deleted nothing more.
+fn is_deleted<A: Allocator, T: Turns<A>>(
+    alloc: Global,
+    watch: &mut Watch<'_>,
+    session: &mut T,
+    query: &Query<A>,
+    objects: &[Term<A>],
+    case: Case,
+    stages: &mut Vec<u8>,
+) -> Option<bool>
+    requires { T.is_ready session.old }
+{
+    let fixed = case.play.fixed;
+    let (count, is_refused) = deleted(watch, session, query);
+    let first = stage(alloc, watch, session, objects, fixed, count)?;
+    if !is_refused {
+        return Some(watch.is_right() && first.as_slice() == case.end.as_bytes());
+    }
+    put_stage(first.as_slice(), stages)?;
+    let (more, is_refused) = deleted(watch, session, query);
+    let second = stage(
+        alloc,
+        watch,
+        session,
+        objects,
+        fixed,
+        count.saturating_add(more),
+    )?;
+    if is_refused {
+        return Some(watch.stops() && second.as_slice() == first.as_slice());
+    }
+    Some(watch.is_right() && second.as_slice() == case.end.as_bytes())
+}
+
+/// The same, with the table's objects put in before; none where there is no memory for them and the query.
+fn is_deleted_by<A: Allocator + Copy, T: Turns<A>>(
+    alloc: Global,
+    heap: A,
+    counts: &Failing<Global>,
+    session: &mut T,
+    case: Case,
+    stages: &mut Vec<u8>,
+) -> Option<bool>
+    requires { T.is_ready session.old }
+{
+    let query = query_of(heap, case.play.specification)?;
+    let objects = prepared(heap, session, case.play)?;
+    let mut watch = Watch::new(counts);
+    is_deleted(
+        alloc,
+        &mut watch,
+        session,
+        &query,
+        objects.as_slice(),
+        case,
+        stages,
+    )
+}
+
+/// The same, none where there is no memory for the table.
+fn is_deleted_at<P: Part<A> + Drop, A: Allocator + Copy>(
+    alloc: Global,
+    heap: A,
+    counts: &Failing<Global>,
+    case: Case,
+    stages: &mut Vec<u8>,
+) -> Option<bool> {
+    let mut table = opened::<P, A>(heap, case.play)?;
+    let mut session = table.at(0);
+    is_deleted_by(alloc, heap, counts, &mut session, case, stages)
+}
+
+/// Whether a deletion is right, by an allocator that may refuse, and no block is left.
+fn is_right(alloc: Global, heap: &Failing<Global>, case: Case, stages: &mut Vec<u8>) -> bool {
+    let is_right = if case.play.kind.is_ordered() {
+        is_deleted_at::<OrderPart<&Failing<Global>>, &Failing<Global>>(
+            alloc, heap, heap, case, stages,
+        )
+    } else {
+        is_deleted_at::<HashPart<&Failing<Global>>, &Failing<Global>>(
+            alloc, heap, heap, case, stages,
+        )
+    };
+    match is_right {
+        Some(is_right) => is_right && heap.blocks() == 0,
+        None => heap.was_refused() && heap.blocks() == 0,
+    }
+}
+
+/// Whether it is right with each request refused in turn, and the stages are these.
+fn holds(alloc: Global, case: Case) -> bool {
+    let mut stages = Vec::new(alloc);
+    let alone = sweep(alloc, MOST_REQUESTS, |heap: &Failing<Global>| {
+        is_right(alloc, heap, case, &mut stages)
+    });
+    let mut stages_onward = Vec::new(alloc);
+    let onward = sweep_onward(alloc, MOST_REQUESTS, |heap: &Failing<Global>| {
+        is_right(alloc, heap, case, &mut stages_onward)
+    });
+    alone.is_complete()
+        && onward.is_complete()
+        && stages.as_slice() == case.stages.as_bytes()
+        && stages_onward.as_slice() == case.stages.as_bytes()
+}
+
+/// The first of these cases that doesn't hold.
+fn first_wrong(alloc: Global, cases: &[Case]) -> Option<usize> {
+    for (place, case) in cases.iter().enumerate() {
+        if !holds(alloc, *case) {
+            return Some(place);
+        }
+    }
+    None
+}
+
+#[test]
+fn refused_deletions_say_what_is_gone(rt: HostRuntime) {
+    let wrong = first_wrong(rt.alloc(), &CASES);
+    assert!(rt; wrong == None, "{wrong:?}");
+}
