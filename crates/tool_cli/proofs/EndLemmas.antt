@@ -34,6 +34,8 @@ has_outcome request.Compile known old new (Ok x) other ok stopped = ok
 has_outcome request.Compile known old new (Err f) other ok stopped = stopped
 has_outcome request.Verify known old new (Ok x) other ok stopped = ok
 has_outcome request.Verify known old new (Err f) other ok stopped = stopped
+has_outcome (request.Explain keypos) known old new (Ok x) other ok stopped = ok
+has_outcome (request.Explain keypos) known old new (Err f) other ok stopped = stopped
 has_outcome request.Script known old new outcome other ok stopped = absurd other
 has_outcome (request.Scan o) known old new outcome other ok stopped = absurd other
 

@@ -30,12 +30,12 @@ use Rattle.clap.specs.declared.parser.matches.SubCommand.{SubCommand}
 use Rattle.clap.proofs.OnLiterals.{clap_on_literals}
 use Rattle.tool_cli.specs.Words.{Asked, command, help, topic, mistake, asked, asked_behind, asked_by_flag}
 use Rattle.tool_cli.specs.Words.{is_help_flag, name_of, tool_app, Reads}
-use Rattle.tool_cli.specs.Words.{asked_options, AreRead, IsKindParser}
+use Rattle.tool_cli.specs.Words.{to_scan, to_explain, asked_options, AreRead, IsReadOf, IsKindParser}
 use Rattle.tool_scan.specs.declared.options.ScanOptions.{ScanOptions}
 use Rattle.tool_cli.specs.declared.words.Request.{Request}
 use Rattle.tool_cli.specs.declared.words.Request.TheVariants as request
 use Rattle.tool_cli.proofs.KindLemmas.{by_test, same_text, other_text, no_equals_sign, is_mistake, are_mistakes, Refuses, still_refused, no_more}
-use Rattle.tool_cli.proofs.OptionLemmas.{scan_level, rest_rows, Comes, options_lead}
+use Rattle.tool_cli.proofs.OptionLemmas.{level as option_level, rest_rows, Comes, options_lead}
 
 -- ---- errors
 
@@ -85,6 +85,8 @@ module _ (kinds : ValueParser) (good : IsKindParser kinds) where
   abbrev Leads : Asked → Kinds → Option (Text × List Row) → Type 0
   Leads (command (request.Scan o)) ks found =
       (ks ≡ []) × (rows : List Row) × (found ≡ Some (codes "scan", rows)) × AreRead o rows
+  Leads (command (request.Explain n)) ks found =
+      (ks ≡ []) × (rows : List Row) × (found ≡ Some (codes "explain", rows)) × IsReadOf (codes "keypos") 65535 n rows
   Leads (command r) ks found = (ks ≡ []) × (option_map (λ s. s.0) found ≡ Some (name_of r))
   Leads help ks found = ks ≡ error.DisplayHelp ∷ []
   Leads topic ks found = ks ≡ error.DisplayHelp ∷ error.InvalidSubcommand ∷ []
@@ -93,6 +95,7 @@ module _ (kinds : ValueParser) (good : IsKindParser kinds) where
   -- a command without options
   abbrev IsBare : Request → Type 0
   IsBare (request.Scan o) = ⊥
+  IsBare (request.Explain n) = ⊥
   IsBare r = Unit {0}
 
   refusal_leads : (a : Asked) (ks : Kinds) (name : Option (Text × List Row)) → Refuses a ks → Leads a ks name
@@ -320,6 +323,7 @@ module _ (kinds : ValueParser) (good : IsKindParser kinds) where
       rw (no_fault_past_stop top top_names (codes "script") [] rest, past_stop top.rules top_names (codes "script") [] rest)
       (no_more (fault_behind request.Script rest))
   behind_command (request.Scan o) bare p rest = absurd bare
+  behind_command (request.Explain n) bare p rest = absurd bare
 
   command_entered : (r : Request) → IsBare r → (p : Text) (rest : List Text) → entered_name (p ∷ name_of r ∷ rest) ≡ Some (name_of r)
   unfolding walked
@@ -334,6 +338,7 @@ module _ (kinds : ValueParser) (good : IsKindParser kinds) where
   command_entered request.Script bare p rest =
       ap (λ w. option_map (λ s. s.0) (entered (built (tool_app kinds)) w.stopped)) (past_stop top.rules top_names (codes "script") [] rest)
   command_entered (request.Scan o) bare p rest = absurd bare
+  command_entered (request.Explain n) bare p rest = absurd bare
 
   bare_leads : (r : Request) → IsBare r → (ks : Kinds) (name : Option (Text × List Row)) → ks ≡ [] → option_map (λ s. s.0) name ≡ Some (name_of r) → Leads (command r) ks name
   bare_leads request.Run bare ks name none is = (none, is)
@@ -342,6 +347,7 @@ module _ (kinds : ValueParser) (good : IsKindParser kinds) where
   bare_leads request.Verify bare ks name none is = (none, is)
   bare_leads request.Script bare ks name none is = (none, is)
   bare_leads (request.Scan o) bare ks name none is = absurd bare
+  bare_leads (request.Explain n) bare ks name none is = absurd bare
 
   words_behind_lead : (r : Request) → IsBare r → (rest : List Text) (name : Option (Text × List Row)) → option_map (λ s. s.0) name ≡ Some (name_of r)
       → Leads (asked_behind r rest) (fault_behind r rest) name
@@ -366,32 +372,61 @@ module _ (kinds : ValueParser) (good : IsKindParser kinds) where
   command_leads r bare p rest =
       rw (behind_command r bare p rest) (words_behind_lead r bare rest (found_by (p ∷ name_of r ∷ rest)) (command_entered r bare p rest))
 
-  behind_scan : (p : Text) (rest : List Text) → fault_of (tool_app kinds) (p ∷ codes "scan" ∷ rest) ≡ level_fault (scan_level kinds good) [] nothing_held rest false []
+  behind_scan : (p : Text) (rest : List Text) → fault_of (tool_app kinds) (p ∷ codes "scan" ∷ rest) ≡ level_fault (option_level kinds good to_scan) [] nothing_held rest false []
   unfolding walked walk_fault defaults_fault
   behind_scan p rest =
       rw (no_fault_past_stop top top_names (codes "scan") [] rest, past_stop top.rules top_names (codes "scan") [] rest)
-      (no_more (level_fault (scan_level kinds good) [] nothing_held rest false []))
+      (no_more (level_fault (option_level kinds good to_scan) [] nothing_held rest false []))
 
-  scan_entered : (p : Text) (rest : List Text) → found_by (p ∷ codes "scan" ∷ rest) ≡ Some (codes "scan", rest_rows kinds good (walk_from nothing_held) rest)
+  scan_entered : (p : Text) (rest : List Text) → found_by (p ∷ codes "scan" ∷ rest) ≡ Some (codes "scan", rest_rows kinds good to_scan (walk_from nothing_held) rest)
   unfolding walked
   scan_entered p rest = ap (λ w. entered (built (tool_app kinds)) w.stopped) (past_stop top.rules top_names (codes "scan") [] rest)
 
   scan_leads : (p : Text) (rest : List Text) → LeadsAt (p ∷ codes "scan" ∷ rest)
-  scan_leads p rest = lead (asked_options [] rest) (options_lead kinds good rest)
+  scan_leads p rest = lead (asked_options to_scan [] rest) (options_lead kinds good to_scan rest)
     where
       words : List Text
       words = p ∷ codes "scan" ∷ rest
 
-      lead : (a : Asked) → Comes kinds good a (level_fault (scan_level kinds good) [] nothing_held rest false []) (rest_rows kinds good (walk_from nothing_held) rest) → Leads a (fault_of (tool_app kinds) words) (found_by words)
-      lead (command (request.Scan o)) h = (behind_scan p rest ∙ h.0, rest_rows kinds good (walk_from nothing_held) rest, scan_entered p rest, h.1)
-      lead (command request.Run) h = absurd h
-      lead (command request.Test) h = absurd h
-      lead (command request.Compile) h = absurd h
-      lead (command request.Verify) h = absurd h
-      lead (command request.Script) h = absurd h
+      lead : (a : Asked) → Comes kinds good to_scan a (level_fault (option_level kinds good to_scan) [] nothing_held rest false []) (rest_rows kinds good to_scan (walk_from nothing_held) rest) → Leads a (fault_of (tool_app kinds) words) (found_by words)
+      lead (command (request.Scan o)) h = (behind_scan p rest ∙ h.0, rest_rows kinds good to_scan (walk_from nothing_held) rest, scan_entered p rest, h.1)
+      lead (command request.Run) h = absurd h.1
+      lead (command request.Test) h = absurd h.1
+      lead (command request.Compile) h = absurd h.1
+      lead (command request.Verify) h = absurd h.1
+      lead (command request.Script) h = absurd h.1
+      lead (command (request.Explain n)) h = absurd h.1
       lead help h = behind_scan p rest ∙ h
       lead topic h = absurd h
       lead mistake h = ap are_mistakes (behind_scan p rest) ∙ h
+
+  behind_explain : (p : Text) (rest : List Text) → fault_of (tool_app kinds) (p ∷ codes "explain" ∷ rest) ≡ level_fault (option_level kinds good to_explain) [] nothing_held rest false []
+  unfolding walked walk_fault defaults_fault
+  behind_explain p rest =
+      rw (no_fault_past_stop top top_names (codes "explain") [] rest, past_stop top.rules top_names (codes "explain") [] rest)
+      (no_more (level_fault (option_level kinds good to_explain) [] nothing_held rest false []))
+
+  explain_entered : (p : Text) (rest : List Text) → found_by (p ∷ codes "explain" ∷ rest) ≡ Some (codes "explain", rest_rows kinds good to_explain (walk_from nothing_held) rest)
+  unfolding walked
+  explain_entered p rest = ap (λ w. entered (built (tool_app kinds)) w.stopped) (past_stop top.rules top_names (codes "explain") [] rest)
+
+  explain_leads : (p : Text) (rest : List Text) → LeadsAt (p ∷ codes "explain" ∷ rest)
+  explain_leads p rest = lead (asked_options to_explain [] rest) (options_lead kinds good to_explain rest)
+    where
+      words : List Text
+      words = p ∷ codes "explain" ∷ rest
+
+      lead : (a : Asked) → Comes kinds good to_explain a (level_fault (option_level kinds good to_explain) [] nothing_held rest false []) (rest_rows kinds good to_explain (walk_from nothing_held) rest) → Leads a (fault_of (tool_app kinds) words) (found_by words)
+      lead (command (request.Explain n)) h = (behind_explain p rest ∙ h.0, rest_rows kinds good to_explain (walk_from nothing_held) rest, explain_entered p rest, h.1)
+      lead (command request.Run) h = absurd h.1
+      lead (command request.Test) h = absurd h.1
+      lead (command request.Compile) h = absurd h.1
+      lead (command request.Verify) h = absurd h.1
+      lead (command request.Script) h = absurd h.1
+      lead (command (request.Scan o)) h = absurd h.1
+      lead help h = behind_explain p rest ∙ h
+      lead topic h = absurd h
+      lead mistake h = ap are_mistakes (behind_explain p rest) ∙ h
 
   topic_leads : (p : Text) (rest : List Text)
       → Leads topic (fault_of (tool_app kinds) (p ∷ codes "help" ∷ rest)) (found_by (p ∷ codes "help" ∷ rest))
@@ -406,6 +441,7 @@ module _ (kinds : ValueParser) (good : IsKindParser kinds) where
     verify : bytes_eq (name_of request.Verify) word ≡ false
     script : bytes_eq (name_of request.Script) word ≡ false
     scan : bytes_eq (codes "scan") word ≡ false
+    explain : bytes_eq (codes "explain") word ≡ false
     help : bytes_eq (codes "help") word ≡ false
 
   dashes_lead : (p : Text) (rest : List Text) → Leads mistake (fault_of (tool_app kinds) (p ∷ codes "--" ∷ rest)) (found_by (p ∷ codes "--" ∷ rest))
@@ -422,7 +458,7 @@ module _ (kinds : ValueParser) (good : IsKindParser kinds) where
       (λ e. first_decides (asked_by_flag word) _ _ _ (found_by (p ∷ word ∷ rest)) (first e))
     where
       first : bytes_eq (codes "--") word ≡ false → Refuses (asked_by_flag word) (turn_fault top top_names start word)
-      first e = rw (other.run, other.test, other.compile, other.verify, other.script, other.scan, other.help) (flagged (codes "ets_tool") false true word e)
+      first e = rw (other.run, other.test, other.compile, other.verify, other.script, other.scan, other.explain, other.help) (flagged (codes "ets_tool") false true word e)
 
   words_lead : (words : List Text) → LeadsAt words
   unfolding clap_on_literals
@@ -441,13 +477,15 @@ module _ (kinds : ValueParser) (good : IsKindParser kinds) where
       (λ e. subst (λ w. LeadsAt (p ∷ w ∷ rest)) (same_text (name_of request.Script) word e) (command_leads request.Script tt p rest))
       (λ script. by_test (bytes_eq (codes "scan") word) (LeadsAt (p ∷ word ∷ rest))
       (λ e. subst (λ w. LeadsAt (p ∷ w ∷ rest)) (same_text (codes "scan") word e) (scan_leads p rest))
-      (λ scan. by_test (bytes_eq (codes "help") word) (LeadsAt (p ∷ word ∷ rest))
+      (λ scan. by_test (bytes_eq (codes "explain") word) (LeadsAt (p ∷ word ∷ rest))
+      (λ e. subst (λ w. LeadsAt (p ∷ w ∷ rest)) (same_text (codes "explain") word e) (explain_leads p rest))
+      (λ explain. by_test (bytes_eq (codes "help") word) (LeadsAt (p ∷ word ∷ rest))
       (λ e. subst (λ w. LeadsAt (p ∷ w ∷ rest)) (same_text (codes "help") word e) (topic_leads p rest))
-      (λ e. other (record { run = run; test = test; compile = compile; verify = verify; script = script; scan = scan; help = e }))))))))
+      (λ e. other (record { run = run; test = test; compile = compile; verify = verify; script = script; scan = scan; explain = explain; help = e })))))))))
     where
       other : IsNoCommand word → LeadsAt (p ∷ word ∷ rest)
       other h =
-          let by_flag : asked (p ∷ word ∷ rest) ≡ asked_by_flag word = rw (h.run, h.test, h.compile, h.verify, h.script, h.scan, h.help) refl in
+          let by_flag : asked (p ∷ word ∷ rest) ≡ asked_by_flag word = rw (h.run, h.test, h.compile, h.verify, h.script, h.scan, h.explain, h.help) refl in
           subst (λ a. Leads a (fault_of (tool_app kinds) (p ∷ word ∷ rest)) (found_by (p ∷ word ∷ rest))) (sym by_flag) (other_leads p word rest h)
 
   -- ---- what is read
@@ -495,7 +533,9 @@ module _ (kinds : ValueParser) (good : IsKindParser kinds) where
       same request.Script request.Compile bare other e = absurd (cc)
       same request.Script request.Verify bare other e = let apart : 115 ≡ 118 = ap first_of e in absurd (omega (arith, apart))
       same (request.Scan o) r bare other e = absurd bare
+      same (request.Explain n) r bare other e = absurd bare
       same q (request.Scan o) bare other e = absurd other
+      same q (request.Explain n) bare other e = absurd other
 
       no_scan : (q : Request) → IsBare q → (rows : List Row) → Some (name_of q) ≡ name_found (Some (codes "scan", rows)) → ⊥
       no_scan request.Run bare rows e = let apart : 114 ≡ 115 = ap first_of e in omega (arith, apart)
@@ -504,9 +544,20 @@ module _ (kinds : ValueParser) (good : IsKindParser kinds) where
       no_scan request.Verify bare rows e = let apart : 118 ≡ 115 = ap first_of e in omega (arith, apart)
       no_scan request.Script bare rows e = let apart : 114 ≡ 97 = ap third_of e in omega (arith, apart)
       no_scan (request.Scan o) bare rows e = bare
+      no_scan (request.Explain n) bare rows e = bare
+
+      no_explain : (q : Request) → IsBare q → (rows : List Row) → Some (name_of q) ≡ name_found (Some (codes "explain", rows)) → ⊥
+      no_explain request.Run bare rows e = let apart : 114 ≡ 101 = ap first_of e in omega (arith, apart)
+      no_explain request.Test bare rows e = let apart : 116 ≡ 101 = ap first_of e in omega (arith, apart)
+      no_explain request.Compile bare rows e = let apart : 99 ≡ 101 = ap first_of e in omega (arith, apart)
+      no_explain request.Verify bare rows e = let apart : 118 ≡ 101 = ap first_of e in omega (arith, apart)
+      no_explain request.Script bare rows e = let apart : 115 ≡ 101 = ap first_of e in omega (arith, apart)
+      no_explain (request.Scan o) bare rows e = bare
+      no_explain (request.Explain n) bare rows e = bare
 
       answered : (a : Asked) → Leads a (fault_of (tool_app kinds) words) (found_by words) → Reads a (Ok q)
       answered (command (request.Scan o)) h = absurd (no_scan q bare h.1 (sym is ∙ ap name_found h.2))
+      answered (command (request.Explain n)) h = absurd (no_explain q bare h.1 (sym is ∙ ap name_found h.2))
       answered (command request.Run) h = same q request.Run bare tt (sym is ∙ h.1)
       answered (command request.Test) h = same q request.Test bare tt (sym is ∙ h.1)
       answered (command request.Compile) h = same q request.Compile bare tt (sym is ∙ h.1)
@@ -523,6 +574,7 @@ module _ (kinds : ValueParser) (good : IsKindParser kinds) where
     verify : name ≢ Some (name_of request.Verify)
     script : name ≢ Some (name_of request.Script)
     scan : name ≢ Some (codes "scan")
+    explain : name ≢ Some (codes "explain")
 
   run_left : (words : List Text) → fault_of (tool_app kinds) words ≡ [] → IsNoOther (entered_name words) → entered_name words ≡ Some (name_of request.Run)
   run_left words none other = left (asked words) (words_lead words)
@@ -534,6 +586,7 @@ module _ (kinds : ValueParser) (good : IsKindParser kinds) where
       left (command request.Verify) h = absurd (other.verify h.1)
       left (command request.Script) h = absurd (other.script h.1)
       left (command (request.Scan o)) h = absurd (other.scan (ap name_found h.2))
+      left (command (request.Explain n)) h = absurd (other.explain (ap name_found h.2))
       left help h = absurd (some_none _ _ (sym h ∙ none))
       left topic h = absurd (some_none _ _ (sym h ∙ none))
       left mistake h = absurd (true≢false (sym (rw none at h)))
@@ -556,6 +609,7 @@ module _ (kinds : ValueParser) (good : IsKindParser kinds) where
     where
       refused_as : (a : Asked) → Leads a (fault_of (tool_app kinds) words) (found_by words) → Reads a (Err e)
       refused_as (command (request.Scan o)) h = absurd (rw h.0 at among)
+      refused_as (command (request.Explain n)) h = absurd (rw h.0 at among)
       refused_as (command request.Run) h = absurd (rw h.0 at among)
       refused_as (command request.Test) h = absurd (rw h.0 at among)
       refused_as (command request.Compile) h = absurd (rw h.0 at among)
@@ -591,8 +645,8 @@ module _ (kinds : ValueParser) (good : IsKindParser kinds) where
 
   pub run_read : (app : App) (words : List Text) (m : ArgMatches) → app ≡ (tool_app kinds) → (is_simple_and_free app ≡ true → fault_of app words ≡ [])
       → HasMatchesOf app words m → subcommand_name_of m ≢ Some (name_of request.Test) → subcommand_name_of m ≢ Some (name_of request.Compile)
-      → subcommand_name_of m ≢ Some (name_of request.Verify) → subcommand_name_of m ≢ Some (name_of request.Script) → subcommand_name_of m ≢ Some (codes "scan") → Reads (asked words) (Ok request.Run)
-  run_read app words m is none matches no_test no_compile no_verify no_script no_scan =
+      → subcommand_name_of m ≢ Some (name_of request.Verify) → subcommand_name_of m ≢ Some (name_of request.Script) → subcommand_name_of m ≢ Some (codes "scan") → subcommand_name_of m ≢ Some (codes "explain") → Reads (asked words) (Ok request.Run)
+  run_read app words m is none matches no_test no_compile no_verify no_script no_scan no_explain =
       let free = rw is at none in
       let found = rw is at matches in
       let entered = name_entered words m found in
@@ -602,6 +656,7 @@ module _ (kinds : ValueParser) (good : IsKindParser kinds) where
         verify = λ named. no_verify (entered ∙ named);
         script = λ named. no_script (entered ∙ named);
         scan = λ named. no_scan (entered ∙ named);
+        explain = λ named. no_explain (entered ∙ named);
       }))
 
   -- `scan` was asked for, and its options are those of its rows
@@ -615,6 +670,10 @@ module _ (kinds : ValueParser) (good : IsKindParser kinds) where
       bare_other request.Verify bare e = let apart : 118 ≡ 115 = ap first_of e in omega (arith, apart)
       bare_other request.Script bare e = let apart : 114 ≡ 97 = ap third_of e in omega (arith, apart)
       bare_other (request.Scan o) bare e = bare
+      bare_other (request.Explain n) bare e = bare
+
+      other_name : Some (codes "explain") ≡ Some (codes "scan") → ⊥
+      other_name e = let apart : 101 ≡ 115 = ap first_of e in omega (arith, apart)
 
       with_rows : List Row → Option (Text × List Row)
       with_rows found = Some (codes "scan", found)
@@ -628,6 +687,45 @@ module _ (kinds : ValueParser) (good : IsKindParser kinds) where
 
       by_asked : (a : Asked) → asked words ≡ a → Leads a (fault_of (tool_app kinds) words) (found_by words) → (o : ScanOptions) × (asked words ≡ command (request.Scan o)) × AreRead o rows
       by_asked (command (request.Scan o)) e h = (o, e, subst (AreRead o) (same_rows h.1 rows (sym h.2 ∙ is)) h.3)
+      by_asked (command (request.Explain n)) e h = absurd (other_name (sym (ap name_found h.2) ∙ ap name_found is))
+      by_asked (command request.Run) e h = absurd (bare_other request.Run tt (sym h.1 ∙ ap name_found is))
+      by_asked (command request.Test) e h = absurd (bare_other request.Test tt (sym h.1 ∙ ap name_found is))
+      by_asked (command request.Compile) e h = absurd (bare_other request.Compile tt (sym h.1 ∙ ap name_found is))
+      by_asked (command request.Verify) e h = absurd (bare_other request.Verify tt (sym h.1 ∙ ap name_found is))
+      by_asked (command request.Script) e h = absurd (bare_other request.Script tt (sym h.1 ∙ ap name_found is))
+      by_asked help e h = absurd (some_none _ _ (sym h ∙ none))
+      by_asked topic e h = absurd (some_none _ _ (sym h ∙ none))
+      by_asked mistake e h = absurd (true≢false (sym (rw none at h)))
+
+  -- `explain` was asked for, and its option is that of its rows
+  explain_asked : (words : List Text) (rows : List Row) → fault_of (tool_app kinds) words ≡ [] → found_by words ≡ Some (codes "explain", rows) → (n : ℕ) × (asked words ≡ command (request.Explain n)) × IsReadOf (codes "keypos") 65535 n rows
+  explain_asked words rows none is = by_asked (asked words) refl (words_lead words)
+    where
+      bare_other : (q : Request) → IsBare q → Some (name_of q) ≡ Some (codes "explain") → ⊥
+      bare_other request.Run bare e = let apart : 114 ≡ 101 = ap first_of e in omega (arith, apart)
+      bare_other request.Test bare e = let apart : 116 ≡ 101 = ap first_of e in omega (arith, apart)
+      bare_other request.Compile bare e = let apart : 99 ≡ 101 = ap first_of e in omega (arith, apart)
+      bare_other request.Verify bare e = let apart : 118 ≡ 101 = ap first_of e in omega (arith, apart)
+      bare_other request.Script bare e = let apart : 115 ≡ 101 = ap first_of e in omega (arith, apart)
+      bare_other (request.Scan o) bare e = bare
+      bare_other (request.Explain n) bare e = bare
+
+      other_name : Some (codes "scan") ≡ Some (codes "explain") → ⊥
+      other_name e = let apart : 115 ≡ 101 = ap first_of e in omega (arith, apart)
+
+      with_rows : List Row → Option (Text × List Row)
+      with_rows found = Some (codes "explain", found)
+
+      rows_in : Option (Text × List Row) → List Row
+      rows_in None = []
+      rows_in (Some p) = p.1
+
+      same_rows : (a b : List Row) → with_rows a ≡ with_rows b → a ≡ b
+      same_rows a b e = ap rows_in e
+
+      by_asked : (a : Asked) → asked words ≡ a → Leads a (fault_of (tool_app kinds) words) (found_by words) → (n : ℕ) × (asked words ≡ command (request.Explain n)) × IsReadOf (codes "keypos") 65535 n rows
+      by_asked (command (request.Explain n)) e h = (n, e, subst (IsReadOf (codes "keypos") 65535 n) (same_rows h.1 rows (sym h.2 ∙ is)) h.3)
+      by_asked (command (request.Scan o)) e h = absurd (other_name (sym (ap name_found h.2) ∙ ap name_found is))
       by_asked (command request.Run) e h = absurd (bare_other request.Run tt (sym h.1 ∙ ap name_found is))
       by_asked (command request.Test) e h = absurd (bare_other request.Test tt (sym h.1 ∙ ap name_found is))
       by_asked (command request.Compile) e h = absurd (bare_other request.Compile tt (sym h.1 ∙ ap name_found is))
@@ -656,6 +754,15 @@ module _ (kinds : ValueParser) (good : IsKindParser kinds) where
       let at = rw is at matches in
       let entered = (at simple).1 in
       scan_asked words rows (free simple_and_free) (found_is (found_by words) (codes "scan") rows (sym (name_entered words m at) ∙ named) (sym (ap rows_found entered) ∙ found))
+
+  pub explain_read : (app : App) (words : List Text) (m : ArgMatches) (rows : List Row) → app ≡ (tool_app kinds) → (is_simple_and_free app ≡ true → fault_of app words ≡ [])
+      → HasMatchesOf app words m → subcommand_name_of m ≡ Some (codes "explain") → option_map (λ p. p.1) (subcommand_rows (out-ArgMatches m).subcommand) ≡ Some rows
+      → (n : ℕ) × (asked words ≡ command (request.Explain n)) × IsReadOf (codes "keypos") 65535 n rows
+  explain_read app words m rows is none matches named found =
+      let free = rw is at none in
+      let at = rw is at matches in
+      let entered = (at simple).1 in
+      explain_asked words rows (free simple_and_free) (found_is (found_by words) (codes "explain") rows (sym (name_entered words m at) ∙ named) (sym (ap rows_found entered) ∙ found))
 
   pub words_refused : (app : App) (words : List Text) (e : Error) → app ≡ (tool_app kinds)
       → (is_simple_and_free app ≡ true → HasKind (fault_of app words) e) → Reads (asked words) (Err e)

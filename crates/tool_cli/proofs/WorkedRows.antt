@@ -126,3 +126,35 @@ a_kind_twice = refl
 help_behind_another_kind : scan (codes "--kind" ∷ codes "heap" ∷ codes "--help" ∷ []) ≡ mistake
 unfolding clap_on_literals
 help_behind_another_kind = refl
+
+-- ---- `explain`
+
+abbrev explain : List Text → Asked
+explain words = asked (codes "ets_tool" ∷ codes "explain" ∷ words)
+
+first_key : explain [] ≡ command (request.Explain 1)
+first_key = refl
+
+last_key : explain (codes "--keypos" ∷ codes "65535" ∷ codes "--" ∷ []) ≡ command (request.Explain 65535)
+unfolding clap_on_literals
+last_key = refl
+
+attached_key : explain (codes "--keypos=2" ∷ []) ≡ command (request.Explain 2)
+unfolding clap_on_literals
+attached_key = refl
+
+no_such_key : explain (codes "--keypos" ∷ codes "0" ∷ []) ≡ mistake
+unfolding clap_on_literals
+no_such_key = refl
+
+option_of_scan : explain (codes "--parts" ∷ codes "2" ∷ []) ≡ mistake
+unfolding clap_on_literals
+option_of_scan = refl
+
+key_twice : explain (codes "--keypos=2" ∷ codes "--keypos=2" ∷ []) ≡ mistake
+unfolding clap_on_literals
+key_twice = refl
+
+help_behind_a_key : explain (codes "--keypos" ∷ codes "2" ∷ codes "-h" ∷ []) ≡ help
+unfolding clap_on_literals
+help_behind_a_key = refl

@@ -9,6 +9,7 @@ use Rattle.tool_io.specs.declared.fault.ToolFault.TheVariants as fault
 use Rattle.tool_query.specs.Answers.Report.{answers, outcomes}
 use Rattle.tool_query.specs.Code.{WritesFile, StopsFile, WritesVerdict, StopsVerdict}
 use Rattle.tool_query.specs.Run.{WritesAnswers, StopsAnswers, Stops}
+use Rattle.tool_explain.specs.Explain.{WritesExplanation, StopsExplanation}
 use Rattle.tool_script.specs.Run.{WritesReplies, StopsReplies}
 use Rattle.tool_script.specs.Input.{OfScript, StopsScript}
 use Rattle.tool_scan.specs.Options.{AreAllowed}
@@ -38,6 +39,7 @@ Writes request.Compile terms old new = WritesFile terms old new
 Writes request.Verify terms old new = WritesVerdict terms old new
 Writes request.Script terms old new = WritesReplies terms old new
 Writes (request.Scan o) terms old new = WritesScan o terms old new
+Writes (request.Explain keypos) terms old new = WritesExplanation keypos terms old new
 
 -- how it ends early
 abbrev pub StopsOn : Request → List Datum → (old new : Option (List ℕ)) → ToolFault → Type 0
@@ -47,6 +49,7 @@ StopsOn request.Compile terms old new f = StopsFile terms old new f
 StopsOn request.Verify terms old new f = StopsVerdict terms old new f
 StopsOn request.Script terms old new f = StopsReplies terms old new f
 StopsOn (request.Scan o) terms old new f = StopsTerms o terms old new f
+StopsOn (request.Explain keypos) terms old new f = StopsExplanation terms old new f
 
 -- what a command's outcome says of standard output; of a script there may be no term, and a scan's options are allowed
 abbrev pub HasOutcome : Request → (known old new : Option (List ℕ)) → Result (Unit {0}) ToolFault

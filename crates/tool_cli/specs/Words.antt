@@ -30,6 +30,7 @@ name_of request.Compile = codes "compile"
 name_of request.Verify = codes "verify"
 name_of request.Script = codes "script"
 name_of (request.Scan options) = codes "scan"
+name_of (request.Explain keypos) = codes "explain"
 
 -- Words ask for a command; for help by a flag; for help by the word `help`, on what stands behind it; or for nothing
 -- that is understood.
@@ -55,16 +56,26 @@ asked_behind r (word ∷ []) =
     if bytes_eq (codes "--") word then command r else asked_by_flag word
 asked_behind r (word ∷ next ∷ rest) = asked_by_flag word
 
--- ---- the options of `scan`
+-- ---- the options of `scan` and of `explain`
+
+-- a command with options
+pub data Optioned : Type 0 where
+  to_scan : Optioned
+  to_explain : Optioned
+
+abbrev pub option_command : Optioned → Text
+option_command to_scan = codes "scan"
+option_command to_explain = codes "explain"
 
 -- what an option takes: a number from 1 to a most, or the name of a kind of table
 pub data Takes : Type 0 where
   number : ℕ → Takes
   kind : Takes
 
--- none of another name
-abbrev pub takes_of : Text → Option Takes
-takes_of name =
+-- what the option of a name takes, none of another name
+abbrev pub takes_of : Optioned → Text → Option Takes
+takes_of to_explain name = if bytes_eq (codes "keypos") name then Some (number 65535) else None
+takes_of to_scan name =
     if bytes_eq (codes "kind") name then Some kind
     else (if bytes_eq (codes "keypos") name then Some (number 65535)
     else (if bytes_eq (codes "parts") name then Some (number 64)
@@ -84,8 +95,9 @@ is_value_of (Some (number most)) value = is_signed_in (pos 1) (pos most) value
 is_value_of (Some kind) value = is_kind value
 
 -- an option is taken that wasn't given before, with what it takes
-abbrev pub is_taken : Given → Text → Text → Bool
-is_taken given name value = not (is_given given name) && is_value_of (takes_of name) value
+abbrev pub is_taken : Optioned → Given → Text → Text → Bool
+is_taken which given name value =
+    not (is_given given name) && is_value_of (takes_of which name) value
 
 -- the text of an option, or another where it isn't given
 abbrev pub text_given : Text → Text → Given → Text
@@ -107,10 +119,15 @@ options_by given = record {
   workers = number_given (codes "workers") given;
 }
 
+-- the command that they are given to
+abbrev pub request_of : Optioned → Given → Request
+request_of to_scan given = request.Scan (options_by given)
+request_of to_explain given = request.Explain (number_given (codes "keypos") given)
+
 -- the word is `--name` or `--name=value` of an option
-abbrev pub option_in : Text → Option (Text × Option Text)
-option_in word =
-    option_and_then (λ p. if is_some (takes_of p.0) then Some p else None) (long_of word)
+abbrev pub option_in : Optioned → Text → Option (Text × Option Text)
+option_in which word =
+    option_and_then (λ p. if is_some (takes_of which p.0) then Some p else None) (long_of word)
 
 -- a hyphen with characters behind it
 abbrev pub is_some_text : Text → Bool
@@ -121,26 +138,27 @@ abbrev pub is_flag : Text → Bool
 is_flag [] = false
 is_flag (x ∷ rest) = x == 45 && is_some_text (chars rest)
 
-abbrev pub taken : Given → Text → Text → (Given → Asked) → Asked
-taken given name value next =
-    if is_taken given name value then next (given ++ (name, value) ∷ []) else mistake
+abbrev pub taken : Optioned → Given → Text → Text → (Given → Asked) → Asked
+taken which given name value next =
+    if is_taken which given name value then next (given ++ (name, value) ∷ []) else mistake
 
 -- a word of options: one with its value, one whose value is the next word, or another
-abbrev pub asked_word : Given → Text → Option (Text × Option Text) → (Given → Asked) → (Text → Asked) → Asked
-asked_word given word None with_value alone = asked_by_flag word
-asked_word given word (Some (name, Some value)) with_value alone = taken given name value with_value
-asked_word given word (Some (name, None)) with_value alone = alone name
+abbrev pub asked_word : Optioned → Given → Text → Option (Text × Option Text) → (Given → Asked) → (Text → Asked) → Asked
+asked_word which given word None with_value alone = asked_by_flag word
+asked_word which given word (Some (name, Some value)) with_value alone =
+    taken which given name value with_value
+asked_word which given word (Some (name, None)) with_value alone = alone name
 
--- the words behind `scan`: options, maybe with `--` behind them, each once
-abbrev pub asked_options : Given → List Text → Asked
-asked_options given [] = command (request.Scan (options_by given))
-asked_options given (word ∷ []) =
-    if bytes_eq (codes "--") word then command (request.Scan (options_by given))
-    else asked_word given word (option_in word) (λ more. command (request.Scan (options_by more))) (λ name. mistake)
-asked_options given (word ∷ next ∷ rest) =
+-- the words behind such a command: options, maybe with `--` behind them, each once
+abbrev pub asked_options : Optioned → Given → List Text → Asked
+asked_options which given [] = command (request_of which given)
+asked_options which given (word ∷ []) =
+    if bytes_eq (codes "--") word then command (request_of which given)
+    else asked_word which given word (option_in which word) (λ more. command (request_of which more)) (λ name. mistake)
+asked_options which given (word ∷ next ∷ rest) =
     if bytes_eq (codes "--") word then mistake
-    else asked_word given word (option_in word) (λ more. asked_options more (next ∷ rest))
-    (λ name. if is_flag next then mistake else taken given name next (λ more. asked_options more rest))
+    else asked_word which given word (option_in which word) (λ more. asked_options which more (next ∷ rest))
+    (λ name. if is_flag next then mistake else taken which given name next (λ more. asked_options which more rest))
 
 -- the words behind the program's name
 abbrev pub asked_by : List Text → Asked
@@ -151,8 +169,9 @@ asked_by (word ∷ rest) =
     else (if bytes_eq (name_of request.Compile) word then asked_behind request.Compile rest
     else (if bytes_eq (name_of request.Verify) word then asked_behind request.Verify rest
     else (if bytes_eq (name_of request.Script) word then asked_behind request.Script rest
-    else (if bytes_eq (codes "scan") word then asked_options [] rest
-    else (if bytes_eq (codes "help") word then topic else asked_by_flag word))))))
+    else (if bytes_eq (option_command to_scan) word then asked_options to_scan [] rest
+    else (if bytes_eq (option_command to_explain) word then asked_options to_explain [] rest
+    else (if bytes_eq (codes "help") word then topic else asked_by_flag word)))))))
 
 -- all words, the program's name first
 abbrev pub asked : List Text → Asked
@@ -195,7 +214,7 @@ abbrev pub default_for : Takes → Text
 default_for (number most) = codes "1"
 default_for kind = codes "set"
 
--- an option of `scan`
+-- an option
 abbrev pub option_rule : Text → Text → ValueParser → Rule
 option_rule name default p = record (new_rule name) {
   long = Some name;
@@ -218,9 +237,14 @@ scan_shape p =
     (rule_for p (codes "parts") (number 64)))
     (rule_for p (codes "workers") (number 16))).top
 
+abbrev pub explain_shape : ValueParser → Shape
+explain_shape p =
+    (with_rule (new_app (codes "explain")) (rule_for p (codes "keypos") (number 65535))).top
+
 abbrev pub tool_app : ValueParser → App
 tool_app p =
     with_subcommand
+    (with_subcommand
     (with_subcommand
     (with_subcommand
     (with_subcommand
@@ -230,7 +254,8 @@ tool_app p =
     (command_shape request.Compile))
     (command_shape request.Verify))
     (command_shape request.Script))
-    (scan_shape p)
+    (scan_shape p))
+    (explain_shape p)
 
 -- an option has a row, whose text is this number, from 1 to the most
 pub record IsReadOf (name : Text) (most n : ℕ) (rows : List Row) : Type 0 where
@@ -252,3 +277,9 @@ pub record AreRead (o : ScanOptions) (rows : List Row) : Type 0 where
   pub keypos : IsReadOf (codes "keypos") 65535 o.keypos rows
   pub parts : IsReadOf (codes "parts") 64 o.parts rows
   pub workers : IsReadOf (codes "workers") 16 o.workers rows
+
+-- what a command with options asks for is what its rows hold
+abbrev pub AreReadAs : Optioned → Request → List Row → Type 0
+AreReadAs to_scan (request.Scan o) rows = AreRead o rows
+AreReadAs to_explain (request.Explain n) rows = IsReadOf (codes "keypos") 65535 n rows
+AreReadAs which r rows = ⊥

@@ -21,6 +21,7 @@ use std::env::{self, Env};
 use std::io::{self, ErrorKind, Read, Write};
 use std::sync::Wait;
 use std::thread::Threads;
+use tool_explain::tool_explain;
 use tool_io::{ToolFault, fault_line};
 use tool_query::{tool_compile, tool_run, tool_test, tool_verify};
 use tool_scan::tool_scan;
@@ -114,6 +115,7 @@ fn command_outcome<
         Request::Verify => tool_verify(alloc, reader, out),
         Request::Script => run_script::<HashPart<A>, OrderPart<A>, A, R, O>(alloc, reader, out),
         Request::Scan(options) => { tool_scan::<H, P, A, R, O>(rt, alloc, options, reader, out) }
+        Request::Explain(keypos) => tool_explain(alloc, keypos, reader, out),
     }
 }
 
