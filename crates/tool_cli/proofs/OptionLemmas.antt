@@ -12,7 +12,7 @@ use Rattle.clap.specs.ValueTests.{accepts}
 use Rattle.clap.specs.Values.{read_as, reading_of, refused_kind}
 use Rattle.clap.specs.Faults.{turn_fault, level_fault, step_fault, flag_word_fault, flags_fault, walk_fault, defaults_fault, settle_fault, use_fault, default_fault, check_fault, long_fault, positional_fault}
 use Rattle.clap.specs.Kinds.{Kinds, or_else}
-use Rattle.clap.specs.Walk.{Held, Row, Rule, Step, Text, Walk, Waiting, idle, option, trailing, arg_by_id, arg_by_long, bundle_met, finished, has_row, long_or_other, nothing_held, one_of, settled, used, walk_from, walked, with_default, with_values, at_row, after_flag, after_step, long_met, option_word, more_values, used_by_id, without}
+use Rattle.clap.specs.Walk.{Held, Row, Rule, Step, Text, Walk, Waiting, idle, option, trailing, arg_by_id, arg_by_index, arg_by_long, bundle_met, finished, has_row, long_or_other, nothing_held, one_of, settled, used, walk_from, walked, with_default, with_values, at_row, after_flag, after_step, long_met, option_word, more_values, used_by_id, without}
 use Rattle.clap.specs.Simple.{Shape, built, filled, help_rule, help_shape}
 use Rattle.clap.specs.declared.builder.value_parser.Reading.{Reading}
 use Rattle.clap.specs.declared.builder.value_parser.Reading.TheVariants as reading
@@ -761,7 +761,7 @@ module _ (kinds : ValueParser) (good : IsKindParser kinds) where
       where
         by_short : (short_of word ≡ None) ⊎ ((y : ℕ) × (ys : Text) × (short_of word ≡ Some (y ∷ ys)) × (chars (y ∷ ys) ≡ [])) → turn_by h idle word false None ≡ error.UnknownArgument ∷ []
         by_short (inl none) = rw none (unknown_step which h)
-        by_short (inr (y, ys, is, first)) = rw (is, skip, first) (unknown_step which _)
+        by_short (inr (y, ys, is, first)) = rw (is, skip, first) (unknown_step which (record h { skip = 0 }))
 
     plain_waiting : (h : Held) (name word : Text) → h.skip ≡ 0 → IsPlainWord word → turn_fault (level which) [] (walk_at h (option name)) word ≡ []
     unfolding flags_fault bundle_met

@@ -61,12 +61,12 @@ pub number-requires : goal.number-requires
 number-requires g c =
     let words = map g.S.AsStr.text c.args.words.now in
     let read = explain_read c.in_ok-program.ensures.0 c.in_ok-program.ensures.1 _ words c.in_ok-matches.matches _ c.in_ok-program.ensures.2 c.in_ok-matches.ensures.kinds c.in_ok-matches.ensures.matches
-    (sym c.subcommand_name.ensures ∙ rw (c.in-Some-explain.is, c.in-Some-explain.is-explain) refl) c.in-Some.ensures.rows in
+    (sym c.subcommand_name.ensures ∙ rw (c.in-Some-explain.is, c.in-Some-explain.is-explain) refl) c.in-Some-subcommand_matches.ensures.rows in
     (65535, read.0, omega arith, read.2)
 
-pub returns-in-Some-2 : goal.returns-in-Some-2
-returns-in-Some-2 g c =
+pub returns-in-Some-subcommand_matches : goal.returns-in-Some-subcommand_matches
+returns-in-Some-subcommand_matches g c =
     let words = map g.S.AsStr.text c.args.words.now in
     let read = explain_read c.in_ok-program.ensures.0 c.in_ok-program.ensures.1 _ words c.in_ok-matches.matches _ c.in_ok-program.ensures.2 c.in_ok-matches.ensures.kinds c.in_ok-matches.ensures.matches
-    (sym c.subcommand_name.ensures ∙ rw (c.in-Some-explain.is, c.in-Some-explain.is-explain) refl) c.in-Some.ensures.rows in
+    (sym c.subcommand_name.ensures ∙ rw (c.in-Some-explain.is, c.in-Some-explain.is-explain) refl) c.in-Some-subcommand_matches.ensures.rows in
     subst (λ a. Reads a (Ok (request.Explain c.number.result))) (sym read.1) (ap request.Explain (c.number.ensures 65535 read.0 (omega arith) read.2).0)
