@@ -20,7 +20,7 @@ use Rattle.clap.specs.declared.builder.value_parser.ValueParser.{ValueParser}
 use Rattle.clap.specs.declared.builder.value_parser.ValueParser.TheVariants as parser
 use Rattle.clap.specs.declared.error.kind.ErrorKind.TheVariants as error
 use Rattle.clap.specs.declared.parser.matches.ValueSource.TheVariants as source
-use Rattle.tool_cli.specs.Words.{Asked, command, help, topic, mistake, asked_by_flag, is_help_flag, tool_app}
+use Rattle.tool_cli.specs.Words.{Asked, command, help, version, topic, mistake, asked_by_flag, is_help_flag, tool_app}
 use Rattle.tool_cli.specs.Words.{Optioned, to_scan, to_explain, option_command, Given, Takes, number, kind, takes_of, is_given, is_value_of, is_taken, text_given, number_given, options_by, request_of, option_in, is_flag, taken, asked_word, asked_options, default_for, parser_for, rule_for, IsKindParser, IsKindOf, IsReadOf, AreRead, AreReadAs}
 use Rattle.tool_cli.specs.declared.words.Request.TheVariants as request
 use Rattle.tool_cli.proofs.KindLemmas.{by_test, same_text, text_itself, other_text, no_equals_sign, are_mistakes, else_else, no_more}
@@ -452,6 +452,7 @@ module _ (kinds : ValueParser) (good : IsKindParser kinds) where
   Comes which (command r) ks rows = (ks ≡ []) × AreReadAs which r rows
   Comes which help ks rows = ks ≡ error.DisplayHelp ∷ []
   Comes which topic ks rows = ⊥
+  Comes which version ks rows = ⊥
   Comes which mistake ks rows = are_mistakes ks ≡ true
 
   -- ---- of one such command

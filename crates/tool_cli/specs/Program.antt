@@ -1,5 +1,5 @@
 -- How the program ends: what its two streams gain, and its status.
-use Rattle.std.specs.Prelude.{ℕ, ◌≡◌, ◌≢◌, ◌⊎◌, Option, Result, Ok, Err, List, []}
+use Rattle.std.specs.Prelude.{ℕ, ◌≡◌, ◌≢◌, ◌⊎◌, Option, Result, Ok, Err, List, [], codes}
 use Rattle.term_core.specs.Datum.{Datum}
 use Rattle.std.specs.Io.KnownBytes.{Keeps, Appends}
 use Rattle.tool_io.specs.Fault.{status_of, line_of}
@@ -15,7 +15,7 @@ use Rattle.tool_script.specs.Input.{OfScript, StopsScript}
 use Rattle.tool_scan.specs.Options.{AreAllowed}
 use Rattle.tool_scan.specs.Scan.{WritesScan, StopsTerms, StopsScan}
 use Rattle.tool_cli.specs.Telling.{Tells, TellsText}
-use Rattle.tool_cli.specs.Words.{Asked, command, help, topic, mistake}
+use Rattle.tool_cli.specs.Words.{Asked, command, help, version, topic, mistake}
 use Rattle.tool_cli.specs.declared.words.Request.{Request}
 use Rattle.tool_cli.specs.declared.words.Request.TheVariants as request
 
@@ -83,6 +83,14 @@ EndsHelp out out' err err' failed status =
     ⊎ EndsBy fault.WriteFailed err err' failed status
     ⊎ EndsEarly out out' err err' failed status
 
+-- The line of the version went to standard output, and nothing to standard error; or it could not be written, or there
+-- was no memory to find out that it was asked for.
+abbrev pub EndsVersion : (out out' err err' : Option (List ℕ)) → (failed : Type 0) → ℕ → Type 0
+EndsVersion out out' err err' failed status =
+    ((status ≡ 0) × Keeps err err' × Appends out out' (codes "ets_tool 0.1.0\n"))
+    ⊎ EndsBy fault.WriteFailed err err' failed status
+    ⊎ EndsEarly out out' err err' failed status
+
 -- words that were not understood end the program with 64, and standard error says so
 abbrev pub TellsMistake : (err err' : Option (List ℕ)) → (failed : Type 0) → ℕ → Type 0
 TellsMistake err err' failed status = (status ≡ 64) × TellsText err err' failed
@@ -97,6 +105,7 @@ abbrev pub EndsAsked : Asked → (known out out' err err' : Option (List ℕ)) �
 EndsAsked (command r) known out out' err err' failed status =
     EndsRequest r known out out' err err' failed status ⊎ EndsEarly out out' err err' failed status
 EndsAsked help known out out' err err' failed status = EndsHelp out out' err err' failed status
+EndsAsked version known out out' err err' failed status = EndsVersion out out' err err' failed status
 EndsAsked topic known out out' err err' failed status =
     EndsHelp out out' err err' failed status ⊎ EndsMistaken out out' err err' failed status
 EndsAsked mistake known out out' err err' failed status = EndsMistaken out out' err err' failed status

@@ -32,22 +32,34 @@ name_of request.Script = codes "script"
 name_of (request.Scan options) = codes "scan"
 name_of (request.Explain keypos) = codes "explain"
 
--- Words ask for a command; for help by a flag; for help by the word `help`, on what stands behind it; or for nothing
--- that is understood.
+-- Words ask for a command; for help by a flag; for the version by a flag; for help by the word `help`, on what stands
+-- behind it; or for nothing that is understood.
 pub data Asked : Type 0 where
   command : Request → Asked
   help : Asked
+  version : Asked
   topic : Asked
   mistake : Asked
 
--- a hyphen, and behind it `-help`, or the letter `h` and anything
-abbrev pub is_help_flag : Text → Bool
-is_help_flag [] = false
-is_help_flag (x ∷ rest) =
-    x == 45 && (bytes_eq (codes "-help") rest || bytes_eq (codes "h") (take 1 (chars rest)))
+-- a hyphen, and behind it this text, or a letter and anything
+abbrev pub is_flag_of : (text letter : Text) → Text → Bool
+is_flag_of text letter [] = false
+is_flag_of text letter (x ∷ rest) =
+    x == 45 && (bytes_eq text rest || bytes_eq letter (take 1 (chars rest)))
 
+abbrev pub is_help_flag : Text → Bool
+is_help_flag = is_flag_of (codes "-help") (codes "h")
+
+abbrev pub is_version_flag : Text → Bool
+is_version_flag = is_flag_of (codes "-version") (codes "V")
+
+-- a flag behind a command
 abbrev pub asked_by_flag : Text → Asked
 asked_by_flag word = if is_help_flag word then help else mistake
+
+-- and one in a command's place, where the version is asked for, too
+abbrev pub asked_first : Text → Asked
+asked_first word = if is_version_flag word then version else asked_by_flag word
 
 -- behind a command's name stands nothing, or `--` and nothing more
 abbrev pub asked_behind : Request → List Text → Asked
@@ -171,18 +183,20 @@ asked_by (word ∷ rest) =
     else (if bytes_eq (name_of request.Script) word then asked_behind request.Script rest
     else (if bytes_eq (option_command to_scan) word then asked_options to_scan [] rest
     else (if bytes_eq (option_command to_explain) word then asked_options to_explain [] rest
-    else (if bytes_eq (codes "help") word then topic else asked_by_flag word)))))))
+    else (if bytes_eq (codes "help") word then topic else asked_first word)))))))
 
 -- all words, the program's name first
 abbrev pub asked : List Text → Asked
 asked words = asked_by (drop 1 words)
 
--- What is asked for is answered; an error asks for help where the words do, and else is none that shows help; and in
--- each case there may be no memory. On what stands behind `help` there is help, or no such command.
+-- What is asked for is answered; an error asks for help where the words do, and for the version likewise, and else is
+-- none that shows either; and in each case there may be no memory. On what stands behind `help` there is help, or no such command.
 abbrev pub Reads : Asked → Result Request Error → Type 0
 Reads (command r) (Ok answer) = answer ≡ r
 Reads (command r) (Err e) = kind_of e ≡ error.OutOfMemory
 Reads help (Err e) = (kind_of e ≡ error.OutOfMemory) ⊎ (kind_of e ≡ error.DisplayHelp)
+Reads version (Err e) =
+    (kind_of e ≡ error.OutOfMemory) ⊎ (kind_of e ≡ error.DisplayVersion)
 Reads topic (Err e) =
     (kind_of e ≡ error.OutOfMemory)
     ⊎ (kind_of e ≡ error.DisplayHelp) ⊎ (kind_of e ≡ error.InvalidSubcommand)
@@ -191,7 +205,7 @@ Reads a (Ok answer) = ⊥
 
 -- the program, which wants a command, and a command of it, as `clap` is told of them
 abbrev pub tool_shape : Shape
-tool_shape = record (new_app (codes "ets_tool")).top { subcommand_required = true }
+tool_shape = record (new_app (codes "ets_tool")).top { subcommand_required = true; has_version = true }
 
 abbrev pub command_shape : Request → Shape
 command_shape r = (new_app (name_of r)).top

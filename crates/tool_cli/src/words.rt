@@ -34,6 +34,9 @@ pub enum Request {
     Explain(u16),
 }
 
+/// What `--version` shows behind the program's name.
+const VERSION: &str = "0.1.0";
+
 const ABOUT: &str = "Runs match specifications of ets over terms.";
 
 const EXAMPLE: &str = "\
@@ -212,6 +215,7 @@ fn tool<'a>(alloc: Global) -> Command<'a>
     ensures { app_of result ≡ bare_app }
 {
     Command::new(alloc, "ets_tool")
+        .version(VERSION)
         .about(ABOUT)
         .after_help(EXAMPLE)
         .subcommand_required(true)
@@ -365,7 +369,7 @@ fn scan_options(matches: &ArgMatches<'_>) -> ScanOptions
 }
 
 /// What the words ask for; the first word is the program's name. Words that `clap` does not take, and words that ask
-/// for help, are its error.
+/// for help or for the version, are its error.
 pub fn read_words<'a, S: AsStr>(alloc: Global, words: &'a [S]) -> Result<Request, Error>
     ensures { Reads (asked (map S.text words.entry.now)) result }
 {
