@@ -8,7 +8,7 @@ pub returns : goal.returns
 returns g c =
     let bounds = bounds_text c.budget.result c.depth.result in
     let shown = listing c.args.variables.now c.args.code.now in
-    let put = rw c.code-2.ensures.value at c.put_listing.ensures in
+    let put = rw c.code.ensures.value at c.put_listing.ensures in
     on_ok_weaker c.put_listing.result
     (λ p. (
       bounds ++ shown,
