@@ -93,22 +93,32 @@ impl<'a> Case<'a> {
         Err((outcome, so_far.lines))
     }
 
-    /// Whether it does with each request refused in turn, and with the last refused writes all lines but the last; and
-    /// with each refused and all behind it. Else how that went.
-    fn tried<H: Threads + Wait + Sync>(
+    /// Whether it does with each request refused in turn, and with the last refused writes so many lines; and with each
+    /// refused and all behind it. Else how that went.
+    fn tried_up_to<H: Threads + Wait + Sync>(
         self,
         rt: &H,
         alloc: Global,
+        most: usize,
     ) -> Result<(), (SweepOutcome, usize)> {
         let mut so_far = Written { lines: 0 };
         let outcome = sweep(alloc, 4_000, |heap| {
             self.is_right(rt, alloc, heap, &mut so_far) && heap.blocks() == 0
         });
-        let lines = lines_in(self.lines.as_bytes());
-        if !outcome.is_complete() || so_far.lines != lines.saturating_sub(1) {
+        if !outcome.is_complete() || so_far.lines != most {
             return Err((outcome, so_far.lines));
         }
         self.tried_onward(rt, alloc)
+    }
+
+    /// The same where the last refused is that of the last line.
+    fn tried<H: Threads + Wait + Sync>(
+        self,
+        rt: &H,
+        alloc: Global,
+    ) -> Result<(), (SweepOutcome, usize)> {
+        let lines = lines_in(self.lines.as_bytes());
+        self.tried_up_to(rt, alloc, lines.saturating_sub(1))
     }
 }
 
@@ -136,6 +146,54 @@ fn each_request_over_code_files_refused_in_turn(rt: HostRuntime) {
         "<<69,77,83,67,0,1,0,0,0,1,2,0,4,116,114,117,101,0,3,2,0,0,24,25,0,1,0,2,0,0,0,0,0,0>>. a.";
     let ran = Case::answered(Request::Run, input, "true.\n");
     assert_eq!(rt; ran.tried(&rt, rt.alloc()), Ok(()));
+}
+
+/// A specification that names a key, with a constant and a call.
+const EXPLAINED: &str = "[{{k,'$7'},[{'<','$7',{const,[a]}}],[{{'$7'}}]}].";
+
+/// What is said of it.
+const EXPLAINED_LINES: &str = "\
+walk at keypos 1: 1 looked up: k
+instructions of a run at most 19, stack at most 3
+    0  load
+    1  tuple       2                 else 20
+    2  dup
+    3  field       1
+    4  const       k
+    5  equal                         else 20
+    6  dup
+    7  field       2
+    8  bind        $7
+    9  drop
+   10  get         $7
+   11  const       [a]
+   12  call        </2               else 20
+   13  bool                          else 20
+   14  branch                        else 20
+   15  get         $7
+   16  make_tuple  1                 else 18
+   17  jump        19
+   18  const       'EXIT'
+   19  answer
+   20  no_answer
+";
+
+#[test]
+fn each_request_of_an_explanation_refused_in_turn(rt: HostRuntime) {
+    let explained = Case::answered(Request::Explain(1), EXPLAINED, EXPLAINED_LINES);
+    assert_eq!(rt; explained.tried_up_to(&rt, rt.alloc(), 0), Ok(()));
+    let file = Case::answered(
+        Request::Explain(3),
+        FILE,
+        "\
+walk at keypos 3: all objects
+instructions of a run at most 2, stack at most 1
+    0  const       true
+    1  answer
+    2  no_answer
+",
+    );
+    assert_eq!(rt; file.tried_up_to(&rt, rt.alloc(), 0), Ok(()));
 }
 
 /// Commands of every kind on a set.

@@ -23,11 +23,12 @@ const SCAN: Request = Request::Scan(ScanOptions {
 });
 
 /// Each command, with an input on which it ends well.
-const CASES: [(Request, &str); 6] = [
+const CASES: [(Request, &str); 7] = [
     (Request::Run, INPUT),
     (Request::Test, INPUT),
     (Request::Compile, "[{'_',[],[true]}]."),
     (Request::Verify, FILE),
+    (Request::Explain(1), FILE),
     (Request::Script, SCRIPT),
     (SCAN, INPUT),
 ];

@@ -40,6 +40,13 @@ const MATCHED: &str = "[{{'$1'},[],['$1']}]. {1}. a.";
 /// The file of the code of a specification without clauses.
 const EMPTY: &str = "<<69,77,83,67,0,1,0,0,0,0,0,1,25,0,0>>.\n";
 
+/// What is said of it.
+const EXPLAINED: &str = "\
+walk at keypos 1: 0 looked up:
+instructions of a run at most 1, stack at most 0
+    0  no_answer
+";
+
 #[test]
 fn all_lines_are_passed_on(rt: HostRuntime) {
     let options = ScanOptions {
@@ -52,6 +59,7 @@ fn all_lines_are_passed_on(rt: HostRuntime) {
     assert!(rt; passes_on(&rt, rt.alloc(), Request::Test, MATCHED, "{ok,1}.\nfalse.\n"));
     assert!(rt; passes_on(&rt, rt.alloc(), Request::Compile, "[].", EMPTY));
     assert!(rt; passes_on(&rt, rt.alloc(), Request::Verify, FILE, "{ok,2,1}.\n"));
+    assert!(rt; passes_on(&rt, rt.alloc(), Request::Explain(1), "[].", EXPLAINED));
     assert!(rt;
         passes_on(
             &rt,

@@ -12,8 +12,8 @@ use Rattle.tool_scan.specs.Options.{AreAllowed}
 use Rattle.tool_scan.specs.Scan.{StopsScan}
 use Rattle.tool_scan.specs.declared.options.ScanOptions.{ScanOptions}
 use Rattle.tool_script.specs.Input.{OfScript, StopsScript}
-use Rattle.tool_cli.specs.Program.{Writes, StopsOn, HasOutcome, EndsRequest, EndsAsked, EndsEarly, EndsHelp, EndsMistaken}
-use Rattle.tool_cli.specs.Words.{Asked, command, help, topic, mistake, Reads}
+use Rattle.tool_cli.specs.Program.{Writes, StopsOn, HasOutcome, EndsRequest, EndsAsked, EndsEarly, EndsHelp, EndsMistaken, EndsVersion}
+use Rattle.tool_cli.specs.Words.{Asked, command, help, version, topic, mistake, Reads}
 use Rattle.tool_cli.specs.declared.words.Request.{Request}
 use Rattle.tool_cli.specs.declared.words.Request.TheVariants as request
 
@@ -34,6 +34,8 @@ has_outcome request.Compile known old new (Ok x) other ok stopped = ok
 has_outcome request.Compile known old new (Err f) other ok stopped = stopped
 has_outcome request.Verify known old new (Ok x) other ok stopped = ok
 has_outcome request.Verify known old new (Err f) other ok stopped = stopped
+has_outcome (request.Explain keypos) known old new (Ok x) other ok stopped = ok
+has_outcome (request.Explain keypos) known old new (Err f) other ok stopped = stopped
 has_outcome request.Script known old new outcome other ok stopped = absurd other
 has_outcome (request.Scan o) known old new outcome other ok stopped = absurd other
 
@@ -54,6 +56,7 @@ pub ends_command : (a : Asked) (r : Request) (known out out' err err' : Option (
     → EndsRequest r known out out' err err' failed status → EndsAsked a known out out' err err' failed status
 ends_command (command q) r known out out' err err' failed status is h = inl (subst (λ s. EndsRequest s known out out' err err' failed status) is h)
 ends_command help r known out out' err err' failed status is h = absurd is
+ends_command version r known out out' err err' failed status is h = absurd is
 ends_command topic r known out out' err err' failed status is h = absurd is
 ends_command mistake r known out out' err err' failed status is h = absurd is
 
@@ -62,6 +65,7 @@ ends_command mistake r known out out' err err' failed status is h = absurd is
 -- by the kind of error
 pub record IsEndBy (k : ErrorKind) (out out' err err' : Option (List ℕ)) (failed : Type 0) (status : ℕ) : Type 0 where
   pub help : k ≡ kind.DisplayHelp → EndsHelp out out' err err' failed status
+  pub version : k ≡ kind.DisplayVersion → EndsVersion out out' err err' failed status
   pub memory : k ≡ kind.OutOfMemory → EndsEarly out out' err err' failed status
   pub ended : k ≢ kind.DisplayHelp → k ≢ kind.DisplayVersion → EndsMistaken out out' err err' failed status
 
@@ -70,6 +74,8 @@ pub ends_asked : (a : Asked) (e : Error) (known out out' err err' : Option (List
 ends_asked (command r) e known out out' err err' failed status is h = inr (h.memory is)
 ends_asked help e known out out' err err' failed status (inl is) h = inr (inr (h.memory is))
 ends_asked help e known out out' err err' failed status (inr is) h = h.help is
+ends_asked version e known out out' err err' failed status (inl is) h = inr (inr (h.memory is))
+ends_asked version e known out out' err err' failed status (inr is) h = h.version is
 ends_asked topic e known out out' err err' failed status (inl is) h = inl (inr (inr (h.memory is)))
 ends_asked topic e known out out' err err' failed status (inr (inl is)) h = inl (h.help is)
 ends_asked topic e known out out' err err' failed status (inr (inr is)) h = inr (h.ended (λ other. absurd (cc)) (λ other. absurd (cc)))

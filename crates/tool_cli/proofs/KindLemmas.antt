@@ -8,7 +8,7 @@ use Rattle.clap.specs.Kinds.{Kinds, or_else}
 use Rattle.clap.specs.Walk.{Text}
 use Rattle.clap.specs.declared.error.kind.ErrorKind.{ErrorKind}
 use Rattle.clap.specs.declared.error.kind.ErrorKind.TheVariants as error
-use Rattle.tool_cli.specs.Words.{Asked, command, help, topic, mistake}
+use Rattle.tool_cli.specs.Words.{Asked, command, help, version, topic, mistake}
 
 -- ---- texts and tests
 
@@ -57,12 +57,14 @@ are_mistakes (k ∷ ks) = list_all is_mistake (k ∷ ks)
 -- what one flag is refused for, which enters no command
 abbrev pub Refuses : Asked → Kinds → Type 0
 Refuses help ks = ks ≡ error.DisplayHelp ∷ []
+Refuses version ks = ks ≡ error.DisplayVersion ∷ []
 Refuses mistake ks = are_mistakes ks ≡ true
 Refuses a ks = ⊥
 
 -- a word that is refused is refused whatever follows
 pub still_refused : (a : Asked) (ks more : Kinds) → Refuses a ks → Refuses a (or_else ks more)
 still_refused help ks more h = rw h refl
+still_refused version ks more h = rw h refl
 still_refused mistake [] more h = absurd (cc)
 still_refused mistake (k ∷ ks) more h = h
 still_refused (command r) ks more h = absurd h

@@ -4,7 +4,7 @@ use Rattle.clap.proofs.OnLiterals.{clap_on_literals}
 use Rattle.clap.specs.Walk.{Text}
 use Rattle.tool_scan.specs.declared.options.ScanKind.{ScanKind}
 use Rattle.tool_scan.specs.declared.options.ScanKind.TheVariants as kinds
-use Rattle.tool_cli.specs.Words.{Asked, command, help, topic, mistake, asked}
+use Rattle.tool_cli.specs.Words.{Asked, command, help, version, topic, mistake, asked}
 use Rattle.tool_cli.specs.declared.words.Request.TheVariants as request
 
 abbrev scan : List Text → Asked
@@ -126,3 +126,71 @@ a_kind_twice = refl
 help_behind_another_kind : scan (codes "--kind" ∷ codes "heap" ∷ codes "--help" ∷ []) ≡ mistake
 unfolding clap_on_literals
 help_behind_another_kind = refl
+
+-- ---- `explain`
+
+abbrev explain : List Text → Asked
+explain words = asked (codes "ets_tool" ∷ codes "explain" ∷ words)
+
+first_key : explain [] ≡ command (request.Explain 1)
+first_key = refl
+
+last_key : explain (codes "--keypos" ∷ codes "65535" ∷ codes "--" ∷ []) ≡ command (request.Explain 65535)
+unfolding clap_on_literals
+last_key = refl
+
+attached_key : explain (codes "--keypos=2" ∷ []) ≡ command (request.Explain 2)
+unfolding clap_on_literals
+attached_key = refl
+
+no_such_key : explain (codes "--keypos" ∷ codes "0" ∷ []) ≡ mistake
+unfolding clap_on_literals
+no_such_key = refl
+
+option_of_scan : explain (codes "--parts" ∷ codes "2" ∷ []) ≡ mistake
+unfolding clap_on_literals
+option_of_scan = refl
+
+key_twice : explain (codes "--keypos=2" ∷ codes "--keypos=2" ∷ []) ≡ mistake
+unfolding clap_on_literals
+key_twice = refl
+
+help_behind_a_key : explain (codes "--keypos" ∷ codes "2" ∷ codes "-h" ∷ []) ≡ help
+unfolding clap_on_literals
+help_behind_a_key = refl
+
+-- ---- the version
+
+abbrev only : Text → Asked
+only word = asked (codes "ets_tool" ∷ word ∷ [])
+
+by_name : only (codes "--version") ≡ version
+by_name = refl
+
+by_letter : only (codes "-V") ≡ version
+unfolding clap_on_literals
+by_letter = refl
+
+letter_before_help : only (codes "-Vh") ≡ version
+unfolding clap_on_literals
+letter_before_help = refl
+
+help_before_letter : only (codes "-hV") ≡ help
+unfolding clap_on_literals
+help_before_letter = refl
+
+no_value : only (codes "--version=1") ≡ mistake
+unfolding clap_on_literals
+no_value = refl
+
+small_letter : only (codes "-v") ≡ mistake
+unfolding clap_on_literals
+small_letter = refl
+
+behind_a_command : asked (codes "ets_tool" ∷ codes "run" ∷ codes "--version" ∷ []) ≡ mistake
+unfolding clap_on_literals
+behind_a_command = refl
+
+behind_an_option : scan (codes "-V" ∷ []) ≡ mistake
+unfolding clap_on_literals
+behind_an_option = refl

@@ -1,5 +1,5 @@
 -- How the program ends: what its two streams gain, and its status.
-use Rattle.std.specs.Prelude.{ℕ, ◌≡◌, ◌≢◌, ◌⊎◌, Option, Result, Ok, Err, List, []}
+use Rattle.std.specs.Prelude.{ℕ, ◌≡◌, ◌≢◌, ◌⊎◌, Option, Result, Ok, Err, List, [], codes}
 use Rattle.term_core.specs.Datum.{Datum}
 use Rattle.std.specs.Io.KnownBytes.{Keeps, Appends}
 use Rattle.tool_io.specs.Fault.{status_of, line_of}
@@ -9,12 +9,13 @@ use Rattle.tool_io.specs.declared.fault.ToolFault.TheVariants as fault
 use Rattle.tool_query.specs.Answers.Report.{answers, outcomes}
 use Rattle.tool_query.specs.Code.{WritesFile, StopsFile, WritesVerdict, StopsVerdict}
 use Rattle.tool_query.specs.Run.{WritesAnswers, StopsAnswers, Stops}
+use Rattle.tool_explain.specs.Explain.{WritesExplanation, StopsExplanation}
 use Rattle.tool_script.specs.Run.{WritesReplies, StopsReplies}
 use Rattle.tool_script.specs.Input.{OfScript, StopsScript}
 use Rattle.tool_scan.specs.Options.{AreAllowed}
 use Rattle.tool_scan.specs.Scan.{WritesScan, StopsTerms, StopsScan}
 use Rattle.tool_cli.specs.Telling.{Tells, TellsText}
-use Rattle.tool_cli.specs.Words.{Asked, command, help, topic, mistake}
+use Rattle.tool_cli.specs.Words.{Asked, command, help, version, topic, mistake}
 use Rattle.tool_cli.specs.declared.words.Request.{Request}
 use Rattle.tool_cli.specs.declared.words.Request.TheVariants as request
 
@@ -38,6 +39,7 @@ Writes request.Compile terms old new = WritesFile terms old new
 Writes request.Verify terms old new = WritesVerdict terms old new
 Writes request.Script terms old new = WritesReplies terms old new
 Writes (request.Scan o) terms old new = WritesScan o terms old new
+Writes (request.Explain keypos) terms old new = WritesExplanation keypos terms old new
 
 -- how it ends early
 abbrev pub StopsOn : Request → List Datum → (old new : Option (List ℕ)) → ToolFault → Type 0
@@ -47,6 +49,7 @@ StopsOn request.Compile terms old new f = StopsFile terms old new f
 StopsOn request.Verify terms old new f = StopsVerdict terms old new f
 StopsOn request.Script terms old new f = StopsReplies terms old new f
 StopsOn (request.Scan o) terms old new f = StopsTerms o terms old new f
+StopsOn (request.Explain keypos) terms old new f = StopsExplanation terms old new f
 
 -- what a command's outcome says of standard output; of a script there may be no term, and a scan's options are allowed
 abbrev pub HasOutcome : Request → (known old new : Option (List ℕ)) → Result (Unit {0}) ToolFault
@@ -80,6 +83,14 @@ EndsHelp out out' err err' failed status =
     ⊎ EndsBy fault.WriteFailed err err' failed status
     ⊎ EndsEarly out out' err err' failed status
 
+-- The line of the version went to standard output, and nothing to standard error; or it could not be written, or there
+-- was no memory to find out that it was asked for.
+abbrev pub EndsVersion : (out out' err err' : Option (List ℕ)) → (failed : Type 0) → ℕ → Type 0
+EndsVersion out out' err err' failed status =
+    ((status ≡ 0) × Keeps err err' × Appends out out' (codes "ets_tool 0.1.0\n"))
+    ⊎ EndsBy fault.WriteFailed err err' failed status
+    ⊎ EndsEarly out out' err err' failed status
+
 -- words that were not understood end the program with 64, and standard error says so
 abbrev pub TellsMistake : (err err' : Option (List ℕ)) → (failed : Type 0) → ℕ → Type 0
 TellsMistake err err' failed status = (status ≡ 64) × TellsText err err' failed
@@ -94,6 +105,7 @@ abbrev pub EndsAsked : Asked → (known out out' err err' : Option (List ℕ)) �
 EndsAsked (command r) known out out' err err' failed status =
     EndsRequest r known out out' err err' failed status ⊎ EndsEarly out out' err err' failed status
 EndsAsked help known out out' err err' failed status = EndsHelp out out' err err' failed status
+EndsAsked version known out out' err err' failed status = EndsVersion out out' err err' failed status
 EndsAsked topic known out out' err err' failed status =
     EndsHelp out out' err err' failed status ⊎ EndsMistaken out out' err err' failed status
 EndsAsked mistake known out out' err err' failed status = EndsMistaken out out' err err' failed status

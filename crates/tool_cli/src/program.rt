@@ -4,7 +4,7 @@ ghost use Rattle.std.specs.Io.KnownBytes.{Appends, Keeps};
 ghost use Rattle.clap.specs.Words.{kind_of};
 ghost use Rattle.std.specs.IoError.{error_kind};
 ghost use Rattle.part_core.specs.Served.{ServesUnordered};
-ghost use Rattle.tool_cli.specs.Program.{HasOutcome, EndsBy, EndsWith, EndsRequest, EndsHelp, EndsEarly};
+ghost use Rattle.tool_cli.specs.Program.{HasOutcome, EndsBy, EndsWith, EndsRequest, EndsHelp, EndsVersion, EndsEarly};
 ghost use Rattle.tool_cli.specs.Program.{TellsMistake, EndsMistaken, EndsAsked, EndsProgram};
 ghost use Rattle.tool_cli.specs.Telling.{TellsText};
 ghost use Rattle.tool_cli.specs.Words.{asked};
@@ -21,6 +21,7 @@ use std::env::{self, Env};
 use std::io::{self, ErrorKind, Read, Write};
 use std::sync::Wait;
 use std::thread::Threads;
+use tool_explain::tool_explain;
 use tool_io::{ToolFault, fault_line};
 use tool_query::{tool_compile, tool_run, tool_test, tool_verify};
 use tool_scan::tool_scan;
@@ -32,6 +33,8 @@ const DONE: u8 = 0;
 const NO_MEMORY: u8 = 3;
 /// The status where the words were not understood.
 const BAD_WORDS: u8 = 64;
+/// What `--version` writes.
+const VERSION_LINE: &[u8] = b"ets_tool 0.1.0\n";
 
 /// Runs the program on the words that it was started with, and answers its status. It reads from `reader`, writes what
 /// it was asked for to `out` and tells `err` why it ends early; only a failure of `out` changes the status.
@@ -58,7 +61,7 @@ fn words_of<H: Env + AllocGlobal>(rt: &H) -> io::Result<Vec<String>> {
 }
 
 /// As `run_program`, on these words, of which the first is the program's name: it runs the command that they ask for,
-/// or shows help where they ask for that.
+/// or shows help or the version where they ask for that.
 pub fn run_words<'a, H: Threads + Wait + Sync, S: AsStr, R: Read, O: Write, E: Tell>(
     rt: &H,
     alloc: Global,
@@ -114,6 +117,7 @@ fn command_outcome<
         Request::Verify => tool_verify(alloc, reader, out),
         Request::Script => run_script::<HashPart<A>, OrderPart<A>, A, R, O>(alloc, reader, out),
         Request::Scan(options) => { tool_scan::<H, P, A, R, O>(rt, alloc, options, reader, out) }
+        Request::Explain(keypos) => tool_explain(alloc, keypos, reader, out),
     }
 }
 
@@ -135,7 +139,7 @@ fn end<A: Allocator + Copy, E: Tell>(alloc: A, outcome: Result<(), ToolFault>, e
 }
 
 /// The status where the words ask for no command, once what `clap` says is written: help that was asked for goes to
-/// `out`.
+/// `out`, and so does the line of the version.
 fn end_unasked<O: Write, E: Tell>(
     alloc: Global,
     error: &clap::Error,
@@ -146,7 +150,7 @@ fn end_unasked<O: Write, E: Tell>(
         → EndsHelp (O.contents out.old) (O.contents out.new)
         (E.told err.old) (E.told err.new) (E.has_failed err.new) result }
     ensures version { kind_of error.now ≡ WordsErrorKind.DisplayVersion
-        → EndsHelp (O.contents out.old) (O.contents out.new)
+        → EndsVersion (O.contents out.old) (O.contents out.new)
         (E.told err.old) (E.told err.new) (E.has_failed err.new) result }
     ensures memory { kind_of error.now ≡ WordsErrorKind.OutOfMemory
         → EndsEarly (O.contents out.old) (O.contents out.new)
@@ -163,6 +167,9 @@ fn end_unasked<O: Write, E: Tell>(
     if error.kind() == WordsErrorKind::OutOfMemory {
         return end(alloc, Err(ToolFault::Memory), err);
     }
+    if error.kind() == WordsErrorKind::DisplayVersion {
+        return end(alloc, write_text(VERSION_LINE, out), err);
+    }
     if error.use_stderr() {
         tell_mistake(alloc, error, err);
         return BAD_WORDS;
@@ -170,7 +177,7 @@ fn end_unasked<O: Write, E: Tell>(
     let Ok(text) = error.to_string(alloc) else {
         return end(alloc, Err(ToolFault::Memory), err);
     };
-    end(alloc, write_help(shown(&text), out), err)
+    end(alloc, write_text(shown(&text), out), err)
 }
 
 /// Tells what `clap` says of words that were not understood, or that they were not where there is no memory for its
@@ -194,8 +201,8 @@ fn shown(text: &str) -> &[u8]
     text.as_bytes()
 }
 
-/// Writes the help that was asked for.
-fn write_help<O: Write>(text: &[u8], out: &mut O) -> Result<(), ToolFault>
+/// Writes what was asked for that no command writes.
+fn write_text<O: Write>(text: &[u8], out: &mut O) -> Result<(), ToolFault>
     ensures written { OnOk result (Appends (O.contents out.old) (O.contents out.new) text.now) }
     ensures failed { IfErr result (λ fault. fault ≡ ToolFault.WriteFailed) }
 {

@@ -5,7 +5,7 @@ ghost use Rattle.clap.specs.declared.builder.value_parser.ValueParser.{ValuePars
 ghost use Rattle.clap.specs.declared.builder.value_parser.ValueParser.TheVariants.{Signed};
 ghost use Rattle.clap.specs.declared.builder.command.Command.TheViews.{out-Command as fields_of};
 ghost use Rattle.tool_scan.specs.declared.options.ScanKind.{ScanKind as KindValue};
-ghost use Rattle.tool_cli.specs.Words.{asked, Reads, bare_app, option_rule, rule_for, scan_shape};
+ghost use Rattle.tool_cli.specs.Words.{asked, Reads, bare_app, option_rule, rule_for, scan_shape, explain_shape};
 ghost use Rattle.tool_cli.specs.Words.{kind, number, tool_app, IsKindOf, IsKindParser, IsReadOf, AreRead};
 
 use clap::builder::ValueParser;
@@ -29,7 +29,13 @@ pub enum Request {
     Script,
     /// Answer a specification on objects that are put into a table, by several threads.
     Scan(ScanOptions),
+    /// Show the code of a specification or of a code file, and which objects a walk by it looks at in a table whose key is
+    /// at this place, counted from 1.
+    Explain(u16),
 }
+
+/// What `--version` shows behind the program's name.
+const VERSION: &str = "0.1.0";
 
 const ABOUT: &str = "Runs match specifications of ets over terms.";
 
@@ -161,6 +167,39 @@ writes
   1.
   3.";
 
+const EXPLAIN_ABOUT: &str =
+    "Reads a specification or a code file and writes what it looks at and its code";
+
+const EXPLAIN_EXAMPLE: &str = "\
+Reads from standard input, as term text: one match specification, or one code
+file as a binary, and a dot.
+Writes to standard output: which objects a walk looks at in a table with this
+place of the key, the keys that are looked up or all objects; the most
+instructions that a run executes and the greatest depth of its stack; and a
+line for each instruction, with its number, its name, its operand and where it
+leads where it fails. Constants stand as they are, slots as the variables of
+the specification, and as #0 in a code file. Where the input is refused nothing
+is written.
+
+Example:
+  printf \"[{{a,'\\$1'},[],['\\$1']}].\" | ets_tool explain
+writes
+  walk at keypos 1: 1 looked up: a
+  instructions of a run at most 12, stack at most 3
+      0  load
+      1  tuple       2                 else 12
+      2  dup
+      3  field       1
+      4  const       a
+      5  equal                         else 12
+      6  dup
+      7  field       2
+      8  bind        $1
+      9  drop
+     10  get         $1
+     11  answer
+     12  no_answer";
+
 const KINDS: &[&str] = &["set", "bag", "duplicate_bag"];
 
 const KIND_HELP: &str = "The kind of the table";
@@ -176,6 +215,7 @@ fn tool<'a>(alloc: Global) -> Command<'a>
     ensures { app_of result ≡ bare_app }
 {
     Command::new(alloc, "ets_tool")
+        .version(VERSION)
         .about(ABOUT)
         .after_help(EXAMPLE)
         .subcommand_required(true)
@@ -263,6 +303,14 @@ fn scan_command<'a>(alloc: Global) -> Result<Command<'a>, AllocError>
         .arg(workers(alloc))
 }
 
+/// The command `explain`, with its option.
+fn explain_command<'a>(alloc: Global) -> Result<Command<'a>, AllocError>
+    ensures shape { IfOk result (λ command. (p : ParserValue) → shape_of command ≡ explain_shape p) }
+    ensures local { IfOk result (λ command. (fields_of command).has_globals ≡ false) }
+{
+    command(alloc, "explain", EXPLAIN_ABOUT, EXPLAIN_EXAMPLE).arg(keypos(alloc))
+}
+
 /// The program's commands, as `clap` reads them.
 fn program<'a>(alloc: Global) -> Result<Command<'a>, AllocError>
     ensures { IfOk result (λ command. (p : ParserValue) × IsKindParser p × (app_of command ≡ tool_app p)) }
@@ -273,13 +321,15 @@ fn program<'a>(alloc: Global) -> Result<Command<'a>, AllocError>
     let verify = command(alloc, "verify", VERIFY_ABOUT, VERIFY_EXAMPLE);
     let script = command(alloc, "script", SCRIPT_ABOUT, SCRIPT_EXAMPLE);
     let scan = scan_command(alloc)?;
+    let explain = explain_command(alloc)?;
     tool(alloc)
         .subcommand(run)?
         .subcommand(test)?
         .subcommand(compile)?
         .subcommand(verify)?
         .subcommand(script)?
-        .subcommand(scan)
+        .subcommand(scan)?
+        .subcommand(explain)
 }
 
 /// The kind that is asked for.
@@ -319,7 +369,7 @@ fn scan_options(matches: &ArgMatches<'_>) -> ScanOptions
 }
 
 /// What the words ask for; the first word is the program's name. Words that `clap` does not take, and words that ask
-/// for help, are its error.
+/// for help or for the version, are its error.
 pub fn read_words<'a, S: AsStr>(alloc: Global, words: &'a [S]) -> Result<Request, Error>
     ensures { Reads (asked (map S.text words.entry.now)) result }
 {
@@ -331,6 +381,10 @@ pub fn read_words<'a, S: AsStr>(alloc: Global, words: &'a [S]) -> Result<Request
         Some("script") => Ok(Request::Script),
         Some("scan") => match matches.subcommand_matches("scan") {
             Some(matches) => Ok(Request::Scan(scan_options(matches))),
+            None => unreachable!(),
+        },
+        Some("explain") => match matches.subcommand_matches("explain") {
+            Some(matches) => Ok(Request::Explain(number(matches, "keypos"))),
             None => unreachable!(),
         },
         _ => Ok(Request::Run),

@@ -22,19 +22,22 @@ use Rattle.tool_query.specs.Laws.{IsOne, OutputIsOne}
 use Rattle.tool_query.specs.Query.{Query, Answers, IsRead, IsQuery}
 use Rattle.tool_query.specs.Run.{Asks, WritesAnswers}
 
-module _ (spells_one : SpellsOne) (one_reading : HasOneReading) (one_meaning : HasOneMeaning) (one_code : OneCode) (one_budget : HasOneBudget) (one_depth : DepthIsOne) where
+-- an input spells one list of terms
+module _ (spells_one : SpellsOne) where
   -- an input has one list of terms
-  terms_once : (Writes : List Datum → (old new : Option (List ℕ)) → Type 0)
+  pub terms_once : (Writes : List Datum → (old new : Option (List ℕ)) → Type 0)
       → ((terms : List Datum) (written a b : List ℕ) → Writes terms (Some written) (Some a) → Writes terms (Some written) (Some b) → a ≡ b) → IsOne Writes
   terms_once Writes once input written a b first again =
       let spelled = subst (λ i. Spells i first.2.0) (first.1 ∙ sym again.1) first.2.1.spelled in
       let same = spells_one again.0 first.2.0 again.2.0 spelled again.2.1.spelled in
       once again.2.0 written a b (subst (λ (ts : List Datum). Writes ts (Some written) (Some a)) same first.2.2) again.2.2
 
-  meant_once : (d : Datum) (q r : Query) → (s : Specification) × (q ≡ Query.meant s) × IsRead d s → (s : Specification) × (r ≡ Query.meant s) × IsRead d s → q ≡ r
+-- a term asks one query
+module _ (one_reading : HasOneReading) (one_code : OneCode) where
+  pub meant_once : (d : Datum) (q r : Query) → (s : Specification) × (q ≡ Query.meant s) × IsRead d s → (s : Specification) × (r ≡ Query.meant s) × IsRead d s → q ≡ r
   meant_once d q r h k = h.1 ∙ ap Query.meant (one_reading d h.0 k.0 h.2.0 k.2.0) ∙ sym k.1
 
-  query_once : (d : Datum) (q r : Query) → IsQuery d q → IsQuery d r → q ≡ r
+  pub query_once : (d : Datum) (q r : Query) → IsQuery d q → IsQuery d r → q ≡ r
   query_once (binary bytes) q r h k = h.1 ∙ ap Query.coded (one_code bytes h.0 k.0 h.2.0 k.2.0) ∙ sym k.1
   query_once (integer z) q r h k = meant_once (integer z) q r h k
   query_once (atom cs) q r h k = meant_once (atom cs) q r h k
@@ -43,9 +46,10 @@ module _ (spells_one : SpellsOne) (one_reading : HasOneReading) (one_meaning : H
   query_once nil q r h k = meant_once nil q r h k
   query_once (cons head tail) q r h k = meant_once (cons head tail) q r h k
 
+module _ (spells_one : SpellsOne) (one_reading : HasOneReading) (one_meaning : HasOneMeaning) (one_code : OneCode) (one_budget : HasOneBudget) (one_depth : DepthIsOne) where
   asks_once : (w : Report) (d : Datum) (q r : Query) → Asks w d q → Asks w d r → q ≡ r
-  asks_once answers d q r h k = query_once d q r h k
-  asks_once outcomes d q r h k = meant_once d q r h k
+  asks_once answers d q r h k = query_once one_reading one_code d q r h k
+  asks_once outcomes d q r h k = meant_once one_reading one_code d q r h k
 
   answer_once : (q : Query) (d : Datum) (a b : Option Datum) → Answers q d a → Answers q d b → a ≡ b
   answer_once (Query.meant s) d a b h k = one_meaning s d a b h k
@@ -88,7 +92,7 @@ module _ (spells_one : SpellsOne) (one_reading : HasOneReading) (one_meaning : H
 
   pub output_once : OutputIsOne
   output_once = record {
-    reports = λ r. terms_once (WritesAnswers r) (reports_once r);
-    files = terms_once WritesFile files_once;
-    verdicts = terms_once WritesVerdict verdicts_once;
+    reports = λ r. terms_once spells_one (WritesAnswers r) (reports_once r);
+    files = terms_once spells_one WritesFile files_once;
+    verdicts = terms_once spells_one WritesVerdict verdicts_once;
   }

@@ -49,8 +49,8 @@ pub fn tool_verify<A: Allocator + Copy, R: Read, W: Write>(
     verify_terms(alloc, terms.as_slice(), writer)
 }
 
-/// The only one of these terms.
-fn only<A: Allocator>(terms: &[Term<A>]) -> Result<&Term<A>, ToolFault>
+/// The only one of these terms, of which there is one at least; of more it is `BadInput`.
+pub fn only<A: Allocator>(terms: &[Term<A>]) -> Result<&Term<A>, ToolFault>
     requires { 0 < length terms.now }
     ensures ok { IfOk result (λ first. terms.now ≡ first.now ∷ []) }
     ensures refused { IfErr result (λ fault. (fault ≡ ToolFault.BadInput)

@@ -18,7 +18,7 @@ mod laws;
 mod query;
 mod run;
 
-pub use file::{tool_compile, tool_verify};
+pub use file::{only, tool_compile, tool_verify};
 pub use laws::output_is_one;
-pub use query::specification_of;
+pub use query::{load, specification_of};
 pub use run::{tool_run, tool_test};

@@ -29,7 +29,7 @@ pub fn specification_of<A: Allocator + Copy>(alloc: A, term: &Term<A>) -> Result
 }
 
 /// The code that bytes are the file of, verified.
-pub(crate) fn load<A: Allocator + Copy>(alloc: A, bytes: &[u8]) -> Result<Verified<A>, ToolFault>
+pub fn load<A: Allocator + Copy>(alloc: A, bytes: &[u8]) -> Result<Verified<A>, ToolFault>
     ensures ok { IfOk result (λ code. IsLoaded bytes.now code) }
     ensures refused { IfErr result (IsUnloaded bytes.now) }
 {

@@ -19,3 +19,7 @@ returns-in-Script g c = rw c.in-Script.is (has_replies _ _ _ c.run_script.result
 
 pub returns-in-Scan : goal.returns-in-Scan
 returns-in-Scan g c = rw c.in-Scan.is (has_scanned c.in-Scan.options _ _ _ c.tool_scan.result c.tool_scan.ensures.ok c.tool_scan.ensures.refused)
+
+pub returns-in-Explain : goal.returns-in-Explain
+returns-in-Explain g c =
+    rw c.in-Explain.is (has_outcome (request.Explain c.in-Explain.keypos) _ _ _ c.tool_explain.result tt c.tool_explain.ensures.ok c.tool_explain.ensures.refused)

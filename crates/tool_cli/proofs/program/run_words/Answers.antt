@@ -9,7 +9,7 @@ pub returns-in-Err : goal.returns-in-Err
 returns-in-Err g c =
     let ends = c.end_unasked.ensures in
     ends_asked (asked (map g.S.AsStr.text c.args.words.now)) c.in-Err.error _ _ _ _ _ _ _ c.in-Err.ensures
-    (record { help = ends.help; memory = ends.memory; ended = ends.ended })
+    (record { help = ends.help; version = ends.version; memory = ends.memory; ended = ends.ended })
 
 pub returns-in-Ok : goal.returns-in-Ok
 returns-in-Ok g c =

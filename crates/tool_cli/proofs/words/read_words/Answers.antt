@@ -1,7 +1,7 @@
-use Rattle.std.proofs.Common.{rules, ◌∙◌, refl, sym, map, ap, subst, Ok}
+use Rattle.std.proofs.Common.{rules, arith, ◌∙◌, refl, sym, map, ap, subst, Ok}
 use Rattle.tool_cli.specs.Words.{asked, Reads}
 use Rattle.tool_cli.specs.declared.words.Request.TheVariants as request
-use Rattle.tool_cli.proofs.WordsLemmas.{handed_on, memory_handed, named_read, run_read, scan_read, words_refused}
+use Rattle.tool_cli.proofs.WordsLemmas.{handed_on, memory_handed, named_read, run_read, scan_read, explain_read, words_refused}
 use Rattle.tool_cli.proofs.words.read_words.Goals as goal
 
 pub returns-in_err-program : goal.returns-in_err-program
@@ -41,7 +41,7 @@ returns-in-Some-script g c =
 pub returns : goal.returns
 returns g c =
     let words = map g.S.AsStr.text c.args.words.now in
-    run_read c.in_ok-program.ensures.0 c.in_ok-program.ensures.1 _ words c.in_ok-matches.matches c.in_ok-program.ensures.2 c.in_ok-matches.ensures.kinds c.in_ok-matches.ensures.matches (search rules) (search rules) (search rules) (search rules) (search rules)
+    run_read c.in_ok-program.ensures.0 c.in_ok-program.ensures.1 _ words c.in_ok-matches.matches c.in_ok-program.ensures.2 c.in_ok-matches.ensures.kinds c.in_ok-matches.ensures.matches (search rules) (search rules) (search rules) (search rules) (search rules) (search rules)
 
 pub scan_options-requires : goal.scan_options-requires
 scan_options-requires g c =
@@ -56,3 +56,17 @@ returns-in-Some g c =
     let read = scan_read c.in_ok-program.ensures.0 c.in_ok-program.ensures.1 _ words c.in_ok-matches.matches _ c.in_ok-program.ensures.2 c.in_ok-matches.ensures.kinds c.in_ok-matches.ensures.matches
     (sym c.subcommand_name.ensures ∙ rw (c.in-Some-scan.is, c.in-Some-scan.is-scan) refl) c.in-Some.ensures.rows in
     subst (λ a. Reads a (Ok (request.Scan c.scan_options.result))) (sym read.1) (ap request.Scan (c.scan_options.ensures read.0 read.2))
+
+pub number-requires : goal.number-requires
+number-requires g c =
+    let words = map g.S.AsStr.text c.args.words.now in
+    let read = explain_read c.in_ok-program.ensures.0 c.in_ok-program.ensures.1 _ words c.in_ok-matches.matches _ c.in_ok-program.ensures.2 c.in_ok-matches.ensures.kinds c.in_ok-matches.ensures.matches
+    (sym c.subcommand_name.ensures ∙ rw (c.in-Some-explain.is, c.in-Some-explain.is-explain) refl) c.in-Some-subcommand_matches.ensures.rows in
+    (65535, read.0, omega arith, read.2)
+
+pub returns-in-Some-subcommand_matches : goal.returns-in-Some-subcommand_matches
+returns-in-Some-subcommand_matches g c =
+    let words = map g.S.AsStr.text c.args.words.now in
+    let read = explain_read c.in_ok-program.ensures.0 c.in_ok-program.ensures.1 _ words c.in_ok-matches.matches _ c.in_ok-program.ensures.2 c.in_ok-matches.ensures.kinds c.in_ok-matches.ensures.matches
+    (sym c.subcommand_name.ensures ∙ rw (c.in-Some-explain.is, c.in-Some-explain.is-explain) refl) c.in-Some-subcommand_matches.ensures.rows in
+    subst (λ a. Reads a (Ok (request.Explain c.number.result))) (sym read.1) (ap request.Explain (c.number.ensures 65535 read.0 (omega arith) read.2).0)

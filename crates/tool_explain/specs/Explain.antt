@@ -1,0 +1,67 @@
+-- What `explain` writes, and how it ends early.
+use Rattle.std.specs.Prelude.{ℕ, ◌≡◌, ◌<◌, Option, None, List, [], ◌∷◌, ◌++◌, length}
+use Rattle.std.specs.Io.KnownBytes.{Appends, Keeps}
+use Rattle.term_core.specs.Datum.{Datum}
+use Rattle.mcode.specs.Answer.{answer_of}
+use Rattle.mcode.specs.Program.{Program}
+use Rattle.mspec_syntax.specs.Specification.{Specification, specification_variables}
+use Rattle.compiler_clauses.specs.Clauses.{code_of}
+use Rattle.budget.specs.Paths.{IsBudget}
+use Rattle.verifier.specs.Typing.{IsDepth}
+use Rattle.walk_query.specs.Named.{named_by}
+use Rattle.tool_io.specs.declared.fault.ToolFault.{ToolFault}
+use Rattle.tool_io.specs.declared.fault.ToolFault.TheVariants as fault
+use Rattle.tool_query.specs.Query.{Query, Answers, IsQuery, IsNoQuery}
+use Rattle.tool_explain.specs.Plan.{plan_text, bounds_text}
+use Rattle.tool_explain.specs.Listing.{listing}
+
+-- the code that is shown of a query: that of the specification, or the file's
+abbrev pub code_shown : Query → Program
+code_shown (Query.meant s) = code_of s
+code_shown (Query.coded p) = p
+
+-- the variables of its slots, in rising order; of a file none are known
+abbrev pub variables_shown : Query → List ℕ
+variables_shown (Query.meant s) = specification_variables s
+variables_shown (Query.coded p) = []
+
+-- the keys that a walk by it looks up, if it looks not at all objects: those that the specification names; of a file
+-- none are known
+abbrev pub keys_shown : ℕ → Query → Option (List Datum)
+keys_shown keypos (Query.meant s) = named_by keypos s
+keys_shown keypos (Query.coded p) = None
+
+-- bounds of code, and its listing
+pub record CodeText (variables : List ℕ) (p : Program) (text : List ℕ) : Type 0 where
+  pub budget : ℕ
+  pub depth : ℕ
+  pub budget_is : IsBudget p budget
+  pub depth_is : IsDepth p depth
+  pub text_is : text ≡ bounds_text budget depth ++ listing variables p
+
+-- The text of a query: which objects a walk looks at, the bounds of the code that answers it, and that code's listing.
+pub record QueryText (keypos : ℕ) (q : Query) (text : List ℕ) : Type 0 where
+  pub code : List ℕ
+  pub answers : (object : Datum) → Answers q object (answer_of (code_shown q) object)
+  pub code_is : CodeText (variables_shown q) (code_shown q) code
+  pub text_is : text ≡ plan_text keypos (keys_shown keypos q) ++ code
+
+-- what is said of what a term asks
+abbrev pub Explains : ℕ → Datum → List ℕ → Type 0
+Explains keypos d text = (q : Query) × IsQuery d q × QueryText keypos q text
+
+-- the writer gains what is said of the one term
+pub record WritesExplanation (keypos : ℕ) (terms : List Datum) (old new : Option (List ℕ)) : Type 0 where
+  pub first : Datum
+  pub text : List ℕ
+  pub alone : terms ≡ first ∷ []
+  pub explains : Explains keypos first text
+  pub gained : Appends old new text
+
+-- why nothing was written, and that nothing was; where the writer failed nothing is said of what it got
+abbrev pub StopsExplanation : List Datum → (old new : Option (List ℕ)) → ToolFault → Type 0
+StopsExplanation terms old new fault.WriteFailed = Unit {0}
+StopsExplanation terms old new fault.Memory = Keeps old new
+StopsExplanation terms old new fault.BadInput = (1 < length terms) × Keeps old new
+StopsExplanation terms old new f =
+    (first : Datum) × (terms ≡ first ∷ []) × IsNoQuery first f × Keeps old new

@@ -1,0 +1,5 @@
+pub mod Table
+pub mod Listing
+pub mod Plan
+pub mod Explain
+pub mod Laws
