@@ -33,14 +33,6 @@ impl<P: Part<A> + Drop, A: Allocator> Closed<P, A> {
         let Some(pass) = self.passes.pop() else {
             unreachable!()
         };
-        let mut closed = gate.table.close_with(pass.seat);
-        let is_home = closed.word(0) == 0;
-        let part = closed.take(0);
-        closed.free();
-        if is_home {
-            Some(Ok(part))
-        } else {
-            Some(Err(Lost))
-        }
+        Some(gate.close(pass))
     }
 }

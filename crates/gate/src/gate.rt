@@ -24,10 +24,16 @@ use std::sync::Wait;
 /// How often a session looks for the part before it parks.
 const LOOKS: u32 = 1_000;
 
+/// Where the part is at home: its slot, and the word that says whether it is there.
+#[derive(Drop)]
+pub(crate) struct Home<P: Part<A> + Drop, A: Allocator> {
+    table: Table<P, View, Snapshot<P>, GateRule<A>, A>,
+}
+
 /// The gate of one part: sessions on threads of their own take the part out, do one operation on it and put it back.
 #[derive(Drop)]
 pub struct Gate<P: Part<A> + Drop, A: Allocator = Global> {
-    pub(crate) table: Table<P, View, Snapshot<P>, GateRule<A>, A>,
+    home: Box<Home<P, A>, A>,
 }
 
 impl<P: Part<A> + Drop, A: Allocator> Model for Gate<P, A> {
@@ -39,9 +45,9 @@ impl<P: Part<A> + Drop, A: Allocator> Model for Gate<P, A> {
 
     ghost coded = { table_id_coded };
 
-    ghost view = { λ g. g.table.shared.table_id };
+    ghost view = { λ g. g.home.value.table.shared.table_id };
 
-    ghost invariant = { λ g. (g.table.shared.table_id.words ≡ 1) × (g.table.shared.table_id.slots ≡ 1) };
+    ghost invariant = { λ g. (g.home.value.table.shared.table_id.words ≡ 1) × (g.home.value.table.shared.table_id.slots ≡ 1) };
 }
 
 impl<P: Part<A> + Drop, A: Allocator> Gate<P, A> {
@@ -51,7 +57,7 @@ impl<P: Part<A> + Drop, A: Allocator> Gate<P, A> {
         ensures seat { seat.new.table_id ≡ seat.old.table_id }
         ensures taken { MatchBool result (IsTaken P.settings P.is_after seat.old.me seat.new.me) (seat.new.me ≡ seat.old.me) }
     {
-        let shared = &self.table.shared;
+        let shared = &self.home.table.shared;
         for _look in 0..LOOKS {
             if shared.peek(0) == 0 {
                 if shared.compare_exchange::<Take<A>>(seat, 0, 0, 1) == 0 {
@@ -72,7 +78,7 @@ impl<P: Part<A> + Drop, A: Allocator> Gate<P, A> {
         if self.take_soon(seat, number) {
             return;
         }
-        let shared = &self.table.shared;
+        let shared = &self.home.table.shared;
         for _wait in rt.forever() {
             if shared.swap::<Take<A>>(seat, 0, 2) == 0 {
                 return;
@@ -102,7 +108,7 @@ impl<P: Part<A> + Drop, A: Allocator> Gate<P, A> {
         ensures sure { IsTrue (takes_no_memory (act_of op.old))
             → IfErr result.0 (λ fault. fault ≢ Fault.Memory) }
     {
-        let part = seat.slot_mut(&self.table.shared, 0);
+        let part = seat.slot_mut(&self.home.table.shared, 0);
         let answer = part.apply(number, op);
         let fixes = part.fixes(number);
         (answer, fixes)
@@ -123,7 +129,7 @@ impl<P: Part<A> + Drop, A: Allocator> Gate<P, A> {
         ensures gate { seat.new.table_id ≡ seat.old.table_id }
         ensures back { seat.new.me ≡ (seer seat.old.me.0 (seat.old.me.0.seen ++ entries_made _number (act_of _asked.now.value) _answer.now), []) }
     {
-        let shared = &self.table.shared;
+        let shared = &self.home.table.shared;
         if shared.swap::<PutBack<E>>(seat, 0, 0) == 2 {
             shared.wake_one(0);
         }
@@ -139,7 +145,7 @@ impl<P: Part<A> + Drop, A: Allocator> Gate<P, A> {
         ensures pass { result ≡ first_ticket self.now seat.old.me.0.settings number }
     {
         Pass {
-            seat: self.table.shared.split_seat::<NextPass>(seat),
+            seat: self.home.table.shared.split_seat::<NextPass>(seat),
             number,
             fixes: 0,
         }
@@ -177,7 +183,7 @@ impl<P: Part<A> + Drop, A: Allocator> Gate<P, A> {
         ensures same { (one.new ≡ one.old) × (other.new ≡ other.old) }
         ensures met { GoesOn one.old.log other.old.log ⊎ GoesOn other.old.log one.old.log }
     {
-        let shared = &self.table.shared;
+        let shared = &self.home.table.shared;
         let note = shared.split_seat::<TakeNote>(&mut one.seat);
         shared.join_seat::<TakeNote>(&mut other.seat, note);
         shared.load::<Compare>(&mut other.seat, 0);
@@ -189,7 +195,8 @@ impl<P: Part<A> + Drop, A: Allocator> Gate<P, A> {
         ensures { IfOk result (λ part. (P.settings part ≡ pass.settings)
             × IsLeft P.is_after pass.number pass.log part) }
     {
-        let mut closed = self.table.close_with(pass.seat);
+        let home = Box::into_inner(self.home);
+        let mut closed = home.table.close_with(pass.seat);
         let is_home = closed.word(0) == 0;
         let part = closed.take(0);
         closed.free();
@@ -210,7 +217,8 @@ impl<P: Part<A> + Drop, A: Allocator + Copy> Gate<P, A> {
         let Ok((table, mut seat)) = Table::new(alloc, &[0], slots, &made) else {
             return Err(AllocError);
         };
-        let gate = Gate { table };
+        let home = Box::new(alloc, Home { table })?;
+        let gate = Gate { home };
         let passes = gate.passes(alloc, &mut seat, sessions)?;
         Ok((gate, passes))
     }

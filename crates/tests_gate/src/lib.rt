@@ -4,6 +4,7 @@
 //! tests. `judge_sessions` makes random calls on threads.
 //!
 //! - `objects`: what is put in. `pairs`: two sessions of a table.
+//! - `closing`: a gate by itself.
 //! - `steps`: what sessions do, one on a thread behind the other and side by side.
 //! - `watching`: parts that look for each other, so that their turns must be made at the same time. `waiting`: a
 //!   session that waits for a part until it is put back.
@@ -13,6 +14,8 @@
 //!   same of objects put in one after the other. `leaks`: what is let go in the middle of its life.
 #![tactic(auto)]
 
+#[cfg(test)]
+mod closing;
 #[cfg(test)]
 mod leaks;
 #[cfg(test)]

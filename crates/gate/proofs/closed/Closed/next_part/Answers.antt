@@ -2,11 +2,9 @@ use Rattle.std.proofs.Common.{ℕ, ◌≡◌, ◌<◌, [], ◌∷◌, ◌++◌, 
 use Rattle.std.specs.Coded.{codes}
 use Rattle.std.proofs.Props.{props}
 use Rattle.std.proofs.Math.Logic.{∥∥₁_elim, ∥∥₁_map}
-use mathlib.Core.Option.{some}
 use Rattle.atomic_table.specs.Seated.{table_id_coded}
 use Rattle.gate.specs.Views.{GateId, Ticket}
 use Rattle.gate.proofs.ClosedLemmas.{last_made, made_still, passes_left}
-use Rattle.gate.proofs.StepLemmas.{closes}
 use Rattle.gate.proofs.closed.Closed.next_part.Goals as goal
 
 pub invariant_of-self-2 : goal.invariant_of-self-2
@@ -23,30 +21,17 @@ unreachable-requires g c =
     let there = c.pop-2.ensures.variant.1 (subst (λ (n : ℕ). 0 < n) (sym c.args.self.now.passes.ok.0) some) in
     search (rules, there))
 
-pub close_with-closed-requires : goal.close_with-closed-requires
-close_with-closed-requires g c =
-    let same : c.in-Some-pop.pass.gate ≡ c.in-Some.gate = ∥∥₁_elim c.args.self.now.made (hlevel (codes, table_id_coded)) (λ made.
-    (last_made (λ (t : Ticket). t.gate) _ _ _ _ c.in-Some.gate made c.in-Some.ensures.items c.in-Some-pop.pass c.in-Some-pop.ensures.items).1) in
-    ap (λ (t : Ticket). t.gate) c.pass.view_is ∙ same ∙ sym c.gate.view_is
+pub close-requires : goal.close-requires
+close-requires g c =
+    ∥∥₁_elim c.args.self.now.made (hlevel (codes, table_id_coded)) (λ made.
+    (last_made (λ (t : Ticket). t.gate) _ _ _ _ c.in-Some.gate made c.in-Some.ensures.items c.in-Some-pop.pass c.in-Some-pop.ensures.items).1)
 
-pub returns-then-is_home : goal.returns-then-is_home
-returns-then-is_home g c =
+pub returns : goal.returns
+returns g c =
     let same : c.in-Some-pop.pass.gate ≡ c.in-Some.gate = ∥∥₁_elim c.args.self.now.made (hlevel (codes, table_id_coded)) (λ made.
     (last_made (λ (t : Ticket). t.gate) _ _ _ _ c.in-Some.gate made c.in-Some.ensures.items c.in-Some-pop.pass c.in-Some-pop.ensures.items).1) in (
       c.in-Some-pop.pass,
       c.in-Some.ensures.items ∙ ap (λ (gate : GateId). c.pop.new.self.items ++ gate ∷ []) (sym same),
       c.in-Some-pop.ensures.items,
-      rw (← c.pass.view_is)
-          (closes g.P.Part.settings g.P.Part.is_after _ _ c.pass.inside.seat.me.0 c.pass.inside.number _ _ c.take-part.result c.pass.invariant.1
-          c.close_with-closed.ensures.values.2 (c.word-is_home.ensures ∙ ap some c.if-is_home.true) c.take-part.ensures.value),
-    )
-
-pub returns-else-is_home : goal.returns-else-is_home
-returns-else-is_home g c =
-    let same : c.in-Some-pop.pass.gate ≡ c.in-Some.gate = ∥∥₁_elim c.args.self.now.made (hlevel (codes, table_id_coded)) (λ made.
-    (last_made (λ (t : Ticket). t.gate) _ _ _ _ c.in-Some.gate made c.in-Some.ensures.items c.in-Some-pop.pass c.in-Some-pop.ensures.items).1) in (
-      c.in-Some-pop.pass,
-      c.in-Some.ensures.items ∙ ap (λ (gate : GateId). c.pop.new.self.items ++ gate ∷ []) (sym same),
-      c.in-Some-pop.ensures.items,
-      tt,
+      c.close.ensures,
     )
