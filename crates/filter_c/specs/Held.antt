@@ -1,0 +1,17 @@
+-- What a filter owns.
+use Rattle.std.specs.Prelude.{Bool, true, false, []}
+use base.Fml.{Fml, ftrue}
+use denote.RawPtr.{Ptr}
+use Rattle.libc.specs.Heap.{chunk}
+use Rattle.std.specs.Box.Ownership.{box_owns}
+use Rattle.mcode.specs.Program.{Program, alone}
+use Rattle.filter_c.specs.contracts.loaded.Loaded as loaded
+
+-- an open filter owns the box of its code, at the C library's heap; a closed one owns nothing
+abbrev pub held : Bool → Ptr → Program → Fml
+held true at code = box_owns chunk loaded.the_row at code
+held false at code = ftrue
+
+-- code of nothing, which stands for the code of a closed filter
+abbrev pub no_code : Program
+no_code = record { slots = 0; constants = []; instructions = []; frames = []; around = alone }
