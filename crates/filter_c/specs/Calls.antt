@@ -15,7 +15,7 @@ use Rattle.tool_query.specs.Code.{IsFileOf}
 use Rattle.tool_query.specs.Query.{IsRead, IsLoaded, IsNoSpecification, IsUnloaded}
 use Rattle.filter_c.specs.declared.filter.Filter.{Filter}
 use Rattle.filter_c.specs.declared.reply.Reply.{Reply}
-use Rattle.filter_c.specs.Reply.{Gives, nothing_reply, closed_reply, bounds_reply, refusal_reply}
+use Rattle.filter_c.specs.Reply.{Gives, nothing_reply, bounds_reply, refusal_reply}
 
 -- why a text doesn't spell one term: want of memory, what stands at the place of its fault, or more than one term
 abbrev pub IsNoTerm : List ℕ → ToolFault → Type 0

@@ -1,37 +1,24 @@
 -- A closed filter owns nothing.
-use Rattle.std.proofs.Common.{◌≡◌, List, [], ◌∷◌, ◌++◌, refl, sym, subst}
-use mathlib.Core.Bool.{Bool, true, false}
-use mir.Val.{Val, vptr}
-use mir.Raw.{raw as bare}
-use base.Logic.{SProp, ent, emp, never, id⊢, fst∗}
+use Rattle.std.proofs.Common.{◌≡◌, [], ◌∷◌, refl}
+use mathlib.Core.Bool.{false}
+use mir.Val.{Val}
+use base.Logic.{SProp, emp}
 use lib.Dec.{lit<}
-use prog.Wp.{WpFn}
-use types.Logic.{sem}
-use types.Kit.{‵, raw, ◌⊛◌, ◌$◌, ◌∵◌, !, qed, by, move, keep, split, fsplit, fjoin, suffices, use0, rewrite}
-use types.Run.{stop, fld, of_opd, lit, true_lit, false_lit, no_more, and_then, returns, enter}
-use types.ByLocal.{alloc_all, pass_all, free_all, look_at, get, get_in, sets}
-use types.Part.{agg, sub, whole}
+use types.Kit.{‵, raw, ◌⊛◌, ◌$◌, ◌∵◌, !, qed, by, keep, split, use0}
+use types.Run.{lit, false_lit, no_more, and_then, returns, enter}
+use types.ByLocal.{alloc_all, pass_all, free_all, look_at, sets}
+use types.Part.{agg}
 use contract.Monad.{fact, fact_i}
 use contract.Running.{tables}
-use denote.Exit.{yes}
-use denote.RattleType.{RattleType, owns}
-use denote.RawPtr.{Ptr, block_ptr, null_ptr, in_a_block}
-use denote.Memory.{lone}
-use denote.Signature.{types_at, plain}
-use denote.Steps.{nothing, heard}
+use denote.RattleType.{owns}
+use denote.RawPtr.{null_ptr}
+use denote.Signature.{types_at}
+use denote.Steps.{nothing}
 use denote.Triple.Entry.{alive}
-use denote.Triple.Walked.{Stays, stay_dropped, walk_of}
-use Rattle.libc.specs.Heap.{chunk}
-use Rattle.std.proofs.alloc.Calls.{Al, Goes-blank, handle_tells}
+use denote.Triple.Walked.{Stays, walk_of}
 use Rattle.std.proofs.raw_atomic.Walks.{proved_at, leaves}
-use Rattle.std.specs.Box.Ownership.{box_owns}
-use Rattle.std.specs.contracts.alloc.Global as heap
-use Rattle.std.specs.contracts.impls.GlobalAllocator.TheImpl.{ghosts}
-use Rattle.std.proofs.alloc.Global.TheLaws as heap_laws
-use Rattle.filter_c.specs.Held.{held, no_code}
-use Rattle.filter_c.specs.contracts.loaded.Loaded as loaded
-use Rattle.filter_c.specs.contracts.loose.Loose as loose
-use Rattle.filter_c.proofs.Values.{Filter, word, both, loose_good, loose_out, loose_in, filter_out, filter_in}
+use Rattle.filter_c.specs.Held.{no_code}
+use Rattle.filter_c.proofs.Values.{Filter, word, filter_in}
 use Rattle.filter_c.specs.contracts.filter.Filter.closed.{ended, clauses}
 use Rattle.filter_c.specs.contracts.filter.Filter.closed.Key.{name as #self}
 use Rattle.filter_c.proofs.filter.Filter.closed.Statement.{statement}

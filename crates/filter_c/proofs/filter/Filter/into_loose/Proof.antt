@@ -1,15 +1,14 @@
 -- What an open filter owns is a box.
 use Rattle.std.proofs.Common.{◌≡◌, List, [], ◌∷◌, ◌++◌, refl, sym, subst}
-use mathlib.Core.Bool.{Bool, true, false}
+use mathlib.Core.Bool.{Bool, true}
 use mir.Syntax.{impl, tnil, dnil}
 use mir.Val.{Val, vptr}
 use mir.Raw.{raw as bare}
 use base.Logic.{SProp, ent, emp, never, id⊢, fst∗}
-use lib.Dec.{lit<}
 use prog.Wp.{WpFn}
 use types.Logic.{sem}
 use types.Kit.{‵, raw, ◌⊛◌, ◌$◌, ◌∵◌, !, qed, by, move, keep, split, fsplit, fjoin, suffices, use0, rewrite}
-use types.Run.{stop, fld, of_opd, lit, true_lit, false_lit, no_more, and_then, returns, enter}
+use types.Run.{stop, fld, of_opd, no_more, and_then, returns, enter}
 use types.ByLocal.{alloc_all, pass_all, free_all, look_at, get, get_in, sets}
 use types.Part.{agg, sub, whole}
 use contract.Monad.{fact, fact_i}
@@ -32,7 +31,7 @@ use Rattle.std.proofs.alloc.Global.TheLaws as heap_laws
 use Rattle.filter_c.specs.Held.{held}
 use Rattle.filter_c.specs.contracts.loaded.Loaded as loaded
 use Rattle.filter_c.specs.contracts.loose.Loose as loose
-use Rattle.filter_c.proofs.Values.{Filter, word, both, loose_good, loose_out, loose_in, filter_out, filter_in}
+use Rattle.filter_c.proofs.Values.{Filter, word, both, loose_good, loose_in, filter_out}
 use Rattle.filter_c.specs.contracts.filter.Filter.into_loose.{ended, clauses}
 use Rattle.filter_c.specs.contracts.filter.Filter.into_loose.Key.{name as #self}
 use Rattle.filter_c.proofs.filter.Filter.into_loose.Statement.{statement}

@@ -1,40 +1,28 @@
 -- A filter is told whether it is open.
 use Rattle.std.proofs.Common.{◌≡◌, List, [], ◌∷◌, ◌++◌, refl, sym, subst}
-use mathlib.Core.Bool.{Bool, true, false}
+use mathlib.Core.Bool.{true}
 use mathlib.Core.Bool.{◌&&◌}
 use mir.Syntax.{ty_ptr}
-use mir.Val.{Val, vptr, vbool, has_ty}
-use mir.Raw.{raw as bare}
-use base.Logic.{SProp, ent, emp, never, id⊢, fst∗}
-use lib.Dec.{lit<}
+use mir.Val.{Val, vbool, has_ty}
+use base.Logic.{SProp, ent, emp, id⊢}
 use prog.Wp.{WpFn}
-use types.Logic.{sem}
-use types.Kit.{feq_i, ‵, raw, ◌⊛◌, ◌$◌, ◌∵◌, !, qed, by, move, keep, split, fsplit, fjoin, suffices, use0, rewrite}
-use types.Run.{stop, fld, of_opd, lit, true_lit, false_lit, no_more, and_then, returns, enter}
+use types.Kit.{feq_i, ‵, raw, ◌⊛◌, ◌$◌, ◌∵◌, !, qed, by, move, keep, split, fsplit, fjoin, suffices, use0}
+use types.Run.{stop, fld, of_opd, no_more, and_then, returns, enter}
 use types.ByLocal.{alloc_all, pass_all, free_all, look_at, get, get_in, sets}
 use types.Part.{agg, sub, whole}
 use contract.Monad.{fact, fact_i}
 use contract.Running.{tables}
 use denote.Exit.{yes}
-use denote.RattleType.{RattleType, owns}
-use denote.RawPtr.{ptr_val, Ptr, block_ptr, null_ptr, in_a_block}
-use denote.Memory.{lone}
+use denote.RattleType.{owns}
+use denote.RawPtr.{ptr_val}
 use denote.Signature.{types_at, plain}
-use denote.Steps.{nothing, heard}
+use denote.Steps.{nothing}
 use denote.Triple.Entry.{alive}
 use denote.Triple.Walked.{Stays, stay_dropped, walk_of}
-use Rattle.libc.specs.Heap.{chunk}
-use Rattle.std.proofs.alloc.Calls.{Al, Goes-blank, handle_tells}
+use Rattle.std.proofs.alloc.Calls.{Goes-blank}
 use Rattle.std.proofs.raw_atomic.Walks.{proved_at, leaves}
-use Rattle.std.specs.Box.Ownership.{box_owns}
-use Rattle.std.specs.contracts.alloc.Global as heap
-use Rattle.std.specs.contracts.impls.GlobalAllocator.TheImpl.{ghosts}
-use Rattle.std.proofs.alloc.Global.TheLaws as heap_laws
-use Rattle.filter_c.specs.Held.{held}
-use Rattle.filter_c.specs.contracts.loaded.Loaded as loaded
-use Rattle.filter_c.specs.contracts.loose.Loose as loose
 use denote.Builtin as builtin
-use Rattle.filter_c.proofs.Values.{both_tt, word_good, pair_in, Filter, word, both, loose_good, loose_out, loose_in, filter_out, filter_in}
+use Rattle.filter_c.proofs.Values.{both_tt, word_good, pair_in, Filter, word, both, filter_out, filter_in}
 use Rattle.filter_c.specs.contracts.filter.Filter.told.{ended, clauses}
 use Rattle.filter_c.specs.contracts.filter.Filter.told.Key.{name as #self}
 use Rattle.filter_c.proofs.filter.Filter.told.Statement.{statement}
