@@ -21,14 +21,13 @@ use denote.Signature.{types_at, plain}
 use denote.Steps.{nothing, heard}
 use denote.Triple.Entry.{alive}
 use denote.Triple.Walked.{Stays, stay_dropped, walk_of}
-use Rattle.libc.specs.Heap.{chunk}
 use Rattle.std.proofs.alloc.Calls.{Al, Goes-blank, handle_tells}
 use Rattle.std.proofs.raw_atomic.Walks.{proved_at, leaves}
 use Rattle.std.specs.Box.Ownership.{box_owns}
 use Rattle.std.specs.contracts.alloc.Global as heap
 use Rattle.std.specs.contracts.impls.GlobalAllocator.TheImpl.{ghosts}
 use Rattle.std.proofs.alloc.Global.TheLaws as heap_laws
-use Rattle.filter_c.specs.Held.{held}
+use Rattle.filter_c.specs.Held.{held, token}
 use Rattle.filter_c.specs.contracts.loaded.Loaded as loaded
 use Rattle.filter_c.specs.contracts.loose.Loose as loose
 use Rattle.filter_c.proofs.Values.{Filter, word, both, loose_good, loose_in, filter_out}
@@ -50,7 +49,7 @@ into_loose_spec 𝓤 𝓛 𝓜 𝓡 wired =
     -- [what it holds; the allocator with nothing; the tokens]
     move ! (1 ∷ []) $ fsplit ! $ handle_tells al ! a z.0.4.1.0 (λ h eh fits. keep ! (2 ∷ 0 ∷ 3 ∷ []) $
     rewrite ! 0 (λ (x : Bool). ‵ (held x v.at v.code)) opened refl $
-    in_a_block ! v.at (λ p. box_owns chunk E p v.code) (fst∗ 𝓤 (never 𝓤) (sem 𝓛 (chunk (bare (lone E.mir)) null_ptr))) (λ b o e. loose_in E Z LZ ghosts ! b o h a v.code $
+    in_a_block ! v.at (λ p. box_owns token E p v.code) (fst∗ 𝓤 (never 𝓤) (sem 𝓛 (token (bare (lone E.mir)) null_ptr))) (λ b o e. loose_in E Z LZ ghosts ! b o h a v.code $
     let w : Val = word (block_ptr b o) v.is_open in let r : Lr.Denot = record { at = block_ptr b o; alloc = a; value = v.code } in
     let us : z.0.4.0 ≡ w ∷ [] = subst (λ (p : Ptr). z.0.4.0 ≡ word p v.is_open ∷ []) e ws in
     suffices ! (Run (w ∷ h ∷ [])) (subst (λ (xs : List Val). ent 𝓤 (Run (w ∷ h ∷ [])) (Run xs)) (sym (λ i. us i ++ (eh i ++ []))) (id⊢ 𝓤 (Run (w ∷ h ∷ [])))) $
