@@ -1,0 +1,210 @@
+/* Tries what no clause says of the library for C: that C reaches it, that calls succeed, that no block is lost over many of them, and that
+ * each request for memory may be refused. Silent where all is as it should be. Linked with --wrap for malloc, realloc and free. */
+#include "cutterash.h"
+
+#include <stdio.h>
+#include <stdlib.h>
+#include <string.h>
+
+static int failed = 0;
+
+#define HOLDS(what)                                                    \
+    do {                                                               \
+        if (!(what)) {                                                 \
+            fprintf(stderr, "line %d: not so: %s\n", __LINE__, #what); \
+            failed = 1;                                                \
+        }                                                              \
+    } while (0)
+
+/* Requests for memory that are given before one is refused; none is where this is negative. */
+static long given = -1;
+
+/* Blocks that are in use. */
+static long in_use = 0;
+
+void *__real_malloc(size_t size);
+void *__real_realloc(void *block, size_t size);
+void __real_free(void *block);
+
+static bool is_refused(void) {
+    if (given == 0)
+        return true;
+    if (given > 0)
+        given--;
+    return false;
+}
+
+void *__wrap_malloc(size_t size) {
+    void *block = is_refused() ? NULL : __real_malloc(size);
+    in_use += block != NULL;
+    return block;
+}
+
+void *__wrap_realloc(void *old, size_t size) {
+    void *block = is_refused() ? NULL : __real_realloc(old, size);
+    in_use += block != NULL && old == NULL;
+    return block;
+}
+
+void __wrap_free(void *block) {
+    in_use -= block != NULL;
+    __real_free(block);
+}
+
+static struct cutterash_reply compile(const char *text, uint8_t *room, size_t length) {
+    return cutterash_compile((const uint8_t *)text, strlen(text), room, length);
+}
+
+static struct cutterash_reply run(struct cutterash_filter *filter, const char *object, uint8_t *room, size_t length) {
+    return cutterash_run(filter, (const uint8_t *)object, strlen(object), room, length);
+}
+
+static bool is(struct cutterash_reply reply, unsigned status, unsigned number, unsigned count, uint64_t first,
+               uint64_t second, size_t length) {
+    return reply.status == status && reply.number == number && reply.count == count && reply.first == first &&
+           reply.second == second && reply.length == length;
+}
+
+/* A refusal with this number and these arguments. */
+static bool refuses(struct cutterash_reply reply, unsigned number, unsigned count, uint64_t first, uint64_t second) {
+    return is(reply, CUTTERASH_REFUSED, number, count, first, second, 0);
+}
+
+static const char years[] = "[{{'_','$1','$2'},[{'>','$2',1904}],[{{'$1',\"year\"}}]}].";
+
+/* Texts that are refused, and a room that is too small. */
+static void try_compile(void) {
+    uint8_t room[512], before[512];
+    memset(room, 0x5a, sizeof room);
+    memcpy(before, room, sizeof room);
+    HOLDS(refuses(compile("", room, sizeof room), 5, 1, 0, 0));
+    HOLDS(refuses(compile("[{'_',[],[ok]}]", room, sizeof room), 5, 1, 15, 0));
+    HOLDS(refuses(compile("\377.", room, sizeof room), 6, 1, 0, 0));
+    HOLDS(refuses(compile("[{'_',[],[ok]}]. [].", room, sizeof room), 65, 0, 0, 0));
+    HOLDS(refuses(compile("{a}.", room, sizeof room), 10, 0, 0, 0));
+    HOLDS(refuses(compile("[{'_',[],[ok]},{'_',[]}].", room, sizeof room), 11, 1, 1, 0));
+    HOLDS(refuses(compile("[{{'$1'},[],['$3']}].", room, sizeof room), 16, 2, 0, 3));
+    struct cutterash_reply reply = compile(years, room, 0);
+    HOLDS(reply.status == CUTTERASH_NO_ROOM && reply.length > 0 && reply.length < sizeof room);
+    size_t length = reply.length;
+    HOLDS(is(compile(years, room, length - 1), CUTTERASH_NO_ROOM, 0, 0, 0, 0, length));
+    HOLDS(memcmp(room, before, sizeof room) == 0);
+    HOLDS(is(compile(years, room, length), CUTTERASH_DONE, 0, 0, 0, 0, length));
+    HOLDS(memcmp(room, "EMSC", 4) == 0 && memcmp(room + length, before, sizeof room - length) == 0);
+}
+
+/* Files that are refused: the beginnings of a good one, and each that differs from it in a byte is loaded or refused. */
+static void try_load(const uint8_t *file, size_t length) {
+    struct cutterash_filter filter = {0};
+    uint8_t room[64], changed[512];
+    HOLDS(refuses(cutterash_load(&filter, (const uint8_t *)"\1\2\3\4", 4), 30, 0, 0, 0));
+    HOLDS(refuses(cutterash_load(&filter, (const uint8_t *)"EMSC\0\11", 6), 31, 0, 0, 0));
+    HOLDS(refuses(cutterash_load(&filter, (const uint8_t *)"EMSC\0\1\0\0\0", 9), 32, 1, 9, 0));
+    HOLDS(refuses(cutterash_load(&filter, (const uint8_t *)"EMSC\0\1\0\0\0\0\0\1\17\0\0\0\0", 17), 44, 1, 0, 0));
+    HOLDS(refuses(cutterash_load(&filter,
+                                 (const uint8_t *)"EMSC\0\2\0\0\0\2\0\0\0\2\1\33\0\0\0\0\0\0\0\0\1\34\0\0", 28),
+                  49, 1, 1, 0));
+    HOLDS(!filter.is_open);
+    for (size_t i = 0; i < length; i++) {
+        struct cutterash_reply reply = cutterash_load(&filter, file, i);
+        HOLDS(reply.status == CUTTERASH_REFUSED && (reply.number == 30 || reply.number == 32));
+    }
+    for (size_t i = 0; i < length; i++)
+        for (unsigned byte = 0; byte < 256; byte++) {
+            memcpy(changed, file, length);
+            changed[i] = (uint8_t)byte;
+            struct cutterash_reply reply = cutterash_load(&filter, changed, length);
+            HOLDS(reply.status == CUTTERASH_DONE || (reply.status == CUTTERASH_REFUSED && reply.number >= 30));
+            HOLDS(filter.is_open == (reply.status == CUTTERASH_DONE));
+            HOLDS(run(&filter, "{2,alan,1912}.", room, sizeof room).status != CUTTERASH_REFUSED);
+        }
+    cutterash_close(&filter);
+}
+
+/* A filter that is closed, objects that are refused, answers that have no room. */
+static void try_run(const uint8_t *file, size_t length) {
+    struct cutterash_filter filter = {0};
+    uint8_t room[32], before[32];
+    memset(room, 0x5a, sizeof room);
+    memcpy(before, room, sizeof room);
+    HOLDS(is(run(&filter, "{2,alan,1912}.", room, sizeof room), CUTTERASH_CLOSED, 0, 0, 0, 0, 0));
+    cutterash_close(&filter);
+    struct cutterash_reply reply = cutterash_load(&filter, file, length);
+    HOLDS(reply.status == CUTTERASH_DONE && reply.count == 2 && reply.first > 0 && reply.second > 0 && filter.is_open);
+    HOLDS(is(run(&filter, "{1,ada,1815}.", room, sizeof room), CUTTERASH_NO_ANSWER, 0, 0, 0, 0, 0));
+    HOLDS(refuses(run(&filter, "", room, sizeof room), 5, 1, 0, 0));
+    HOLDS(refuses(run(&filter, "{1,2}", room, sizeof room), 5, 1, 5, 0));
+    HOLDS(refuses(run(&filter, "{1}. {2}.", room, sizeof room), 65, 0, 0, 0));
+    HOLDS(is(run(&filter, "{2,alan,1912}.", room, 3), CUTTERASH_NO_ROOM, 0, 0, 0, 0, 23));
+    HOLDS(memcmp(room, before, sizeof room) == 0);
+    HOLDS(is(run(&filter, "{2,alan,1912}.", room, 23), CUTTERASH_DONE, 0, 0, 0, 0, 23));
+    HOLDS(memcmp(room, "{alan,[121,101,97,114]}", 23) == 0);
+    cutterash_close(&filter);
+    cutterash_close(&filter);
+    HOLDS(is(run(&filter, "{2,alan,1912}.", room, sizeof room), CUTTERASH_CLOSED, 0, 0, 0, 0, 0));
+}
+
+/* Each request for memory is refused in turn; the filter stays as it was where a run is refused. */
+static void try_memory(const uint8_t *file, size_t length) {
+    uint8_t room[512];
+    struct cutterash_filter filter = {0};
+    struct cutterash_reply reply;
+    long n;
+    for (n = 0, reply.status = CUTTERASH_NO_MEMORY; reply.status == CUTTERASH_NO_MEMORY; n++) {
+        long held = in_use;
+        given = n;
+        reply = compile(years, room, sizeof room);
+        given = -1;
+        HOLDS(reply.status == CUTTERASH_DONE || is(reply, CUTTERASH_NO_MEMORY, 1, 0, 0, 0, 0));
+        HOLDS(in_use == held);
+    }
+    HOLDS(n > 10);
+    for (n = 0, reply.status = CUTTERASH_NO_MEMORY; reply.status == CUTTERASH_NO_MEMORY; n++) {
+        long held = in_use;
+        given = n;
+        reply = cutterash_load(&filter, file, length);
+        given = -1;
+        HOLDS(filter.is_open ? reply.status == CUTTERASH_DONE
+                             : is(reply, CUTTERASH_NO_MEMORY, 1, 0, 0, 0, 0) && in_use == held);
+    }
+    HOLDS(n > 3);
+    for (n = 0, reply.status = CUTTERASH_NO_MEMORY; reply.status == CUTTERASH_NO_MEMORY; n++) {
+        long held = in_use;
+        given = n;
+        reply = run(&filter, "{2,alan,1912}.", room, sizeof room);
+        given = -1;
+        HOLDS(reply.status == CUTTERASH_DONE || is(reply, CUTTERASH_NO_MEMORY, 1, 0, 0, 0, 0));
+        HOLDS(filter.is_open && in_use == held);
+    }
+    HOLDS(n > 3);
+    cutterash_close(&filter);
+}
+
+/* So many calls, over which no block is lost. */
+static void try_many(const uint8_t *file, size_t length, long calls) {
+    uint8_t room[64];
+    struct cutterash_filter filter = {0};
+    long held = in_use;
+    for (long i = 0; i < calls; i++) {
+        if (i % 16 == 0)
+            HOLDS(cutterash_load(&filter, file, length).status == CUTTERASH_DONE);
+        const char *object = i % 3 == 0 ? "{1,ada,1815}." : i % 3 == 1 ? "{2,alan,1912}." : "{2,alan,191";
+        static const unsigned statuses[] = {CUTTERASH_NO_ANSWER, CUTTERASH_DONE, CUTTERASH_REFUSED};
+        HOLDS(run(&filter, object, room, sizeof room).status == statuses[i % 3]);
+    }
+    cutterash_close(&filter);
+    HOLDS(in_use == held);
+}
+
+int main(int count, char **words) {
+    uint8_t file[512];
+    long calls = count > 1 ? atol(words[1]) : 1000000;
+    struct cutterash_reply reply = compile(years, file, sizeof file);
+    HOLDS(reply.status == CUTTERASH_DONE);
+    try_compile();
+    try_load(file, reply.length);
+    try_run(file, reply.length);
+    try_memory(file, reply.length);
+    try_many(file, reply.length, calls);
+    return failed;
+}
