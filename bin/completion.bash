@@ -9,11 +9,11 @@ _ets_tool() {
     elif [ "${COMP_WORDS[1]}" = scan ] && [ "$before" = --kind ]; then
         mapfile -t COMPREPLY < <(compgen -W 'set bag duplicate_bag' -- "$word")
     elif [ "${COMP_WORDS[1]}" = scan ]; then
-        mapfile -t COMPREPLY < <(compgen -W '--kind --keypos --parts --workers --help' -- "$word")
+        mapfile -t COMPREPLY < <(compgen -W '--kind --keypos --parts --workers --why --help' -- "$word")
     elif [ "${COMP_WORDS[1]}" = explain ]; then
-        mapfile -t COMPREPLY < <(compgen -W '--keypos --help' -- "$word")
+        mapfile -t COMPREPLY < <(compgen -W '--keypos --why --help' -- "$word")
     else
-        mapfile -t COMPREPLY < <(compgen -W '--help' -- "$word")
+        mapfile -t COMPREPLY < <(compgen -W '--why --help' -- "$word")
     fi
 }
 complete -F _ets_tool ets_tool

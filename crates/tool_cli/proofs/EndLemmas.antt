@@ -1,19 +1,29 @@
 -- How the program ends.
-use Rattle.std.proofs.Common.{◌≡◌, ◌≢◌, ℕ, List, Option, Result, Ok, Err, subst, inl, inr}
-use Rattle.std.specs.Prelude.{OnOk, IfErr}
+use Rattle.std.proofs.Common.{◌≡◌, ◌≢◌, ◌∙◌, ℕ, List, [], ◌++◌, Option, None, Some, Result, Ok, Err, refl, sym, ap, subst, inl, inr}
+use Rattle.std.proofs.lemmas.List.{append-nil}
+use Rattle.std.specs.declared.alloc.AllocError.{AllocError}
+use Rattle.std.specs.Prelude.{OnOk, OnErr, IfErr, IfSome}
 use Rattle.clap.specs.Words.{kind_of}
 use Rattle.clap.specs.declared.error.Error.{Error}
 use Rattle.clap.specs.declared.error.kind.ErrorKind.{ErrorKind}
 use Rattle.clap.specs.declared.error.kind.ErrorKind.TheVariants as kind
-use Rattle.tool_io.specs.Terms.{OfTerms}
+use Rattle.term_core.specs.Datum.{Datum}
+use Rattle.tool_io.specs.Fault.{line_of, status_of}
+use Rattle.tool_io.specs.Input.{IsReadFault}
+use Rattle.tool_io.specs.Terms.{OfInput, OfTerms}
 use Rattle.tool_io.specs.declared.fault.ToolFault.{ToolFault}
+use Rattle.tool_io.specs.declared.fault.ToolFault.TheVariants as fault
+use Rattle.tool_query.proofs.RunLemmas.{kept}
 use Rattle.tool_query.specs.Run.{Stops}
 use Rattle.tool_scan.specs.Options.{AreAllowed}
 use Rattle.tool_scan.specs.Scan.{StopsScan}
 use Rattle.tool_scan.specs.declared.options.ScanOptions.{ScanOptions}
 use Rattle.tool_script.specs.Input.{OfScript, StopsScript}
-use Rattle.tool_cli.specs.Program.{Writes, StopsOn, HasOutcome, EndsRequest, EndsAsked, EndsEarly, EndsHelp, EndsMistaken, EndsVersion}
+use Rattle.tool_cli.specs.Program.{Writes, StopsOn, HasOutcome, EndsTold, EndsTelling, EndsExplained, EndsInvocation, EndsAsked, EndsEarly, EndsHelp, EndsMistaken, EndsVersion}
+use Rattle.tool_cli.specs.Telling.{Tells}
+use Rattle.tool_cli.specs.Why.{Explains}
 use Rattle.tool_cli.specs.Words.{Asked, command, help, version, topic, mistake, Reads}
+use Rattle.tool_cli.specs.declared.words.Invocation.{Invocation}
 use Rattle.tool_cli.specs.declared.words.Request.{Request}
 use Rattle.tool_cli.specs.declared.words.Request.TheVariants as request
 
@@ -52,13 +62,139 @@ has_scanned o known old new (Ok x) ok stopped = ok
 has_scanned o known old new (Err f) ok stopped = stopped
 
 -- a command that was asked for ran
-pub ends_command : (a : Asked) (r : Request) (known out out' err err' : Option (List ℕ)) (failed : Type 0) (status : ℕ) → Reads a (Ok r)
-    → EndsRequest r known out out' err err' failed status → EndsAsked a known out out' err err' failed status
-ends_command (command q) r known out out' err err' failed status is h = inl (subst (λ s. EndsRequest s known out out' err err' failed status) is h)
-ends_command help r known out out' err err' failed status is h = absurd is
-ends_command version r known out out' err err' failed status is h = absurd is
-ends_command topic r known out out' err err' failed status is h = absurd is
-ends_command mistake r known out out' err err' failed status is h = absurd is
+pub ends_command : (a : Asked) (i : Invocation) (known out out' err err' : Option (List ℕ)) (failed : Type 0) (status : ℕ) → Reads a (Ok i)
+    → EndsInvocation i known out out' err err' failed status → EndsAsked a known out out' err err' failed status
+ends_command (command q) i known out out' err err' failed status is h = inl (subst (λ s. EndsInvocation s known out out' err err' failed status) is h)
+ends_command help i known out out' err err' failed status is h = absurd is
+ends_command version i known out out' err err' failed status is h = absurd is
+ends_command topic i known out out' err err' failed status is h = absurd is
+ends_command mistake i known out out' err err' failed status is h = absurd is
+
+-- ---- a refusal that is explained
+
+-- what was told is the line, and behind it what the refusal means, or nothing
+pub ends_told : (input : List ℕ) (f : ToolFault) (line told : List ℕ) (meant : Result (Unit {0}) AllocError) (err err' : Option (List ℕ)) (failed : Type 0) (status : ℕ) → status ≡ status_of f → line ≡ line_of f
+    → OnOk meant ((m : List ℕ) × Explains input f m × (told ≡ line ++ m)) → OnErr meant (told ≡ line) → Tells err err' failed told → EndsTold input f err err' failed status
+ends_told input f line told (Ok x) err err' failed status ended is meant none tells =
+    inl (ended, meant.0, inl meant.1, subst (Tells err err' failed) (meant.2 ∙ ap (λ l. l ++ meant.0) is) tells)
+ends_told input f line told (Err e) err err' failed status ended is meant none tells =
+    inl (ended, [], inr refl, subst (Tells err err' failed) (none ∙ (is ∙ sym (append-nil (line_of f)))) tells)
+
+-- the input is what is known of it
+abbrev pub IsGiven : Option (List ℕ) → List ℕ → Type 0
+IsGiven known input = IfSome known (λ bytes. input ≡ bytes)
+
+of_given : (known : Option (List ℕ)) (input : List ℕ) (P : List ℕ → Type 0) → IsGiven known input → OfInput (Some input) P → OfInput known P
+of_given known input P given h = (input, given, subst P h.1 h.2)
+
+stops_given : (known old new : Option (List ℕ)) (input : List ℕ) (f : ToolFault) (Stopped : List Datum → Type 0) → IsGiven known input → Stops (Some input) old new f Stopped → Stops known old new f Stopped
+stops_given known old new input f Stopped given (inl unread) = inl (of_given known input _ given unread.0, unread.1)
+stops_given known old new input f Stopped given (inr stopped) = inr (of_given known input _ given stopped)
+
+script_given : (known old new : Option (List ℕ)) (input : List ℕ) (f : ToolFault) → IsGiven known input → StopsScript (Some input) old new f → StopsScript known old new f
+script_given known old new input f given (inl unread) = inl (of_given known input _ given unread.0, unread.1)
+script_given known old new input f given (inr stopped) = inr (of_given known input _ given stopped)
+
+scan_given : (o : ScanOptions) (known old new : Option (List ℕ)) (input : List ℕ) (f : ToolFault) → IsGiven known input → StopsScan o (Some input) old new f → StopsScan o known old new f
+scan_given o known old new input fault.BadOptions given h = h
+scan_given o known old new input fault.Memory given h = stops_given known old new input fault.Memory _ given h
+scan_given o known old new input (fault.Text f) given h = stops_given known old new input (fault.Text f) _ given h
+scan_given o known old new input fault.BadInput given h = stops_given known old new input fault.BadInput _ given h
+scan_given o known old new input (fault.Specification f) given h = stops_given known old new input (fault.Specification f) _ given h
+scan_given o known old new input (fault.File f) given h = stops_given known old new input (fault.File f) _ given h
+scan_given o known old new input (fault.Code f b) given h = stops_given known old new input (fault.Code f b) _ given h
+scan_given o known old new input fault.TooSmall given h = stops_given known old new input fault.TooSmall _ given h
+scan_given o known old new input fault.ReadFailed given h = stops_given known old new input fault.ReadFailed _ given h
+scan_given o known old new input fault.WriteFailed given h = stops_given known old new input fault.WriteFailed _ given h
+
+-- a command that ran over the input ran over what the reader gave
+pub outcome_given : (r : Request) (known old new : Option (List ℕ)) (input : List ℕ) (outcome : Result (Unit {0}) ToolFault) → IsGiven known input
+    → HasOutcome r (Some input) old new outcome → HasOutcome r known old new outcome
+outcome_given request.Script known old new input (Ok x) given h = of_given known input _ given h
+outcome_given request.Script known old new input (Err f) given h = script_given known old new input f given h
+outcome_given (request.Scan o) known old new input (Ok x) given h = (h.0, of_given known input _ given h.1)
+outcome_given (request.Scan o) known old new input (Err f) given h = scan_given o known old new input f given h
+outcome_given request.Run known old new input (Ok x) given h = of_given known input _ given h
+outcome_given request.Run known old new input (Err f) given h = stops_given known old new input f _ given h
+outcome_given request.Test known old new input (Ok x) given h = of_given known input _ given h
+outcome_given request.Test known old new input (Err f) given h = stops_given known old new input f _ given h
+outcome_given request.Compile known old new input (Ok x) given h = of_given known input _ given h
+outcome_given request.Compile known old new input (Err f) given h = stops_given known old new input f _ given h
+outcome_given request.Verify known old new input (Ok x) given h = of_given known input _ given h
+outcome_given request.Verify known old new input (Err f) given h = stops_given known old new input f _ given h
+outcome_given (request.Explain keypos) known old new input (Ok x) given h = of_given known input _ given h
+outcome_given (request.Explain keypos) known old new input (Err f) given h = stops_given known old new input f _ given h
+
+pub ends_explained : (r : Request) (known out out' err err' : Option (List ℕ)) (failed : Type 0) (status : ℕ) (input : List ℕ) (outcome : Result (Unit {0}) ToolFault) → IsGiven known input
+    → HasOutcome r (Some input) out out' outcome → EndsTelling input outcome err err' failed status → EndsExplained r known out out' err err' failed status
+ends_explained r known out out' err err' failed status input outcome given written ended = record {
+  outcome = outcome;
+  input = input;
+  given = given;
+  written = written;
+  alike = outcome_given r known out out' input outcome given written;
+  ended = ended;
+}
+
+-- the same, where what the command read and what was told of are slices of that input
+pub ends_over : (r : Request) (known out out' err err' : Option (List ℕ)) (failed : Type 0) (status : ℕ) (input unread shown : List ℕ) (outcome : Result (Unit {0}) ToolFault) → IsGiven known input → unread ≡ input
+    → HasOutcome r (Some unread) out out' outcome → shown ≡ input → EndsTelling shown outcome err err' failed status → EndsExplained r known out out' err err' failed status
+ends_over r known out out' err err' failed status input unread shown outcome given whole written seen ended =
+    ends_explained r known out out' err err' failed status input outcome given (subst (λ b. HasOutcome r (Some b) out out' outcome) whole written)
+    (subst (λ b. EndsTelling b outcome err err' failed status) seen ended)
+
+-- an input that could not be read: any, where none is known
+abbrev unread_input : Option (List ℕ) → List ℕ
+unread_input None = []
+unread_input (Some bytes) = bytes
+
+unread_given : (known : Option (List ℕ)) → IsGiven known (unread_input known)
+unread_given None = tt
+unread_given (Some bytes) = refl
+
+-- no byte of it is at fault
+told_of_any : (f : ToolFault) (input : List ℕ) (err err' : Option (List ℕ)) (failed : Type 0) (status : ℕ) → IsReadFault f → EndsTelling [] (Err f) err err' failed status → EndsTelling input (Err f) err err' failed status
+told_of_any fault.Memory input err err' failed status is h = h
+told_of_any fault.ReadFailed input err err' failed status is h = h
+told_of_any (fault.Text f) input err err' failed status is h = absurd is
+told_of_any fault.BadInput input err err' failed status is h = absurd is
+told_of_any (fault.Specification f) input err err' failed status is h = absurd is
+told_of_any (fault.File f) input err err' failed status is h = absurd is
+told_of_any (fault.Code f b) input err err' failed status is h = absurd is
+told_of_any fault.TooSmall input err err' failed status is h = absurd is
+told_of_any fault.BadOptions input err err' failed status is h = absurd is
+told_of_any fault.WriteFailed input err err' failed status is h = absurd is
+
+-- nothing is written then
+unread_outcome : (r : Request) (f : ToolFault) (input : List ℕ) (old : Option (List ℕ)) → IsReadFault f → HasOutcome r (Some input) old old (Err f)
+unread_outcome request.Script fault.Memory input old is = inl ((input, refl, tt), kept old)
+unread_outcome request.Script fault.ReadFailed input old is = inl ((input, refl, tt), kept old)
+unread_outcome (request.Scan o) fault.Memory input old is = inl ((input, refl, tt), kept old)
+unread_outcome (request.Scan o) fault.ReadFailed input old is = inl ((input, refl, tt), kept old)
+unread_outcome request.Run fault.Memory input old is = inl ((input, refl, tt), kept old)
+unread_outcome request.Run fault.ReadFailed input old is = inl ((input, refl, tt), kept old)
+unread_outcome request.Test fault.Memory input old is = inl ((input, refl, tt), kept old)
+unread_outcome request.Test fault.ReadFailed input old is = inl ((input, refl, tt), kept old)
+unread_outcome request.Compile fault.Memory input old is = inl ((input, refl, tt), kept old)
+unread_outcome request.Compile fault.ReadFailed input old is = inl ((input, refl, tt), kept old)
+unread_outcome request.Verify fault.Memory input old is = inl ((input, refl, tt), kept old)
+unread_outcome request.Verify fault.ReadFailed input old is = inl ((input, refl, tt), kept old)
+unread_outcome (request.Explain keypos) fault.Memory input old is = inl ((input, refl, tt), kept old)
+unread_outcome (request.Explain keypos) fault.ReadFailed input old is = inl ((input, refl, tt), kept old)
+unread_outcome r (fault.Text f) input old is = absurd is
+unread_outcome r fault.BadInput input old is = absurd is
+unread_outcome r (fault.Specification f) input old is = absurd is
+unread_outcome r (fault.File f) input old is = absurd is
+unread_outcome r (fault.Code f b) input old is = absurd is
+unread_outcome r fault.TooSmall input old is = absurd is
+unread_outcome r fault.BadOptions input old is = absurd is
+unread_outcome r fault.WriteFailed input old is = absurd is
+
+pub ends_unread : (r : Request) (f : ToolFault) (known out err err' : Option (List ℕ)) (failed : Type 0) (status : ℕ) → IsReadFault f → EndsTelling [] (Err f) err err' failed status
+    → EndsExplained r known out out err err' failed status
+ends_unread r f known out err err' failed status is h =
+    ends_explained r known out out err err' failed status (unread_input known) (Err f) (unread_given known) (unread_outcome r f (unread_input known) out is)
+    (told_of_any f (unread_input known) err err' failed status is h)
 
 -- ---- how the program ends where no command runs
 

@@ -5,14 +5,23 @@ use Rattle.clap.specs.Walk.{Text}
 use Rattle.tool_scan.specs.declared.options.ScanKind.{ScanKind}
 use Rattle.tool_scan.specs.declared.options.ScanKind.TheVariants as kinds
 use Rattle.tool_cli.specs.Words.{Asked, command, help, version, topic, mistake, asked}
+use Rattle.tool_cli.specs.declared.words.Detail.TheVariants as detail
+use Rattle.tool_cli.specs.declared.words.Request.{Request}
 use Rattle.tool_cli.specs.declared.words.Request.TheVariants as request
+
+-- a command whose refusal is told by its line, and one whose refusal is explained
+abbrev plainly : Request → Asked
+plainly r = command (record { request = r; detail = detail.Line })
+
+abbrev explained : Request → Asked
+explained r = command (record { request = r; detail = detail.Explained })
 
 abbrev scan : List Text → Asked
 scan words = asked (codes "ets_tool" ∷ codes "scan" ∷ words)
 
 abbrev options_of : ScanKind → ℕ → ℕ → ℕ → Asked
 options_of kind keypos parts workers =
-    command (request.Scan (record { kind = kind; keypos = keypos; parts = parts; workers = workers }))
+    plainly (request.Scan (record { kind = kind; keypos = keypos; parts = parts; workers = workers }))
 
 abbrev options : ℕ → ℕ → ℕ → Asked
 options = options_of kinds.Set
@@ -132,14 +141,14 @@ help_behind_another_kind = refl
 abbrev explain : List Text → Asked
 explain words = asked (codes "ets_tool" ∷ codes "explain" ∷ words)
 
-first_key : explain [] ≡ command (request.Explain 1)
+first_key : explain [] ≡ plainly (request.Explain 1)
 first_key = refl
 
-last_key : explain (codes "--keypos" ∷ codes "65535" ∷ codes "--" ∷ []) ≡ command (request.Explain 65535)
+last_key : explain (codes "--keypos" ∷ codes "65535" ∷ codes "--" ∷ []) ≡ plainly (request.Explain 65535)
 unfolding clap_on_literals
 last_key = refl
 
-attached_key : explain (codes "--keypos=2" ∷ []) ≡ command (request.Explain 2)
+attached_key : explain (codes "--keypos=2" ∷ []) ≡ plainly (request.Explain 2)
 unfolding clap_on_literals
 attached_key = refl
 
@@ -194,3 +203,56 @@ behind_a_command = refl
 behind_an_option : scan (codes "-V" ∷ []) ≡ mistake
 unfolding clap_on_literals
 behind_an_option = refl
+
+-- ---- a refusal that is explained
+
+abbrev run : List Text → Asked
+run words = asked (codes "ets_tool" ∷ codes "run" ∷ words)
+
+without_why : run [] ≡ plainly request.Run
+without_why = refl
+
+with_why : run (codes "--why" ∷ []) ≡ explained request.Run
+unfolding clap_on_literals
+with_why = refl
+
+why_before_dashes : run (codes "--why" ∷ codes "--" ∷ []) ≡ explained request.Run
+unfolding clap_on_literals
+why_before_dashes = refl
+
+why_behind_dashes : run (codes "--" ∷ codes "--why" ∷ []) ≡ mistake
+unfolding clap_on_literals
+why_behind_dashes = refl
+
+why_with_a_value : run (codes "--why=x" ∷ []) ≡ mistake
+unfolding clap_on_literals
+why_with_a_value = refl
+
+why_with_a_word : run (codes "--why" ∷ codes "true" ∷ []) ≡ mistake
+unfolding clap_on_literals
+why_with_a_word = refl
+
+why_twice : run (codes "--why" ∷ codes "--why" ∷ []) ≡ mistake
+unfolding clap_on_literals
+why_twice = refl
+
+help_behind_why : run (codes "--why" ∷ codes "--help" ∷ []) ≡ help
+unfolding clap_on_literals
+help_behind_why = refl
+
+why_before_the_command : asked (codes "ets_tool" ∷ codes "--why" ∷ codes "run" ∷ []) ≡ mistake
+unfolding clap_on_literals
+why_before_the_command = refl
+
+why_among_options : scan (codes "--parts" ∷ codes "2" ∷ codes "--why" ∷ codes "--workers=3" ∷ [])
+    ≡ explained (request.Scan (record { kind = kinds.Set; keypos = 1; parts = 2; workers = 3 }))
+unfolding clap_on_literals
+why_among_options = refl
+
+why_for_a_key : explain (codes "--keypos" ∷ codes "--why" ∷ []) ≡ mistake
+unfolding clap_on_literals
+why_for_a_key = refl
+
+why_behind_a_key : explain (codes "--keypos" ∷ codes "2" ∷ codes "--why" ∷ []) ≡ explained (request.Explain 2)
+unfolding clap_on_literals
+why_behind_a_key = refl

@@ -1,5 +1,5 @@
 -- How the program ends: what its two streams gain, and its status.
-use Rattle.std.specs.Prelude.{ℕ, ◌≡◌, ◌≢◌, ◌⊎◌, Option, Result, Ok, Err, List, [], codes}
+use Rattle.std.specs.Prelude.{ℕ, ◌≡◌, ◌≢◌, ◌⊎◌, ◌++◌, Option, IfSome, Some, Result, Ok, Err, List, [], codes}
 use Rattle.term_core.specs.Datum.{Datum}
 use Rattle.std.specs.Io.KnownBytes.{Keeps, Appends}
 use Rattle.tool_io.specs.Fault.{status_of, line_of}
@@ -15,7 +15,11 @@ use Rattle.tool_script.specs.Input.{OfScript, StopsScript}
 use Rattle.tool_scan.specs.Options.{AreAllowed}
 use Rattle.tool_scan.specs.Scan.{WritesScan, StopsTerms, StopsScan}
 use Rattle.tool_cli.specs.Telling.{Tells, TellsText}
+use Rattle.tool_cli.specs.Why.{IsTold}
 use Rattle.tool_cli.specs.Words.{Asked, command, help, version, topic, mistake}
+use Rattle.tool_cli.specs.declared.words.Detail.{Detail}
+use Rattle.tool_cli.specs.declared.words.Detail.TheVariants as detail
+use Rattle.tool_cli.specs.declared.words.Invocation.{Invocation}
 use Rattle.tool_cli.specs.declared.words.Request.{Request}
 use Rattle.tool_cli.specs.declared.words.Request.TheVariants as request
 
@@ -70,6 +74,41 @@ pub record EndsRequest (r : Request) (known out out' err err' : Option (List ℕ
   pub written : HasOutcome r known out out' outcome
   pub ended : EndsWith outcome err err' failed status
 
+-- The program ends for this refusal of an input: with its status, and on standard error its line, and behind it what it
+-- means; or with 3 where there was no memory for the line, and then with nothing there.
+abbrev pub EndsTold : List ℕ → ToolFault → (err err' : Option (List ℕ)) → (failed : Type 0) → ℕ → Type 0
+EndsTold input f err err' failed status =
+    ((status ≡ status_of f) × (told : List ℕ) × IsTold input f told × Tells err err' failed (line_of f ++ told))
+    ⊎ ((status ≡ 3) × Keeps err err')
+
+-- as `EndsWith`, of an input whose refusal is explained
+abbrev pub EndsTelling : List ℕ → Result (Unit {0}) ToolFault → (err err' : Option (List ℕ)) → (failed : Type 0) → ℕ
+    → Type 0
+EndsTelling input (Ok x) err err' failed status = (status ≡ 0) × Keeps err err'
+EndsTelling input (Err f) err err' failed status = EndsTold input f err err' failed status
+
+-- A command ran over the input that the reader gave, and its outcome ends the program; a refusal is explained. What was
+-- written and how the command came out is what it is where a refusal isn't explained.
+pub record EndsExplained (r : Request) (known out out' err err' : Option (List ℕ)) (failed : Type 0)
+    (status : ℕ) : Type 0 where
+  pub outcome : Result (Unit {0}) ToolFault
+  pub input : List ℕ
+  pub given : IfSome known (λ bytes. input ≡ bytes)
+  pub written : HasOutcome r (Some input) out out' outcome
+  pub alike : HasOutcome r known out out' outcome
+  pub ended : EndsTelling input outcome err err' failed status
+
+-- how a command ends the program by the detail in which its refusal is told
+abbrev pub EndsIn : Detail → Request → (known out out' err err' : Option (List ℕ)) → (failed : Type 0) → ℕ → Type 0
+EndsIn detail.Line r known out out' err err' failed status =
+    EndsRequest r known out out' err err' failed status
+EndsIn detail.Explained r known out out' err err' failed status =
+    EndsExplained r known out out' err err' failed status
+
+abbrev pub EndsInvocation : Invocation → (known out out' err err' : Option (List ℕ)) → (failed : Type 0) → ℕ → Type 0
+EndsInvocation i known out out' err err' failed status =
+    EndsIn i.detail i.request known out out' err err' failed status
+
 -- no command ran and standard output gained nothing, as there was no memory
 abbrev pub EndsEarly : (out out' err err' : Option (List ℕ)) → (failed : Type 0) → ℕ → Type 0
 EndsEarly out out' err err' failed status =
@@ -102,8 +141,8 @@ EndsMistaken out out' err err' failed status =
 
 -- how the program ends by what its words ask for
 abbrev pub EndsAsked : Asked → (known out out' err err' : Option (List ℕ)) → (failed : Type 0) → ℕ → Type 0
-EndsAsked (command r) known out out' err err' failed status =
-    EndsRequest r known out out' err err' failed status ⊎ EndsEarly out out' err err' failed status
+EndsAsked (command i) known out out' err err' failed status =
+    EndsInvocation i known out out' err err' failed status ⊎ EndsEarly out out' err err' failed status
 EndsAsked help known out out' err err' failed status = EndsHelp out out' err err' failed status
 EndsAsked version known out out' err err' failed status = EndsVersion out out' err err' failed status
 EndsAsked topic known out out' err err' failed status =

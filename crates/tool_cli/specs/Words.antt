@@ -1,16 +1,18 @@
 -- What the words of the command line ask for.
-use Rattle.std.specs.Prelude.{ℕ, pos, Bool, true, false, not, ◌≡◌, ◌≢◌, ◌⊎◌, ◌||◌, ◌&&◌, ◌==◌, List, [], ◌∷◌, ◌++◌}
-use Rattle.std.specs.Prelude.{Option, Some, None, is_some, Result, Ok, Err, codes, if◌then◌else◌, take, drop}
+use Rattle.std.specs.Prelude.{ℕ, pos, Bool, true, false, not, ◌≡◌, ◌≢◌, ◌⊎◌, ◌||◌, ◌&&◌, ◌==◌, List, [], ◌∷◌, ◌++◌, map}
+use Rattle.std.specs.Prelude.{Option, Some, None, is_some, option_map, Result, Ok, Err, codes, if◌then◌else◌, take, drop, find, fold}
 use Rattle.std.specs.List.{list_any}
-use Rattle.std.specs.Option.{option_and_then}
+use Rattle.std.specs.Option.{option_and_then, option_map_or}
 use Rattle.std.specs.Str.{bytes_eq, chars}
 use Rattle.std.specs.Str.Parse.{digits_value, without_leading_plus}
 use Rattle.clap.specs.Lexer.{long_of, without_minus}
 use Rattle.clap.specs.ValueTests.{accepts, is_signed_in}
-use Rattle.clap.specs.Values.{reading_of}
+use Rattle.clap.specs.Values.{bool_text, reading_of}
 use Rattle.clap.specs.Walk.{Row, Rule, one_of}
-use Rattle.clap.specs.Words.{App, Text, kind_of, new_app, new_rule, with_rule, with_subcommand}
+use Rattle.clap.specs.Words.{App, Text, kind_of, new_app, new_rule, with_subcommand}
 use Rattle.clap.specs.Simple.{Shape}
+use Rattle.clap.specs.declared.builder.action.ArgAction.{ArgAction}
+use Rattle.clap.specs.declared.builder.action.ArgAction.TheVariants.{SetTrue}
 use Rattle.clap.specs.declared.builder.value_parser.Reading.TheVariants as reading
 use Rattle.clap.specs.declared.builder.value_parser.ValueParser.{ValueParser}
 use Rattle.clap.specs.declared.builder.value_parser.ValueParser.TheVariants as parser
@@ -19,23 +21,43 @@ use Rattle.clap.specs.declared.error.kind.ErrorKind.TheVariants as error
 use Rattle.tool_scan.specs.Options.{is_kind, kind_named}
 use Rattle.tool_scan.specs.declared.options.ScanKind.{ScanKind}
 use Rattle.tool_scan.specs.declared.options.ScanOptions.{ScanOptions}
+use Rattle.tool_cli.specs.declared.words.Detail.{Detail}
+use Rattle.tool_cli.specs.declared.words.Detail.TheVariants as detail
+use Rattle.tool_cli.specs.declared.words.Invocation.{Invocation}
 use Rattle.tool_cli.specs.declared.words.Request.{Request}
 use Rattle.tool_cli.specs.declared.words.Request.TheVariants as request
 
--- the name of a command
-abbrev pub name_of : Request → Text
-name_of request.Run = codes "run"
-name_of request.Test = codes "test"
-name_of request.Compile = codes "compile"
-name_of request.Verify = codes "verify"
-name_of request.Script = codes "script"
-name_of (request.Scan options) = codes "scan"
-name_of (request.Explain keypos) = codes "explain"
+-- a command, to which options may be given
+pub data Optioned : Type 0 where
+  to_run : Optioned
+  to_test : Optioned
+  to_compile : Optioned
+  to_verify : Optioned
+  to_script : Optioned
+  to_scan : Optioned
+  to_explain : Optioned
 
--- Words ask for a command; for help by a flag; for the version by a flag; for help by the word `help`, on what stands
--- behind it; or for nothing that is understood.
+-- those without an option of their own, and all
+abbrev pub plain_commands : List Optioned
+plain_commands = to_run ∷ to_test ∷ to_compile ∷ to_verify ∷ to_script ∷ []
+
+abbrev pub commands : List Optioned
+commands = plain_commands ++ to_scan ∷ to_explain ∷ []
+
+-- the name of a command
+abbrev pub name_of : Optioned → Text
+name_of to_run = codes "run"
+name_of to_test = codes "test"
+name_of to_compile = codes "compile"
+name_of to_verify = codes "verify"
+name_of to_script = codes "script"
+name_of to_scan = codes "scan"
+name_of to_explain = codes "explain"
+
+-- Words ask for a command, and how a refusal is told; for help by a flag; for the version by a flag; for help by the
+-- word `help`, on what stands behind it; or for nothing that is understood.
 pub data Asked : Type 0 where
-  command : Request → Asked
+  command : Invocation → Asked
   help : Asked
   version : Asked
   topic : Asked
@@ -61,39 +83,35 @@ asked_by_flag word = if is_help_flag word then help else mistake
 abbrev pub asked_first : Text → Asked
 asked_first word = if is_version_flag word then version else asked_by_flag word
 
--- behind a command's name stands nothing, or `--` and nothing more
-abbrev pub asked_behind : Request → List Text → Asked
-asked_behind r [] = command r
-asked_behind r (word ∷ []) =
-    if bytes_eq (codes "--") word then command r else asked_by_flag word
-asked_behind r (word ∷ next ∷ rest) = asked_by_flag word
+-- ---- the options of commands
 
--- ---- the options of `scan` and of `explain`
-
--- a command with options
-pub data Optioned : Type 0 where
-  to_scan : Optioned
-  to_explain : Optioned
-
-abbrev pub option_command : Optioned → Text
-option_command to_scan = codes "scan"
-option_command to_explain = codes "explain"
-
--- what an option takes: a number from 1 to a most, or the name of a kind of table
+-- what an option takes: a number from 1 to a most, the name of a kind of table, or nothing
 pub data Takes : Type 0 where
   number : ℕ → Takes
   kind : Takes
+  nothing : Takes
+
+-- options, each with its name
+abbrev pub Options : Type 0
+Options = List (Text × Takes)
+
+-- the options of a command
+abbrev pub options_of : Optioned → Options
+options_of to_scan =
+    (codes "kind", kind)
+    ∷ (codes "keypos", number 65535)
+    ∷ (codes "parts", number 64) ∷ (codes "workers", number 16) ∷ (codes "why", nothing) ∷ []
+options_of to_explain = (codes "keypos", number 65535) ∷ (codes "why", nothing) ∷ []
+options_of which = (codes "why", nothing) ∷ []
 
 -- what the option of a name takes, none of another name
-abbrev pub takes_of : Optioned → Text → Option Takes
-takes_of to_explain name = if bytes_eq (codes "keypos") name then Some (number 65535) else None
-takes_of to_scan name =
-    if bytes_eq (codes "kind") name then Some kind
-    else (if bytes_eq (codes "keypos") name then Some (number 65535)
-    else (if bytes_eq (codes "parts") name then Some (number 64)
-    else (if bytes_eq (codes "workers") name then Some (number 16) else None)))
+abbrev pub takes_in : Options → Text → Option Takes
+takes_in options name = option_map (λ o. o.1) (find (λ o. bytes_eq o.0 name) options)
 
--- options that were given, in their order: the name and the text of each
+abbrev pub takes_of : Optioned → Text → Option Takes
+takes_of which = takes_in (options_of which)
+
+-- options that were given, in their order: the name and the text of each, which is `true` of a flag
 abbrev pub Given : Type 0
 Given = List (Text × Text)
 
@@ -102,9 +120,9 @@ is_given given name = list_any (λ g. bytes_eq g.0 name) given
 
 -- the text is what an option takes
 abbrev pub is_value_of : Option Takes → Text → Bool
-is_value_of None value = false
 is_value_of (Some (number most)) value = is_signed_in (pos 1) (pos most) value
 is_value_of (Some kind) value = is_kind value
+is_value_of takes value = false
 
 -- an option is taken that wasn't given before, with what it takes
 abbrev pub is_taken : Optioned → Given → Text → Text → Bool
@@ -133,8 +151,20 @@ options_by given = record {
 
 -- the command that they are given to
 abbrev pub request_of : Optioned → Given → Request
+request_of to_run given = request.Run
+request_of to_test given = request.Test
+request_of to_compile given = request.Compile
+request_of to_verify given = request.Verify
+request_of to_script given = request.Script
 request_of to_scan given = request.Scan (options_by given)
 request_of to_explain given = request.Explain (number_given (codes "keypos") given)
+
+-- a refusal is explained where `--why` is given
+abbrev pub detail_by : Given → Detail
+detail_by given = if is_given given (codes "why") then detail.Explained else detail.Line
+
+abbrev pub invocation_of : Optioned → Given → Invocation
+invocation_of which given = record { request = request_of which given; detail = detail_by given }
 
 -- the word is `--name` or `--name=value` of an option
 abbrev pub option_in : Optioned → Text → Option (Text × Option Text)
@@ -150,40 +180,49 @@ abbrev pub is_flag : Text → Bool
 is_flag [] = false
 is_flag (x ∷ rest) = x == 45 && is_some_text (chars rest)
 
+-- an option with its text
 abbrev pub taken : Optioned → Given → Text → Text → (Given → Asked) → Asked
 taken which given name value next =
     if is_taken which given name value then next (given ++ (name, value) ∷ []) else mistake
 
--- a word of options: one with its value, one whose value is the next word, or another
-abbrev pub asked_word : Optioned → Given → Text → Option (Text × Option Text) → (Given → Asked) → (Text → Asked) → Asked
-asked_word which given word None with_value alone = asked_by_flag word
-asked_word which given word (Some (name, Some value)) with_value alone =
-    taken which given name value with_value
-asked_word which given word (Some (name, None)) with_value alone = alone name
+-- a flag
+abbrev pub taken_flag : Given → Text → (Given → Asked) → Asked
+taken_flag given name next =
+    if is_given given name then mistake else next (given ++ (name, codes "true") ∷ [])
 
--- the words behind such a command: options, maybe with `--` behind them, each once
+-- an option that takes nothing
+abbrev pub takes_nothing : Option Takes → Bool
+takes_nothing (Some nothing) = true
+takes_nothing takes = false
+
+-- a word of options: one with its value, a flag, one whose value is the next word, or another
+abbrev pub asked_word : Optioned → Given → Text → Option (Text × Option Text) → (Given → Asked) → (Text → Asked) → Asked
+asked_word which given word None next behind = asked_by_flag word
+asked_word which given word (Some (name, Some value)) next behind = taken which given name value next
+asked_word which given word (Some (name, None)) next behind =
+    if takes_nothing (takes_of which name) then taken_flag given name next else behind name
+
+-- the words behind a command: options, maybe with `--` behind them, each once
 abbrev pub asked_options : Optioned → Given → List Text → Asked
-asked_options which given [] = command (request_of which given)
+asked_options which given [] = command (invocation_of which given)
 asked_options which given (word ∷ []) =
-    if bytes_eq (codes "--") word then command (request_of which given)
-    else asked_word which given word (option_in which word) (λ more. command (request_of which more)) (λ name. mistake)
+    if bytes_eq (codes "--") word then command (invocation_of which given)
+    else asked_word which given word (option_in which word) (λ more. command (invocation_of which more)) (λ name. mistake)
 asked_options which given (word ∷ next ∷ rest) =
     if bytes_eq (codes "--") word then mistake
     else asked_word which given word (option_in which word) (λ more. asked_options which more (next ∷ rest))
     (λ name. if is_flag next then mistake else taken which given name next (λ more. asked_options which more rest))
 
+-- the command of a name
+abbrev pub command_named : Text → Option Optioned
+command_named word = find (λ which. bytes_eq (name_of which) word) commands
+
 -- the words behind the program's name
 abbrev pub asked_by : List Text → Asked
 asked_by [] = mistake
 asked_by (word ∷ rest) =
-    if bytes_eq (name_of request.Run) word then asked_behind request.Run rest
-    else (if bytes_eq (name_of request.Test) word then asked_behind request.Test rest
-    else (if bytes_eq (name_of request.Compile) word then asked_behind request.Compile rest
-    else (if bytes_eq (name_of request.Verify) word then asked_behind request.Verify rest
-    else (if bytes_eq (name_of request.Script) word then asked_behind request.Script rest
-    else (if bytes_eq (option_command to_scan) word then asked_options to_scan [] rest
-    else (if bytes_eq (option_command to_explain) word then asked_options to_explain [] rest
-    else (if bytes_eq (codes "help") word then topic else asked_first word)))))))
+    option_map_or (λ which. asked_options which [] rest) (command_named word)
+    (if bytes_eq (codes "help") word then topic else asked_first word)
 
 -- all words, the program's name first
 abbrev pub asked : List Text → Asked
@@ -191,9 +230,9 @@ asked words = asked_by (drop 1 words)
 
 -- What is asked for is answered; an error asks for help where the words do, and for the version likewise, and else is
 -- none that shows either; and in each case there may be no memory. On what stands behind `help` there is help, or no such command.
-abbrev pub Reads : Asked → Result Request Error → Type 0
-Reads (command r) (Ok answer) = answer ≡ r
-Reads (command r) (Err e) = kind_of e ≡ error.OutOfMemory
+abbrev pub Reads : Asked → Result Invocation Error → Type 0
+Reads (command i) (Ok answer) = answer ≡ i
+Reads (command i) (Err e) = kind_of e ≡ error.OutOfMemory
 Reads help (Err e) = (kind_of e ≡ error.OutOfMemory) ⊎ (kind_of e ≡ error.DisplayHelp)
 Reads version (Err e) =
     (kind_of e ≡ error.OutOfMemory) ⊎ (kind_of e ≡ error.DisplayVersion)
@@ -203,12 +242,9 @@ Reads topic (Err e) =
 Reads mistake (Err e) = (kind_of e ≢ error.DisplayHelp) × (kind_of e ≢ error.DisplayVersion)
 Reads a (Ok answer) = ⊥
 
--- the program, which wants a command, and a command of it, as `clap` is told of them
+-- the program, which wants a command, as `clap` is told of it
 abbrev pub tool_shape : Shape
 tool_shape = record (new_app (codes "ets_tool")).top { subcommand_required = true; has_version = true }
-
-abbrev pub command_shape : Request → Shape
-command_shape r = (new_app (name_of r)).top
 
 abbrev pub bare_app : App
 bare_app = record { top = tool_shape; subs = [] }
@@ -219,16 +255,37 @@ pub record IsKindParser (p : ValueParser) : Type 0 where
   pub accepts : (value : Text) → accepts false p value ≡ is_kind value
   pub reading : reading_of p ≡ reading.AsWritten
 
-abbrev pub parser_for : ValueParser → Takes → ValueParser
-parser_for p (number most) = parser.Signed (pos 1) (pos most)
-parser_for p kind = p
+abbrev pub parser_for : ValueParser → Takes → Option ValueParser
+parser_for p (number most) = Some (parser.Signed (pos 1) (pos most))
+parser_for p kind = Some p
+parser_for p nothing = None
 
 -- what stands for an option that isn't given
-abbrev pub default_for : Takes → Text
-default_for (number most) = codes "1"
-default_for kind = codes "set"
+abbrev pub defaults_for : Takes → List Text
+defaults_for (number most) = codes "1" ∷ []
+defaults_for kind = codes "set" ∷ []
+defaults_for nothing = []
 
--- an option
+abbrev pub action_for : Takes → Option ArgAction
+action_for nothing = Some SetTrue
+action_for takes = None
+
+-- how many names its values have
+abbrev pub names_for : Takes → ℕ
+names_for nothing = 0
+names_for takes = 1
+
+-- an option by what it takes, with the parser of kinds
+abbrev pub rule_for : ValueParser → Text → Takes → Rule
+rule_for p name takes = record (new_rule name) {
+  long = Some name;
+  action = action_for takes;
+  value_names = names_for takes;
+  defaults = defaults_for takes;
+  parser = parser_for p takes;
+}
+
+-- an option with a value
 abbrev pub option_rule : Text → Text → ValueParser → Rule
 option_rule name default p = record (new_rule name) {
   long = Some name;
@@ -237,39 +294,17 @@ option_rule name default p = record (new_rule name) {
   parser = Some p;
 }
 
--- an option by what it takes, with the parser of kinds
-abbrev pub rule_for : ValueParser → Text → Takes → Rule
-rule_for p name t = option_rule name (default_for t) (parser_for p t)
+-- a command of this name with options
+abbrev pub shape_with : ValueParser → Text → Options → Shape
+shape_with p name options =
+    record (new_app name).top { rules = map (λ o. rule_for p o.0 o.1) options }
 
-abbrev pub scan_shape : ValueParser → Shape
-scan_shape p =
-    (with_rule
-    (with_rule
-    (with_rule
-    (with_rule (new_app (codes "scan")) (rule_for p (codes "kind") kind))
-    (rule_for p (codes "keypos") (number 65535)))
-    (rule_for p (codes "parts") (number 64)))
-    (rule_for p (codes "workers") (number 16))).top
+abbrev pub command_shape : ValueParser → Optioned → Shape
+command_shape p which = shape_with p (name_of which) (options_of which)
 
-abbrev pub explain_shape : ValueParser → Shape
-explain_shape p =
-    (with_rule (new_app (codes "explain")) (rule_for p (codes "keypos") (number 65535))).top
-
+-- the program with its commands
 abbrev pub tool_app : ValueParser → App
-tool_app p =
-    with_subcommand
-    (with_subcommand
-    (with_subcommand
-    (with_subcommand
-    (with_subcommand
-    (with_subcommand
-    (with_subcommand bare_app (command_shape request.Run))
-    (command_shape request.Test))
-    (command_shape request.Compile))
-    (command_shape request.Verify))
-    (command_shape request.Script))
-    (scan_shape p))
-    (explain_shape p)
+tool_app p = fold with_subcommand bare_app (map (command_shape p) commands)
 
 -- an option has a row, whose text is this number, from 1 to the most
 pub record IsReadOf (name : Text) (most n : ℕ) (rows : List Row) : Type 0 where
@@ -292,8 +327,33 @@ pub record AreRead (o : ScanOptions) (rows : List Row) : Type 0 where
   pub parts : IsReadOf (codes "parts") 64 o.parts rows
   pub workers : IsReadOf (codes "workers") 16 o.workers rows
 
--- what a command with options asks for is what its rows hold
-abbrev pub AreReadAs : Optioned → Request → List Row → Type 0
-AreReadAs to_scan (request.Scan o) rows = AreRead o rows
-AreReadAs to_explain (request.Explain n) rows = IsReadOf (codes "keypos") 65535 n rows
-AreReadAs which r rows = ⊥
+-- a flag has a row, whose text says whether it is given
+pub record IsFlagOf (name : Text) (given : Bool) (rows : List Row) : Type 0 where
+  pub looked : one_of name rows ≡ Some (bool_text given)
+
+abbrev pub is_explained : Detail → Bool
+is_explained detail.Line = false
+is_explained detail.Explained = true
+
+-- what a command asks for is what its rows hold
+abbrev pub IsRequestOf : Optioned → Request → List Row → Type 0
+IsRequestOf to_run r rows = r ≡ request.Run
+IsRequestOf to_test r rows = r ≡ request.Test
+IsRequestOf to_compile r rows = r ≡ request.Compile
+IsRequestOf to_verify r rows = r ≡ request.Verify
+IsRequestOf to_script r rows = r ≡ request.Script
+IsRequestOf to_scan r rows = (o : ScanOptions) × (r ≡ request.Scan o) × AreRead o rows
+IsRequestOf to_explain r rows =
+    (n : ℕ) × (r ≡ request.Explain n) × IsReadOf (codes "keypos") 65535 n rows
+
+-- and so is how a refusal is told
+pub record IsReadAs (which : Optioned) (i : Invocation) (rows : List Row) : Type 0 where
+  pub request : IsRequestOf which i.request rows
+  pub detail : IsFlagOf (codes "why") (is_explained i.detail) rows
+
+-- the command was entered that this asks for, with its rows
+pub record IsEntered (i : Invocation) (found : Option (Text × List Row)) : Type 0 where
+  pub which : Optioned
+  pub rows : List Row
+  pub named : found ≡ Some (name_of which, rows)
+  pub read : IsReadAs which i rows

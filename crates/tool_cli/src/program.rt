@@ -5,12 +5,14 @@ ghost use Rattle.clap.specs.Words.{kind_of};
 ghost use Rattle.std.specs.IoError.{error_kind};
 ghost use Rattle.part_core.specs.Served.{ServesUnordered};
 ghost use Rattle.tool_cli.specs.Program.{HasOutcome, EndsBy, EndsWith, EndsRequest, EndsHelp, EndsVersion, EndsEarly};
+ghost use Rattle.tool_cli.specs.Program.{EndsTelling, EndsExplained, EndsInvocation};
 ghost use Rattle.tool_cli.specs.Program.{TellsMistake, EndsMistaken, EndsAsked, EndsProgram};
 ghost use Rattle.tool_cli.specs.Telling.{TellsText};
 ghost use Rattle.tool_cli.specs.Words.{asked};
 
-use crate::telling::Tell;
-use crate::words::{Request, read_words};
+use crate::telling::{Tell, shown};
+use crate::why::put_meaning;
+use crate::words::{Detail, Invocation, Request, read_words};
 use clap::error::ErrorKind as WordsErrorKind;
 use part_core::Part;
 use part_hash::HashPart;
@@ -22,7 +24,7 @@ use std::io::{self, ErrorKind, Read, Write};
 use std::sync::Wait;
 use std::thread::Threads;
 use tool_explain::tool_explain;
-use tool_io::{ToolFault, fault_line};
+use tool_io::{ToolFault, fault_line, read_whole};
 use tool_query::{tool_compile, tool_run, tool_test, tool_verify};
 use tool_scan::tool_scan;
 use tool_script::run_script;
@@ -74,10 +76,62 @@ pub fn run_words<'a, H: Threads + Wait + Sync, S: AsStr, R: Read, O: Write, E: T
         (O.contents out.old) (O.contents out.new) (E.told err.old) (E.told err.new) (E.has_failed err.new) result }
 {
     match read_words(alloc, words) {
-        Ok(request) => run_request::<H, HashPart<Global>, Global, R, O, E>(
-            rt, alloc, request, reader, out, err,
+        Ok(invocation) => run_invocation::<H, HashPart<Global>, Global, R, O, E>(
+            rt, alloc, invocation, reader, out, err,
         ),
         Err(error) => end_unasked(alloc, &error, out, err),
+    }
+}
+
+/// Runs one command, and answers the status that the program ends with; a refusal is told in the detail that is asked
+/// for. Parts of the table of a scan are of the sort `P`.
+pub fn run_invocation<
+    H: Threads + Wait + Sync,
+    P: Part<A> + Drop + Send,
+    A: Allocator + Copy + Send + Sync,
+    R: Read,
+    O: Write,
+    E: Tell,
+>(rt: &H, alloc: A, invocation: Invocation, reader: &mut R, out: &mut O, err: &mut E) -> u8
+    requires { ServesUnordered P.serves }
+    ensures { EndsInvocation invocation (R.remaining reader.old) (O.contents out.old)
+        (O.contents out.new) (E.told err.old) (E.told err.new) (E.has_failed err.new) result }
+{
+    let request = invocation.request;
+    match invocation.detail {
+        Detail::Line => run_request::<H, P, A, R, O, E>(rt, alloc, request, reader, out, err),
+        Detail::Explained => {
+            run_explained::<H, P, A, R, O, E>(rt, alloc, request, reader, out, err)
+        }
+    }
+}
+
+/// As `run_request`, but what a refusal means is told behind its line. The input is read whole before the command runs.
+pub fn run_explained<
+    H: Threads + Wait + Sync,
+    P: Part<A> + Drop + Send,
+    A: Allocator + Copy + Send + Sync,
+    R: Read,
+    O: Write,
+    E: Tell,
+>(rt: &H, alloc: A, request: Request, reader: &mut R, out: &mut O, err: &mut E) -> u8
+    requires { ServesUnordered P.serves }
+    ensures { EndsExplained request (R.remaining reader.old) (O.contents out.old)
+        (O.contents out.new) (E.told err.old) (E.told err.new) (E.has_failed err.new) result }
+{
+    match read_whole(alloc, reader) {
+        Ok(input) => {
+            let mut unread = input.as_slice();
+            let outcome = command_outcome::<H, P, A, &[u8], O>(
+                rt,
+                alloc,
+                request,
+                &mut unread,
+                out,
+            );
+            end_explained(alloc, outcome, input.as_slice(), err)
+        }
+        Err(fault) => end_explained(alloc, Err(fault), &[], err),
     }
 }
 
@@ -138,6 +192,31 @@ fn end<A: Allocator + Copy, E: Tell>(alloc: A, outcome: Result<(), ToolFault>, e
     }
 }
 
+/// As `end`, but behind the line stands what the refusal of this input means, or nothing where there is no memory for
+/// that.
+#[tactic(auto, using(crate::proofs::EndLemmas::ends_told))]
+fn end_explained<A: Allocator + Copy, E: Tell>(
+    alloc: A,
+    outcome: Result<(), ToolFault>,
+    input: &[u8],
+    err: &mut E,
+) -> u8
+    ensures { EndsTelling input.now outcome (E.told err.old) (E.told err.new) (E.has_failed err.new) result }
+{
+    let Err(fault) = outcome else {
+        return DONE;
+    };
+    let mut told = Vec::new(alloc);
+    match fault_line(alloc, &fault, &mut told) {
+        Ok(ended) => {
+            let _meant = put_meaning(alloc, &fault, input, &mut told);
+            err.tell(told.as_slice());
+            ended
+        }
+        Err(AllocError) => NO_MEMORY,
+    }
+}
+
 /// The status where the words ask for no command, once what `clap` says is written: help that was asked for goes to
 /// `out`, and so does the line of the version.
 fn end_unasked<O: Write, E: Tell>(
@@ -189,16 +268,6 @@ fn tell_mistake<E: Tell>(alloc: Global, error: &clap::Error, err: &mut E)
         Ok(text) => err.tell(shown(&text)),
         Err(AllocError) => err.tell(b"error: the words were not understood\n"),
     }
-}
-
-/// What is shown of a text of `clap`'s: something in any case.
-fn shown(text: &str) -> &[u8]
-    ensures { result.now ≢ [] }
-{
-    if text.is_empty() {
-        return b"error\n";
-    }
-    text.as_bytes()
 }
 
 /// Writes what was asked for that no command writes.

@@ -1,5 +1,5 @@
 //! Where the program says why it ends early.
-ghost use Rattle.std.specs.Prelude.{◌≡◌, IsTrue, false};
+ghost use Rattle.std.specs.Prelude.{◌≡◌, ◌≢◌, IsTrue, false, []};
 ghost use Rattle.tool_cli.specs.Telling.{Tells};
 
 use std::io::Write;
@@ -53,4 +53,14 @@ impl<W: Write + Drop> Tell for Told<W> {
             self.has_failed = true;
         }
     }
+}
+
+/// What is shown of a text: something in any case.
+pub(crate) fn shown(text: &str) -> &[u8]
+    ensures { result.now ≢ [] }
+{
+    if text.is_empty() {
+        return b"error\n";
+    }
+    text.as_bytes()
 }

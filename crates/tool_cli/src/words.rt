@@ -1,15 +1,20 @@
 //! The words of the command line.
-ghost use Rattle.std.specs.Prelude.{ℕ, ◌≡◌, ◌≤◌, ◌<◌, pos, IfOk, codes, false, map};
-ghost use Rattle.clap.specs.Words.{app_of, found_of, new_app, rows_of, rule_of, shape_of};
+ghost use Rattle.std.specs.Prelude.{ℕ, ◌≡◌, ◌≤◌, ◌<◌, pos, IfOk, codes, Bool, false, map, Some, ◌∷◌, [], fold};
+ghost use Rattle.clap.specs.Words.{app_of, found_of, rows_of, rule_of, shape_of, subcommand_rows, with_subcommand};
 ghost use Rattle.clap.specs.declared.builder.value_parser.ValueParser.{ValueParser as ParserValue};
 ghost use Rattle.clap.specs.declared.builder.value_parser.ValueParser.TheVariants.{Signed};
 ghost use Rattle.clap.specs.declared.builder.command.Command.TheViews.{out-Command as fields_of};
+ghost use Rattle.clap.specs.declared.parser.matches.ArgMatches.TheViews.{out-ArgMatches};
 ghost use Rattle.tool_scan.specs.declared.options.ScanKind.{ScanKind as KindValue};
-ghost use Rattle.tool_cli.specs.Words.{asked, Reads, bare_app, option_rule, rule_for, scan_shape, explain_shape};
-ghost use Rattle.tool_cli.specs.Words.{kind, number, tool_app, IsKindOf, IsKindParser, IsReadOf, AreRead};
+ghost use Rattle.tool_cli.specs.Words.{asked, Reads, bare_app, option_rule, rule_for, shape_with, command_shape, tool_app};
+ghost use Rattle.tool_cli.specs.Words.{kind, number, nothing, plain_commands, to_scan, to_explain, Optioned, name_of, is_explained};
+ghost use Rattle.tool_cli.specs.Words.{IsKindOf, IsKindParser, IsReadOf, IsFlagOf, AreRead, IsRequestOf, IsReadAs, IsEntered};
+ghost use Rattle.tool_cli.specs.declared.words.Detail.{Detail as DetailValue};
+ghost use Rattle.tool_cli.specs.declared.words.Invocation.{Invocation as InvocationValue};
+ghost use Rattle.tool_cli.specs.declared.words.Request.{Request as RequestValue};
 
 use clap::builder::ValueParser;
-use clap::{Arg, ArgMatches, Command, Error, value_parser};
+use clap::{Arg, ArgAction, ArgMatches, Command, Error, value_parser};
 use std::alloc::{AllocError, Global};
 use std::convert::AsStr;
 use tool_scan::{ScanKind, ScanOptions};
@@ -34,6 +39,24 @@ pub enum Request {
     Explain(u16),
 }
 
+/// How much is told of a refusal.
+#[derive(Clone, Copy, Debug, PartialEq, Eq)]
+pub enum Detail {
+    /// Its line.
+    Line,
+    /// Its line, and behind it what it means.
+    Explained,
+}
+
+/// What words ask for: a command, and how its refusal is told.
+#[derive(Clone, Copy, Debug, PartialEq, Eq)]
+pub struct Invocation {
+    /// What the program is asked to do.
+    pub request: Request,
+    /// How much is told where that is refused.
+    pub detail: Detail,
+}
+
 /// What `--version` shows behind the program's name.
 const VERSION: &str = "0.1.0";
 
@@ -41,7 +64,8 @@ const ABOUT: &str = "Runs match specifications of ets over terms.";
 
 const EXAMPLE: &str = "\
 A text is terms, each followed by a dot. A refusal is one line on standard
-error, as `error E16 0 3`: the number of the refusal and its arguments.
+error, as `error E16 0 3`: the number of the refusal and its arguments. Behind
+--why, an option of each command, what that means follows the line.
 A code file is a term too: a binary, as `compile` writes it.
 
 Status:
@@ -210,6 +234,8 @@ const PARTS_HELP: &str = "How many parts the keys are spread over: 1 to 64";
 
 const WORKERS_HELP: &str = "How many threads answer: 1 to 16";
 
+const WHY_HELP: &str = "Say what a refusal means, behind its line";
+
 /// The program without its commands, one of which it wants.
 fn tool<'a>(alloc: Global) -> Command<'a>
     ensures { app_of result ≡ bare_app }
@@ -221,12 +247,26 @@ fn tool<'a>(alloc: Global) -> Command<'a>
         .subcommand_required(true)
 }
 
-/// A command, with what its help says.
+/// A command without options, with what its help says.
 fn command<'a>(alloc: Global, name: &'a str, about: &'a str, example: &'a str) -> Command<'a>
-    ensures shape { shape_of result ≡ (new_app name.entry.now).top }
+    ensures shape { (p : ParserValue) → shape_of result ≡ shape_with p name.entry.now [] }
     ensures local { (fields_of result).has_globals ≡ false }
 {
     Command::new(alloc, name).about(about).after_help(example)
+}
+
+/// A command whose only option is `--why`.
+fn plain_command<'a>(
+    alloc: Global,
+    name: &'a str,
+    about: &'a str,
+    example: &'a str,
+) -> Result<Command<'a>, AllocError>
+    ensures shape { IfOk result (λ command. (p : ParserValue)
+        → shape_of command ≡ shape_with p name.entry.now ((codes "why", nothing) ∷ [])) }
+    ensures local { IfOk result (λ command. (fields_of command).has_globals ≡ false) }
+{
+    command(alloc, name, about, example).arg(why(alloc))
 }
 
 /// An option of such a value, which is another if it isn't given.
@@ -247,6 +287,17 @@ fn option<'a>(
         .value_name(value_name)
         .default_value(default)
         .value_parser(values)
+}
+
+/// That a refusal is explained.
+fn why<'a>(alloc: Global) -> Arg<'a>
+    ensures rule { (p : ParserValue) → rule_of result ≡ rule_for p (codes "why") nothing }
+    ensures local { result.global ≡ false }
+{
+    Arg::new(alloc, "why")
+        .long("why")
+        .help(WHY_HELP)
+        .action(ArgAction::SetTrue)
 }
 
 /// The names of kinds.
@@ -293,43 +344,61 @@ fn workers<'a>(alloc: Global) -> Arg<'a>
 
 /// The command `scan`, with its options.
 fn scan_command<'a>(alloc: Global) -> Result<Command<'a>, AllocError>
-    ensures shape { IfOk result (λ command. (p : ParserValue) × IsKindParser p × (shape_of command ≡ scan_shape p)) }
+    ensures shape { IfOk result (λ command. (p : ParserValue) × IsKindParser p
+        × (shape_of command ≡ command_shape p to_scan)) }
     ensures local { IfOk result (λ command. (fields_of command).has_globals ≡ false) }
 {
     command(alloc, "scan", SCAN_ABOUT, SCAN_EXAMPLE)
         .arg(kind(alloc))?
         .arg(keypos(alloc))?
         .arg(parts(alloc))?
-        .arg(workers(alloc))
+        .arg(workers(alloc))?
+        .arg(why(alloc))
 }
 
-/// The command `explain`, with its option.
+/// The command `explain`, with its options.
 fn explain_command<'a>(alloc: Global) -> Result<Command<'a>, AllocError>
-    ensures shape { IfOk result (λ command. (p : ParserValue) → shape_of command ≡ explain_shape p) }
+    ensures shape { IfOk result (λ command. (p : ParserValue) → shape_of command ≡ command_shape p to_explain) }
     ensures local { IfOk result (λ command. (fields_of command).has_globals ≡ false) }
 {
-    command(alloc, "explain", EXPLAIN_ABOUT, EXPLAIN_EXAMPLE).arg(keypos(alloc))
+    command(alloc, "explain", EXPLAIN_ABOUT, EXPLAIN_EXAMPLE)
+        .arg(keypos(alloc))?
+        .arg(why(alloc))
 }
 
-/// The program's commands, as `clap` reads them.
+/// The program with one more command, whose only option is `--why`.
+fn with_plain<'a>(
+    alloc: Global,
+    program: Command<'a>,
+    name: &'a str,
+    about: &'a str,
+    example: &'a str,
+) -> Result<Command<'a>, AllocError>
+    ensures { IfOk result (λ new. (p : ParserValue)
+        → app_of new ≡ with_subcommand (app_of program.entry) (shape_with p name.entry.now ((codes "why", nothing) ∷ []))) }
+{
+    program.subcommand(plain_command(alloc, name, about, example)?)
+}
+
+/// The program with the commands that have no option but `--why`.
+fn plain_program<'a>(alloc: Global) -> Result<Command<'a>, AllocError>
+    ensures { IfOk result (λ command. (p : ParserValue) → app_of command
+        ≡ fold with_subcommand bare_app (map (command_shape p) plain_commands)) }
+{
+    let program = with_plain(alloc, tool(alloc), "run", RUN_ABOUT, RUN_EXAMPLE)?;
+    let program = with_plain(alloc, program, "test", TEST_ABOUT, TEST_EXAMPLE)?;
+    let program = with_plain(alloc, program, "compile", COMPILE_ABOUT, COMPILE_EXAMPLE)?;
+    let program = with_plain(alloc, program, "verify", VERIFY_ABOUT, VERIFY_EXAMPLE)?;
+    with_plain(alloc, program, "script", SCRIPT_ABOUT, SCRIPT_EXAMPLE)
+}
+
+/// The program with its commands, as `clap` reads them.
 fn program<'a>(alloc: Global) -> Result<Command<'a>, AllocError>
     ensures { IfOk result (λ command. (p : ParserValue) × IsKindParser p × (app_of command ≡ tool_app p)) }
 {
-    let run = command(alloc, "run", RUN_ABOUT, RUN_EXAMPLE);
-    let test = command(alloc, "test", TEST_ABOUT, TEST_EXAMPLE);
-    let compile = command(alloc, "compile", COMPILE_ABOUT, COMPILE_EXAMPLE);
-    let verify = command(alloc, "verify", VERIFY_ABOUT, VERIFY_EXAMPLE);
-    let script = command(alloc, "script", SCRIPT_ABOUT, SCRIPT_EXAMPLE);
-    let scan = scan_command(alloc)?;
-    let explain = explain_command(alloc)?;
-    tool(alloc)
-        .subcommand(run)?
-        .subcommand(test)?
-        .subcommand(compile)?
-        .subcommand(verify)?
-        .subcommand(script)?
-        .subcommand(scan)?
-        .subcommand(explain)
+    plain_program(alloc)?
+        .subcommand(scan_command(alloc)?)?
+        .subcommand(explain_command(alloc)?)
 }
 
 /// The kind that is asked for.
@@ -368,25 +437,55 @@ fn scan_options(matches: &ArgMatches<'_>) -> ScanOptions
     }
 }
 
+/// How much is told of a refusal.
+fn detail_in(matches: &ArgMatches<'_>) -> Detail
+    requires { (d : DetailValue) × IsFlagOf (codes "why") (is_explained d) (rows_of (found_of matches.now)) }
+    ensures { (d : DetailValue) → IsFlagOf (codes "why") (is_explained d) (rows_of (found_of matches.now)) → result ≡ d }
+{
+    if matches.get_flag("why") {
+        Detail::Explained
+    } else {
+        Detail::Line
+    }
+}
+
+/// What the command of this name is asked to do.
+fn request_in(name: &str, matches: &ArgMatches<'_>) -> Request
+    requires { (which : Optioned) × (r : RequestValue) × (name.now ≡ name_of which)
+        × IsRequestOf which r (rows_of (found_of matches.now)) }
+    ensures { (which : Optioned) (r : RequestValue) → name.now ≡ name_of which
+        → IsRequestOf which r (rows_of (found_of matches.now)) → result ≡ r }
+{
+    match name {
+        "test" => Request::Test,
+        "compile" => Request::Compile,
+        "verify" => Request::Verify,
+        "script" => Request::Script,
+        "scan" => Request::Scan(scan_options(matches)),
+        "explain" => Request::Explain(number(matches, "keypos")),
+        _ => Request::Run,
+    }
+}
+
+/// The command that was entered, with its options.
+fn entered(matches: &ArgMatches<'_>) -> Invocation
+    requires { (i : InvocationValue) × IsEntered i (subcommand_rows (out-ArgMatches matches.now).subcommand) }
+    ensures { (i : InvocationValue) → IsEntered i (subcommand_rows (out-ArgMatches matches.now).subcommand) → result ≡ i }
+{
+    match matches.subcommand() {
+        Some((name, matches)) => Invocation {
+            request: request_in(name, matches),
+            detail: detail_in(matches),
+        },
+        None => unreachable!(),
+    }
+}
+
 /// What the words ask for; the first word is the program's name. Words that `clap` does not take, and words that ask
 /// for help or for the version, are its error.
-pub fn read_words<'a, S: AsStr>(alloc: Global, words: &'a [S]) -> Result<Request, Error>
+pub fn read_words<'a, S: AsStr>(alloc: Global, words: &'a [S]) -> Result<Invocation, Error>
     ensures { Reads (asked (map S.text words.entry.now)) result }
 {
     let matches = program(alloc)?.try_get_matches_from(words)?;
-    match matches.subcommand_name() {
-        Some("test") => Ok(Request::Test),
-        Some("compile") => Ok(Request::Compile),
-        Some("verify") => Ok(Request::Verify),
-        Some("script") => Ok(Request::Script),
-        Some("scan") => match matches.subcommand_matches("scan") {
-            Some(matches) => Ok(Request::Scan(scan_options(matches))),
-            None => unreachable!(),
-        },
-        Some("explain") => match matches.subcommand_matches("explain") {
-            Some(matches) => Ok(Request::Explain(number(matches, "keypos"))),
-            None => unreachable!(),
-        },
-        _ => Ok(Request::Run),
-    }
+    Ok(entered(&matches))
 }

@@ -13,7 +13,7 @@ returns-in-Err g c =
 
 pub returns-in-Ok : goal.returns-in-Ok
 returns-in-Ok g c =
-    ends_command (asked (map g.S.AsStr.text c.args.words.now)) c.in-Ok.request _ _ _ _ _ _ _ c.in-Ok.ensures c.run_request.ensures
+    ends_command (asked (map g.S.AsStr.text c.args.words.now)) c.in-Ok.invocation _ _ _ _ _ _ _ c.in-Ok.ensures c.run_invocation.ensures
 
-pub run_request-requires-send-P : goal.run_request-requires-send-P
-run_request-requires-send-P g c κs = search (sendable, hash_part_send) depth 40
+pub run_invocation-requires-send-P : goal.run_invocation-requires-send-P
+run_invocation-requires-send-P g c κs = search (sendable, hash_part_send) depth 40

@@ -4,11 +4,14 @@ use Rattle.tool_cli.proofs.words.explain_command.Goals as goal
 
 pub returns-clause-shape : goal.returns-clause-shape
 returns-clause-shape c =
-    MatchResult-weaker c.arg.result c.arg.ensures
-    (λ command h p. option_added c.command.result command c.keypos.result _ _ c.command.ensures.shape c.keypos.ensures.local (c.keypos.ensures.rule p) h)
+    MatchResult-weaker c.arg-2.result c.arg-2.ensures
+    (λ command h p.
+    let one = option_added c.command.result c.in_ok-arg.field-0 c.keypos.result _ _ (c.command.ensures.shape p) c.keypos.ensures.local (c.keypos.ensures.rule p) c.in_ok-arg.ensures in
+    option_added c.in_ok-arg.field-0 command c.why.result _ _ one c.why.ensures.local (c.why.ensures.rule p) h)
     (λ e h. h)
 
 pub returns-clause-local : goal.returns-clause-local
 returns-clause-local c =
-    MatchResult-weaker c.arg.result c.arg.ensures
-    (λ command h. option_local c.command.result command c.keypos.result c.command.ensures.local c.keypos.ensures.local h) (λ e h. h)
+    let one = option_local c.command.result c.in_ok-arg.field-0 c.keypos.result c.command.ensures.local c.keypos.ensures.local c.in_ok-arg.ensures in
+    MatchResult-weaker c.arg-2.result c.arg-2.ensures
+    (λ command h. option_local c.in_ok-arg.field-0 command c.why.result one c.why.ensures.local h) (λ e h. h)

@@ -1,0 +1,30 @@
+-- The first and the last line feed of a text, as they are found.
+use Rattle.std.proofs.Common.{◌≡◌, ◌∙◌, ◌≤◌, ◌<◌, ◌+◌, ◌-◌, ℕ, true, false, not, List, take, drop, length, sym, ap, arith}
+use Rattle.std.proofs.lemmas.List.{get_or_default, take_all, take_rest}
+use Rattle.std.proofs.lemmas.List.Sums.{position_or_len_is, suffix_len_is}
+use Rattle.std.specs.Prelude.{get_or}
+use Rattle.std.specs.List.{after_last, before_first, suffix_len}
+use Rattle.tool_cli.specs.Place.{is_feed}
+
+pub first_is : (text : List ℕ) (n d : ℕ) → n < length text → ((k : ℕ) → k < n → is_feed (get_or text k 0) ≡ false) → get_or text n d ≡ 10 → take n text ≡ before_first is_feed text
+first_is text n d there before found =
+    let feed : is_feed (get_or text n 0) ≡ true = ap is_feed (get_or_default text n 0 d there ∙ found) in
+    ap (λ k. take k text) (sym (position_or_len_is is_feed text n 0 (omega arith) before (λ h. feed)))
+
+pub none_is : (text : List ℕ) (n : ℕ) → n ≤ length text → length text ≤ n → ((k : ℕ) → k < n → is_feed (get_or text k 0) ≡ false) → text ≡ before_first is_feed text
+none_is text n within past before =
+    sym (ap (λ k. take k text) (position_or_len_is is_feed text n 0 within before (λ h. absurd (omega arith))) ∙ take_all n text past)
+
+pub last_is : (text : List ℕ) (n d : ℕ) → 0 < n → n ≤ length text → ((k : ℕ) → n ≤ k → k < length text → is_feed (get_or text k 0) ≡ false) → get_or text (n - 1) d ≡ 10
+    → take (length text - (n - 1 + 1)) (drop (n - 1 + 1) text) ≡ after_last is_feed text
+last_is text n d some within after found =
+    let feed : is_feed (get_or text (n - 1) 0) ≡ true = ap is_feed (get_or_default text (n - 1) 0 d (omega arith) ∙ found) in
+    let behind : suffix_len (λ x. not (is_feed x)) text ≡ length text - n = suffix_len_is (λ x. not (is_feed x)) text n 0 within (λ k from below. ap not (after k from below)) (λ h. ap not feed) in
+    let same : n - 1 + 1 ≡ length text - suffix_len (λ x. not (is_feed x)) text = omega arith in
+    take_rest text (n - 1 + 1) ∙ ap (λ k. drop k text) same
+
+pub none_behind : (text : List ℕ) (n : ℕ) → n ≤ 0 → ((k : ℕ) → n ≤ k → k < length text → is_feed (get_or text k 0) ≡ false) → text ≡ after_last is_feed text
+none_behind text n first after =
+    let behind : suffix_len (λ x. not (is_feed x)) text ≡ length text - n = suffix_len_is (λ x. not (is_feed x)) text n 0 (omega arith) (λ k from below. ap not (after k from below)) (λ h. absurd (omega arith)) in
+    let same : 0 ≡ length text - suffix_len (λ x. not (is_feed x)) text = omega arith in
+    ap (λ k. drop k text) same
