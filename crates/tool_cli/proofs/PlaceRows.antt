@@ -8,7 +8,7 @@ abbrev seen : List ℕ → ℕ → (ℕ × ℕ) × List ℕ
 seen text at = (
   (line_number text at, column_number text at),
   (before_in_line text at ++ on_in_line text at ++ 10 ∷ [])
-  ++ flat_map room_for (before_in_line text at) ++ 94 ∷ [],
+      ++ flat_map room_for (before_in_line text at) ++ 94 ∷ [],
 )
 
 in_the_first_line : seen (codes "[]. {1,}.") 7 ≡ ((1, 8), codes "[]. {1,}.\n       ^")
