@@ -11,8 +11,8 @@ use std::alloc::Global;
 use std::marker::Model;
 use std::ptr;
 
-/// A filter: open, and then it owns a box of verified code, or closed. One whose bytes are all 0 is closed. Who has it may
-/// neither copy it nor write into it, and passes it to one call at a time, all in one thread.
+/// A filter: open, and then it owns a box of verified code, or closed. One whose bytes are all 0 is closed. Who has it
+/// may neither copy it nor write into it, and passes it to one call at a time, all in one thread.
 #[repr(C)]
 #[derive(Drop)]
 pub struct Filter {

@@ -5,8 +5,8 @@
 //! refusal is an answer, with its number and its arguments, and so are want of memory, bytes without room and a closed
 //! filter. `include/cutterash.h` declares them for C; nothing compares the two.
 //!
-//! - `filter`: the handle that crosses, and what it owns, `specs/Held.antt`; `loaded`: what an open one keeps; `loose`: a
-//!   box as its pointer. The functions that make a handle of a box and a box of a handle are proved by hand.
+//! - `filter`: the handle that crosses, and what it owns, `specs/Held.antt`; `loaded`: what an open one keeps; `loose`:
+//!   a box as its pointer. The functions that make a handle of a box and a box of a handle are proved by hand.
 //! - `text`: what calls do with texts; `reply`: what they reply; `fault`: the numbers of refusals.
 #![tactic(auto)]
 
@@ -32,8 +32,8 @@ use tool_io::ToolFault;
 use tool_query::load;
 use verifier::Verified;
 
-/// Compiles the specification that a text spells, with a dot behind it: its code file is put into the room. Status 0, 2,
-/// 3 or 4; where the file has no room, the reply has its length.
+/// Compiles the specification that a text spells, with a dot behind it: its code file is put into the room. Status 0,
+/// 2, 3 or 4; where the file has no room, the reply has its length.
 #[unsafe(no_mangle)]
 pub extern "C" fn cutterash_compile(alloc: Global, text: &[u8], room: &mut [u8]) -> Reply
     ensures { Compiles text.now room.old room.new result }
@@ -44,8 +44,8 @@ pub extern "C" fn cutterash_compile(alloc: Global, text: &[u8], room: &mut [u8])
     }
 }
 
-/// Opens a filter by a code file: only code that is verified is kept. Status 0 with the budget and the depth of the code,
-/// 2 or 3. What the filter kept before is let go first, and a filter that isn't opened is closed.
+/// Opens a filter by a code file: only code that is verified is kept. Status 0 with the budget and the depth of the
+/// code, 2 or 3. What the filter kept before is let go first, and a filter that isn't opened is closed.
 #[unsafe(no_mangle)]
 pub extern "C" fn cutterash_load(alloc: Global, filter: &mut Filter, file: &[u8]) -> Reply
     ensures { Loads file.now filter.new result }
