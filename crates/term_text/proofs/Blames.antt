@@ -12,7 +12,7 @@ use Rattle.term_text.specs.declared.token.Marks.{Marks}
 use Rattle.term_text.specs.declared.token.Opening.{Opening}
 use Rattle.term_text.specs.declared.token.Opening.TheVariants as opens
 use Rattle.term_text.specs.Tokens.{Gap, Integer}
-use Rattle.term_text.specs.Causes.{Due as due, Due, Quotes, mark_of, most_characters, MayStand, EndsGap, WholeGap, BeginsInteger, BeginsTerm, IsTooDeep, IsTooLong, IsKeyTwice, IsWide, IsOutOfRange, IsNoEscape, BeginsWith, BeginsWithBoth, IsUnexpected}
+use Rattle.term_text.specs.Causes.{Due as due, Due, Quotes, mark_of, most_characters, HasLevel, MayStand, EndsGap, WholeGap, BeginsInteger, BeginsTerm, IsTooDeep, IsTooLong, IsKeyTwice, IsWide, IsOutOfRange, IsNoEscape, BeginsWith, BeginsWithBoth, IsUnexpected}
 use Rattle.term_text.specs.Causes.WholeGap.{up_to, to_the_end}
 use Rattle.term_text.specs.Causes.IsUnexpected.{no_character, no_escaped}
 use Rattle.term_text.specs.Causes.Place.{a_term, a_segment, a_character, a_letter}
@@ -233,14 +233,14 @@ opens_none text e begins_term.a_list = absurd cc
 opens_none text e begins_term.a_map = absurd cc
 opens_none text e begins_term.a_binary = absurd cc
 
-enter_as_blames : (whole : List ℕ) (levels room : ℕ) (text : List ℕ) (o : Option (Opening × List ℕ)) → IfSome o (λ o. Opens o.0 text o.1) → opening text ≡ o → (¬ BeginsTerm text → IsUnexpected whole text) → (BeginsTerm text → levels ≡ 0 → IsTooDeep whole text) → (BeginsTerm text → room ≡ 0 → IsTooLong whole text) → IfErr (enter_as levels room text o) (Blames whole)
+enter_as_blames : (whole : List ℕ) (levels room : ℕ) (text : List ℕ) (o : Option (Opening × List ℕ)) → IfSome o (λ o. Opens o.0 text o.1) → opening text ≡ o → (¬ BeginsTerm text → IsUnexpected whole text) → (BeginsTerm text → levels ≡ 0 → IsTooDeep whole text) → (BeginsTerm text → 0 < levels → room ≡ 0 → IsTooLong whole text) → IfErr (enter_as levels room text o) (Blames whole)
 enter_as_blames whole levels room text None h e none deep long = at_once text (none (opens_none text e))
 enter_as_blames whole levels room text (Some o) h e none deep long =
     let starts = term_starts o.0 text o.1 h in
     if_blames (Blames whole) (levels == 0) _ _ (λ e. at_once text (deep starts (eqb-true levels 0 e)))
-    (λ _. if_blames (Blames whole) (room == 0) _ _ (λ e. at_once text (long starts (eqb-true room 0 e))) (λ _. tt))
+    (λ some. if_blames (Blames whole) (room == 0) _ _ (λ e. at_once text (long starts (let left = eqb-false levels 0 some in omega arith) (eqb-true room 0 e))) (λ _. tt))
 
-pub enter_blames : (whole : List ℕ) (levels room : ℕ) (text : List ℕ) → (¬ BeginsTerm text → IsUnexpected whole text) → (BeginsTerm text → levels ≡ 0 → IsTooDeep whole text) → (BeginsTerm text → room ≡ 0 → IsTooLong whole text) → IfErr (enter levels room text) (Blames whole)
+pub enter_blames : (whole : List ℕ) (levels room : ℕ) (text : List ℕ) → (¬ BeginsTerm text → IsUnexpected whole text) → (BeginsTerm text → levels ≡ 0 → IsTooDeep whole text) → (BeginsTerm text → 0 < levels → room ≡ 0 → IsTooLong whole text) → IfErr (enter levels room text) (Blames whole)
 unfolding enter
 enter_blames whole levels room text none deep long = enter_as_blames whole levels room text (opening text) (opening_holds text) refl none deep long
 
@@ -265,15 +265,15 @@ integer_blames E (c ∷ cs) h k = elim (cases_Bool (c == minus)) [
   ]
 ]
 
-byte_of_blames : (whole text : List ℕ) (k : ℕ) (z : ℤ) (rest : List ℕ) → Due whole (a_segment k) text → Integer text z rest → IfErr (byte_of z text) (Blames whole)
-byte_of_blames whole text k (pos b) rest d i = if_blames (Blames whole) (nat_lt b 256) _ _ (λ _. tt) (λ f. at_once text (no_byte d i (let le = ltb-false b 256 f in omega arith)))
-byte_of_blames whole text k (negsuc b) rest d i = at_once text (no_byte d i tt)
+byte_of_blames : (whole text : List ℕ) (k : ℕ) (z : ℤ) (rest : List ℕ) → Due whole (a_segment k) text → k < MAX_BINARY → Integer text z rest → IfErr (byte_of z text) (Blames whole)
+byte_of_blames whole text k (pos b) rest d room i = if_blames (Blames whole) (nat_lt b 256) _ _ (λ _. tt) (λ f. at_once text (no_byte d room i (let le = ltb-false b 256 f in omega arith)))
+byte_of_blames whole text k (negsuc b) rest d room i = at_once text (no_byte d room i tt)
 
-pub byte_blames : (whole text : List ℕ) (k : ℕ) → IsIntegerStart text → Due whole (a_segment k) text → IfErr (byte_at text) (Blames whole)
+pub byte_blames : (whole text : List ℕ) (k : ℕ) → IsIntegerStart text → Due whole (a_segment k) text → k < MAX_BINARY → IfErr (byte_at text) (Blames whole)
 unfolding byte_at
-byte_blames whole text k h d =
-    bind_blames (λ (z : ℤ × List ℕ). Integer text z.0 z.1) (Blames whole) (integer_at text) _ (integer_holds text h) (integer_blames (Blames whole) text h (λ w. at_once text (wide_segment d w)))
-    (λ z i. bind_any (Blames whole) (byte_of z.0 text) _ (byte_of_blames whole text k z.0 z.1 d i) (λ b. tt))
+byte_blames whole text k h d room =
+    bind_blames (λ (z : ℤ × List ℕ). Integer text z.0 z.1) (Blames whole) (integer_at text) _ (integer_holds text h) (integer_blames (Blames whole) text h (λ w. at_once text (wide_segment d room w)))
+    (λ z i. bind_any (Blames whole) (byte_of z.0 text) _ (byte_of_blames whole text k z.0 z.1 d room i) (λ b. tt))
 
 -- ---- bare words
 
@@ -325,6 +325,11 @@ pub record AreOf (whole : List ℕ) (m : Marks) (q : Quotes) (before : ℕ) : Ty
   pub bytes : m.only_bytes ≡ true → q ≡ of_bytes
   pub fits : (k c : ℕ) → k < m.room → is_allowed m.only_bytes c ≡ true → (before + k < most_characters q) × MayStand q c
 
+pub level_of : (q : Quotes) (c : ℕ) → MayStand q c → HasLevel q
+level_of of_atom c h = tt
+level_of (of_string levels) c h = h
+level_of of_bytes c h = tt
+
 backslash_allowed : (g : Bool) → is_allowed g backslash ≡ true
 backslash_allowed false = refl
 backslash_allowed true = refl
@@ -360,26 +365,26 @@ module _ (whole : List ℕ) (m : Marks) (q : Quotes) (before : ℕ) (are : AreOf
       (λ x h. λ goes. next_due cs c text x.0 x.1 d (eqb-false c m.mark e) (eqb-false (length cs) m.room r) h))))
       (λ x h. h)
 
-  escape_blames : (k e : ℕ) (rest : List ℕ) (o : Option ℕ) → Due whole (a_character q k) (backslash ∷ e ∷ rest) → escaped e ≡ o → IfErr (escape_as o (backslash ∷ e ∷ rest) rest) (Blames whole)
-  escape_blames k e rest None d h = at_once (backslash ∷ e ∷ rest) (no_escape d h)
-  escape_blames k e rest (Some x) d h = tt
+  escape_blames : (k e : ℕ) (rest : List ℕ) (o : Option ℕ) → k < most_characters q → HasLevel q → Due whole (a_character q k) (backslash ∷ e ∷ rest) → escaped e ≡ o → IfErr (escape_as o (backslash ∷ e ∷ rest) rest) (Blames whole)
+  escape_blames k e rest None room level d h = at_once (backslash ∷ e ∷ rest) (no_escape d room level h)
+  escape_blames k e rest (Some x) room level d h = tt
 
   escaped_blames : (k c : ℕ) (text : List ℕ) → c ≡ backslash → k < m.room → Due whole (a_character q (before + k)) (c ∷ text) → IfErr (escape_at (c ∷ text) text) (Blames whole)
   escaped_blames k c [] b room d = let fits = are.fits k backslash room (backslash_allowed m.only_bytes) in at_once [] (no_escaped (rw b at d) fits.0 fits.1)
-  escaped_blames k c (e ∷ rest) b room d = rw b (escape_blames (before + k) e rest (escaped e) (rw b at d) refl)
+  escaped_blames k c (e ∷ rest) b room d = let fits = are.fits k backslash room (backslash_allowed m.only_bytes) in rw b (escape_blames (before + k) e rest (escaped e) fits.0 (level_of q backslash fits.1) (rw b at d) refl)
 
   not_allowed : (g : Bool) (c : ℕ) → is_allowed g c ≡ false → (g ≡ true) × (255 < c)
   not_allowed false c h = absurd cc
   not_allowed true c h = (refl, leb-false c 255 h)
 
-  no_byte_blames : (k c : ℕ) (text : List ℕ) → is_allowed m.only_bytes c ≡ false → Due whole (a_character q k) (c ∷ text) → IsOutOfRange whole (c ∷ text)
-  no_byte_blames k c text h d = let p = not_allowed m.only_bytes c h in no_byte_character (rw (are.bytes p.0) at d) p.1
+  no_byte_blames : (k c : ℕ) (text : List ℕ) → is_allowed m.only_bytes c ≡ false → k < most_characters q → Due whole (a_character q k) (c ∷ text) → IsOutOfRange whole (c ∷ text)
+  no_byte_blames k c text h room d = let p = not_allowed m.only_bytes c h in no_byte_character (rw (are.bytes p.0) at d) (rw (are.bytes p.0) at room) p.1
 
   character_blames : (k c : ℕ) (text : List ℕ) → k < m.room → Due whole (a_character q (before + k)) (c ∷ text) → IfErr (character_at m.only_bytes (c ∷ text)) (Blames whole)
   unfolding character_at
   character_blames k c text room d =
       if_blames (Blames whole) (c == backslash) _ _ (λ b. escaped_blames k c text (eqb-true c backslash b) room d)
-      (λ _. if_blames (Blames whole) (is_allowed m.only_bytes c) _ _ (λ _. tt) (λ l. at_once (c ∷ text) (no_byte_blames (before + k) c text l d)))
+      (λ _. if_blames (Blames whole) (is_allowed m.only_bytes c) _ _ (λ _. tt) (λ l. let fits = are.fits k backslash room (backslash_allowed m.only_bytes) in at_once (c ∷ text) (no_byte_blames (before + k) c text l fits.0 d)))
 
   step_blames : (cs text : List ℕ) → IsDue cs text → IfErr (quoted_step m cs text) (Blames whole)
   unfolding quoted_step next_quoted
@@ -399,7 +404,7 @@ module _ (whole : List ℕ) (m : Marks) (q : Quotes) (before : ℕ) (are : AreOf
 pub atom_are : (whole : List ℕ) → AreOf whole atom_marks of_atom 0
 atom_are whole = record {
   mark = refl;
-  full = λ k c rest e d ne. at_once (c ∷ rest) (one_character d (omega arith) ne);
+  full = λ k c rest e d ne. at_once (c ∷ rest) (one_character d tt (omega arith) ne);
   bytes = λ no. absurd cc;
   fits = λ k c room l. (omega arith, tt);
 }
@@ -407,7 +412,7 @@ atom_are whole = record {
 pub byte_are : (whole : List ℕ) (before : ℕ) → before ≤ MAX_BINARY → AreOf whole (byte_marks before) of_bytes before
 byte_are whole before l = record {
   mark = refl;
-  full = λ k c rest e d ne. at_once (c ∷ rest) (one_character d (omega arith) ne);
+  full = λ k c rest e d ne. at_once (c ∷ rest) (one_character d tt (omega arith) ne);
   bytes = λ _. refl;
   fits = λ k c room l. (omega arith, let le = leb-true c 255 l in omega arith);
 }
@@ -421,7 +426,7 @@ string_are whole zero before l = record {
 }
 string_are whole (suc n) before l = record {
   mark = refl;
-  full = λ k c rest e d ne. let some : (suc n == 0) ≡ false = ne_eqb (suc n) 0 (λ z. omega arith) in let room = rw some at e in rw some (at_once (c ∷ rest) (one_character d (omega arith) ne));
+  full = λ k c rest e d ne. let some : (suc n == 0) ≡ false = ne_eqb (suc n) 0 (λ z. omega arith) in let room = rw some at e in rw some (at_once (c ∷ rest) (one_character d (omega arith) (omega arith) ne));
   bytes = λ no. absurd cc;
   fits = λ k c room l. let some : (suc n == 0) ≡ false = ne_eqb (suc n) 0 (λ z. omega arith) in let below = rw some at room in (omega arith, omega arith);
 }

@@ -5,7 +5,7 @@ use Rattle.std.specs.List.{Contains}
 use Rattle.std.specs.List.Sorted.{IsPermutation}
 use Rattle.std.specs.Ordering.{is_eq}
 use Rattle.std.specs.Str.{encode_utf8_all, chars}
-use Rattle.std.proofs.lemmas.Bool.{eqb-true, eq-eqb, or_cases, or_parts}
+use Rattle.std.proofs.lemmas.Bool.{eqb-true, eqb-false, eq-eqb, or_cases, or_parts}
 use Rattle.std.proofs.lemmas.List.{length-append, take_at}
 use Rattle.std.proofs.lemmas.List.Sorted.{Contains-permutation, IsPermutation-refl, IsPermutation-sym, IsPermutation-cons, IsPermutation-trans, length_permutation}
 use Rattle.std.proofs.lemmas.Result.{IfErr-at_err}
@@ -52,7 +52,7 @@ use Rattle.term_text.proofs.Blames.{integer_starts}
 pub record TermDue (whole : List ℕ) (n room : ℕ) (text : List ℕ) : Type 0 where
   pub due_here : 0 < room → Due whole (a_term n 0) text
   pub deep : n ≡ 0 → BeginsTerm text → IsTooDeep whole text
-  pub long : room ≡ 0 → BeginsTerm text → IsTooLong whole text
+  pub long : 0 < n → room ≡ 0 → BeginsTerm text → IsTooLong whole text
   pub other : ¬ BeginsTerm text → IsUnexpected whole text
 
 one_due : (whole : List ℕ) (n : ℕ) (text : List ℕ) → Due whole (a_term n 0) text → TermDue whole n 1 text
@@ -60,7 +60,7 @@ one_due whole n text d =
     record {
       due_here = λ room. d;
       deep = λ none b. deep_term (subst (λ m. Due whole (a_term m 0) text) none d) b;
-      long = λ none b. absurd (omega arith);
+      long = λ some none b. absurd (omega arith);
       other = λ no. no_term d no;
     }
 
@@ -73,12 +73,12 @@ BlamesTail whole n read = (front : List Datum) (text : List ℕ) → length fron
 
 -- ---- integers, atoms and strings
 
-integer_term_blames : (whole text rest : List ℕ) (n k : ℕ) → Opens opens.Integer text rest → Due whole (a_term n k) text → IfErr (integer_term_at rest) (Blames whole)
+integer_term_blames : (whole text rest : List ℕ) (n k : ℕ) → Opens opens.Integer text rest → Due whole (a_term (suc n) k) text → IfErr (integer_term_at rest) (Blames whole)
 unfolding integer_term_at
 integer_term_blames whole text rest n k o d =
     let start : IsIntegerStart rest = rw o.0 at o.1 in
-    let here : Due whole (a_term n k) rest = rw o.0 at d in
-    bind_any (Blames whole) (integer_at rest) _ (integer_blames (Blames whole) rest start (λ w. at_once rest (wide_term here w))) (λ x. tt)
+    let here : Due whole (a_term (suc n) k) rest = rw o.0 at d in
+    bind_any (Blames whole) (integer_at rest) _ (integer_blames (Blames whole) rest start (λ w. at_once rest (wide_term here (omega arith) w))) (λ x. tt)
 
 word_term_blames : (whole text rest : List ℕ) (n k : ℕ) → Opens opens.Word text rest → Due whole (a_term (suc n) k) text → IfErr (word_term_at rest) (Blames whole)
 unfolding word_term_at
@@ -137,7 +137,7 @@ segment_as_blames : (whole bytes text : List ℕ) (o : Option (Opening × List �
 segment_as_blames whole bytes text None h e g = let no = no_segment_starts text e in at_once text (no_segment g.place no.0 no.1)
 segment_as_blames whole bytes text (Some (opens.Integer, rest)) h e g =
     if_blames (Blames whole) (length bytes == MAX_BINARY) _ _ (λ f. at_once text (one_byte g.place (eqb-true (length bytes) MAX_BINARY f) (integer_starts text h.1)))
-    (λ _. bind_any (Blames whole) (byte_at text) _ (byte_blames whole text (length bytes) h.1 g.place) (λ b. tt))
+    (λ more. bind_any (Blames whole) (byte_at text) _ (byte_blames whole text (length bytes) h.1 g.place (let few = g.few in let full = eqb-false (length bytes) MAX_BINARY more in omega arith)) (λ b. tt))
 segment_as_blames whole bytes text (Some (opens.String, rest)) h e g =
     let here = rw h at g.place in
     bind_any (Blames whole) (quoted_at (byte_marks (length bytes)) rest) _ (quoted_blames whole (byte_marks (length bytes)) of_bytes (length bytes) (byte_are whole (length bytes) g.few) rest (due.in_bytes here)) (λ x. tt)
@@ -188,7 +188,7 @@ binary_blames whole text n k d =
 
 -- ---- a key that stands twice
 
-has_one : (k : Datum) (es : List (Datum × Datum)) → has_key k es ≡ true → (v : Datum) × Contains es (k, v)
+pub has_one : (k : Datum) (es : List (Datum × Datum)) → has_key k es ≡ true → (v : Datum) × Contains es (k, v)
 has_one k [] h = absurd cc
 has_one k (e ∷ es) h = elim (or_cases (is_eq (datum_cmp k e.0)) (has_key k es) h) [
   | inl same ↦ let key : k ≡ e.0 = datum_cmp-equal k e.0 (is_eq-equal (datum_cmp k e.0) same) in (e.1, (0, omega arith, ap (λ (x : Datum). (x, e.1)) (sym key)))
@@ -200,7 +200,7 @@ no_one k [] h v c = let none = c.1 in omega arith
 no_one k (e ∷ es) h v (zero, l, at) = let no = or_parts (is_eq (datum_cmp k e.0)) (has_key k es) h in let same : datum_cmp k e.0 ≡ Equal = datum_cmp-same (sym (ap (λ (x : Datum × Datum). x.0) at)) in absurd (let yes : is_eq (datum_cmp k e.0) ≡ true = rw same refl in let never = no.0 in cc)
 no_one k (e ∷ es) h v (suc i, l, at) = let no = or_parts (is_eq (datum_cmp k e.0)) (has_key k es) h in no_one k es no.1 v (i, omega arith, at)
 
-is_new : (k : Datum) (es seen : List (Datum × Datum)) → IsPermutation es seen → has_key k es ≡ false → IsNew k seen
+pub is_new : (k : Datum) (es seen : List (Datum × Datum)) → IsPermutation es seen → has_key k es ≡ false → IsNew k seen
 is_new k es seen p h v c = no_one k es h v (Contains-permutation seen es (k, v) (IsPermutation-sym es seen p) c)
 
 module _ (whole : List ℕ) (n : ℕ) (read : TermReader) (reads : IsReader n read) (blames : BlamesTerm whole n read) where
@@ -216,7 +216,7 @@ module _ (whole : List ℕ) (n : ℕ) (read : TermReader) (reads : IsReader n re
         record {
           due_here = λ room. due.element g.place (omega arith);
           deep = λ none b. deep_element (subst (λ m. Due whole (an_element r m (length ds)) text) none g.place) b;
-          long = λ none b. one_element g.place (let few = g.few in omega arith) b;
+          long = λ some none b. one_element g.place some (let few = g.few in omega arith) b;
           other = λ no. no_element g.place no;
         }
 
@@ -323,11 +323,11 @@ module _ (whole : List ℕ) (n : ℕ) (read : TermReader) (reads : IsReader n re
     few : length es ≤ MAX_MAP
     place : Due whole (a_pair n seen) text
 
-  twice : (es : List (Datum × Datum)) (text : List ℕ) (key : Datum) (t : List ℕ) → PairDue es text → Spelled n text key t → has_key key es ≡ true → IsKeyTwice whole text
-  twice es text key t g s h = let one = has_one key es h in key_twice g.place s (Contains-permutation es g.seen (key, one.0) g.permuted one.1)
-
   pair_few : (es : List (Datum × Datum)) (text : List ℕ) (g : PairDue es text) (key : Datum) (t : List ℕ) → 0 < MAX_MAP - length es → length g.seen < MAX_MAP
   pair_few es text g key t room = let len = length_permutation es g.seen g.permuted in omega arith
+
+  twice : (es : List (Datum × Datum)) (text : List ℕ) (key : Datum) (t : List ℕ) → PairDue es text → Spelled n text key t → 0 < MAX_MAP - length es → has_key key es ≡ true → IsKeyTwice whole text
+  twice es text key t g s room h = let one = has_one key es h in key_twice g.place (pair_few es text g key t room) s (Contains-permutation es g.seen (key, one.0) g.permuted one.1)
 
   key_due : (es : List (Datum × Datum)) (text : List ℕ) → PairDue es text → TermDue whole n (MAX_MAP - length es) text
   key_due es text g =
@@ -335,7 +335,7 @@ module _ (whole : List ℕ) (n : ℕ) (read : TermReader) (reads : IsReader n re
       record {
         due_here = λ room. due.key g.place (omega arith);
         deep = λ none b. deep_key (subst (λ m. Due whole (a_pair m g.seen) text) none g.place) b;
-        long = λ none b. one_pair g.place (let few = g.few in omega arith) b;
+        long = λ some none b. one_pair g.place some (let few = g.few in omega arith) b;
         other = λ no. no_key g.place no;
       }
 
@@ -344,7 +344,7 @@ module _ (whole : List ℕ) (n : ℕ) (read : TermReader) (reads : IsReader n re
   pair_blames es text g =
       bind_blames (λ (k : Datum × List ℕ). Spelled n text k.0 k.1 × (0 < MAX_MAP - length es)) (Blames whole) (read (MAX_MAP - length es) text) _ (reads (MAX_MAP - length es) text)
       (blames (MAX_MAP - length es) text (key_due es text g))
-      (λ k key. if_blames (Blames whole) (has_key k.0 es) _ _ (λ h. at_once text (twice es text k.0 k.1 g key.0 h))
+      (λ k key. if_blames (Blames whole) (has_key k.0 es) _ _ (λ h. at_once text (twice es text k.0 k.1 g key.0 key.1 h))
       (λ fresh. let few = pair_few es text g k.0 k.1 key.1 in let new = is_new k.0 es g.seen g.permuted fresh in bind_blames (λ (rest : List ℕ). after_gap false k.1 ≡ equals ∷ greater ∷ rest) (Blames whole) (expect_both equals greater (after_gap false k.1)) _ (expect_both_holds equals greater (after_gap false k.1))
       (expect_both_blames whole equals greater (after_gap false k.1) (λ no. behind_key g.place few new key.0 (whole_gap k.1) no))
       (λ rest e. bind_any (Blames whole) (read 1 (after_gap false rest)) _
@@ -392,7 +392,7 @@ module _ (whole : List ℕ) (n : ℕ) (read : TermReader) (reads : IsReader n re
 
   module _ (read_tail : TailReader) (tails : BlamesTail whole n read_tail) (tail_reads : IsTailReader n read_tail) where
     form_blames : (o : Opening) (text rest : List ℕ) → Opens o text rest → Due whole (a_term (suc n) 0) text → IfErr (form_at read read_tail n o rest) (Blames whole)
-    form_blames opens.Integer text rest h d = integer_term_blames whole text rest (suc n) 0 h d
+    form_blames opens.Integer text rest h d = integer_term_blames whole text rest n 0 h d
     form_blames opens.Word text rest h d = word_term_blames whole text rest n 0 h d
     form_blames opens.QuotedAtom text rest h d = quoted_atom_blames whole rest n 0 (rw h at d)
     form_blames opens.String text rest h d = string_blames whole rest n [] (omega arith) (rw h at d)
@@ -402,7 +402,7 @@ module _ (whole : List ℕ) (n : ℕ) (read : TermReader) (reads : IsReader n re
     form_blames opens.Binary text rest h d = binary_blames whole rest n 0 (rw h at d)
 
     tail_form_blames : (front : List Datum) (o : Opening) (text rest : List ℕ) → length front ≤ MAX_LIST → Opens o text rest → Due whole (a_term (suc n) (length front)) text → IfErr (tail_form read read_tail n front o rest) (Blames whole)
-    tail_form_blames front opens.Integer text rest few h d = bind_any (Blames whole) (integer_term_at rest) _ (integer_term_blames whole text rest (suc n) (length front) h d) (λ x. tt)
+    tail_form_blames front opens.Integer text rest few h d = bind_any (Blames whole) (integer_term_at rest) _ (integer_term_blames whole text rest n (length front) h d) (λ x. tt)
     tail_form_blames front opens.Word text rest few h d = bind_any (Blames whole) (word_term_at rest) _ (word_term_blames whole text rest n (length front) h d) (λ x. tt)
     tail_form_blames front opens.QuotedAtom text rest few h d = bind_any (Blames whole) (quoted_atom_at rest) _ (quoted_atom_blames whole rest n (length front) (rw h at d)) (λ x. tt)
     tail_form_blames front opens.String text rest few h d = string_blames whole rest n front few (rw h at d)
@@ -417,19 +417,19 @@ mutual
   term_blames : (whole : List ℕ) (n : ℕ) → BlamesTerm whole n (term_at n)
   term_blames whole zero room text d =
       bind_blames (λ (o : Opening × List ℕ). Opens o.0 text o.1 × (0 < 0) × (0 < room)) (Blames whole) (enter 0 room text) _ (enter_holds 0 room text)
-      (enter_blames whole 0 room text d.other (λ b none. d.deep none b) (λ b none. d.long none b)) (λ o h. absurd (let none = h.1 in omega arith))
+      (enter_blames whole 0 room text d.other (λ b none. d.deep none b) (λ b some none. d.long some none b)) (λ o h. absurd (let none = h.1 in omega arith))
   term_blames whole (suc n) room text d =
       bind_blames (λ (o : Opening × List ℕ). Opens o.0 text o.1 × (0 < suc n) × (0 < room)) (Blames whole) (enter (suc n) room text) _ (enter_holds (suc n) room text)
-      (enter_blames whole (suc n) room text d.other (λ b none. absurd (omega arith)) (λ b none. d.long none b))
+      (enter_blames whole (suc n) room text d.other (λ b none. absurd (omega arith)) (λ b some none. d.long some none b))
       (λ o h. form_blames whole n (term_at n) (term_holds n) (term_blames whole n) (tail_at n) (tail_blames whole n) (tail_holds n) o.0 text o.1 h.0 (d.due_here h.2))
 
   tail_blames : (whole : List ℕ) (n : ℕ) → BlamesTail whole n (tail_at n)
   tail_blames whole zero front text few d =
       bind_blames (λ (o : Opening × List ℕ). Opens o.0 text o.1 × (0 < 0) × (0 < 1)) (Blames whole) (enter 0 1 text) _ (enter_holds 0 1 text)
-      (enter_blames whole 0 1 text (λ no. no_term d no) (λ b _. deep_term d b) (λ b none. absurd (omega arith))) (λ o h. absurd (let none = h.1 in omega arith))
+      (enter_blames whole 0 1 text (λ no. no_term d no) (λ b _. deep_term d b) (λ b some none. absurd (omega arith))) (λ o h. absurd (let none = h.1 in omega arith))
   tail_blames whole (suc n) front text few d =
       bind_blames (λ (o : Opening × List ℕ). Opens o.0 text o.1 × (0 < suc n) × (0 < 1)) (Blames whole) (enter (suc n) 1 text) _ (enter_holds (suc n) 1 text)
-      (enter_blames whole (suc n) 1 text (λ no. no_term d no) (λ b none. absurd (omega arith)) (λ b none. absurd (omega arith)))
+      (enter_blames whole (suc n) 1 text (λ no. no_term d no) (λ b none. absurd (omega arith)) (λ b some none. absurd (omega arith)))
       (λ o h. tail_form_blames whole n (term_at n) (term_holds n) (term_blames whole n) (tail_at n) (tail_blames whole n) (tail_holds n) front o.0 text o.1 few h.0 d)
 
 -- ---- whole texts
@@ -486,23 +486,23 @@ deep_ends text rest (deep_key d b) = due_ends d
 deep_ends text rest (deep_character d n) = due_ends d
 
 long_ends : (text rest : List ℕ) → IsTooLong text rest → EndsIn text rest
-long_ends text rest (one_element d e b) = due_ends d
-long_ends text rest (one_pair d e b) = due_ends d
+long_ends text rest (one_element d s e b) = due_ends d
+long_ends text rest (one_pair d s e b) = due_ends d
 long_ends text rest (one_byte d e b) = due_ends d
-long_ends text rest (one_character d e n) = due_ends d
+long_ends text rest (one_character d s e n) = due_ends d
 long_ends text rest (one_letter d e w) = due_ends d
 
 twice_ends : (text rest : List ℕ) → IsKeyTwice text rest → EndsIn text rest
-twice_ends text rest (key_twice d s h) = due_ends d
+twice_ends text rest (key_twice d r s h) = due_ends d
 
 range_ends : (text rest : List ℕ) → IsOutOfRange text rest → EndsIn text rest
-range_ends text rest (wide_term d w) = due_ends d
-range_ends text rest (wide_segment d w) = due_ends d
-range_ends text rest (no_byte d i n) = due_ends d
-range_ends text rest (no_byte_character d l) = due_ends d
+range_ends text rest (wide_term d s w) = due_ends d
+range_ends text rest (wide_segment d r w) = due_ends d
+range_ends text rest (no_byte d r i n) = due_ends d
+range_ends text rest (no_byte_character d r l) = due_ends d
 
 escape_ends : (text rest : List ℕ) → IsNoEscape text rest → EndsIn text rest
-escape_ends text rest (no_escape d n) = due_ends d
+escape_ends text rest (no_escape d r s n) = due_ends d
 
 unexpected_ends : (text rest : List ℕ) → IsUnexpected text rest → EndsIn text rest
 unexpected_ends text rest (no_character d) = due_ends d

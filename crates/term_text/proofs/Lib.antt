@@ -19,3 +19,5 @@ pub mod Bytes
 pub mod Ends
 pub mod Blames
 pub mod BlamesTerms
+pub mod Stops
+pub mod Meets

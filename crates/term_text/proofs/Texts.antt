@@ -101,7 +101,7 @@ last_comment_in : (text : List ℕ) → AllByRecursion (λ x. x ≢ line_feed) t
 last_comment_in [] h = refl
 last_comment_in (c ∷ cs) h = rw (ne_eqb c line_feed h.0) (last_comment_in cs h.1)
 
-last_comment : (text : List ℕ) → IsLastComment text → after_gap false text ≡ []
+pub last_comment : (text : List ℕ) → IsLastComment text → after_gap false text ≡ []
 last_comment [] h = refl
 last_comment (c ∷ cs) h = rw (eq-eqb c percent h.0) (last_comment_in cs h.1)
 

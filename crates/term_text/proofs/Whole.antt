@@ -162,7 +162,7 @@ string_case : (bytes : List ℕ) {text rest cs : List ℕ} → Quoted double_quo
 string_case bytes {text} {rest} {cs} q l room =
     string_segment bytes text rest cs (quoted_again (byte_marks (length bytes)) (λ e. absurd cc) q [] (fits_behind (length bytes) (length cs) MAX_BINARY room) (bytes_allowed cs l))
 
-segment_again : {text bs rest : List ℕ} → Segment text bs rest → (bytes : List ℕ) → length bytes + length bs ≤ MAX_BINARY → segment_at bytes text ≡ Ok (bytes ++ bs, rest)
+pub segment_again : {text bs rest : List ℕ} → Segment text bs rest → (bytes : List ℕ) → length bytes + length bs ≤ MAX_BINARY → segment_at bytes text ≡ Ok (bytes ++ bs, rest)
 segment_again (a_byte i l) bytes room = byte_case bytes i l room
 segment_again (some_bytes q l) bytes room = string_case bytes q l room
 
@@ -190,7 +190,7 @@ record Again (n : ℕ) (text : List ℕ) (d : Datum) (rest : List ℕ) : Type 0 
   term : (room : ℕ) → 0 < room → term_at n room text ≡ Ok (d, rest)
   tail : (front : List Datum) → cell_count (cells front d) ≤ MAX_LIST → tail_at n front text ≡ Ok (cells front d, rest)
 
-enter_again : (n room : ℕ) (text rest : List ℕ) (o : Opening) → opening text ≡ Some (o, rest) → 0 < room → enter (suc n) room text ≡ Ok (o, rest)
+pub enter_again : (n room : ℕ) (text rest : List ℕ) (o : Opening) → opening text ≡ Some (o, rest) → 0 < room → enter (suc n) room text ≡ Ok (o, rest)
 unfolding enter
 enter_again n room text rest o e h =
     let levels : (suc n == 0) ≡ false = ne_eqb (suc n) 0 (λ e. omega arith) in
@@ -250,7 +250,7 @@ tailed_form : (n : ℕ) (front ds : List Datum) (d : Datum) {text t u v w rest :
 unfolding list_at list_end
 tailed_form n front ds d {text} {t} {u} {v} {w} {rest} g f e k h s m = rw (gap_first g f, first_bracket t f, e, gap_first k h, s, gap_again m) (ap (λ (e : Datum). Ok (e, rest)) (cells-append front ds d))
 
-element_again : (n limit : ℕ) (text rest : List ℕ) (d : Datum) (front : List Datum) → term_at n (limit - length front) text ≡ Ok (d, rest) → element_at (term_at n) limit front text ≡ Ok (front ++ d ∷ [], rest)
+pub element_again : (n limit : ℕ) (text rest : List ℕ) (d : Datum) (front : List Datum) → term_at n (limit - length front) text ≡ Ok (d, rest) → element_at (term_at n) limit front text ≡ Ok (front ++ d ∷ [], rest)
 unfolding element_at
 element_again n limit text rest d front e = rw e refl
 
@@ -328,9 +328,12 @@ mutual
       ∙ pairs_again ps h (insert_entry datum_cmp front key value) (omega arith) (apart_next front key value es apart)
       ∙ ap (λ (es : List (Datum × Datum)). Ok (es, rest)) (sym (put_all-more front key value es))
 
-  pair_again : {n : ℕ} {text rest : List ℕ} {key value : Datum} → Pair n text key value rest → (front : List (Datum × Datum)) → has_key key front ≡ false → 0 < MAX_MAP - length front → pair_at (term_at n) front text ≡ Ok (insert_entry datum_cmp front key value, rest)
+  pub pair_again : {n : ℕ} {text rest : List ℕ} {key value : Datum} → Pair n text key value rest → (front : List (Datum × Datum)) → has_key key front ≡ false → 0 < MAX_MAP - length front → pair_at (term_at n) front text ≡ Ok (insert_entry datum_cmp front key value, rest)
   pair_again (arrow {n} {text} {t} {u} {v} {rest} {key} {value} s g k w) front fresh room =
       pair_form n front text rest key value fresh ((spelled_again s).term (MAX_MAP - length front) room) g k (spelled_first w) ((spelled_again w).term 1 (lit< tt))
 
 pub spelled_again_term : {n : ℕ} {text rest : List ℕ} {d : Datum} → Spelled n text d rest → (room : ℕ) → 0 < room → term_at n room text ≡ Ok (d, rest)
 spelled_again_term s = (spelled_again s).term
+
+pub spelled_again_tail : {n : ℕ} {text rest : List ℕ} {d : Datum} → Spelled n text d rest → (front : List Datum) → cell_count (cells front d) ≤ MAX_LIST → tail_at n front text ≡ Ok (cells front d, rest)
+spelled_again_tail s = (spelled_again s).tail

@@ -140,7 +140,7 @@ pub record WordSoFar (text cs rest : List ℕ) : Type 0 where
 pub word_begins : (text : List ℕ) → WordSoFar text [] text
 word_begins text = record { whole = refl; each = tt; few = omega arith }
 
-each_more : (cs : List ℕ) (c : ℕ) → AllByRecursion (λ c. is_word c ≡ true) cs → is_word c ≡ true → AllByRecursion (λ c. is_word c ≡ true) (cs ++ c ∷ [])
+pub each_more : (cs : List ℕ) (c : ℕ) → AllByRecursion (λ c. is_word c ≡ true) cs → is_word c ≡ true → AllByRecursion (λ c. is_word c ≡ true) (cs ++ c ∷ [])
 each_more [] c all here = (here, tt)
 each_more (d ∷ cs) c all here = (all.0, each_more cs c all.1 here)
 

@@ -1,4 +1,7 @@
--- Why a text is refused at a place: what is due there, given what stands before it, and what stands there instead.
+-- Why a text is refused at a place: what is due there, given what stands before it, and what stands there instead. Of
+-- what is looked at there one after the other, all that comes before the cause is as it has to be: that a term begins,
+-- that a level is left, that there is room for one more, that it is in range, and, once it is read, that it is no key
+-- which stands there already. So a text has one cause at most.
 use Rattle.std.specs.Prelude.{ℕ, suc, ◌≡◌, ◌≢◌, ◌+◌, ◌<◌, ◌≤◌, ◌⊎◌, ℤ, pos, negsuc, List, [], ◌∷◌, ◌++◌, length, IsTrue, false, Some, None}
 use Rattle.std.specs.List.{Contains}
 use Rattle.std.specs.Char.{is_ascii_digit, is_ascii_lowercase}
@@ -44,6 +47,12 @@ abbrev pub MayStand : Quotes → ℕ → Type 0
 MayStand of_atom c = Unit {0}
 MayStand (of_string levels) c = 0 < levels
 MayStand of_bytes c = c < 256
+
+-- a level is left for a character
+abbrev pub HasLevel : Quotes → Type 0
+HasLevel of_atom = Unit {0}
+HasLevel (of_string levels) = 0 < levels
+HasLevel of_bytes = Unit {0}
 
 -- no pair has the key
 abbrev pub IsNew : Datum → List (Datum × Datum) → Type 0
@@ -168,21 +177,22 @@ pub data IsTooDeep (text : List ℕ) : List ℕ → Type 0 where
 
 -- one more than may stand there
 pub data IsTooLong (text : List ℕ) : List ℕ → Type 0 where
-  one_element : {r : Row} {n k : ℕ} {rest : List ℕ} → Due text (an_element r n k) rest
+  one_element : {r : Row} {n k : ℕ} {rest : List ℕ} → Due text (an_element r n k) rest → 0 < n
       → k ≡ most_elements r → BeginsTerm rest → IsTooLong text rest
-  one_pair : {n : ℕ} {es : List (Datum × Datum)} {rest : List ℕ} → Due text (a_pair n es) rest
+  one_pair : {n : ℕ} {es : List (Datum × Datum)} {rest : List ℕ} → Due text (a_pair n es) rest → 0 < n
       → length es ≡ map_limit → BeginsTerm rest → IsTooLong text rest
   one_byte : {k : ℕ} {rest : List ℕ} → Due text (a_segment k) rest → k ≡ binary_limit
       → BeginsInteger rest → IsTooLong text rest
   one_character : {q : Quotes} {k c : ℕ} {rest : List ℕ} → Due text (a_character q k) (c ∷ rest)
-      → k ≡ most_characters q → c ≢ mark_of q → IsTooLong text (c ∷ rest)
+      → HasLevel q → k ≡ most_characters q → c ≢ mark_of q → IsTooLong text (c ∷ rest)
   one_letter : {k c : ℕ} {rest : List ℕ} → Due text (a_letter k) (c ∷ rest) → k ≡ atom_limit
       → IsTrue (is_word c) → IsTooLong text (c ∷ rest)
 
 -- a key that one of the pairs before it has
 pub data IsKeyTwice (text : List ℕ) : List ℕ → Type 0 where
   key_twice : {n : ℕ} {es : List (Datum × Datum)} {t rest : List ℕ} {k v : Datum}
-      → Due text (a_pair n es) t → Spelled n t k rest → Contains es (k, v) → IsKeyTwice text t
+      → Due text (a_pair n es) t → length es < map_limit → Spelled n t k rest → Contains es (k, v)
+      → IsKeyTwice text t
 
 -- an integer that has more than 64 bits
 pub data IsWide : List ℕ → Type 0 where
@@ -199,20 +209,20 @@ IsNoByte (negsuc n) = Unit {0}
 
 -- an integer of more than 64 bits, or what is no byte where a byte is due
 pub data IsOutOfRange (text : List ℕ) : List ℕ → Type 0 where
-  wide_term : {n k : ℕ} {rest : List ℕ} → Due text (a_term n k) rest → IsWide rest
+  wide_term : {n k : ℕ} {rest : List ℕ} → Due text (a_term n k) rest → 0 < n → IsWide rest
       → IsOutOfRange text rest
-  wide_segment : {k : ℕ} {rest : List ℕ} → Due text (a_segment k) rest → IsWide rest
-      → IsOutOfRange text rest
-  no_byte : {k : ℕ} {z : ℤ} {rest t : List ℕ} → Due text (a_segment k) rest → Integer rest z t
-      → IsNoByte z → IsOutOfRange text rest
+  wide_segment : {k : ℕ} {rest : List ℕ} → Due text (a_segment k) rest → k < binary_limit
+      → IsWide rest → IsOutOfRange text rest
+  no_byte : {k : ℕ} {z : ℤ} {rest t : List ℕ} → Due text (a_segment k) rest → k < binary_limit
+      → Integer rest z t → IsNoByte z → IsOutOfRange text rest
   no_byte_character : {k c : ℕ} {rest : List ℕ} → Due text (a_character of_bytes k) (c ∷ rest)
-      → 255 < c → IsOutOfRange text (c ∷ rest)
+      → k < binary_limit → 255 < c → IsOutOfRange text (c ∷ rest)
 
 -- a backslash in quotes, in front of a character that makes no escape
 pub data IsNoEscape (text : List ℕ) : List ℕ → Type 0 where
   no_escape : {q : Quotes} {k e : ℕ} {rest : List ℕ}
-      → Due text (a_character q k) (backslash ∷ e ∷ rest) → escaped e ≡ None
-      → IsNoEscape text (backslash ∷ e ∷ rest)
+      → Due text (a_character q k) (backslash ∷ e ∷ rest) → k < most_characters q → HasLevel q
+      → escaped e ≡ None → IsNoEscape text (backslash ∷ e ∷ rest)
 
 -- a dot stands first, and what may follow it
 abbrev pub BeginsDot : List ℕ → Type 0
