@@ -99,7 +99,7 @@ unexpected_met text rest (no_dot d s g never) = met d _ (no_dot_stops s g never)
 
 -- ---- one fault
 
--- why a text is refused: bytes that are never text, or what the reader stops for
+-- why a text is refused: bytes that are no text, or what the reader stops for
 data Why (bytes : List ℕ) (fault : TextFault) : Type 0 where
   for_bytes : {at : ℕ} → fault ≡ faults.BadUtf8 at → Why bytes fault
   for_text : {cause : Cause} {left : ℕ} → text_at (chars bytes) ≡ Err (cause, left) → fault ≡ fault_of (stops.At cause left) (chars bytes) → Why bytes fault

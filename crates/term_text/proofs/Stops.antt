@@ -256,7 +256,7 @@ behind_element_stops r n k {t} {u} {rest} {d} room s g never zero ds len l = abs
 behind_element_stops r n k {t} {u} {rest} {d} room s g never (suc fuel) ds len l =
     rw (row_goes r n fuel ds false rest (omega arith) s (last_behind g (λ h. never (comma_follows r rest h)))) (row_ends r n (ds ++ d ∷ []) rest never)
 
--- what the reader of an element stops for, where never more may stand there
+-- what the reader of an element stops for, where no more may stand there
 pub at_element : (r : Row) (n k : ℕ) (t : List ℕ) (f : Fault) → ((room : ℕ) → room ≡ most_elements r - k → term_at n room t ≡ Err f) → RowStops r n k t f
 unfolding steps element_at
 at_element r n k t f h zero ds len l = absurd (omega arith)
