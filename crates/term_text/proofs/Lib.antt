@@ -21,3 +21,4 @@ pub mod Blames
 pub mod BlamesTerms
 pub mod Stops
 pub mod Meets
+pub mod Nexts

@@ -1,6 +1,7 @@
 -- Steps of the functions that read terms.
-use Rattle.std.proofs.Common.{◌≡◌, ℕ, zero, suc, ◌-◌, ◌<◌, inl, inr, Bool, true, false, List, [], ◌∷◌, ◌++◌, length, Result, Ok, Err, refl, arith}
-use Rattle.std.proofs.lemmas.Bool.{cases_Bool}
+use Rattle.std.proofs.Common.{◌≡◌, ℕ, zero, suc, ◌-◌, ◌<◌, inl, inr, Bool, true, false, List, [], ◌∷◌, ◌++◌, length, Option, Some, None, Result, Ok, Err, refl, sym, arith}
+use Rattle.std.proofs.lemmas.Bool.{cases_Bool, eqb-true}
+use Rattle.std.specs.Prelude.{◌==◌}
 use Rattle.std.specs.Ordering.{is_eq}
 use Rattle.std.specs.Option.{is_some}
 use Rattle.std.specs.BTreeMap.{is_at, insert_entry}
@@ -15,7 +16,7 @@ use Rattle.term_text.specs.declared.stop.Stop.TheVariants as stops
 use Rattle.term_text.specs.declared.token.Opening.{Opening}
 use Rattle.term_text.specs.declared.token.Opening.TheVariants as opens
 use Rattle.term_text.specs.TokenReading.{Fault, Read, ◌>>=◌, Fails, all_steps, after_gap, expect_both}
-use Rattle.term_text.specs.Reading.{TermReader, enter, term_at, tail_at, form_at, tail_form, behind_comma, separated, element_at, pair_at, sentence_at, sentence_step, text_at, has_key}
+use Rattle.term_text.specs.Reading.{TermReader, enter, term_at, tail_at, form_at, tail_form, behind_comma, separated, element_at, pair_at, sentence_at, sentence_step, next_from, next_at, text_at, has_key}
 use Rattle.term_text.proofs.Steps.{holds_at}
 use Rattle.term_text.proofs.Words.{Opens}
 use Rattle.term_text.proofs.Sound.{enter_holds}
@@ -136,3 +137,68 @@ text_fails e text h = bind_fails e (all_steps sentence_step [] (after_gap false 
 pub text_is : (text : List ℕ) (ds : List Datum) (rest : List ℕ) → all_steps sentence_step [] (after_gap false text) ≡ Ok (ds, rest) → text_at text ≡ Ok ds
 unfolding text_at
 text_is text ds rest h = rw h refl
+
+-- ---- the next term
+
+next_from_fails : (e : Stop) (g : List ℕ) → (length g == 0) ≡ false → Fails e (sentence_at g) → Fails e (next_from g)
+next_from_fails e [] some f = absurd cc
+next_from_fails e (c ∷ cs) some f = bind_fails e (sentence_at (c ∷ cs)) _ f
+
+pub next_fails : (e : Stop) (text g : List ℕ) → g ≡ after_gap false text → false ≡ (length g == 0) → Fails e (sentence_at g) → Fails e (next_at text)
+unfolding next_at
+next_fails e text g is some f = rw (← is) (next_from_fails e g (sym some) f)
+
+next_from_is : (g : List ℕ) (d : Datum) (rest : List ℕ) → (length g == 0) ≡ false → sentence_at g ≡ Ok (d, rest) → next_from g ≡ Ok (Some (d, rest))
+next_from_is [] d rest some e = absurd cc
+next_from_is (c ∷ cs) d rest some e = rw e refl
+
+pub next_is : (text g : List ℕ) (d : Datum) (rest : List ℕ) → g ≡ after_gap false text → false ≡ (length g == 0) → sentence_at g ≡ Ok (d, rest) → next_at text ≡ Ok (Some (d, rest))
+unfolding next_at
+next_is text g d rest is some e = rw (← is) (next_from_is g d rest (sym some) e)
+
+next_from_none : (g : List ℕ) → (length g == 0) ≡ true → next_from g ≡ Ok None
+next_from_none [] none = refl
+next_from_none (c ∷ cs) none = absurd (let no = eqb-true (length (c ∷ cs)) 0 none in omega arith)
+
+pub next_none : (text g : List ℕ) → g ≡ after_gap false text → true ≡ (length g == 0) → next_at text ≡ Ok None
+unfolding next_at
+next_none text g is none = rw (← is) (next_from_none g (sym none))
+
+-- what it says of a step
+pub failed_before : (e : Stop) (r : Read Datum) → (let some : Datum × List ℕ → Result (Option (Datum × List ℕ)) Fault = λ x. Ok (Some x) in Fails e (r >>= some)) → Fails e r
+failed_before stops.Memory r f = tt
+failed_before (stops.At cause left) (Ok x) f = absurd cc
+failed_before (stops.At cause left) (Err f) same = let is : f ≡ (cause, left) = cc in rw is refl
+
+read_before : (r : Read Datum) (y : Datum × List ℕ) → (let some : Datum × List ℕ → Result (Option (Datum × List ℕ)) Fault = λ x. Ok (Some x) in (r >>= some) ≡ Ok (Some y)) → r ≡ Ok y
+read_before (Ok x) y e = let is : x ≡ y = cc in rw is refl
+read_before (Err f) y e = absurd cc
+
+step_fails : (e : Stop) (ds : List Datum) (g : List ℕ) → Fails e (next_from g) → Fails e (sentence_step ds g)
+step_fails stops.Memory ds g f = tt
+step_fails (stops.At cause left) ds [] f = absurd cc
+step_fails (stops.At cause left) ds (c ∷ cs) f = sentence_fails (stops.At cause left) ds (c ∷ cs) (omega arith) (failed_before (stops.At cause left) (sentence_at (c ∷ cs)) f)
+
+pub next_step_fails : (e : Stop) (ds : List Datum) (text : List ℕ) → Fails e (next_at text) → Fails e (sentence_step ds (after_gap false text))
+unfolding next_at
+next_step_fails e ds text f = step_fails e ds (after_gap false text) f
+
+step_is : (ds : List Datum) (g : List ℕ) (d : Datum) (rest : List ℕ) → next_from g ≡ Ok (Some (d, rest)) → sentence_step ds g ≡ Ok (true, ds ++ d ∷ [], after_gap false rest)
+step_is ds [] d rest e = absurd cc
+step_is ds (c ∷ cs) d rest e = sentence_is ds (c ∷ cs) d rest (omega arith) (read_before (sentence_at (c ∷ cs)) (d, rest) e)
+
+pub next_step_is : (ds : List Datum) (text : List ℕ) (d : Datum) (rest : List ℕ) → next_at text ≡ Ok (Some (d, rest)) → sentence_step ds (after_gap false text) ≡ Ok (true, ds ++ d ∷ [], after_gap false rest)
+unfolding next_at
+next_step_is ds text d rest e = step_is ds (after_gap false text) d rest e
+
+some_after : (r : Read Datum) → (let some : Datum × List ℕ → Result (Option (Datum × List ℕ)) Fault = λ x. Ok (Some x) in (r >>= some) ≡ Ok None) → ⊥
+some_after (Ok x) e = absurd cc
+some_after (Err f) e = absurd cc
+
+nothing_from : (g : List ℕ) → next_from g ≡ Ok None → g ≡ []
+nothing_from [] e = refl
+nothing_from (c ∷ cs) e = absurd (some_after (sentence_at (c ∷ cs)) e)
+
+pub next_nothing : (text : List ℕ) → next_at text ≡ Ok None → after_gap false text ≡ []
+unfolding next_at
+next_nothing text e = nothing_from (after_gap false text) e

@@ -657,7 +657,7 @@ behind_dot_stops {t} {u} {v} {w} {d} f s g b x h (suc fuel) ds l =
     rw (step_again ds t v d (spelled_first s) (sentence_again t v d s g b), gap_is x) (h fuel (ds ++ d ∷ []) shorter)
 
 -- what the reader of a sentence stops for
-at_sentence : (c : ℕ) (t : List ℕ) (f : Fault) → sentence_at (c ∷ t) ≡ Err f → SentencesStop (c ∷ t) f
+pub at_sentence : (c : ℕ) (t : List ℕ) (f : Fault) → sentence_at (c ∷ t) ≡ Err f → SentencesStop (c ∷ t) f
 unfolding steps sentence_step
 at_sentence c t f h zero ds l = absurd (omega arith)
 at_sentence c t f h (suc fuel) ds l = rw h refl

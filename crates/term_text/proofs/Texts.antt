@@ -58,11 +58,11 @@ pub record TermsRead (ds : List Datum) (text : List ℕ) (es : List Datum) (rest
   pub joined : es ≡ ds ++ more
   pub spelled : (whole : List ℕ) → Behind whole text → Sentences whole more
 
-no_more : (whole : List ℕ) (g : List ℕ) → g ≡ [] → Behind whole g → Sentences whole []
+pub no_more : (whole : List ℕ) (g : List ℕ) → g ≡ [] → Behind whole g → Sentences whole []
 no_more whole g e (something b) = none b (subst IsLastComment (sym e) tt)
 no_more whole g e (nothing b l) = none b l
 
-to_some : (whole g : List ℕ) (c : ℕ) (cs : List ℕ) → g ≡ c ∷ cs → Behind whole g → Gap whole (c ∷ cs)
+pub to_some : (whole g : List ℕ) (c : ℕ) (cs : List ℕ) → g ≡ c ∷ cs → Behind whole g → Gap whole (c ∷ cs)
 to_some whole g c cs e (something b) = rw e at b
 to_some whole g c cs e (nothing b l) = absurd cc
 

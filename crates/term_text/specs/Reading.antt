@@ -222,6 +222,14 @@ unfoldable pub sentence_at : List ℕ → Read Datum
 sentence_at text =
     term_at depth_limit 1 text >>= λ x. dot_at (after_gap false x.1) >>= λ rest. Ok (x.0, rest)
 
+abbrev pub next_from : List ℕ → Result (Option (Datum × List ℕ)) Fault
+next_from [] = Ok None
+next_from (c ∷ cs) = sentence_at (c ∷ cs) >>= λ x. Ok (Some x)
+
+-- the next term, none where no more stand there
+unfoldable pub next_at : List ℕ → Result (Option (Datum × List ℕ)) Fault
+next_at text = next_from (after_gap false text)
+
 unfoldable pub sentence_step : Step (List Datum)
 sentence_step ds [] = Ok (false, ds, [])
 sentence_step ds (c ∷ cs) =

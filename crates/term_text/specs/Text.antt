@@ -1,6 +1,6 @@
 -- Term text (Erlang Reference Manual, "Data Types", "Terms"): what a text spells. Each relation has a text, what is
 -- spelled at its beginning, and the text that follows.
-use Rattle.std.specs.Prelude.{ℕ, suc, ◌≡◌, ◌<◌, ◌≤◌, ◌⊎◌, ℤ, pos, List, [], ◌∷◌, ◌++◌, length, IsTrue}
+use Rattle.std.specs.Prelude.{ℕ, suc, ◌≡◌, ◌<◌, ◌≤◌, ◌⊎◌, ℤ, pos, Option, Some, None, List, [], ◌∷◌, ◌++◌, length, IsTrue}
 use Rattle.std.specs.List.{AllByRecursion}
 use Rattle.std.specs.List.Sorted.{IsPermutation}
 use Rattle.std.specs.Char.{is_ascii_lowercase}
@@ -98,6 +98,21 @@ abbrev pub BeginsGap : List ℕ → Type 0
 BeginsGap [] = Unit {0}
 BeginsGap (c ∷ text) = IsTrue (is_white_space c) ⊎ (c ≡ percent)
 
+-- a gap, a term and its dot, and the text that follows
+pub record Sentence (text : List ℕ) (d : Datum) (rest : List ℕ) : Type 0 where
+  pub begin : List ℕ
+  pub end : List ℕ
+  pub gap : Gap text begin
+  pub term : Spelled depth_limit begin d end
+  pub dot : Gap end (dot ∷ rest)
+  pub ended : BeginsGap rest
+
+-- a text begins with these terms, each followed by a dot, and goes on with the rest
+pub data Front (text : List ℕ) : List Datum → List ℕ → Type 0 where
+  at_first : Front text [] text
+  behind : {t rest : List ℕ} {ds : List Datum} {d : Datum} → Front text ds t → Sentence t d rest
+      → Front text (ds ++ d ∷ []) rest
+
 -- a text of characters: terms, each followed by a dot
 pub data Sentences : List ℕ → List Datum → Type 0 where
   none : {text rest : List ℕ} → Gap text rest → IsLastComment rest → Sentences text []
@@ -109,3 +124,8 @@ pub data Sentences : List ℕ → List Datum → Type 0 where
 pub record Spells (bytes : List ℕ) (ds : List Datum) : Type 0 where
   pub utf8 : IsUtf8 bytes
   pub sentences : Sentences (chars bytes) ds
+
+-- what stands next in a text: a term with its dot and the text that follows, or no more than a gap
+abbrev pub Next : List ℕ → Option (Datum × List ℕ) → Type 0
+Next text None = Sentences text []
+Next text (Some x) = Sentence text x.0 x.1

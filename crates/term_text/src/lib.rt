@@ -29,5 +29,5 @@ mod write;
 
 pub use fault::TextFault;
 pub use law::{a_text_has_one_fault, a_text_spells_one_list, canonical_text_is_read_back};
-pub use text::read_terms;
+pub use text::{next_term, read_terms};
 pub use write::{write_binary, write_term};

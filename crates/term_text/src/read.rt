@@ -1,5 +1,5 @@
 //! Reading terms.
-ghost use Rattle.std.specs.Prelude.{◌≡◌, true, [], ◌^◌, ◌++◌, ◌<◌, ◌≤◌, length, IfOk, IfSome, MatchResult, OnOk, Ok};
+ghost use Rattle.std.specs.Prelude.{◌≡◌, true, [], ◌^◌, ◌++◌, ◌<◌, ◌≤◌, length, IfOk, IfSome, MatchResult, OnOk, Ok, option_map};
 ghost use Rattle.std.specs.Prelude.{map as each};
 ghost use Rattle.term_core.specs.Datum.{cells, items_of, entries_of};
 ghost use Rattle.std.specs.List.{AllByRecursion};
@@ -14,7 +14,7 @@ ghost use Rattle.term_core.specs.ShortRow.{row_items};
 ghost use Rattle.term_core.specs.Term.{tail_of};
 ghost use Rattle.term_text.specs.Character.{close_brace};
 ghost use Rattle.term_text.specs.TokenReading.{Gives, Fails, begins, is_allowed, all_steps};
-ghost use Rattle.term_text.specs.Reading.{IsWithin, AreElements, string_marks, enter, behind_comma, elements_at, elements_from, term_at, tail_at, tuple_at, list_at, list_end, string_at, word_term_at, quoted_atom_at, integer_term_at, binary_at, segments_at, segment_at, byte_at, form_at, byte_marks, one_byte_at, pair_at, map_at, separated, sentence_at, text_at};
+ghost use Rattle.term_text.specs.Reading.{IsWithin, AreElements, string_marks, enter, behind_comma, elements_at, elements_from, term_at, tail_at, tuple_at, list_at, list_end, string_at, word_term_at, quoted_atom_at, integer_term_at, binary_at, segments_at, segment_at, byte_at, form_at, byte_marks, one_byte_at, pair_at, map_at, separated, sentence_at, next_at, text_at};
 
 use crate::characters::{is_empty, split_ascii};
 use crate::stop::{Cause, Stop};
@@ -745,16 +745,30 @@ fn sentence<A: Allocator + Copy>(alloc: A, text: &str) -> Result<(Term<A>, &str)
     Ok((term, rest))
 }
 
+/// The next term of a text and the text behind its dot, none where no more stand there.
+#[tactic(auto, using(crate::proofs::Readers::next_fails, crate::proofs::Readers::next_is, crate::proofs::Readers::next_none))]
+pub fn next<A: Allocator + Copy>(alloc: A, text: &str) -> Result<Option<(Term<A>, &str)>, Stop>
+    ensures { Gives (option_map (λ x. (x.0, chars x.1.now))) result (next_at (chars text.now)) }
+{
+    let begin = after_gap(text);
+    if is_empty(begin) {
+        return Ok(None);
+    }
+    let (term, rest) = sentence(alloc, begin)?;
+    Ok(Some((term, rest)))
+}
+
 /// All terms of a text, each followed by a dot.
 pub fn terms<A: Allocator + Copy>(alloc: A, text: &str) -> Result<Vec<Term<A>, A>, Stop>
     ensures { Gives (λ v. v.items) result (text_at (chars text.now)) }
 {
     let mut terms = Vec::new(alloc);
-    let mut rest = after_gap(text);
-    while !is_empty(rest) {
-        let (term, after) = sentence(alloc, rest)?;
+    let mut rest = text;
+    loop {
+        let Some((term, after)) = next(alloc, rest)? else {
+            return Ok(terms);
+        };
         terms.push(term)?;
-        rest = after_gap(after);
+        rest = after;
     }
-    Ok(terms)
 }

@@ -1,16 +1,17 @@
 //! Reading a text of terms.
-ghost use Rattle.std.specs.Prelude.{◌≡◌, ◌↔◌, ◌<◌, ◌≤◌, ◌^◌, List, IfOk, IfErr, ℕ, IsErrOf, MatchResult, Ok, Err, length, take};
+ghost use Rattle.std.specs.Prelude.{◌≡◌, ◌↔◌, ◌⊎◌, ◌<◌, ◌≤◌, ◌^◌, List, Option, option_map, IfOk, IfErr, ℕ, IsErrOf, MatchResult, Ok, Err, length, take};
 ghost use Rattle.std.specs.Str.{encode_utf8_all, IsValidUpTo, chars};
 ghost use Rattle.term_core.specs.Datum.{Datum};
-ghost use Rattle.term_text.specs.Text.{Spells};
+ghost use Rattle.term_text.specs.Text.{Spells, Front, Next};
 ghost use Rattle.term_text.specs.Causes.{HasCause};
+ghost use Rattle.term_text.specs.Laws.{IsRefusal};
 ghost use Rattle.term_text.specs.Fault.{fault_of};
 ghost use Rattle.term_text.specs.TokenReading.{Gives};
 ghost use Rattle.term_text.specs.Reading.{text_at};
 
 use crate::characters::{count, split_first};
 use crate::fault::TextFault;
-use crate::read::terms;
+use crate::read::{next, terms};
 use crate::stop::{Cause, Stop};
 use std::alloc::Allocator;
 use std::str;
@@ -45,6 +46,30 @@ fn fault(stop: Stop, text: &str) -> TextFault
         Cause::Syntax => TextFault::Syntax(at),
         Cause::IntegerRange => TextFault::IntegerRange(at),
         Cause::UnsupportedEscape => TextFault::UnsupportedEscape(at),
+    }
+}
+
+/// The next term of what is left of a text, which has a dot behind it, and what is left then; none where no more than
+/// a gap stands there. A fault has its byte in the whole text.
+pub fn next_term<'t, A: Allocator + Copy>(
+    alloc: A,
+    text: &str,
+    rest: &'t str,
+) -> Result<Option<(Term<A>, &'t str)>, TextFault>
+    // What is read stands there.
+    ensures ok { IfOk result (λ next. Next (chars rest.now)
+        (option_map (λ x. (x.0, chars x.1.now)) next)) }
+    // What stands there is read, unless memory runs out.
+    ensures only { (there : Option (Datum × List ℕ)) → Next (chars rest.now) there → MatchResult
+        result (λ next. option_map (λ x. (x.0, chars x.1.now)) next ≡ there)
+        (λ fault. fault ≡ TextFault.Memory) }
+    // What a refusal names is the fault of the text, where so many of its terms stand before what is left.
+    ensures cause { (ds : List Datum) → Front (chars text.now) ds (chars rest.now) → IfErr result
+        (λ fault. (fault ≡ TextFault.Memory) ⊎ IsRefusal text.now fault) }
+{
+    match next(alloc, rest) {
+        Ok(next) => Ok(next),
+        Err(stop) => Err(fault(stop, text)),
     }
 }
 
