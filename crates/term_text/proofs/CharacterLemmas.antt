@@ -7,7 +7,7 @@ use Rattle.std.proofs.lemmas.Bool.{cases_Bool, cases_lt, ne_eqb}
 use Rattle.std.proofs.lemmas.List.{take-append-drop, take_all, drop-drop, length-append, length-drop}
 use Rattle.std.proofs.lemmas.Str.{chars-nil, chars_past_char, encode_ascii, byte_from_char, IsCharBoundary-after_ascii, encodes-append, encodes-chars}
 use Rattle.std.specs.List.{slice_get}
-use Rattle.term_text.specs.Character.{EndsAscii, percent, minus, plus, dot, single_quote, double_quote, open_brace, open_bracket, number_sign, less, is_white_space, is_word}
+use Rattle.term_text.specs.Character.{EndsAscii, line_feed, percent, minus, plus, dot, single_quote, double_quote, open_brace, open_bracket, number_sign, less, is_white_space, is_word}
 use Rattle.term_text.specs.declared.stop.Cause.TheVariants.{Syntax}
 use Rattle.term_text.specs.Tokens.{EndsRun}
 use Rattle.term_text.specs.TokenReading.{Fault, after_gap, behind, behind_both, begins, begins_gap, dot_at, expect, expect_both, number_run, behind_sign, opening, is_sign}
@@ -67,6 +67,10 @@ empty_alike (b ∷ bs) utf8 = some_alike b bs (chars (b ∷ bs)) (encodes-chars 
 pub no_gap : (text : List ℕ) → EndsAscii text → text ≡ after_gap false text
 no_gap [] ends = refl
 no_gap (c ∷ text) ends = let percent : (c == percent) ≡ false = grind arith in let white : is_white_space c ≡ false = grind arith in rw (percent, white) refl
+
+-- a gap goes on behind a line feed
+pub behind_line_feed : (text rest left : List ℕ) (c : ℕ) → text ≡ c ∷ rest → c ≡ line_feed → left ≡ after_gap false rest → left ≡ after_gap false text
+behind_line_feed text rest left c e feed is = rw (e, feed) is
 
 pub none_behind : (a : ℕ) (text : List ℕ) → a < 128 → EndsAscii text → None ≡ behind a text
 none_behind a [] small ends = refl

@@ -22,3 +22,4 @@ pub mod BlamesTerms
 pub mod Stops
 pub mod Meets
 pub mod Nexts
+pub mod AddedLemmas

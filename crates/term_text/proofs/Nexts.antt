@@ -1,6 +1,7 @@
 -- The next term of what is left of a text.
-use Rattle.std.proofs.Common.{◌≡◌, ◌≢◌, ◌⊎◌, ◌↔◌, inl, inr, ℕ, List, [], ◌∷◌, ◌++◌, length, Option, Some, None, Result, Ok, Err, refl, sym, ap, ◌∙◌, arith}
+use Rattle.std.proofs.Common.{◌≡◌, ◌≢◌, ◌⊎◌, ◌↔◌, inl, inr, ℕ, List, [], ◌∷◌, ◌++◌, length, Option, Some, None, Result, Ok, Err, refl, sym, ap, ◌∙◌, arith, append_assoc}
 use Rattle.std.specs.Prelude.{IfOk, IfErr}
+use Rattle.std.proofs.lemmas.List.{append-nil}
 use Rattle.std.specs.Str.{chars, IsUtf8, IsValidUpTo}
 use Rattle.term_core.specs.Datum.{Datum}
 use Rattle.term_text.specs.Text.{Spelled, Sentences, Sentence, Front, Next}
@@ -17,6 +18,8 @@ use Rattle.term_text.specs.declared.stop.Stop.TheVariants as stops
 use Rattle.term_text.specs.TokenReading.{Fault, ◌>>=◌, Fails, after_gap}
 use Rattle.term_text.specs.Reading.{sentence_at, next_from, next_at, text_at}
 use Rattle.term_text.proofs.Steps.{bind_holds, holds_at}
+use Rattle.term_text.proofs.Items.{gap_shorter}
+use Rattle.term_text.proofs.Shorter.{spelled_shorter}
 use Rattle.term_text.proofs.Tokens.{Behind, gap_holds, gap_again}
 use Rattle.term_text.proofs.Whole.{IsFirst, spelled_first, gap_first}
 use Rattle.term_text.proofs.Texts.{SentenceRead, sentence_holds, sentence_again, last_comment, no_more, to_some}
@@ -99,3 +102,20 @@ next_refusal bytes rest ds (stops.At cause left) utf8 front f =
       cause = has_cause bytes (chars bytes) (stops.At cause left) refl stopped;
       bad_utf8 = λ at. (λ e. absurd (no_bad_utf8 (stops.At cause left) (chars bytes) at e), λ v. absurd (not_both bytes at utf8 v));
     })
+
+-- what follows a term and its dot is shorter
+pub sentence_shorter : {text rest : List ℕ} {d : Datum} → Sentence text d rest → length rest < length text
+sentence_shorter s = let a = gap_shorter s.gap in let b = spelled_shorter s.term in let c = gap_shorter s.dot in omega arith
+
+-- a text that a term begins
+pub sentence_first : {text rest : List ℕ} {d : Datum} {ds : List Datum} → Sentence text d rest → Sentences rest ds → Sentences text (d ∷ ds)
+sentence_first s more = sentence s.gap s.term s.dot s.ended more
+
+-- what stands in front, and what follows
+pub front_whole : {text rest : List ℕ} {ds es : List Datum} → Front text ds rest → Sentences rest es → Sentences text (ds ++ es)
+front_whole at_first more = more
+front_whole {es = es} (behind {ds} {d} front s) more = rw (append_assoc ds (d ∷ []) es) (front_whole front (sentence_first s more))
+
+pub front_join : {text t rest : List ℕ} {ds es : List Datum} → Front text ds t → Front t es rest → Front text (ds ++ es) rest
+front_join {ds} front at_first = rw (append-nil ds) front
+front_join {ds} front (behind {ds = es} {d} more s) = rw (← append_assoc ds es (d ∷ [])) (behind (front_join front more) s)

@@ -3,12 +3,12 @@ use Rattle.std.proofs.Common.{◌≡◌, ℕ, ◌-◌, ◌^◌, ◌≤◌, ◌<�
 use Rattle.std.specs.Prelude.{◌==◌, if◌then◌else◌}
 use Rattle.std.specs.Char.{is_ascii_digit, is_ascii_lowercase}
 use Rattle.std.specs.List.{AllByRecursion}
-use Rattle.std.proofs.lemmas.Bool.{cases_Bool, eqb-true, leb-true, ne_eqb}
+use Rattle.std.proofs.lemmas.Bool.{cases_Bool, cases_eq, eqb-true, eq-eqb, leb-true, ne_eqb}
 use Rattle.term_core.specs.Datum.{Datum, items_of, cells}
 use Rattle.term_core.specs.Datum.Datum.{atom, tuple, nil}
 use Rattle.term_core.specs.declared.TheConstants.{MAX_TUPLE, MAX_LIST}
 use Rattle.term_text.specs.declared.stop.Stop.{Stop}
-use Rattle.term_text.specs.Character.{is_word, close_brace, close_bracket}
+use Rattle.term_text.specs.Character.{is_word, open_brace, close_brace, close_bracket}
 use Rattle.term_text.specs.Tokens.{EndsRun}
 use Rattle.term_text.specs.declared.token.Opening.{Opening}
 use Rattle.term_text.specs.declared.token.Opening.TheVariants as opens
@@ -53,6 +53,19 @@ begun text more c e h = rw e h
 
 pub plain_integer : (levels room : ℕ) (text more rest : List ℕ) (c : ℕ) (d : Datum) → 0 < levels → 0 < room → text ≡ c ∷ more → is_ascii_digit c ≡ true → integer_term_at text ≡ Ok (d, rest) → term_at levels room text ≡ Ok (d, rest)
 plain_integer levels room text more rest c d l r e h number = plain_by levels room text rest opens.Integer d l r (opening_integer text (rw e (inl h))) number
+
+brace_opens : (text rest : List ℕ) → Some rest ≡ behind open_brace text → opening text ≡ Some (opens.Tuple, rest)
+brace_opens [] rest e = absurd cc
+brace_opens (c ∷ cs) rest e = elim (cases_eq c open_brace) [
+  | inl is ↦ let same : Some rest ≡ Some cs = rw (eq-eqb c open_brace is) at e in let rests : rest ≡ cs = cc in rw (is, rests) refl
+  | inr other ↦ absurd (let none : Some rest ≡ None = rw (ne_eqb c open_brace other) at e in cc)
+]
+
+pub begins_tuple : (levels room : ℕ) (text rest : List ℕ) → 0 < levels → 0 < room → Some rest ≡ behind open_brace text → term_at levels room text ≡ tuple_at (term_at (levels - 1)) rest
+unfolding enter
+begins_tuple levels room text rest l r e =
+    let entered : enter levels room text ≡ Ok (opens.Tuple, rest) = rw (brace_opens text rest e, ne_eqb levels 0 (λ z. omega arith), ne_eqb room 0 (λ z. omega arith)) refl in
+    term_is levels room text rest opens.Tuple entered
 
 abbrev pub signed_if : Bool → ℕ → Option ℤ
 signed_if below m = if fits below m then Some (signed below m) else None

@@ -8,3 +8,4 @@ pub mod Canonical
 pub mod Fault
 pub mod FaultNumbers
 pub mod Laws
+pub mod Added

@@ -15,9 +15,10 @@
 //!   `proofs/Within.antt`, `proofs/Constructed.antt`.
 //! - Texts of bytes: `text.rt`. Refusals, by the byte where they are met: `fault.rt`; that what one names stands there:
 //!   `proofs/Blames.antt`, `proofs/BlamesTerms.antt`.
-//! - Writing: `write.rt`. The laws: `law.rt`, proved in `proofs/Written.antt` and `proofs/ReadBack.antt`.
+//! - Writing: `write.rt`, over `added.rt`. The laws: `law.rt`, proved in `proofs/Written.antt` and `proofs/ReadBack.antt`.
 #![tactic(auto)]
 
+mod added;
 mod characters;
 mod fault;
 mod law;
@@ -29,5 +30,5 @@ mod write;
 
 pub use fault::TextFault;
 pub use law::{a_text_has_one_fault, a_text_spells_one_list, canonical_text_is_read_back};
-pub use text::{next_term, read_terms};
+pub use text::{next_term, read_terms, text_of};
 pub use write::{write_binary, write_term};

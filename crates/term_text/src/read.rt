@@ -1,5 +1,5 @@
 //! Reading terms.
-ghost use Rattle.std.specs.Prelude.{◌≡◌, true, [], ◌^◌, ◌++◌, ◌<◌, ◌≤◌, length, IfOk, IfSome, MatchResult, OnOk, Ok, option_map};
+ghost use Rattle.std.specs.Prelude.{◌≡◌, true, [], ◌^◌, ◌++◌, ◌-◌, ◌<◌, ◌≤◌, length, IfOk, IfSome, MatchResult, OnOk, Ok, option_map};
 ghost use Rattle.std.specs.Prelude.{map as each};
 ghost use Rattle.term_core.specs.Datum.{cells, items_of, entries_of};
 ghost use Rattle.std.specs.List.{AllByRecursion};
@@ -451,6 +451,23 @@ fn plain<A: Allocator>(levels: u8, room: usize, text: &str) -> Option<(Term<A>, 
     None
 }
 
+/// The text behind a brace, where a tuple may stand there and one begins.
+#[tactic(auto, using(crate::proofs::Short::begins_tuple))]
+#[inline(always)]
+fn brace(levels: u8, room: usize, text: &str) -> Option<&str>
+    ensures levels { IfSome result (λ _. 0 < levels) }
+    ensures rest { IfSome result (λ rest. term_at levels room (chars text.now)
+        ≡ tuple_at (term_at (levels - 1)) (chars rest.now)) }
+{
+    if levels == 0 {
+        return None;
+    }
+    if room == 0 {
+        return None;
+    }
+    behind('{', text)
+}
+
 /// A term, where so many levels are left for it and so many terms.
 #[cycle(term)]
 #[inline(always)]
@@ -479,6 +496,9 @@ fn any_term<A: Allocator + Copy>(
 ) -> Result<(Term<A>, &str), Stop>
     ensures { Gives (λ x. (x.0, chars x.1.now)) result (term_at levels room (chars text.now)) }
 {
+    if let Some(rest) = brace(levels, room, text) {
+        return tuple(alloc, levels - 1, rest);
+    }
     let (opening, rest) = enter(levels, room, text)?;
     form(alloc, levels - 1, opening, rest)
 }

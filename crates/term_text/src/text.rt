@@ -49,6 +49,18 @@ fn fault(stop: Stop, text: &str) -> TextFault
     }
 }
 
+/// The text that bytes are in UTF-8.
+pub fn text_of(bytes: &[u8]) -> Result<&str, TextFault>
+    ensures ok { IfOk result (λ text. text.now ≡ bytes.now) }
+    // The first byte that begins no UTF-8.
+    ensures refused { IfErr result (IsRefusal bytes.now) }
+{
+    match str::from_utf8(bytes) {
+        Ok(text) => Ok(text),
+        Err(error) => Err(TextFault::BadUtf8(error.valid_up_to())),
+    }
+}
+
 /// The next term of what is left of a text, which has a dot behind it, and what is left then; none where no more than
 /// a gap stands there. A fault has its byte in the whole text.
 pub fn next_term<'t, A: Allocator + Copy>(
@@ -69,7 +81,7 @@ pub fn next_term<'t, A: Allocator + Copy>(
 {
     match next(alloc, rest) {
         Ok(next) => Ok(next),
-        Err(stop) => Err(fault(stop, text)),
+        Err(refused) => Err(fault(refused, text)),
     }
 }
 

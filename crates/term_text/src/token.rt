@@ -49,9 +49,30 @@ pub fn is_word(character: char) -> bool
 }
 
 /// The text behind white space and comments, which go from `%` to the end of their line.
-#[tactic(auto, using(crate::proofs::CharacterLemmas::no_gap))]
+#[tactic(auto, using(crate::proofs::CharacterLemmas::no_gap, crate::proofs::CharacterLemmas::behind_line_feed))]
 #[inline(always)]
 pub fn after_gap(text: &str) -> &str
+    ensures { chars result.now ≡ after_gap false (chars text.now) }
+{
+    let Some((first, rest)) = split_ascii(text) else {
+        return text;
+    };
+    if first == '\n' {
+        return after_other_gap(rest);
+    }
+    if is_white_space(first) {
+        return behind_gap(text);
+    }
+    if first == '%' {
+        return behind_gap(text);
+    }
+    text
+}
+
+/// The same, where a line feed isn't looked for by itself.
+#[tactic(auto, using(crate::proofs::CharacterLemmas::no_gap))]
+#[inline(always)]
+fn after_other_gap(text: &str) -> &str
     ensures { chars result.now ≡ after_gap false (chars text.now) }
 {
     let Some((first, _)) = split_ascii(text) else {
@@ -193,6 +214,9 @@ pub fn dot(text: &str) -> Result<&str, Stop>
     }
 }
 
+/// A number below this has room for one more digit.
+const ROOM_FOR_A_DIGIT: u64 = 100_000_000_000_000_000;
+
 /// The number that the digits in front write, at most the greatest of 64 bits, and the text behind them.
 #[tactic(auto, using(crate::proofs::CharacterLemmas::no_more_digits))]
 #[inline(always)]
@@ -201,6 +225,29 @@ fn number(text: &str) -> (u64, &str)
     ensures rest { chars result.1.now ≡ (number_run 0 (chars text.now)).1 }
 {
     let mut value: u64 = 0;
+    let mut rest = text;
+    while value < ROOM_FOR_A_DIGIT {
+        let Some((character, behind)) = split_ascii(rest) else {
+            return (value, rest);
+        };
+        let Some(digit) = character.to_digit(10) else {
+            return (value, rest);
+        };
+        value = value * 10 + u64::from(digit);
+        rest = behind;
+    }
+    more_digits(value, rest)
+}
+
+/// The number that the digits in front write behind those of another, at most the greatest of 64 bits, and the text
+/// behind them.
+#[tactic(auto, using(crate::proofs::CharacterLemmas::no_more_digits))]
+#[inline(never)]
+fn more_digits(before: u64, text: &str) -> (u64, &str)
+    ensures value { result.0 ≡ min (number_run before (chars text.now)).0 (2 ^ 64 - 1) }
+    ensures rest { chars result.1.now ≡ (number_run before (chars text.now)).1 }
+{
+    let mut value = before;
     let mut rest = text;
     loop {
         let Some((character, behind)) = split_ascii(rest) else {

@@ -11,9 +11,11 @@ ghost use Rattle.term_core.specs.Term.{tail_of, IsTail};
 ghost use Rattle.term_text.specs.Character.{equals, greater};
 ghost use Rattle.term_text.specs.Canonical.{are_word, canonical, atom_text, is_bare, has_bare_form, is_reserved, quoted_character, quoted_characters, bytes_text, items_text, entries_text, tail_text};
 
+use crate::added::Added;
 use crate::token::is_word;
 use itoa::Buffer;
 use std::alloc::{AllocError, Allocator};
+use std::mem;
 use term_core::{Term, View};
 
 /// Words that are written in quotes.
@@ -89,8 +91,9 @@ fn is_bare(characters: &[char]) -> bool
 }
 
 /// Appends a character as it stands between single quotes.
-fn put_quoted<B: Allocator>(character: char, out: &mut Vec<u8, B>) -> Result<(), AllocError>
-    ensures { OnOk result (out.new.items ≡ out.old.items
+fn put_quoted<B: Allocator>(character: char, out: &mut Added<B>) -> Result<(), AllocError>
+    ensures front { out.new.front ≡ out.old.front }
+    ensures items { OnOk result (out.new.items ≡ out.old.items
         ++ encode_utf8_all (quoted_character character)) }
 {
     match character {
@@ -104,16 +107,18 @@ fn put_quoted<B: Allocator>(character: char, out: &mut Vec<u8, B>) -> Result<(),
 }
 
 /// Appends a character in UTF-8.
-fn put_character<B: Allocator>(character: char, out: &mut Vec<u8, B>) -> Result<(), AllocError>
-    ensures { OnOk result (out.new.items ≡ out.old.items ++ encode_utf8_all (character ∷ [])) }
+fn put_character<B: Allocator>(character: char, out: &mut Added<B>) -> Result<(), AllocError>
+    ensures front { out.new.front ≡ out.old.front }
+    ensures items { OnOk result (out.new.items ≡ out.old.items ++ encode_utf8_all (character ∷ [])) }
 {
     let mut buffer = [0; 4];
     out.extend_from_slice(character.encode_utf8(&mut buffer).as_bytes())
 }
 
 /// Appends these characters as they are.
-fn put_characters<B: Allocator>(characters: &[char], out: &mut Vec<u8, B>) -> Result<(), AllocError>
-    ensures { OnOk result (out.new.items ≡ out.old.items ++ encode_utf8_all characters.now) }
+fn put_characters<B: Allocator>(characters: &[char], out: &mut Added<B>) -> Result<(), AllocError>
+    ensures front { out.new.front ≡ out.old.front }
+    ensures items { OnOk result (out.new.items ≡ out.old.items ++ encode_utf8_all characters.now) }
 {
     for character in characters {
         put_character(*character, out)?;
@@ -122,8 +127,9 @@ fn put_characters<B: Allocator>(characters: &[char], out: &mut Vec<u8, B>) -> Re
 }
 
 /// Appends these characters as they stand between single quotes.
-fn put_all_quoted<B: Allocator>(characters: &[char], out: &mut Vec<u8, B>) -> Result<(), AllocError>
-    ensures { OnOk result (out.new.items ≡ out.old.items
+fn put_all_quoted<B: Allocator>(characters: &[char], out: &mut Added<B>) -> Result<(), AllocError>
+    ensures front { out.new.front ≡ out.old.front }
+    ensures items { OnOk result (out.new.items ≡ out.old.items
         ++ encode_utf8_all (quoted_characters characters.now)) }
 {
     for character in characters {
@@ -134,8 +140,9 @@ fn put_all_quoted<B: Allocator>(characters: &[char], out: &mut Vec<u8, B>) -> Re
 
 /// Appends an atom, bare where it can be.
 #[tactic(auto, using(crate::proofs::Bytes::quoted_bytes))]
-fn put_atom<B: Allocator>(characters: &[char], out: &mut Vec<u8, B>) -> Result<(), AllocError>
-    ensures { OnOk result (out.new.items ≡ out.old.items
+fn put_atom<B: Allocator>(characters: &[char], out: &mut Added<B>) -> Result<(), AllocError>
+    ensures front { out.new.front ≡ out.old.front }
+    ensures items { OnOk result (out.new.items ≡ out.old.items
         ++ encode_utf8_all (atom_text characters.now)) }
 {
     if is_bare(characters) {
@@ -148,24 +155,27 @@ fn put_atom<B: Allocator>(characters: &[char], out: &mut Vec<u8, B>) -> Result<(
 }
 
 /// Appends a byte in decimal.
-fn put_byte<B: Allocator>(byte: u8, out: &mut Vec<u8, B>) -> Result<(), AllocError>
-    ensures { OnOk result (out.new.items ≡ out.old.items ++ decimal byte) }
+fn put_byte<B: Allocator>(byte: u8, out: &mut Added<B>) -> Result<(), AllocError>
+    ensures front { out.new.front ≡ out.old.front }
+    ensures items { OnOk result (out.new.items ≡ out.old.items ++ decimal byte) }
 {
     let mut buffer = Buffer::new();
     out.extend_from_slice(buffer.format(byte).as_bytes())
 }
 
 /// Appends an integer in decimal.
-fn put_integer<B: Allocator>(value: i64, out: &mut Vec<u8, B>) -> Result<(), AllocError>
-    ensures { OnOk result (out.new.items ≡ out.old.items ++ signed_decimal value) }
+fn put_integer<B: Allocator>(value: i64, out: &mut Added<B>) -> Result<(), AllocError>
+    ensures front { out.new.front ≡ out.old.front }
+    ensures items { OnOk result (out.new.items ≡ out.old.items ++ signed_decimal value) }
 {
     let mut buffer = Buffer::new();
     out.extend_from_slice(buffer.format(value).as_bytes())
 }
 
 /// Appends bytes in decimal, with commas between.
-fn put_bytes<B: Allocator>(bytes: &[u8], out: &mut Vec<u8, B>) -> Result<(), AllocError>
-    ensures { OnOk result (out.new.items ≡ out.old.items ++ bytes_text bytes.now) }
+fn put_bytes<B: Allocator>(bytes: &[u8], out: &mut Added<B>) -> Result<(), AllocError>
+    ensures front { out.new.front ≡ out.old.front }
+    ensures items { OnOk result (out.new.items ≡ out.old.items ++ bytes_text bytes.now) }
 {
     let Some((first, rest)) = bytes.split_first() else {
         return Ok(());
@@ -181,8 +191,9 @@ fn put_bytes<B: Allocator>(bytes: &[u8], out: &mut Vec<u8, B>) -> Result<(), All
 /// Appends the canonical text of a term.
 #[tactic(auto, using(crate::proofs::Bytes::integer_bytes, crate::proofs::Bytes::nil_bytes, crate::proofs::Bytes::atom_is, crate::proofs::Bytes::list_depth))]
 #[cycle(put)]
-fn put<A: Allocator, B: Allocator>(term: &Term<A>, out: &mut Vec<u8, B>) -> Result<(), AllocError>
-    ensures { OnOk result (out.new.items ≡ out.old.items ++ encode_utf8_all (canonical term.now)) }
+fn put<A: Allocator, B: Allocator>(term: &Term<A>, out: &mut Added<B>) -> Result<(), AllocError>
+    ensures front { out.new.front ≡ out.old.front }
+    ensures items { OnOk result (out.new.items ≡ out.old.items ++ encode_utf8_all (canonical term.now)) }
 {
     match term.view() {
         View::Integer(value) => put_integer(value, out),
@@ -196,8 +207,9 @@ fn put<A: Allocator, B: Allocator>(term: &Term<A>, out: &mut Vec<u8, B>) -> Resu
 }
 
 /// Appends a binary.
-fn put_binary<B: Allocator>(bytes: &[u8], out: &mut Vec<u8, B>) -> Result<(), AllocError>
-    ensures { OnOk result (out.new.items ≡ out.old.items
+fn put_binary<B: Allocator>(bytes: &[u8], out: &mut Added<B>) -> Result<(), AllocError>
+    ensures front { out.new.front ≡ out.old.front }
+    ensures items { OnOk result (out.new.items ≡ out.old.items
         ++ encode_utf8_all (canonical (binary bytes.now))) }
 {
     out.extend_from_slice(b"<<")?;
@@ -211,9 +223,10 @@ fn put_binary<B: Allocator>(bytes: &[u8], out: &mut Vec<u8, B>) -> Result<(), Al
 #[cycle(put)]
 fn put_tuple<A: Allocator, B: Allocator>(
     elements: &[Term<A>],
-    out: &mut Vec<u8, B>,
+    out: &mut Added<B>,
 ) -> Result<(), AllocError>
-    ensures { OnOk result (out.new.items ≡ out.old.items
+    ensures front { out.new.front ≡ out.old.front }
+    ensures items { OnOk result (out.new.items ≡ out.old.items
         ++ encode_utf8_all (canonical (tuple (items_of elements.now)))) }
 {
     out.push(b'{')?;
@@ -227,9 +240,10 @@ fn put_tuple<A: Allocator, B: Allocator>(
 #[cycle(put)]
 fn put_elements<A: Allocator, B: Allocator>(
     elements: &[Term<A>],
-    out: &mut Vec<u8, B>,
+    out: &mut Added<B>,
 ) -> Result<(), AllocError>
-    ensures { OnOk result (out.new.items ≡ out.old.items
+    ensures front { out.new.front ≡ out.old.front }
+    ensures items { OnOk result (out.new.items ≡ out.old.items
         ++ encode_utf8_all (items_text (items_of elements.now))) }
 {
     let Some((first, rest)) = elements.split_first() else {
@@ -249,10 +263,11 @@ fn put_elements<A: Allocator, B: Allocator>(
 fn put_list<A: Allocator, B: Allocator>(
     elements: &[Term<A>],
     tail: Option<&Term<A>>,
-    out: &mut Vec<u8, B>,
+    out: &mut Added<B>,
 ) -> Result<(), AllocError>
     requires { (0 < length elements.now) × IsTail (option_copied tail) }
-    ensures { OnOk result (out.new.items ≡ out.old.items
+    ensures front { out.new.front ≡ out.old.front }
+    ensures items { OnOk result (out.new.items ≡ out.old.items
         ++ encode_utf8_all (canonical (cells elements.now (tail_of (option_copied tail.entry))))) }
 {
     out.push(b'[')?;
@@ -270,9 +285,10 @@ fn put_list<A: Allocator, B: Allocator>(
 #[cycle(put)]
 fn put_map<A: Allocator, B: Allocator>(
     pairs: &[(Term<A>, Term<A>)],
-    out: &mut Vec<u8, B>,
+    out: &mut Added<B>,
 ) -> Result<(), AllocError>
-    ensures { OnOk result (out.new.items ≡ out.old.items
+    ensures front { out.new.front ≡ out.old.front }
+    ensures items { OnOk result (out.new.items ≡ out.old.items
         ++ encode_utf8_all (canonical (map (entries_of pairs.now)))) }
 {
     out.extend_from_slice(b"#{")?;
@@ -286,9 +302,10 @@ fn put_map<A: Allocator, B: Allocator>(
 #[cycle(put)]
 fn put_pairs<A: Allocator, B: Allocator>(
     pairs: &[(Term<A>, Term<A>)],
-    out: &mut Vec<u8, B>,
+    out: &mut Added<B>,
 ) -> Result<(), AllocError>
-    ensures { OnOk result (out.new.items ≡ out.old.items
+    ensures front { out.new.front ≡ out.old.front }
+    ensures items { OnOk result (out.new.items ≡ out.old.items
         ++ encode_utf8_all (entries_text (entries_of pairs.now))) }
 {
     let Some(((key, value), rest)) = pairs.split_first() else {
@@ -308,15 +325,44 @@ fn put_pairs<A: Allocator, B: Allocator>(
 fn put_pair<A: Allocator, B: Allocator>(
     key: &Term<A>,
     value: &Term<A>,
-    out: &mut Vec<u8, B>,
+    out: &mut Added<B>,
 ) -> Result<(), AllocError>
-    ensures { OnOk result (out.new.items ≡ out.old.items
+    ensures front { out.new.front ≡ out.old.front }
+    ensures items { OnOk result (out.new.items ≡ out.old.items
         ++ encode_utf8_all (canonical key.now ++ (equals ∷ greater ∷ canonical value.now))) }
 {
     put(key, out)?;
     out.extend_from_slice(b"=>")?;
     put(value, out)?;
     Ok(())
+}
+
+/// A text to be added to this one, which is taken from where it is.
+#[inline(always)]
+fn taken<B: Allocator + Copy>(out: &mut Vec<u8, B>) -> Added<B>
+    ensures front { result.front ≡ out.old.items }
+    ensures items { result.items ≡ [] }
+{
+    let empty = Vec::new(*out.allocator());
+    Added::new(mem::replace(out, empty))
+}
+
+/// Puts a text back, with what was added where that ended well.
+#[inline(always)]
+fn put_back<B: Allocator>(
+    text: Added<B>,
+    ended: Result<(), AllocError>,
+    out: &mut Vec<u8, B>,
+) -> Result<(), AllocError>
+    ensures same { result ≡ ended }
+    ensures ok { OnOk result (out.new.items ≡ text.front ++ text.items) }
+    ensures err { OnErr result (out.new.items ≡ text.front) }
+{
+    match ended {
+        Ok(()) => *out = text.whole(),
+        Err(AllocError) => *out = text.before(),
+    }
+    ended
 }
 
 /// Appends the canonical text of a term: no white space, integers in decimal, lists never as strings, maps by rising
@@ -329,9 +375,9 @@ pub fn write_term<A: Allocator, B: Allocator + Copy>(
         ++ encode_utf8_all (canonical term.now)) }
     ensures err { OnErr result (out.new.items ≡ out.old.items) }
 {
-    let mut text = Vec::new(*out.allocator());
-    put(term, &mut text)?;
-    out.extend_from_slice(text.as_slice())
+    let mut text = taken(out);
+    let ended = put(term, &mut text);
+    put_back(text, ended, out)
 }
 
 /// Appends the canonical text of the binary of these bytes, as `<<1,2>>`; there may be more of them than a term may
@@ -344,7 +390,7 @@ pub fn write_binary<B: Allocator + Copy>(
         ++ encode_utf8_all (canonical (binary bytes.now))) }
     ensures err { OnErr result (out.new.items ≡ out.old.items) }
 {
-    let mut text = Vec::new(*out.allocator());
-    put_binary(bytes, &mut text)?;
-    out.extend_from_slice(text.as_slice())
+    let mut text = taken(out);
+    let ended = put_binary(bytes, &mut text);
+    put_back(text, ended, out)
 }

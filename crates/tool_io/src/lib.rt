@@ -23,4 +23,4 @@ pub use lines::{out_of_memory, put_line, write_if_many, write_lines};
 pub use numbers::{
     BAD_INPUT, BAD_LIMIT, READ_FAILED, STRANGER_CONTINUATION, STRANGER_SESSION, WRITE_FAILED,
 };
-pub use terms::{read_input, read_script};
+pub use terms::{first_of, next_of, read_input, read_script, text_of};

@@ -1,6 +1,8 @@
 //! The terms of an input.
-ghost use Rattle.std.specs.Prelude.{◌≡◌, IfOk, IfErr};
-ghost use Rattle.term_text.specs.Text.{Spells};
+ghost use Rattle.std.specs.Prelude.{◌≡◌, List, option_map, IfOk, IfErr};
+ghost use Rattle.std.specs.Str.{chars};
+ghost use Rattle.term_core.specs.Datum.{Datum};
+ghost use Rattle.term_text.specs.Text.{Spells, Sentence, Front, Next};
 ghost use Rattle.tool_io.specs.Terms.{OfInput, HasTerms, IsUnread, IsUnspelled};
 
 use crate::fault::ToolFault;
@@ -8,7 +10,7 @@ use crate::input::read_whole;
 use std::alloc::Allocator;
 use std::io::Read;
 use term_core::Term;
-use term_text::{TextFault, read_terms};
+use term_text::{TextFault, a_text_has_one_fault, next_term, read_terms};
 
 /// The terms that a reader gives, to its end: each with a dot behind it, and at least one.
 #[tactic(auto, using(crate::proofs::TermsLemmas::unread))]
@@ -61,5 +63,47 @@ fn terms_of<A: Allocator + Copy>(alloc: A, input: &[u8]) -> Result<Vec<Term<A>, 
     match read_terms(alloc, input) {
         Ok(terms) => Ok(terms),
         Err(fault) => Err(ToolFault::from(fault)),
+    }
+}
+
+/// The text that an input is in UTF-8.
+pub fn text_of(input: &[u8]) -> Result<&str, ToolFault>
+    ensures ok { IfOk result (λ text. text.now ≡ input.now) }
+    ensures refused { IfErr result (IsUnspelled input.now) }
+{
+    a_text_has_one_fault();
+    match term_text::text_of(input) {
+        Ok(text) => Ok(text),
+        Err(fault) => Err(ToolFault::from(fault)),
+    }
+}
+
+/// The next term of what is left of a text, which has a dot behind it, and what is left then; none where no more than
+/// a gap stands there.
+pub fn next_of<'t, A: Allocator + Copy>(
+    alloc: A,
+    text: &str,
+    rest: &'t str,
+) -> Result<Option<(Term<A>, &'t str)>, ToolFault>
+    ensures ok { IfOk result (λ next. Next (chars rest.now)
+        (option_map (λ x. (x.0, chars x.1.now)) next)) }
+    ensures refused { (ds : List Datum) → Front (chars text.now) ds (chars rest.now)
+        → IfErr result (IsUnspelled text.now) }
+{
+    a_text_has_one_fault();
+    match next_term(alloc, text, rest) {
+        Ok(next) => Ok(next),
+        Err(fault) => Err(ToolFault::from(fault)),
+    }
+}
+
+/// The first term of a text, which has to have one, and what is left behind its dot.
+pub fn first_of<A: Allocator + Copy>(alloc: A, text: &str) -> Result<(Term<A>, &str), ToolFault>
+    ensures ok { IfOk result (λ x. Sentence (chars text.now) x.0 (chars x.1.now)) }
+    ensures refused { IfErr result (IsUnread text.now) }
+{
+    match next_of(alloc, text, text)? {
+        Some(first) => Ok(first),
+        None => Err(ToolFault::Text(TextFault::Syntax(text.len()))),
     }
 }

@@ -1,16 +1,22 @@
 -- What is known of terms as what is known of an input.
 use Rattle.std.proofs.Common.{◌≡◌, ◌<◌, inl, inr, ℕ, ◌-◌, Option, Some, None, List, [], ◌∷◌, length, refl, sym, ap, ◌∙◌, get_or, drop, take, arith}
 use Rattle.std.proofs.lemmas.List.{take_all}
-use Rattle.std.specs.Io.KnownBytes.{Keeps}
+use Rattle.std.specs.Prelude.{IfSome}
+use Rattle.std.specs.Str.{IsUtf8, chars}
+use Rattle.std.specs.Io.KnownBytes.{Keeps, Appends}
 use Rattle.term_core.specs.Datum.{Datum}
 use Rattle.term_core.specs.Datum.Datum.{binary}
-use Rattle.tool_io.specs.Terms.{OfInput, OfTerms, HasTerms, IsUnread}
+use Rattle.term_text.specs.Text.{Sentences, Sentence, Front}
+use Rattle.term_text.specs.Text.Front.{at_first, behind}
+use Rattle.term_text.proofs.Nexts.{sentence_first}
+use Rattle.tool_io.specs.Terms.{OfInput, OfTerms, HasTerms, IsUnread, IsUnspelled}
 use Rattle.tool_io.specs.declared.fault.ToolFault.{ToolFault}
 use Rattle.tool_io.specs.declared.fault.ToolFault.TheVariants as fault
-use Rattle.tool_query.specs.Answers.{Report, WritesLines, StopsLines}
+use Rattle.tool_io.proofs.TermsLemmas.{unspelled_is_unread}
+use Rattle.tool_query.specs.Answers.{Report, AnswersText}
 use Rattle.tool_query.specs.Code.{StopsVerdict}
 use Rattle.tool_query.specs.Query.{Query, Answers, IsUnloaded}
-use Rattle.tool_query.specs.Run.{Asks, AsksNothing, IsAsked, WritesAnswers, StopsAnswers, Stops}
+use Rattle.tool_query.specs.Run.{Asks, AsksNothing, WritesAnswers, StopsAnswers, Stops, OfItsTerms, StopsAt}
 
 -- what is known of a writer that isn't called stays
 pub kept : (known : Option (List ℕ)) → Keeps known known
@@ -25,6 +31,13 @@ of_terms known terms P h p = (h.0, h.1, (terms, h.2, p))
 pub unread : (known old : Option (List ℕ)) (f : ToolFault) (Stopped : List Datum → Type 0) → OfInput known (λ input. IsUnread input f) → Stops known old old f Stopped
 unread known old f Stopped h = inl (h, kept old)
 
+-- what is said of an input that was read whole is known of what was left
+pub of_its_terms : (known : Option (List ℕ)) (input : List ℕ) (P : List Datum → Type 0) → IfSome known (λ bytes. input ≡ bytes) → OfItsTerms input P → OfTerms known P
+of_its_terms known input P is t = (input, is, t)
+
+pub stops_at : (known old new : Option (List ℕ)) (input : List ℕ) (f : ToolFault) (Stopped : List Datum → Type 0) → IfSome known (λ bytes. input ≡ bytes) → StopsAt input old new f Stopped → Stops known old new f Stopped
+stops_at known old new input f Stopped is h = elim h [ inl none ↦ inl ((input, is, none.0), none.1) | inr t ↦ inr (input, is, t) ]
+
 -- ---- a query and objects
 
 -- terms in front of which one stands
@@ -32,21 +45,35 @@ pub parted : (terms : List Datum) (first : Datum) → 0 < length terms → first
 parted [] first some is = absurd (omega (arith, some))
 parted (d ∷ ds) first some is = ap (λ e. e ∷ ds) (sym is) ∙ ap (λ es. first ∷ es) (sym (take_all (length (d ∷ ds) - 1) ds (omega arith)))
 
-pub asked_answered : (r : Report) (terms : List Datum) (first : Datum) (objects : List Datum) (q : Query) (old new : Option (List ℕ)) → terms ≡ first ∷ objects → Asks r first q → WritesLines r (Answers q) objects old new → WritesAnswers r terms old new
-asked_answered r terms first objects q old new whole asks lines = record { query = q; objects = objects; asked = record { first = first; whole = whole; asks = asks }; answered = lines }
+-- terms of which one is read by itself
+pub has_terms : (input text rest : List ℕ) (first : Datum) (objects : List Datum) → text ≡ input → IsUtf8 text → Sentence (chars text) first rest → Sentences rest objects → HasTerms input (first ∷ objects)
+has_terms input text rest first objects is utf8 s more = rw is at (record { spelled = record { utf8 = utf8; sentences = sentence_first s more }; some = omega arith })
 
--- how the lines end early is how answering does
-pub answers_stopped : (r : Report) (terms : List Datum) (q : Query) (objects : List Datum) (old new : Option (List ℕ)) (f : ToolFault) → IsAsked r terms q objects → StopsLines r (Answers q) objects old new f → StopsAnswers r terms old new f
-answers_stopped r terms q objects old new fault.Memory h k = inr (q, objects, h, k)
-answers_stopped r terms q objects old new fault.WriteFailed h k = tt
-answers_stopped r terms q objects old new (fault.Text f) h k = absurd k
-answers_stopped r terms q objects old new fault.BadInput h k = absurd k
-answers_stopped r terms q objects old new (fault.Specification f) h k = absurd k
-answers_stopped r terms q objects old new (fault.File f) h k = absurd k
-answers_stopped r terms q objects old new (fault.Code f b) h k = absurd k
-answers_stopped r terms q objects old new fault.ReadFailed h k = absurd k
-answers_stopped r terms q objects old new fault.TooSmall h k = absurd k
-answers_stopped r terms q objects old new fault.BadOptions h k = absurd k
+-- the lines of a query are written
+pub report_written : (r : Report) (input text rest lines : List ℕ) (first : Datum) (q : Query) (old new : Option (List ℕ)) → text ≡ input → IsUtf8 text → Sentence (chars text) first rest → Asks r first q → AnswersText r (Answers q) rest lines → Appends old new lines → OfItsTerms input (λ terms. WritesAnswers r terms old new)
+report_written r input text rest lines first q old new is utf8 s asks a gained =
+    (first ∷ a.objects, has_terms input text rest first a.objects is utf8 s a.spelled, record {
+      query = q;
+      objects = a.objects;
+      asked = record { first = first; whole = refl; asks = asks };
+      answered = record { out = lines; lines = a.lines; gained = gained };
+    })
+
+-- the writer fails
+pub report_failed : (r : Report) (input text rest lines : List ℕ) (first : Datum) (R : Datum → Option Datum → Type 0) (old new : Option (List ℕ)) (f : ToolFault) → text ≡ input → IsUtf8 text → Sentence (chars text) first rest → AnswersText r R rest lines → f ≡ fault.WriteFailed → StopsAt input old new f (λ terms. StopsAnswers r terms old new f)
+report_failed r input text rest lines first R old new f is utf8 s a failed =
+    inr (first ∷ a.objects, has_terms input text rest first a.objects is utf8 s a.spelled, rw failed tt)
+
+-- the text is refused, or has no term
+pub report_unread : (input text : List ℕ) (old : Option (List ℕ)) (f : ToolFault) (Stopped : List Datum → Type 0) → text ≡ input → IsUnread text f → StopsAt input old old f Stopped
+report_unread input text old f Stopped is h = inl (rw is at h, kept old)
+
+pub report_unspelled : (input text : List ℕ) (old : Option (List ℕ)) (f : ToolFault) (Stopped : List Datum → Type 0) → text ≡ input → IsUnspelled text f → StopsAt input old old f Stopped
+report_unspelled input text old f Stopped is h = report_unread input text old f Stopped is (unspelled_is_unread text f h)
+
+-- one term stands in front
+pub one_front : {text rest : List ℕ} {d : Datum} → Sentence text d rest → Front text (d ∷ []) rest
+one_front s = behind at_first s
 
 -- the first term asks nothing
 pub asked_nothing : (r : Report) (terms : List Datum) (first : Datum) (objects : List Datum) (old : Option (List ℕ)) (f : ToolFault) → terms ≡ first ∷ objects → AsksNothing r first f → StopsAnswers r terms old old f
@@ -60,6 +87,11 @@ asked_nothing r terms first objects old (fault.Code f b) is h = (first, objects,
 asked_nothing r terms first objects old fault.ReadFailed is h = (first, objects, is, h, kept old)
 asked_nothing r terms first objects old fault.TooSmall is h = (first, objects, is, h, kept old)
 asked_nothing r terms first objects old fault.BadOptions is h = (first, objects, is, h, kept old)
+
+-- in an input
+pub report_nothing : (r : Report) (input text rest : List ℕ) (first : Datum) (objects : List Datum) (old : Option (List ℕ)) (f : ToolFault) → text ≡ input → IsUtf8 text → Sentence (chars text) first rest → Sentences rest objects → AsksNothing r first f → StopsAt input old old f (λ terms. StopsAnswers r terms old old f)
+report_nothing r input text rest first objects old f is utf8 s more h =
+    inr (first ∷ objects, has_terms input text rest first objects is utf8 s more, asked_nothing r (first ∷ objects) first objects old f refl h)
 
 -- ---- a file that isn't loaded
 

@@ -4,6 +4,7 @@ use Rattle.std.specs.Io.KnownBytes.{Appends}
 use Rattle.term_core.specs.Datum.{Datum}
 use Rattle.term_core.specs.Datum.Datum.{atom, tuple}
 use Rattle.term_core.specs.Datum.Items.{no_items, item}
+use Rattle.term_text.specs.Text.{Sentences}
 use Rattle.tool_io.specs.Lines.{line}
 use Rattle.tool_io.specs.declared.fault.ToolFault.{ToolFault}
 use Rattle.tool_io.specs.declared.fault.ToolFault.TheVariants as fault
@@ -48,6 +49,13 @@ pub record Puts (r : Report) (Answered : Datum → Option Datum → Type 0) (obj
   pub answer : Option Datum
   pub answered : Answered object answer
   pub grown : new ≡ old ++ report_line r answer
+
+-- the lines on the terms that a text of characters spells
+pub record AnswersText (r : Report) (Answered : Datum → Option Datum → Type 0) (text out : List ℕ)
+    : Type 0 where
+  pub objects : List Datum
+  pub spelled : Sentences text objects
+  pub lines : AreLines r Answered objects out
 
 -- the writer gains the lines on all objects
 pub record WritesLines (r : Report) (Answered : Datum → Option Datum → Type 0)

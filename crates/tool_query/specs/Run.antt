@@ -3,7 +3,7 @@ use Rattle.std.specs.Prelude.{ℕ, ◌≡◌, ◌⊎◌, Option, List, ◌∷◌
 use Rattle.std.specs.Io.KnownBytes.{Keeps}
 use Rattle.term_core.specs.Datum.{Datum}
 use Rattle.mspec_syntax.specs.Specification.{Specification}
-use Rattle.tool_io.specs.Terms.{OfInput, OfTerms, IsUnread}
+use Rattle.tool_io.specs.Terms.{OfInput, OfTerms, HasTerms, IsUnread}
 use Rattle.tool_io.specs.declared.fault.ToolFault.{ToolFault}
 use Rattle.tool_io.specs.declared.fault.ToolFault.TheVariants as fault
 use Rattle.tool_query.specs.Answers.{Report, WritesLines, WritesBeginning}
@@ -50,3 +50,11 @@ StopsAnswers r terms old new f =
 abbrev pub Stops : (known old new : Option (List ℕ)) → ToolFault → (List Datum → Type 0) → Type 0
 Stops known old new f Stopped =
     (OfInput known (λ input. IsUnread input f) × Keeps old new) ⊎ OfTerms known Stopped
+
+-- what holds of the terms of an input that is known
+abbrev pub OfItsTerms : List ℕ → (List Datum → Type 0) → Type 0
+OfItsTerms input P = (terms : List Datum) × HasTerms input terms × P terms
+
+-- so of a command that ends early
+abbrev pub StopsAt : (input : List ℕ) → (old new : Option (List ℕ)) → ToolFault → (List Datum → Type 0) → Type 0
+StopsAt input old new f Stopped = (IsUnread input f × Keeps old new) ⊎ OfItsTerms input Stopped

@@ -1,118 +1,95 @@
-//! The lines of answers on objects.
-ghost use Rattle.std.specs.Prelude.{◌≡◌, ◌++◌, OnOk, OnErr, IfErr, Option};
+//! The lines of answers on objects, each of which is let go once it is answered.
+ghost use Rattle.std.specs.Prelude.{◌≡◌, ◌++◌, List, OnOk, OnErr, IfOk, IfErr, Option};
 ghost use Rattle.std.specs.Option.{option_copied};
+ghost use Rattle.std.specs.Str.{chars};
 ghost use Rattle.term_core.specs.Datum.{Datum};
+ghost use Rattle.term_text.specs.Text.{Front};
 ghost use Rattle.mcode.specs.Answer.{answer_of};
 ghost use Rattle.mspec_meaning.specs.Meaning.{Means};
 ghost use Rattle.tool_io.specs.Lines.{line};
-ghost use Rattle.tool_query.specs.Answers.{answer_line, outcome_of, Puts, WritesLines, StopsLines};
+ghost use Rattle.tool_io.specs.Terms.{IsUnspelled};
+ghost use Rattle.tool_query.specs.Answers.{answer_line, outcome_of, Puts, AnswersText};
 ghost use Rattle.tool_query.specs.Answers.Report.{answers, outcomes};
 
-use machine::Machine;
+use machine::run;
 use mspec_meaning::evaluate;
 use mspec_syntax::Spec;
 use std::alloc::{AllocError, Allocator};
-use std::io::Write;
 use term_core::Term;
-use tool_io::{ToolFault, out_of_memory, put_line, write_if_many, write_lines};
+use tool_io::{ToolFault, next_of, put_line};
 use verifier::Verified;
 
-/// Writes what code answers on these objects.
-pub(crate) fn write_runs<A: Allocator + Copy, W: Write>(
+/// The lines of what code answers on the terms that are left of a text.
+pub(crate) fn run_lines<A: Allocator + Copy>(
     alloc: A,
     code: &Verified<A>,
-    objects: &[Term<A>],
-    writer: &mut W,
-) -> Result<(), ToolFault>
-    ensures ok { OnOk result (WritesLines answers (λ object answer.
-        answer ≡ answer_of code.now object) objects.now
-        (W.contents writer.old) (W.contents writer.new)) }
-    ensures stopped { IfErr result (StopsLines answers (λ object answer.
-        answer ≡ answer_of code.now object) objects.now
-        (W.contents writer.old) (W.contents writer.new)) }
-{
-    let heap = &alloc;
-    let Ok(mut machine) = Machine::new(heap, code) else {
-        return Err(ToolFault::Memory);
-    };
-    let written = run_each(alloc, &mut machine, objects, writer);
-    machine.finish();
-    written
-}
-
-/// Writes what a machine answers on these objects.
-fn run_each<'a, A: Allocator + Copy, W: Write>(
-    alloc: A,
-    machine: &mut Machine<'a, '_, A>,
-    objects: &'a [Term<A>],
-    writer: &mut W,
-) -> Result<(), ToolFault>
-    ensures ok { OnOk result (WritesLines answers (λ object answer.
-        answer ≡ answer_of machine.old.code object) objects.now
-        (W.contents writer.old) (W.contents writer.new)) }
-    ensures stopped { IfErr result (StopsLines answers (λ object answer.
-        answer ≡ answer_of machine.old.code object) objects.now
-        (W.contents writer.old) (W.contents writer.new)) }
+    text: &str,
+    rest: &str,
+) -> Result<Vec<u8, A>, ToolFault>
+    ensures ok { IfOk result (λ lines. AnswersText answers (λ object answer.
+        answer ≡ answer_of code.now object) (chars rest.now) lines.items) }
+    ensures refused { (ds : List Datum) → Front (chars text.now) ds (chars rest.now)
+        → IfErr result (IsUnspelled text.now) }
 {
     let mut lines = Vec::new(alloc);
-    for object in objects {
-        match put_run(machine, object, &mut lines) {
-            Ok(()) => write_if_many(writer, &mut lines)?,
-            Err(AllocError) => return Err(out_of_memory(writer, &mut lines)),
-        }
+    let mut left = rest;
+    loop {
+        let Some((object, after)) = next_of(alloc, text, left)? else {
+            return Ok(lines);
+        };
+        put_run(alloc, code, object, &mut lines)?;
+        left = after;
     }
-    write_lines(writer, &mut lines)
 }
 
-/// Puts the line of a machine's answer on an object at the end, where there is one.
-fn put_run<'a, A: Allocator + Copy>(
-    machine: &mut Machine<'a, '_, A>,
-    object: &'a Term<A>,
+/// Puts the line of what code answers on an object at the end, where there is one.
+fn put_run<A: Allocator + Copy>(
+    alloc: A,
+    code: &Verified<A>,
+    object: Term<A>,
     lines: &mut Vec<u8, A>,
 ) -> Result<(), AllocError>
-    ensures ok { OnOk result (Puts answers (λ object answer.
-        answer ≡ answer_of machine.old.code object) object.now lines.old.items lines.new.items) }
-    ensures err { OnErr result (lines.new.items ≡ lines.old.items) }
-    ensures code { machine.new.code ≡ machine.old.code }
+    ensures { OnOk result (Puts answers (λ object answer.
+        answer ≡ answer_of code.now object) object lines.old.items lines.new.items) }
 {
-    let (answer, _) = machine.run(object)?;
+    let (answer, _) = run(alloc, code, &object)?;
     put_answer(answer.as_ref(), lines)
 }
 
-/// Writes how these objects come out.
-pub(crate) fn write_outcomes<A: Allocator + Copy, W: Write>(
+/// The lines of how the terms that are left of a text come out.
+pub(crate) fn outcome_lines<A: Allocator + Copy>(
     alloc: A,
     specification: &Spec<A>,
-    objects: &[Term<A>],
-    writer: &mut W,
-) -> Result<(), ToolFault>
-    ensures ok { OnOk result (WritesLines outcomes (Means specification.now) objects.now
-        (W.contents writer.old) (W.contents writer.new)) }
-    ensures stopped { IfErr result (StopsLines outcomes (Means specification.now) objects.now
-        (W.contents writer.old) (W.contents writer.new)) }
+    text: &str,
+    rest: &str,
+) -> Result<Vec<u8, A>, ToolFault>
+    ensures ok { IfOk result (λ lines. AnswersText outcomes (Means specification.now)
+        (chars rest.now) lines.items) }
+    ensures refused { (ds : List Datum) → Front (chars text.now) ds (chars rest.now)
+        → IfErr result (IsUnspelled text.now) }
 {
     let mut lines = Vec::new(alloc);
-    for object in objects {
-        match put_evaluated(alloc, specification, object, &mut lines) {
-            Ok(()) => write_if_many(writer, &mut lines)?,
-            Err(AllocError) => return Err(out_of_memory(writer, &mut lines)),
-        }
+    let mut left = rest;
+    loop {
+        let Some((object, after)) = next_of(alloc, text, left)? else {
+            return Ok(lines);
+        };
+        put_evaluated(alloc, specification, object, &mut lines)?;
+        left = after;
     }
-    write_lines(writer, &mut lines)
 }
 
 /// Puts the line that says how an object comes out at the end.
 fn put_evaluated<A: Allocator + Copy>(
     alloc: A,
     specification: &Spec<A>,
-    object: &Term<A>,
+    object: Term<A>,
     lines: &mut Vec<u8, A>,
 ) -> Result<(), AllocError>
-    ensures ok { OnOk result (Puts outcomes (Means specification.now) object.now
+    ensures { OnOk result (Puts outcomes (Means specification.now) object
         lines.old.items lines.new.items) }
-    ensures err { OnErr result (lines.new.items ≡ lines.old.items) }
 {
-    let answer = evaluate(alloc, specification, object)?;
+    let answer = evaluate(alloc, specification, &object)?;
     put_outcome(answer.as_ref(), lines)
 }
 

@@ -1,15 +1,17 @@
 //! The commands that answer objects.
-ghost use Rattle.std.specs.Prelude.{◌<◌, length, OnOk, IfErr};
-ghost use Rattle.tool_io.specs.Terms.{OfTerms};
+ghost use Rattle.std.specs.Prelude.{List, OnOk, IfOk, IfErr};
+ghost use Rattle.std.specs.Str.{chars};
+ghost use Rattle.term_core.specs.Datum.{Datum};
+ghost use Rattle.term_text.specs.Text.{Sentences, Front};
+ghost use Rattle.tool_io.specs.Terms.{OfTerms, IsUnspelled};
 ghost use Rattle.tool_query.specs.Answers.Report.{answers, outcomes};
-ghost use Rattle.tool_query.specs.Run.{WritesAnswers, StopsAnswers, Stops};
+ghost use Rattle.tool_query.specs.Run.{WritesAnswers, StopsAnswers, Stops, OfItsTerms, StopsAt};
 
-use crate::answers::{write_outcomes, write_runs};
+use crate::answers::{outcome_lines, run_lines};
 use crate::query::{code_of_query, specification_of};
 use std::alloc::Allocator;
 use std::io::{Read, Write};
-use term_core::Term;
-use tool_io::{ToolFault, read_input};
+use tool_io::{ToolFault, first_of, next_of, read_whole, text_of, write_lines};
 
 /// Reads a specification or a code file, which is a binary, and objects, to the reader's end, and writes each answer:
 /// its canonical text, a dot and a line feed, in the order of the objects. A specification is compiled, and its code
@@ -26,8 +28,8 @@ pub fn tool_run<A: Allocator + Copy, R: Read, W: Write>(
         (W.contents writer.old) (W.contents writer.new) fault (λ terms.
         StopsAnswers answers terms (W.contents writer.old) (W.contents writer.new) fault)) }
 {
-    let terms = read_input(alloc, reader)?;
-    run_terms(alloc, terms.as_slice(), writer)
+    let input = read_whole(alloc, reader)?;
+    run_input(alloc, input.as_slice(), writer)
 }
 
 /// Reads a specification and objects, to the reader's end, and writes a line for each object, by the plain evaluator:
@@ -44,44 +46,74 @@ pub fn tool_test<A: Allocator + Copy, R: Read, W: Write>(
         (W.contents writer.old) (W.contents writer.new) fault (λ terms.
         StopsAnswers outcomes terms (W.contents writer.old) (W.contents writer.new) fault)) }
 {
-    let terms = read_input(alloc, reader)?;
-    test_terms(alloc, terms.as_slice(), writer)
+    let input = read_whole(alloc, reader)?;
+    test_input(alloc, input.as_slice(), writer)
 }
 
-/// Writes what the first term answers on the others.
-fn run_terms<A: Allocator + Copy, W: Write>(
+/// Writes what the first term of an input answers on the others. What is wrong in the text comes before what is wrong
+/// with the first term, and no line is written before the text has ended.
+fn run_input<A: Allocator + Copy, W: Write>(
     alloc: A,
-    terms: &[Term<A>],
+    input: &[u8],
     writer: &mut W,
 ) -> Result<(), ToolFault>
-    requires { 0 < length terms.now }
-    ensures ok { OnOk result (WritesAnswers answers terms.now
-        (W.contents writer.old) (W.contents writer.new)) }
-    ensures stopped { IfErr result (StopsAnswers answers terms.now
-        (W.contents writer.old) (W.contents writer.new)) }
+    ensures ok { OnOk result (OfItsTerms input.now (λ terms.
+        WritesAnswers answers terms (W.contents writer.old) (W.contents writer.new))) }
+    ensures refused { IfErr result (λ fault. StopsAt input.now
+        (W.contents writer.old) (W.contents writer.new) fault (λ terms.
+        StopsAnswers answers terms (W.contents writer.old) (W.contents writer.new) fault)) }
 {
-    let [first, objects @ ..] = terms else {
-        unreachable!();
-    };
-    let code = code_of_query(alloc, first)?;
-    write_runs(alloc, &code, objects, writer)
+    let text = text_of(input)?;
+    let (first, objects) = first_of(alloc, text)?;
+    match code_of_query(alloc, &first) {
+        Ok(code) => {
+            let mut lines = run_lines(alloc, &code, text, objects)?;
+            write_lines(writer, &mut lines)
+        }
+        Err(fault) => {
+            read_on(alloc, text, objects)?;
+            Err(fault)
+        }
+    }
 }
 
-/// Writes how the terms behind the first come out by it.
-fn test_terms<A: Allocator + Copy, W: Write>(
+/// Writes how the terms of an input behind the first come out by it, and ends early as `run_input` does.
+fn test_input<A: Allocator + Copy, W: Write>(
     alloc: A,
-    terms: &[Term<A>],
+    input: &[u8],
     writer: &mut W,
 ) -> Result<(), ToolFault>
-    requires { 0 < length terms.now }
-    ensures ok { OnOk result (WritesAnswers outcomes terms.now
-        (W.contents writer.old) (W.contents writer.new)) }
-    ensures stopped { IfErr result (StopsAnswers outcomes terms.now
-        (W.contents writer.old) (W.contents writer.new)) }
+    ensures ok { OnOk result (OfItsTerms input.now (λ terms.
+        WritesAnswers outcomes terms (W.contents writer.old) (W.contents writer.new))) }
+    ensures refused { IfErr result (λ fault. StopsAt input.now
+        (W.contents writer.old) (W.contents writer.new) fault (λ terms.
+        StopsAnswers outcomes terms (W.contents writer.old) (W.contents writer.new) fault)) }
 {
-    let [first, objects @ ..] = terms else {
-        unreachable!();
-    };
-    let specification = specification_of(alloc, first)?;
-    write_outcomes(alloc, &specification, objects, writer)
+    let text = text_of(input)?;
+    let (first, objects) = first_of(alloc, text)?;
+    match specification_of(alloc, &first) {
+        Ok(specification) => {
+            let mut lines = outcome_lines(alloc, &specification, text, objects)?;
+            write_lines(writer, &mut lines)
+        }
+        Err(fault) => {
+            read_on(alloc, text, objects)?;
+            Err(fault)
+        }
+    }
+}
+
+/// Reads what is left of a text for what is wrong there.
+fn read_on<A: Allocator + Copy>(alloc: A, text: &str, rest: &str) -> Result<(), ToolFault>
+    ensures ok { OnOk result ((terms : List Datum) × Sentences (chars rest.now) terms) }
+    ensures refused { (ds : List Datum) → Front (chars text.now) ds (chars rest.now)
+        → IfErr result (IsUnspelled text.now) }
+{
+    let mut left = rest;
+    loop {
+        let Some((_term, after)) = next_of(alloc, text, left)? else {
+            return Ok(());
+        };
+        left = after;
+    }
 }

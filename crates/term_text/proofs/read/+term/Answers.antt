@@ -120,6 +120,9 @@ any_term-returns-in_err-opening g t c =
     let p = err_from_is_err_and c.from_residual.result c.from_residual.ensures.1 in
     rw (p.1, p.2) (term_fails _ c.args.levels c.args.room (chars c.args.text.now) c.in_err-opening.ensures.value)
 
+pub any_term-returns-in-Some : goal.any_term-returns-in-Some
+any_term-returns-in-Some g t c = rw c.in-Some.ensures.rest c.tuple.ensures
+
 pub any_term-returns : goal.any_term-returns
 any_term-returns g t c =
     rw (term_is c.args.levels c.args.room (chars c.args.text.now) (chars c.in_ok-opening.rest.now) c.in_ok-opening.opening c.in_ok-opening.ensures.value) c.form.ensures

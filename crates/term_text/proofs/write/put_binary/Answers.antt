@@ -3,6 +3,6 @@ use Rattle.term_text.specs.Character.{less, greater}
 use Rattle.term_text.proofs.Bytes.{binary_bytes, three}
 use Rattle.term_text.proofs.write.put_binary.Goals as goal
 
-pub returns : goal.returns
-returns g c =
-    rw (binary_bytes c.args.bytes.now (λ i. omega (arith, c.type_inv.bytes i))) (three _ (less ∷ less ∷ []) _ (greater ∷ greater ∷ []) _ _ _ c.in_ok-extend_from_slice.ensures.items c.in_ok-put_bytes.ensures c.in_ok-extend_from_slice-2.ensures.items)
+pub returns-clause-items : goal.returns-clause-items
+returns-clause-items g c =
+    rw (binary_bytes c.args.bytes.now (λ i. omega (arith, c.type_inv.bytes i))) (three _ (less ∷ less ∷ []) _ (greater ∷ greater ∷ []) _ _ _ c.in_ok-extend_from_slice.ensures.items c.in_ok-put_bytes.ensures.items c.in_ok-extend_from_slice-2.ensures.items)
