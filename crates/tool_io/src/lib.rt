@@ -1,9 +1,9 @@
 //! What the commands of `ets_tool` read and write: an input's terms, lines of terms, and the line of a refusal.
 //!
 //! The contract: `read_input` answers the terms that a reader's bytes spell, at least one, and refuses any other input
-//! by what stands at the place of its fault, as does `read_script`, which takes none for an answer too; lines are the
-//! canonical texts of terms, and what is gathered is written or kept; `fault_line` writes the number of a refusal and
-//! its arguments.
+//! by what stands at the place of its fault, as does `read_script`, which takes none for an answer too; `text_of`,
+//! `first_of` and `next_of` do so term by term; lines are the canonical texts of terms, and what is gathered is written
+//! or kept; `fault_line` writes the number of a refusal and its arguments.
 //!
 //! - `input`: the input, read whole, `specs/Input.antt`; `terms`: its terms, `specs/Terms.antt`.
 //! - `lines`: lines that are gathered and written, `specs/Lines.antt`.

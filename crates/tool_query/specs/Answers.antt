@@ -6,8 +6,6 @@ use Rattle.term_core.specs.Datum.Datum.{atom, tuple}
 use Rattle.term_core.specs.Datum.Items.{no_items, item}
 use Rattle.term_text.specs.Text.{Sentences}
 use Rattle.tool_io.specs.Lines.{line}
-use Rattle.tool_io.specs.declared.fault.ToolFault.{ToolFault}
-use Rattle.tool_io.specs.declared.fault.ToolFault.TheVariants as fault
 
 -- what is written of objects: the answers, or how each comes out
 pub data Report : Type 0 where
@@ -71,11 +69,3 @@ pub record WritesBeginning (r : Report) (Answered : Datum → Option Datum → T
   pub rest : List Datum
   pub whole : objects ≡ front ++ rest
   pub written : WritesLines r Answered front old new
-
--- how answering ends early: for want of memory, or where the writer failed, and then nothing is said of what it
--- got
-abbrev pub StopsLines : Report → (Datum → Option Datum → Type 0) → List Datum
-    → (old new : Option (List ℕ)) → ToolFault → Type 0
-StopsLines r Answered objects old new fault.Memory = WritesBeginning r Answered objects old new
-StopsLines r Answered objects old new fault.WriteFailed = Unit {0}
-StopsLines r Answered objects old new f = ⊥
