@@ -1,0 +1,14 @@
+use Rattle.std.proofs.Common.{◌≡◌, length}
+use Rattle.std.specs.Str.{chars}
+use denote.Text.{Utf8}
+use denote.Shadow.{shadow}
+use Rattle.mspec_meaning.specs.Meaning.{Means}
+use Rattle.tool_query.specs.Answers.Report.{outcomes}
+use Rattle.tool_query.proofs.AnswerLemmas.{Answered}
+use Rattle.tool_query.proofs.answers.outcome_lines.Given as goal
+
+abbrev pub invariant-loop-object : goal.invariant-loop-object
+invariant-loop-object g l = shadow (Utf8 l.left) × Answered outcomes (Means l.specification) (chars l.fn.rest) (chars l.left) l.lines.items
+
+abbrev pub decreases-loop-object : goal.decreases-loop-object
+decreases-loop-object g l = length (chars l.left)
