@@ -28,6 +28,6 @@ mod token;
 mod write;
 
 pub use fault::TextFault;
-pub use law::{a_text_spells_one_list, canonical_text_is_read_back};
+pub use law::{a_text_spells_one_list, canonical_text_is_read_back, readable_text_is_read_back};
 pub use text::read_terms;
-pub use write::{write_binary, write_term};
+pub use write::{write_binary, write_readable, write_term};
