@@ -108,7 +108,7 @@ impl Kinds for LanguageKinds {
     }
 
     fn wants_text(kind: &str) -> bool {
-        matches!(kind, "text" | "canonical" | "hash")
+        matches!(kind, "text" | "canonical" | "readable" | "hash")
     }
 }
 

@@ -1,10 +1,10 @@
-//! Texts read and written, the order of terms, their hashes.
+//! Texts read and written, readable ones, the order of terms, their hashes.
 use kit_rows::{Outcome, digits, text, word, written};
 use std::alloc::Global;
 use std::cmp::Ordering;
 use term_core::Term;
 use term_order::{compare, key_hash};
-use term_text::{TextFault, read_terms};
+use term_text::{TextFault, read_terms, write_readable};
 
 /// The number and the byte of a fault.
 fn fault_text(alloc: Global, fault: TextFault) -> Option<Vec<u8>> {
@@ -19,6 +19,13 @@ fn read(alloc: Global, given: &Term) -> Option<Vec<u8>> {
         Ok(terms) => written(alloc, terms.as_slice()),
         Err(fault) => fault_text(alloc, fault),
     }
+}
+
+/// The readable text of a term.
+fn readable(alloc: Global, term: &Term) -> Option<Vec<u8>> {
+    let mut out = Vec::new(alloc);
+    write_readable(term, &mut out).ok()?;
+    Some(out)
 }
 
 /// How two terms stand to each other, both ways.
@@ -41,6 +48,7 @@ fn hash(alloc: Global, term: &Term) -> Option<Vec<u8>> {
 pub(crate) fn came(alloc: Global, kind: &str, parts: &[Term]) -> Option<Vec<u8>> {
     match (kind, parts) {
         ("text" | "refused", [given, _]) | ("canonical", [given]) => read(alloc, given),
+        ("readable", [term, _]) => readable(alloc, term),
         ("order", [left, right, _]) => order(alloc, left, right),
         ("hash", [term, _]) => hash(alloc, term),
         _ => None,

@@ -2,9 +2,9 @@
 //!
 //! The contract: `read_terms` answers the terms that a text spells (`Spells`, in `specs/Text.antt`) and refuses any
 //! other text, naming what stands at the place of the refusal (`HasCause`, in `specs/Causes.antt`); `write_term` writes
-//! the one canonical text of a term, and `write_binary` that of a binary of any size (`canonical`, in
-//! `specs/Canonical.antt`); the law `canonical_text_is_read_back` says that a canonical text spells its term and no
-//! other.
+//! the one canonical text of a term, `write_readable` one for persons, and `write_binary` the canonical one of a binary
+//! of any size (`canonical` and `readable`, in `specs/Canonical.antt`); the laws `canonical_text_is_read_back` and
+//! `readable_text_is_read_back` say that either text spells its term and no other.
 //!
 //! - Tokens: `token.rt`, over `characters.rt` and the characters of `specs/Character.antt`. What a token spells is a
 //!   relation (`specs/Tokens.antt`), and what reading it from the left gives a function (`specs/TokenReading.antt`);
@@ -29,6 +29,9 @@ mod token;
 mod write;
 
 pub use fault::TextFault;
-pub use law::{a_text_has_one_fault, a_text_spells_one_list, canonical_text_is_read_back};
+pub use law::{
+    a_text_has_one_fault, a_text_spells_one_list, canonical_text_is_read_back,
+    readable_text_is_read_back,
+};
 pub use text::{next_term, read_terms, text_of};
-pub use write::{write_binary, write_term};
+pub use write::{write_binary, write_readable, write_term};

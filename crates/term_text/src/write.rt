@@ -1,15 +1,18 @@
 //! Writing terms.
-ghost use Rattle.std.specs.Prelude.{◌≡◌, ◌<◌, ◌++◌, ◌∷◌, [], length, decimal, IfOk, OnOk, OnErr};
+ghost use Rattle.std.specs.Prelude.{◌≡◌, ◌<◌, ◌++◌, ◌∷◌, [], length, decimal, true, ◌&&◌, Some, None, if◌then◌else◌, OnOk, OnErr};
 ghost use Rattle.std.specs.Str.{encode_utf8_all, bytes_eq};
 ghost use Rattle.std.specs.Prelude.{map as each};
 ghost use Rattle.std.specs.List.{list_any};
 ghost use Rattle.std.specs.Fmt.{signed_decimal};
 ghost use Rattle.std.specs.Option.{option_copied};
 ghost use Rattle.term_core.specs.Datum.{items_of, entries_of, cells};
-ghost use Rattle.term_core.specs.Datum.Datum.{tuple, map, binary};
+ghost use Rattle.term_core.specs.Datum.Datum.{integer, tuple, map, nil, binary};
 ghost use Rattle.term_core.specs.Term.{tail_of, IsTail};
-ghost use Rattle.term_text.specs.Character.{equals, greater};
-ghost use Rattle.term_text.specs.Canonical.{are_word, canonical, atom_text, is_bare, has_bare_form, is_reserved, quoted_character, quoted_characters, bytes_text, items_text, entries_text, tail_text};
+ghost use Rattle.term_text.specs.Character.{backslash, double_quote, equals, greater};
+ghost use Rattle.term_text.specs.Canonical.{are_word, canonical, readable, text_as, atom_text, is_bare, has_bare_form};
+ghost use Rattle.term_text.specs.Canonical.{is_reserved, quoted_character, quoted_characters, quoted_text, bytes_text};
+ghost use Rattle.term_text.specs.Canonical.{is_some, is_shown, are_shown, is_character, code_of, codes_of, is_string, shows_strings};
+ghost use Rattle.term_text.specs.Canonical.{binary_text, segments_text, items_text, entries_text, tail_text};
 
 use crate::added::Added;
 use crate::token::is_word;
@@ -17,6 +20,25 @@ use itoa::Buffer;
 use std::alloc::{AllocError, Allocator};
 use std::mem;
 use term_core::{Term, View};
+
+/// Whether lists and binaries of printable characters are written between double quotes.
+#[derive(Clone, Copy)]
+enum Form {
+    Canonical,
+    Readable,
+}
+
+impl Form {
+    /// Whether they are.
+    fn shows_strings(self) -> bool
+        ensures { result ≡ shows_strings self }
+    {
+        match self {
+            Form::Canonical => false,
+            Form::Readable => true,
+        }
+    }
+}
 
 /// Words that are written in quotes.
 const RESERVED: [&str; 29] = [
@@ -90,20 +112,33 @@ fn is_bare(characters: &[char]) -> bool
     has_bare_form(characters) && !is_reserved(characters)
 }
 
-/// Appends a character as it stands between single quotes.
-fn put_quoted<B: Allocator>(character: char, out: &mut Added<B>) -> Result<(), AllocError>
+/// Appends a character as it stands between such marks.
+fn put_quoted<B: Allocator>(
+    mark: char,
+    character: char,
+    out: &mut Added<B>,
+) -> Result<(), AllocError>
     ensures front { out.new.front ≡ out.old.front }
     ensures items { OnOk result (out.new.items ≡ out.old.items
-        ++ encode_utf8_all (quoted_character character)) }
+        ++ encode_utf8_all (quoted_character mark character)) }
 {
     match character {
         '\\' => out.extend_from_slice(b"\\\\"),
-        '\'' => out.extend_from_slice(b"\\'"),
+        _ if character == mark => put_mark(mark, out),
         '\n' => out.extend_from_slice(b"\\n"),
         '\r' => out.extend_from_slice(b"\\r"),
         '\t' => out.extend_from_slice(b"\\t"),
         _ => put_character(character, out),
     }
+}
+
+/// Appends a mark behind a backslash.
+fn put_mark<B: Allocator>(mark: char, out: &mut Added<B>) -> Result<(), AllocError>
+    ensures front { out.new.front ≡ out.old.front }
+    ensures items { OnOk result (out.new.items ≡ out.old.items ++ encode_utf8_all (backslash ∷ mark ∷ [])) }
+{
+    out.push(b'\\')?;
+    put_character(mark, out)
 }
 
 /// Appends a character in UTF-8.
@@ -126,14 +161,18 @@ fn put_characters<B: Allocator>(characters: &[char], out: &mut Added<B>) -> Resu
     Ok(())
 }
 
-/// Appends these characters as they stand between single quotes.
-fn put_all_quoted<B: Allocator>(characters: &[char], out: &mut Added<B>) -> Result<(), AllocError>
+/// Appends these characters as they stand between such marks.
+fn put_all_quoted<B: Allocator>(
+    mark: char,
+    characters: &[char],
+    out: &mut Added<B>,
+) -> Result<(), AllocError>
     ensures front { out.new.front ≡ out.old.front }
     ensures items { OnOk result (out.new.items ≡ out.old.items
-        ++ encode_utf8_all (quoted_characters characters.now)) }
+        ++ encode_utf8_all (quoted_characters mark characters.now)) }
 {
     for character in characters {
-        put_quoted(*character, out)?;
+        put_quoted(mark, *character, out)?;
     }
     Ok(())
 }
@@ -149,8 +188,106 @@ fn put_atom<B: Allocator>(characters: &[char], out: &mut Added<B>) -> Result<(),
         return put_characters(characters, out);
     }
     out.push(b'\'')?;
-    put_all_quoted(characters, out)?;
+    put_all_quoted('\'', characters, out)?;
     out.push(b'\'')?;
+    Ok(())
+}
+
+/// Whether a byte is a printable character of ASCII, a tab, a line feed or a carriage return.
+fn is_shown(byte: u8) -> bool
+    ensures { result ≡ is_shown byte }
+{
+    matches!(byte, b' '..=b'~' | b'\t' | b'\n' | b'\r')
+}
+
+/// Whether bytes are such characters.
+fn are_shown(bytes: &[u8]) -> bool
+    ensures { result ≡ are_shown bytes.now }
+{
+    for byte in bytes {
+        if !is_shown(*byte) {
+            return false;
+        }
+    }
+    true
+}
+
+/// Appends such characters between double quotes.
+#[tactic(auto, using(crate::proofs::Bytes::shown_bytes))]
+fn put_shown<B: Allocator>(bytes: &[u8], out: &mut Added<B>) -> Result<(), AllocError>
+    ensures front { out.new.front ≡ out.old.front }
+    ensures items { OnOk result (out.new.items ≡ out.old.items
+        ++ encode_utf8_all (quoted_text double_quote bytes.now)) }
+{
+    out.push(b'"')?;
+    for byte in bytes {
+        put_quoted('"', char::from(*byte), out)?;
+    }
+    out.push(b'"')?;
+    Ok(())
+}
+
+/// The printable character of a code.
+fn shown_character(code: i64) -> Option<u8>
+    ensures { result ≡ (if is_character (integer code) then Some (code_of (integer code)) else None) }
+{
+    let byte = u8::try_from(code).ok()?;
+    if is_shown(byte) { Some(byte) } else { None }
+}
+
+/// The printable character that an integer is the code of; none for other terms.
+fn character_of<A: Allocator>(term: &Term<A>) -> Option<u8>
+    ensures { result ≡ (if is_character term.now then Some (code_of term.now) else None) }
+{
+    match term.view() {
+        View::Integer(code) => shown_character(code),
+        _ => None,
+    }
+}
+
+/// Whether terms are codes of printable characters.
+fn are_characters<A: Allocator>(elements: &[Term<A>]) -> bool
+    ensures { result ≡ is_string (cells elements.now nil) }
+{
+    for element in elements {
+        if character_of(element).is_none() {
+            return false;
+        }
+    }
+    true
+}
+
+/// Appends the character of which a term is the code, as it stands between double quotes.
+fn put_code<A: Allocator, B: Allocator>(
+    term: &Term<A>,
+    out: &mut Added<B>,
+) -> Result<(), AllocError>
+    requires { is_character term.now ≡ true }
+    ensures front { out.new.front ≡ out.old.front }
+    ensures items { OnOk result (out.new.items ≡ out.old.items
+        ++ encode_utf8_all (quoted_character double_quote (code_of term.now))) }
+{
+    match character_of(term) {
+        Some(byte) => put_quoted('"', char::from(byte), out),
+        None => Ok(()),
+    }
+}
+
+/// Appends the characters of which terms are the codes, between double quotes.
+fn put_string<A: Allocator, B: Allocator>(
+    elements: &[Term<A>],
+    out: &mut Added<B>,
+) -> Result<(), AllocError>
+    requires { is_string (cells elements.now nil) ≡ true }
+    ensures front { out.new.front ≡ out.old.front }
+    ensures items { OnOk result (out.new.items ≡ out.old.items
+        ++ encode_utf8_all (quoted_text double_quote (codes_of (cells elements.now nil)))) }
+{
+    out.push(b'"')?;
+    for element in elements {
+        put_code(element, out)?;
+    }
+    out.push(b'"')?;
     Ok(())
 }
 
@@ -188,32 +325,68 @@ fn put_bytes<B: Allocator>(bytes: &[u8], out: &mut Added<B>) -> Result<(), Alloc
     Ok(())
 }
 
-/// Appends the canonical text of a term.
-#[tactic(auto, using(crate::proofs::Bytes::integer_bytes, crate::proofs::Bytes::nil_bytes, crate::proofs::Bytes::atom_is, crate::proofs::Bytes::list_depth))]
+/// Appends the text of a term.
+#[tactic(auto, using(crate::proofs::Bytes::integer_bytes, crate::proofs::Bytes::nil_bytes, crate::proofs::Bytes::atom_is, crate::proofs::Bytes::binary_is, crate::proofs::Bytes::list_depth))]
 #[cycle(put)]
-fn put<A: Allocator, B: Allocator>(term: &Term<A>, out: &mut Added<B>) -> Result<(), AllocError>
+fn put<A: Allocator, B: Allocator>(
+    form: Form,
+    term: &Term<A>,
+    out: &mut Added<B>,
+) -> Result<(), AllocError>
     ensures front { out.new.front ≡ out.old.front }
-    ensures items { OnOk result (out.new.items ≡ out.old.items ++ encode_utf8_all (canonical term.now)) }
+    ensures items { OnOk result (out.new.items ≡ out.old.items ++ encode_utf8_all (text_as form term.now)) }
 {
     match term.view() {
         View::Integer(value) => put_integer(value, out),
         View::Atom(characters) => put_atom(characters, out),
-        View::Tuple(elements) => put_tuple(elements, out),
+        View::Tuple(elements) => put_tuple(form, elements, out),
         View::Nil => out.extend_from_slice(b"[]"),
-        View::List(elements, tail) => put_list(elements, tail, out),
-        View::Map(pairs) => put_map(pairs, out),
-        View::Binary(bytes) => put_binary(bytes, out),
+        View::List(elements, tail) => put_list(form, elements, tail, out),
+        View::Map(pairs) => put_map(form, pairs, out),
+        View::Binary(bytes) => put_binary(form, bytes, out),
+    }
+}
+
+/// Whether a binary of these bytes stands between double quotes.
+fn is_text(form: Form, bytes: &[u8]) -> bool
+    ensures { result ≡ (shows_strings form && (is_some bytes.now && are_shown bytes.now)) }
+{
+    match bytes {
+        [] => false,
+        [_, ..] => form.shows_strings() && are_shown(bytes),
+    }
+}
+
+/// Appends what stands in a binary.
+#[tactic(auto, using(crate::proofs::Bytes::bytes_ascii))]
+fn put_segments<B: Allocator>(
+    form: Form,
+    bytes: &[u8],
+    out: &mut Added<B>,
+) -> Result<(), AllocError>
+    ensures front { out.new.front ≡ out.old.front }
+    ensures items { OnOk result (out.new.items ≡ out.old.items
+        ++ encode_utf8_all (segments_text form bytes.now)) }
+{
+    if is_text(form, bytes) {
+        put_shown(bytes, out)
+    } else {
+        put_bytes(bytes, out)
     }
 }
 
 /// Appends a binary.
-fn put_binary<B: Allocator>(bytes: &[u8], out: &mut Added<B>) -> Result<(), AllocError>
+fn put_binary<B: Allocator>(
+    form: Form,
+    bytes: &[u8],
+    out: &mut Added<B>,
+) -> Result<(), AllocError>
     ensures front { out.new.front ≡ out.old.front }
     ensures items { OnOk result (out.new.items ≡ out.old.items
-        ++ encode_utf8_all (canonical (binary bytes.now))) }
+        ++ encode_utf8_all (binary_text form bytes.now)) }
 {
     out.extend_from_slice(b"<<")?;
-    put_bytes(bytes, out)?;
+    put_segments(form, bytes, out)?;
     out.extend_from_slice(b">>")?;
     Ok(())
 }
@@ -222,15 +395,16 @@ fn put_binary<B: Allocator>(bytes: &[u8], out: &mut Added<B>) -> Result<(), Allo
 #[tactic(auto, using(crate::proofs::Bytes::tuple_bytes))]
 #[cycle(put)]
 fn put_tuple<A: Allocator, B: Allocator>(
+    form: Form,
     elements: &[Term<A>],
     out: &mut Added<B>,
 ) -> Result<(), AllocError>
     ensures front { out.new.front ≡ out.old.front }
     ensures items { OnOk result (out.new.items ≡ out.old.items
-        ++ encode_utf8_all (canonical (tuple (items_of elements.now)))) }
+        ++ encode_utf8_all (text_as form (tuple (items_of elements.now)))) }
 {
     out.push(b'{')?;
-    put_elements(elements, out)?;
+    put_elements(form, elements, out)?;
     out.push(b'}')?;
     Ok(())
 }
@@ -239,28 +413,42 @@ fn put_tuple<A: Allocator, B: Allocator>(
 #[tactic(auto, using(crate::proofs::Bytes::items_bytes, crate::proofs::Bytes::no_items_bytes, crate::proofs::Bytes::more_items_bytes, crate::proofs::Bytes::element_depth))]
 #[cycle(put)]
 fn put_elements<A: Allocator, B: Allocator>(
+    form: Form,
     elements: &[Term<A>],
     out: &mut Added<B>,
 ) -> Result<(), AllocError>
     ensures front { out.new.front ≡ out.old.front }
     ensures items { OnOk result (out.new.items ≡ out.old.items
-        ++ encode_utf8_all (items_text (items_of elements.now))) }
+        ++ encode_utf8_all (items_text form (items_of elements.now))) }
 {
     let Some((first, rest)) = elements.split_first() else {
         return Ok(());
     };
-    put(first, out)?;
+    put(form, first, out)?;
     for element in rest {
         out.push(b',')?;
-        put(element, out)?;
+        put(form, element, out)?;
     }
     Ok(())
+}
+
+/// Whether a list stands between double quotes.
+fn is_string<A: Allocator>(form: Form, elements: &[Term<A>], tail: Option<&Term<A>>) -> bool
+    requires { IsTail (option_copied tail) }
+    ensures { result ≡ (shows_strings form
+        && is_string (cells elements.now (tail_of (option_copied tail.entry)))) }
+{
+    match tail {
+        None => form.shows_strings() && are_characters(elements),
+        Some(_) => false,
+    }
 }
 
 /// Appends a list that has elements.
 #[tactic(auto, using(crate::proofs::Bytes::list_bytes))]
 #[cycle(put)]
 fn put_list<A: Allocator, B: Allocator>(
+    form: Form,
     elements: &[Term<A>],
     tail: Option<&Term<A>>,
     out: &mut Added<B>,
@@ -268,13 +456,16 @@ fn put_list<A: Allocator, B: Allocator>(
     requires { (0 < length elements.now) × IsTail (option_copied tail) }
     ensures front { out.new.front ≡ out.old.front }
     ensures items { OnOk result (out.new.items ≡ out.old.items
-        ++ encode_utf8_all (canonical (cells elements.now (tail_of (option_copied tail.entry))))) }
+        ++ encode_utf8_all (text_as form (cells elements.now (tail_of (option_copied tail.entry))))) }
 {
+    if is_string(form, elements, tail) {
+        return put_string(elements, out);
+    }
     out.push(b'[')?;
-    put_elements(elements, out)?;
+    put_elements(form, elements, out)?;
     if let Some(tail) = tail {
         out.push(b'|')?;
-        put(tail, out)?;
+        put(form, tail, out)?;
     }
     out.push(b']')?;
     Ok(())
@@ -284,15 +475,16 @@ fn put_list<A: Allocator, B: Allocator>(
 #[tactic(auto, using(crate::proofs::Bytes::map_bytes))]
 #[cycle(put)]
 fn put_map<A: Allocator, B: Allocator>(
+    form: Form,
     pairs: &[(Term<A>, Term<A>)],
     out: &mut Added<B>,
 ) -> Result<(), AllocError>
     ensures front { out.new.front ≡ out.old.front }
     ensures items { OnOk result (out.new.items ≡ out.old.items
-        ++ encode_utf8_all (canonical (map (entries_of pairs.now)))) }
+        ++ encode_utf8_all (text_as form (map (entries_of pairs.now)))) }
 {
     out.extend_from_slice(b"#{")?;
-    put_pairs(pairs, out)?;
+    put_pairs(form, pairs, out)?;
     out.push(b'}')?;
     Ok(())
 }
@@ -301,20 +493,21 @@ fn put_map<A: Allocator, B: Allocator>(
 #[tactic(auto, using(crate::proofs::Bytes::pairs_bytes, crate::proofs::Bytes::no_pairs_bytes, crate::proofs::Bytes::more_pairs_bytes, crate::proofs::Bytes::entry_depth))]
 #[cycle(put)]
 fn put_pairs<A: Allocator, B: Allocator>(
+    form: Form,
     pairs: &[(Term<A>, Term<A>)],
     out: &mut Added<B>,
 ) -> Result<(), AllocError>
     ensures front { out.new.front ≡ out.old.front }
     ensures items { OnOk result (out.new.items ≡ out.old.items
-        ++ encode_utf8_all (entries_text (entries_of pairs.now))) }
+        ++ encode_utf8_all (entries_text form (entries_of pairs.now))) }
 {
     let Some(((key, value), rest)) = pairs.split_first() else {
         return Ok(());
     };
-    put_pair(key, value, out)?;
+    put_pair(form, key, value, out)?;
     for (key, value) in rest {
         out.push(b',')?;
-        put_pair(key, value, out)?;
+        put_pair(form, key, value, out)?;
     }
     Ok(())
 }
@@ -323,17 +516,18 @@ fn put_pairs<A: Allocator, B: Allocator>(
 #[tactic(auto, using(crate::proofs::Bytes::pair_bytes))]
 #[cycle(put)]
 fn put_pair<A: Allocator, B: Allocator>(
+    form: Form,
     key: &Term<A>,
     value: &Term<A>,
     out: &mut Added<B>,
 ) -> Result<(), AllocError>
     ensures front { out.new.front ≡ out.old.front }
     ensures items { OnOk result (out.new.items ≡ out.old.items
-        ++ encode_utf8_all (canonical key.now ++ (equals ∷ greater ∷ canonical value.now))) }
+        ++ encode_utf8_all (text_as form key.now ++ (equals ∷ greater ∷ text_as form value.now))) }
 {
-    put(key, out)?;
+    put(form, key, out)?;
     out.extend_from_slice(b"=>")?;
-    put(value, out)?;
+    put(form, value, out)?;
     Ok(())
 }
 
@@ -365,6 +559,21 @@ fn put_back<B: Allocator>(
     ended
 }
 
+/// Appends a text of a term. After an `Err` the text is as before.
+fn write_as<A: Allocator, B: Allocator + Copy>(
+    form: Form,
+    term: &Term<A>,
+    out: &mut Vec<u8, B>,
+) -> Result<(), AllocError>
+    ensures ok { OnOk result (out.new.items ≡ out.old.items
+        ++ encode_utf8_all (text_as form term.now)) }
+    ensures err { OnErr result (out.new.items ≡ out.old.items) }
+{
+    let mut text = taken(out);
+    let ended = put(form, term, &mut text);
+    put_back(text, ended, out)
+}
+
 /// Appends the canonical text of a term: no white space, integers in decimal, lists never as strings, maps by rising
 /// keys. After an `Err` the text is as before.
 pub fn write_term<A: Allocator, B: Allocator + Copy>(
@@ -375,13 +584,26 @@ pub fn write_term<A: Allocator, B: Allocator + Copy>(
         ++ encode_utf8_all (canonical term.now)) }
     ensures err { OnErr result (out.new.items ≡ out.old.items) }
 {
-    let mut text = taken(out);
-    let ended = put(term, &mut text);
-    put_back(text, ended, out)
+    write_as(Form::Canonical, term, out)
+}
+
+/// Appends the text of a term that a person reads: the canonical one, but that a list of characters and a binary of
+/// such bytes, each of one at least, stand between double quotes, where all are printable ASCII, tabs, line feeds and
+/// carriage returns. After an `Err` the text is as before.
+pub fn write_readable<A: Allocator, B: Allocator + Copy>(
+    term: &Term<A>,
+    out: &mut Vec<u8, B>,
+) -> Result<(), AllocError>
+    ensures ok { OnOk result (out.new.items ≡ out.old.items
+        ++ encode_utf8_all (readable term.now)) }
+    ensures err { OnErr result (out.new.items ≡ out.old.items) }
+{
+    write_as(Form::Readable, term, out)
 }
 
 /// Appends the canonical text of the binary of these bytes, as `<<1,2>>`; there may be more of them than a term may
 /// have. After an `Err` the text is as before.
+#[tactic(auto, using(crate::proofs::Bytes::binary_is))]
 pub fn write_binary<B: Allocator + Copy>(
     bytes: &[u8],
     out: &mut Vec<u8, B>,
@@ -391,6 +613,6 @@ pub fn write_binary<B: Allocator + Copy>(
     ensures err { OnErr result (out.new.items ≡ out.old.items) }
 {
     let mut text = taken(out);
-    let ended = put_binary(bytes, &mut text);
+    let ended = put_binary(Form::Canonical, bytes, &mut text);
     put_back(text, ended, out)
 }

@@ -10,7 +10,8 @@ use Rattle.term_core.specs.Datum.Datum.{integer, atom, tuple, nil}
 use Rattle.term_core.specs.Datum.Items.{no_items, item}
 use Rattle.term_operand.specs.Operand.{boolean}
 use Rattle.term_text.specs.Character.{open_brace, close_brace, open_bracket, close_bracket, comma}
-use Rattle.term_text.specs.Canonical.{canonical, items_text, more_items_text, is_reserved}
+use Rattle.term_text.specs.declared.write.Form.TheVariants as forms
+use Rattle.term_text.specs.Canonical.{text_as, items_text, more_items_text, is_reserved}
 use Rattle.term_text.proofs.Bytes.{decimal_bytes, tuple_bytes, items_bytes, more_items_bytes, no_more_items, list_bytes}
 use Rattle.mspec_syntax.specs.FaultNumbers.{number_of, clause_of, variable_of}
 use Rattle.mspec_syntax.specs.declared.fault.SpecFault.{SpecFault}
@@ -27,58 +28,58 @@ put_line_as (Ok v) old new bytes text is put = put ∙ ap (λ l. old ++ l) (sym 
 put_line_as (Err f) old new bytes text is put = tt
 
 pub true_line : line (boolean true) ≡ codes "true.\n"
-unfolding canonical is_reserved encode
+unfolding text_as is_reserved encode
 true_line = refl
 
 pub false_line : line (boolean false) ≡ codes "false.\n"
-unfolding canonical is_reserved encode
+unfolding text_as is_reserved encode
 false_line = refl
 
 pub end_line : line (key_or_end None) ≡ codes "'$end_of_table'.\n"
-unfolding canonical is_reserved encode
+unfolding text_as is_reserved encode
 end_line = refl
 
 pub empty_text : (ds : List Datum) → length ds < 1 → text_of (cells ds nil) ≡ codes "[]"
-unfolding canonical encode
+unfolding text_as encode
 empty_text [] few = refl
 empty_text (d ∷ ds) few = absurd (omega (arith, few))
 
 -- a number in decimal
 pub number_bytes : (n : ℕ) → n < 2 ^ 64 → text_of (integer (pos n)) ≡ decimal n
-unfolding canonical
+unfolding text_as
 number_bytes n small = decimal_bytes n small
 
 -- ---- refusals
 
 error_bytes : text_of (atom (codes "error")) ≡ codes "error"
-unfolding canonical is_reserved encode
+unfolding text_as is_reserved encode
 error_bytes = refl
 
 pub error_line : (n : ℕ) → line (error n) ≡ codes "{error," ++ (text_of (integer (pos n)) ++ codes "}.\n")
 error_line n =
     let d = integer (pos n) in
     let name = atom (codes "error") in
-    let last : encode_utf8_all (more_items_text (item d no_items)) ≡ comma ∷ text_of d =
-    more_items_bytes d [] ∙ ap (λ (l : List ℕ). comma ∷ (text_of d ++ l)) no_more_items ∙ ap (λ (l : List ℕ). comma ∷ l) (append-nil (text_of d)) in
-    let items : encode_utf8_all (items_text (item name (item d no_items))) ≡ codes "error" ++ (comma ∷ text_of d) =
-    items_bytes name (d ∷ []) ∙ ap (λ (l : List ℕ). l ++ encode_utf8_all (more_items_text (item d no_items))) error_bytes ∙ ap (λ (l : List ℕ). codes "error" ++ l) last in
-    ap (λ (l : List ℕ). l ++ 46 ∷ 10 ∷ []) (tuple_bytes (item name (item d no_items)) ∙ ap (λ (l : List ℕ). open_brace ∷ (l ++ close_brace ∷ [])) items)
+    let last : encode_utf8_all (more_items_text forms.Canonical (item d no_items)) ≡ comma ∷ text_of d =
+    more_items_bytes forms.Canonical d [] ∙ ap (λ (l : List ℕ). comma ∷ (text_of d ++ l)) no_more_items forms.Canonical ∙ ap (λ (l : List ℕ). comma ∷ l) (append-nil (text_of d)) in
+    let items : encode_utf8_all (items_text forms.Canonical (item name (item d no_items))) ≡ codes "error" ++ (comma ∷ text_of d) =
+    items_bytes forms.Canonical name (d ∷ []) ∙ ap (λ (l : List ℕ). l ++ encode_utf8_all (more_items_text forms.Canonical (item d no_items))) error_bytes ∙ ap (λ (l : List ℕ). codes "error" ++ l) last in
+    ap (λ (l : List ℕ). l ++ 46 ∷ 10 ∷ []) (tuple_bytes forms.Canonical (item name (item d no_items)) ∙ ap (λ (l : List ℕ). open_brace ∷ (l ++ close_brace ∷ [])) items)
     ∙ ap (λ (l : List ℕ). codes "{error," ++ l) (append_assoc (text_of d) (close_brace ∷ []) (46 ∷ 10 ∷ []))
 
 -- ---- lists
 
-more_bytes : (ds : List Datum) → encode_utf8_all (more_items_text (items_of ds)) ≡ behind_commas ds
-more_bytes [] = no_more_items
+more_bytes : (ds : List Datum) → encode_utf8_all (more_items_text forms.Canonical (items_of ds)) ≡ behind_commas ds
+more_bytes [] = no_more_items forms.Canonical
 more_bytes (d ∷ ds) =
-    more_items_bytes d ds ∙ ap (λ (l : List ℕ). comma ∷ (text_of d ++ l)) (more_bytes ds)
+    more_items_bytes forms.Canonical d ds ∙ ap (λ (l : List ℕ). comma ∷ (text_of d ++ l)) (more_bytes ds)
 
 list_text : (d : Datum) (ds : List Datum) → text_of (cells (d ∷ ds) nil) ≡ codes "[" ++ (text_of d ++ (behind_commas ds ++ codes "]"))
 list_text d ds =
     let text = text_of d in
     let rest = behind_commas ds in
-    let items : encode_utf8_all (items_text (items_of (d ∷ ds))) ≡ text ++ rest =
-    items_bytes d ds ∙ ap (λ l. text ++ l) (more_bytes ds) in
-    list_bytes (d ∷ ds) None (omega arith) tt ∙ ap (λ (l : List ℕ). open_bracket ∷ (l ++ close_bracket ∷ [])) items
+    let items : encode_utf8_all (items_text forms.Canonical (items_of (d ∷ ds))) ≡ text ++ rest =
+    items_bytes forms.Canonical d ds ∙ ap (λ l. text ++ l) (more_bytes ds) in
+    list_bytes forms.Canonical (d ∷ ds) None (omega arith) tt refl ∙ ap (λ (l : List ℕ). open_bracket ∷ (l ++ close_bracket ∷ [])) items
     ∙ ap (λ (l : List ℕ). open_bracket ∷ l) (append_assoc text rest (close_bracket ∷ []))
 
 -- its parts are put at the end
@@ -110,9 +111,9 @@ tuple_text : (d : Datum) (ds : List Datum) → text_of (tuple (items_of (d ∷ d
 tuple_text d ds =
     let text = text_of d in
     let rest = behind_commas ds in
-    let items : encode_utf8_all (items_text (items_of (d ∷ ds))) ≡ text ++ rest =
-    items_bytes d ds ∙ ap (λ l. text ++ l) (more_bytes ds) in
-    tuple_bytes (items_of (d ∷ ds)) ∙ ap (λ (l : List ℕ). open_brace ∷ (l ++ close_brace ∷ [])) items
+    let items : encode_utf8_all (items_text forms.Canonical (items_of (d ∷ ds))) ≡ text ++ rest =
+    items_bytes forms.Canonical d ds ∙ ap (λ l. text ++ l) (more_bytes ds) in
+    tuple_bytes forms.Canonical (items_of (d ∷ ds)) ∙ ap (λ (l : List ℕ). open_brace ∷ (l ++ close_brace ∷ [])) items
     ∙ ap (λ (l : List ℕ). open_brace ∷ l) (append_assoc text rest (close_brace ∷ []))
 
 pub piece_line : (ds : List Datum) (n : ℕ) → line (piece_term ds n) ≡ codes "{" ++ (text_of (cells ds nil) ++ (codes "," ++ (text_of (integer (pos n)) ++ codes "}.\n")))

@@ -29,7 +29,7 @@ abbrev pub decreases-put_pair : goal.decreases-put_pair
 decreases-put_pair g l = 4 * max (depth l.key.now) (depth l.value.now) + 1
 
 abbrev pub invariant-put_elements-loop-element : goal.invariant-put_elements-loop-element
-invariant-put_elements-loop-element g l = (l.out.front ≡ l.fn.out.front) × (l.out.items ++ encode_utf8_all (more_items_text (items_of (drop l.element-index l.rest))) ≡ l.fn.out.items ++ encode_utf8_all (items_text (items_of l.fn.elements)))
+invariant-put_elements-loop-element g l = (l.out.front ≡ l.fn.out.front) × (l.out.items ++ encode_utf8_all (more_items_text l.fn.form (items_of (drop l.element-index l.rest))) ≡ l.fn.out.items ++ encode_utf8_all (items_text l.fn.form (items_of l.fn.elements)))
 
 abbrev pub invariant-put_pairs-loop-key : goal.invariant-put_pairs-loop-key
-invariant-put_pairs-loop-key g l = (l.out.front ≡ l.fn.out.front) × (l.out.items ++ encode_utf8_all (more_entries_text (entries_of (drop l.key-index l.rest))) ≡ l.fn.out.items ++ encode_utf8_all (entries_text (entries_of l.fn.pairs)))
+invariant-put_pairs-loop-key g l = (l.out.front ≡ l.fn.out.front) × (l.out.items ++ encode_utf8_all (more_entries_text l.fn.form (entries_of (drop l.key-index l.rest))) ≡ l.fn.out.items ++ encode_utf8_all (entries_text l.fn.form (entries_of l.fn.pairs)))

@@ -5,4 +5,4 @@ use Rattle.term_text.proofs.write.put_binary.Goals as goal
 
 pub returns-clause-items : goal.returns-clause-items
 returns-clause-items g c =
-    rw (binary_bytes c.args.bytes.now (λ i. omega (arith, c.type_inv.bytes i))) (three _ (less ∷ less ∷ []) _ (greater ∷ greater ∷ []) _ _ _ c.in_ok-extend_from_slice.ensures.items c.in_ok-put_bytes.ensures.items c.in_ok-extend_from_slice-2.ensures.items)
+    rw (binary_bytes c.args.form c.args.bytes.now) (three _ (less ∷ less ∷ []) _ (greater ∷ greater ∷ []) _ _ _ c.in_ok-extend_from_slice.ensures.items c.in_ok-put_segments.ensures.items c.in_ok-extend_from_slice-2.ensures.items)
