@@ -1,7 +1,9 @@
 -- Constants, each once: where a term stands among them, and what others behind them leave as it was.
 use Rattle.std.specs.Prelude.{ℕ, zero, suc, ◌≡◌, ◌+◌, ◌<◌, ◌≤◌, drop, cond, Bool, true, false, Option, Some, None, option_map, Result, Ok, Err, OnOk, IfOk, List, [], ◌∷◌, ◌++◌, length, slice_get, ◌-◌, take}
 use Rattle.std.proofs.Common.{arith, get_or, refl, sym, ap, subst, ◌∙◌}
+use Rattle.std.proofs.Math.Seq.{take-append_seam}
 use Rattle.std.proofs.lemmas.List.{length-append, drop_all}
+use Rattle.std.proofs.lemmas.Option.{same_Some}
 use Rattle.std.specs.Ordering.{is_eq}
 use Rattle.std.specs.declared.cmp.Ordering.{Ordering}
 use Rattle.std.specs.declared.cmp.Ordering.TheVariants.{Less, Equal, Greater}
@@ -194,14 +196,6 @@ before_last cs d = rw (length-append cs (d ∷ [])) (rw (one_less (length cs)) (
 pub with_longer : (cs : List Datum) (d : Datum) → place_of cs d ≡ None → length (with_term cs d) ≡ suc (length cs)
 with_longer cs d new = ap length (with_none cs d new) ∙ omega (arith, length-append cs (d ∷ []))
 
--- the last constant
-pub last_is : (cs : List Datum) (d : Datum) (n : ℕ) (e : Datum) → n ≡ length cs → e ≡ get_or (cs ++ d ∷ []) n e → e ≡ d
-last_is cs d n e is at = at ∙ ap (λ m. get_or (cs ++ d ∷ []) m e) is ∙ last cs
-  where
-    last : (xs : List Datum) → get_or (xs ++ d ∷ []) (length xs) e ≡ d
-    last [] = refl
-    last (x ∷ xs) = last xs
-
 -- what is looked at has the number, where it is the term
 pub place_found : (xs : List Datum) (n : ℕ) (x d : Datum) → n < length xs → x ≡ get_or xs n x → is_same x d ≡ true → place_from (drop n xs) n d ≡ place_from xs 0 d → Some n ≡ place_of xs d
 place_found xs n x d inside is same left =
@@ -231,3 +225,14 @@ pool_last found found' cs n x size small many is pool new entered =
     let split = last_split cs n x size is in
     subst (IsPool found') (sym split.0)
     (pool_more found found' (take n cs) x n pool (omega (arith, many, split.1)) (new x split.2) (sym split.1) (omega (arith, split.1, size, small)) entered)
+
+-- the last of a row is new where it is none of those before it
+pub new_last : (front : List Datum) (x d : Datum) (n : ℕ) (xs : List Datum) → xs ≡ front ++ x ∷ [] → n ≡ length front → place_of front x ≡ None → slice_get xs n ≡ Some d → place_of (take n xs) d ≡ None
+new_last front x d n xs all is new at =
+    let there = ap (λ m. slice_get (front ++ x ∷ []) m) (sym is) ∙ ap (λ ys. slice_get ys n) (sym all) ∙ at in
+    ap (λ ys. place_of (take n ys) d) all ∙ ap (λ m. place_of (take m (front ++ x ∷ [])) d) is
+    ∙ ap (λ ys. place_of ys d) (take-append_seam front (x ∷ [])) ∙ ap (place_of front) (sym (seam front there)) ∙ new
+  where
+    seam : (ys : List Datum) → slice_get (ys ++ x ∷ []) (length ys) ≡ Some d → x ≡ d
+    seam [] h = same_Some x d h
+    seam (y ∷ ys) h = seam ys h
