@@ -1,7 +1,9 @@
 -- Constants, each once: where a term stands among them, and what others behind them leave as it was.
-use Rattle.std.specs.Prelude.{ℕ, suc, ◌≡◌, ◌+◌, ◌≤◌, cond, Bool, true, false, Option, Some, None, option_map, Result, Ok, Err, OnOk, IfOk, List, [], ◌∷◌, ◌++◌, length, slice_get, ◌-◌, take}
+use Rattle.std.specs.Prelude.{ℕ, zero, suc, ◌≡◌, ◌+◌, ◌<◌, ◌≤◌, drop, cond, Bool, true, false, Option, Some, None, option_map, Result, Ok, Err, OnOk, IfOk, List, [], ◌∷◌, ◌++◌, length, slice_get, ◌-◌, take}
 use Rattle.std.proofs.Common.{arith, get_or, refl, sym, ap, subst, ◌∙◌}
-use Rattle.std.proofs.lemmas.List.{length-append}
+use Rattle.std.proofs.Math.Seq.{take-append_seam}
+use Rattle.std.proofs.lemmas.List.{length-append, drop_all}
+use Rattle.std.proofs.lemmas.Option.{same_Some}
 use Rattle.std.specs.Ordering.{is_eq}
 use Rattle.std.specs.declared.cmp.Ordering.{Ordering}
 use Rattle.std.specs.declared.cmp.Ordering.TheVariants.{Less, Equal, Greater}
@@ -11,7 +13,7 @@ use Rattle.term_core.specs.Order.{datum_cmp}
 use Rattle.term_core.specs.OrderLaws.{datum_cmp-equal, datum_cmp-same}
 use Rattle.mcode.specs.declared.fault.Fault.{Fault}
 use Rattle.compiler_assembly.specs.Assembled.{number_of, with_term}
-use Rattle.compiler_assembly.specs.Pool.{place_of, IsFront, IsPool}
+use Rattle.compiler_assembly.specs.Pool.{place_of, place_from, few, IsFront, IsPool}
 
 -- what is the same is equal
 pub same_is : (c d : Datum) → is_same c d ≡ true → c ≡ d
@@ -118,16 +120,42 @@ place_last cs d h = place_push cs d d h ∙ ap (λ b. cond b (Some (length cs)) 
 pub number_later : (cs ds : List Datum) (d : Datum) (n : ℕ) → place_of cs d ≡ Some n → IsFront cs ds → n ≡ number_of ds d
 number_later cs ds d n h front = sym (place_number ds d n (place_later cs ds d n front h))
 
--- one more constant is found
-pub pool_more : (found found' : Datum → Option ℕ) (cs : List Datum) (key : Datum) (n : ℕ) → IsPool found cs → place_of cs key ≡ None → n ≡ length cs → suc (length cs) ≤ 65535 → ((d : Datum) → found' d ≡ cond (is_same key d) (Some n) (found d)) → IsPool found' (cs ++ key ∷ [])
-pool_more found found' cs key n pool new is few entered = record {
-  numbers = λ d. entered d ∙ ap (λ m. cond (is_same key d) (Some m) (found d)) is ∙ ap (cond (is_same key d) (Some (length cs))) (pool.numbers d) ∙ sym (place_push cs key d new);
-  count = omega (arith, length-append cs (key ∷ []));
+-- one more constant is found, beside more than a few
+pub pool_more : (found found' : Datum → Option ℕ) (cs : List Datum) (key : Datum) (n : ℕ) → IsPool found cs → few < length cs → place_of cs key ≡ None → n ≡ length cs → suc (length cs) ≤ 65535 → ((d : Datum) → found' d ≡ cond (is_same key d) (Some n) (found d)) → IsPool found' (cs ++ key ∷ [])
+pool_more found found' cs key n pool many new is small entered = record {
+  numbers = λ more d. entered d ∙ ap (λ m. cond (is_same key d) (Some m) (found d)) is ∙ ap (cond (is_same key d) (Some (length cs))) (pool.numbers many d) ∙ sym (place_push cs key d new);
+  count = omega (arith, length-append cs (key ∷ []), small);
 }
 
 -- the constants as before
 pub pool_same : (found found' : Datum → Option ℕ) (cs : List Datum) → IsPool found cs → ((d : Datum) → found' d ≡ found d) → IsPool found' cs
-pool_same found found' cs pool same = record { numbers = λ d. same d ∙ pool.numbers d; count = pool.count }
+pool_same found found' cs pool same = record { numbers = λ more d. same d ∙ pool.numbers more d; count = pool.count }
+
+-- a term behind so many others has their number, or one that stands behind it
+pub place_step : (xs : List Datum) (n m : ℕ) (x d : Datum) → n < length xs → x ≡ get_or xs n x → place_from (drop n xs) m d ≡ cond (is_same x d) (Some m) (place_from (drop (n + 1) xs) (m + 1) d)
+place_step xs n m x d inside is =
+    rw (one n, one m) (go xs n x inside is)
+  where
+    one : (k : ℕ) → k + 1 ≡ suc k
+    one k = omega arith
+
+    go : (ys : List Datum) (k : ℕ) (y : Datum) → k < length ys → y ≡ get_or ys k y → place_from (drop k ys) m d ≡ cond (is_same y d) (Some m) (place_from (drop (suc k) ys) (suc m) d)
+    go [] k y inside is = absurd (omega (arith, inside))
+    go (z ∷ zs) zero y inside is = ap (λ c. cond (is_same c d) (Some m) (place_from zs (suc m) d)) (sym is)
+    go (z ∷ zs) (suc k) y inside is = go zs k y (omega (arith, inside)) is
+
+place_shift : (cs : List Datum) (n : ℕ) (d : Datum) → place_from cs (suc n) d ≡ option_map suc (place_from cs n d)
+place_shift [] n d = refl
+place_shift (c ∷ cs) n d = by (is_same c d) (place_shift cs (suc n) d)
+  where
+    by : (b : Bool) → place_from cs (suc (suc n)) d ≡ option_map suc (place_from cs (suc n) d) → cond b (Some (suc n)) (place_from cs (suc (suc n)) d) ≡ option_map suc (cond b (Some n) (place_from cs (suc n) d))
+    by true more = refl
+    by false more = more
+
+-- the number of a term among all
+pub place_first : (cs : List Datum) (d : Datum) → place_from cs 0 d ≡ place_of cs d
+place_first [] d = refl
+place_first (c ∷ cs) d = ap (cond (is_same c d) (Some 0)) (place_shift cs 0 d ∙ ap (option_map suc) (place_first cs d))
 
 -- a constant that was there
 pub found_terms : (cs : List Datum) (d : Datum) (n : ℕ) → Some n ≡ place_of cs d → cs ≡ with_term cs d
@@ -168,10 +196,43 @@ before_last cs d = rw (length-append cs (d ∷ [])) (rw (one_less (length cs)) (
 pub with_longer : (cs : List Datum) (d : Datum) → place_of cs d ≡ None → length (with_term cs d) ≡ suc (length cs)
 with_longer cs d new = ap length (with_none cs d new) ∙ omega (arith, length-append cs (d ∷ []))
 
--- the last constant
-pub last_is : (cs : List Datum) (d : Datum) (n : ℕ) (e : Datum) → n ≡ length cs → e ≡ get_or (cs ++ d ∷ []) n e → e ≡ d
-last_is cs d n e is at = at ∙ ap (λ m. get_or (cs ++ d ∷ []) m e) is ∙ last cs
+-- what is looked at has the number, where it is the term
+pub place_found : (xs : List Datum) (n : ℕ) (x d : Datum) → n < length xs → x ≡ get_or xs n x → is_same x d ≡ true → place_from (drop n xs) n d ≡ place_from xs 0 d → Some n ≡ place_of xs d
+place_found xs n x d inside is same left =
+    sym (place_step xs n n x d inside is ∙ ap (λ b. cond b (Some n) (place_from (drop (n + 1) xs) (n + 1) d)) same) ∙ left ∙ place_first xs d
+
+-- and none has it where nothing is left
+pub place_nowhere : (xs : List Datum) (n : ℕ) (d : Datum) → length xs ≤ n → place_from (drop n xs) n d ≡ place_from xs 0 d → None ≡ place_of xs d
+place_nowhere xs n d past left =
+    sym (ap (λ ys. place_from ys n d) (drop_all n xs past)) ∙ left ∙ place_first xs d
+
+-- where there are but a few, none has to be found
+pub pool_few : (found : Datum → Option ℕ) (cs : List Datum) → length cs ≤ few → IsPool found cs
+pool_few found cs short = record { numbers = λ more d. absurd (omega (arith, more, short)); count = omega (arith, short) }
+
+-- the last of a row stands behind the others
+last_split : (xs : List Datum) (n : ℕ) (x : Datum) → length xs ≡ n + 1 → x ≡ get_or xs n x → (xs ≡ take n xs ++ x ∷ []) × (length (take n xs) ≡ n) × (slice_get xs n ≡ Some x)
+last_split [] n x size is = absurd (omega (arith, size))
+last_split (y ∷ []) zero x size is = (ap (λ z. z ∷ []) (sym is), refl, ap Some (sym is))
+last_split (y ∷ z ∷ zs) zero x size is = absurd (omega (arith, size))
+last_split (y ∷ ys) (suc n) x size is =
+    let rest = last_split ys n x (omega (arith, size)) is in
+    (ap (λ zs. y ∷ zs) rest.0, ap suc rest.1, rest.2)
+
+-- one more constant is found, the last of all
+pub pool_last : (found found' : Datum → Option ℕ) (cs : List Datum) (n : ℕ) (x : Datum) → length cs ≡ n + 1 → length cs ≤ 65535 → few < n → x ≡ get_or cs n x → IsPool found (take n cs) → ((d : Datum) → slice_get cs n ≡ Some d → place_of (take n cs) d ≡ None) → ((d : Datum) → found' d ≡ cond (is_same x d) (Some n) (found d)) → IsPool found' cs
+pool_last found found' cs n x size small many is pool new entered =
+    let split = last_split cs n x size is in
+    subst (IsPool found') (sym split.0)
+    (pool_more found found' (take n cs) x n pool (omega (arith, many, split.1)) (new x split.2) (sym split.1) (omega (arith, split.1, size, small)) entered)
+
+-- the last of a row is new where it is none of those before it
+pub new_last : (front : List Datum) (x d : Datum) (n : ℕ) (xs : List Datum) → xs ≡ front ++ x ∷ [] → n ≡ length front → place_of front x ≡ None → slice_get xs n ≡ Some d → place_of (take n xs) d ≡ None
+new_last front x d n xs all is new at =
+    let there = ap (λ m. slice_get (front ++ x ∷ []) m) (sym is) ∙ ap (λ ys. slice_get ys n) (sym all) ∙ at in
+    ap (λ ys. place_of (take n ys) d) all ∙ ap (λ m. place_of (take m (front ++ x ∷ [])) d) is
+    ∙ ap (λ ys. place_of ys d) (take-append_seam front (x ∷ [])) ∙ ap (place_of front) (sym (seam front there)) ∙ new
   where
-    last : (xs : List Datum) → get_or (xs ++ d ∷ []) (length xs) e ≡ d
-    last [] = refl
-    last (x ∷ xs) = last xs
+    seam : (ys : List Datum) → slice_get (ys ++ x ∷ []) (length ys) ≡ Some d → x ≡ d
+    seam [] h = same_Some x d h
+    seam (y ∷ ys) h = seam ys h

@@ -1,5 +1,5 @@
 -- Constants, each once, and how the number of one is found.
-use Rattle.std.specs.Prelude.{ℕ, suc, ◌≡◌, ◌≤◌, ◌++◌, if◌then◌else◌, Option, Some, None, option_map, List, [], ◌∷◌, length}
+use Rattle.std.specs.Prelude.{ℕ, suc, ◌≡◌, ◌<◌, ◌≤◌, ◌++◌, if◌then◌else◌, Option, Some, None, option_map, List, [], ◌∷◌, length}
 use Rattle.term_core.specs.Datum.{Datum}
 use Rattle.term_operand.specs.Order.{is_same}
 use Rattle.mcode.specs.Program.{most_parts}
@@ -9,9 +9,18 @@ abbrev pub place_of : List Datum → Datum → Option ℕ
 place_of [] d = None
 place_of (c ∷ cs) d = if is_same c d then Some 0 else option_map suc (place_of cs d)
 
--- these are the constants, and each is found by itself
+-- the same, where the first of these has this number
+abbrev pub place_from : List Datum → ℕ → Datum → Option ℕ
+place_from [] n d = None
+place_from (c ∷ cs) n d = if is_same c d then Some n else place_from cs (suc n) d
+
+-- so many constants are looked for one by one
+abbrev pub few : ℕ
+few = 8
+
+-- these are the constants, and each is found by itself where there are more than a few
 pub record IsPool (found : Datum → Option ℕ) (cs : List Datum) : Type 0 where
-  pub numbers : (d : Datum) → found d ≡ place_of cs d
+  pub numbers : few < length cs → (d : Datum) → found d ≡ place_of cs d
   pub count : length cs ≤ most_parts
 
 -- the second constants are the first and others behind them

@@ -26,7 +26,7 @@ impl<A: Allocator> Model for Lines<A> {
 }
 
 impl<A: Allocator> Lines<A> {
-    ghost use Rattle.std.specs.Prelude.{◌≡◌, ◌∷◌, [], length, OnOk, MatchOption};
+    ghost use Rattle.std.specs.Prelude.{◌≡◌, ◌∷◌, [], length, OnOk, IfOk, MatchOption};
 
     /// No line.
     pub fn new(alloc: A) -> Self
@@ -37,6 +37,17 @@ impl<A: Allocator> Lines<A> {
         Lines {
             reversed: Vec::new(alloc),
         }
+    }
+
+    /// No line, with room for so many. An `Err` is want of memory.
+    pub fn with_capacity(alloc: A, count: usize) -> Result<Self, AllocError>
+    where
+        A: Copy,
+        ensures { IfOk result (λ lines. lines ≡ []) }
+    {
+        Ok(Lines {
+            reversed: Vec::with_capacity(alloc, count)?,
+        })
     }
 
     /// How many lines there are.

@@ -1,15 +1,21 @@
 //! Constants, each once.
-ghost use Rattle.std.specs.Prelude.{◌≡◌, ◌-◌, ◌++◌, ◌∷◌, [], length, take, if◌then◌else◌, OnOk, OnErr, IfOk};
+ghost use Rattle.std.specs.Prelude.{◌≡◌, ◌≤◌, ◌+◌, ◌-◌, ◌++◌, ◌∷◌, [], Some, None, length, slice_get, take, if◌then◌else◌, OnOk, OnErr, IfOk};
 ghost use Rattle.std.specs.BTreeMap.{get};
+ghost use Rattle.mcode.specs.Program.{most_parts};
 ghost use Rattle.term_operand.specs.Order.{is_same};
 ghost use Rattle.term_core.specs.Datum.{Datum};
 ghost use Rattle.term_core.specs.Order.{datum_cmp};
+ghost use Rattle.compiler_assembly.specs.Pool.{place_of, IsPool};
 
 use mcode::{Fault, MAX_COUNT};
 use std::alloc::{AllocError, Allocator, Global};
 use std::collections::BTreeMap;
 use std::marker::Model;
+use std::mem;
 use term_core::Term;
+
+/// So many constants are looked for one by one, without a map.
+const FEW: usize = 8;
 
 /// Puts a term at the end.
 fn push<A: Allocator>(terms: &mut Vec<Term<A>, A>, term: Term<A>) -> Result<(), AllocError>
@@ -47,11 +53,66 @@ fn enter<A: Allocator + Copy>(
     }
 }
 
+/// The number of a term among these, where it is one of them, by a look at one after the other.
+fn place_among<A: Allocator>(terms: &[Term<A>], term: &Term<A>) -> Option<u16>
+    requires { length terms.now ≤ most_parts }
+    ensures { result ≡ place_of terms.now term.now }
+{
+    for place in 0..terms.len() {
+        if terms[place] == *term {
+            return Some(place as u16);
+        }
+    }
+    None
+}
+
+/// The numbers of these terms.
+fn numbered<A: Allocator + Copy>(
+    alloc: A,
+    terms: &[Term<A>],
+) -> Result<BTreeMap<Term<A>, u16, A>, AllocError>
+    requires { length terms.now ≤ most_parts }
+    ensures { IfOk result (λ numbers. (d : Datum) → get datum_cmp numbers d ≡ place_of terms.now d) }
+{
+    let mut numbers = BTreeMap::new(alloc);
+    for place in (0..terms.len()).rev() {
+        enter(&mut numbers, &terms[place], place as u16)?;
+    }
+    Ok(numbers)
+}
+
+/// Enters the last of these terms, which has this number, where there are more than `FEW`, and all of them where it is
+/// the first such.
+fn enter_last<A: Allocator + Copy>(
+    alloc: A,
+    numbers: &mut BTreeMap<Term<A>, u16, A>,
+    terms: &[Term<A>],
+    place: usize,
+) -> Result<(), AllocError>
+    requires last { length terms.now ≡ place + 1 }
+    requires count { length terms.now ≤ most_parts }
+    requires front { IsPool (get datum_cmp numbers.old) (take place terms.now) }
+    requires new { (d : Datum) → slice_get terms.now place ≡ Some d → place_of (take place terms.now) d ≡ None }
+    ensures ok { OnOk result (IsPool (get datum_cmp numbers.new) terms.now) }
+    ensures kept { OnErr result ((d : Datum) → get datum_cmp numbers.new d ≡ get datum_cmp numbers.old d) }
+{
+    if place < FEW {
+        return Ok(());
+    }
+    if place > FEW {
+        return enter(numbers, &terms[place], place as u16);
+    }
+    let all = numbered(alloc, terms)?;
+    drop(mem::replace(numbers, all));
+    Ok(())
+}
+
 /// Constants, each once, by their numbers in order of first use, at most `MAX_COUNT`. What is refused leaves them as
 /// they were.
 #[derive(Drop)]
 pub(crate) struct Pool<A: Allocator = Global> {
     terms: Vec<Term<A>, A>,
+    /// The number of each, where there are more than `FEW`.
     numbers: BTreeMap<Term<A>, u16, A>,
 }
 
@@ -95,6 +156,9 @@ impl<A: Allocator + Copy> Pool<A> {
     fn number(&self, term: &Term<A>) -> Option<u16>
         ensures { result ≡ place_of self.now term.now }
     {
+        if self.terms.len() <= FEW {
+            return place_among(self.terms.as_slice(), term);
+        }
         self.numbers.get(term).copied()
     }
 
@@ -116,7 +180,7 @@ impl<A: Allocator + Copy> Pool<A> {
         let Ok(()) = push(&mut self.terms, term) else {
             return Err(Fault::Memory);
         };
-        let Ok(()) = enter(&mut self.numbers, &self.terms[place], number) else {
+        let Ok(()) = enter_last(alloc, &mut self.numbers, self.terms.as_slice(), place) else {
             take_back(&mut self.terms);
             return Err(Fault::Memory);
         };

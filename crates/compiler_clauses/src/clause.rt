@@ -14,6 +14,9 @@ use mcode::Slots;
 use mspec_syntax::{Clause, Mode, Variables};
 use std::alloc::{AllocError, Allocator};
 
+/// How many lines most clauses have at most.
+const MOST: usize = 32;
+
 /// The slots of the variables of a clause: their ranks among those of the specification.
 fn write_slots<A: Allocator + Copy>(
     alloc: A,
@@ -55,7 +58,7 @@ fn write_lines<A: Allocator + Copy>(
     requires { IsWritableClause slots.now clause.now }
     ensures { IfOk result (λ lines. lines ≡ (clause_block slots.now clause.now).lines) }
 {
-    let mut lines = Lines::new(alloc);
+    let mut lines = Lines::with_capacity(alloc, MOST)?;
     let body = site_of(alloc, slots, clause, Mode::Body);
     write_body(&body, clause.body(), &mut lines)?;
     let conditions = site_of(alloc, slots, clause, Mode::Condition);

@@ -7,6 +7,9 @@ use std::alloc::{AllocError, Allocator};
 use std::marker::Model;
 use term_core::Term;
 
+/// How many instructions most heads have at most.
+const MOST: usize = 16;
+
 /// Instructions, none of which has a label behind it, and which slots are bound behind them.
 #[derive(Drop)]
 pub struct Draft<A: Allocator> {
@@ -34,7 +37,8 @@ impl<A: Allocator> Draft<A> {
     ghost use Rattle.compiler_patterns.specs.Leaves.{same_lines};
     ghost use Rattle.compiler_patterns.specs.Written.{Puts};
 
-    /// No instruction, with so many slots, of which none is bound. An `Err` is want of memory.
+    /// No instruction, with so many slots, of which none is bound, and room for the instructions of most heads. An `Err`
+    /// is want of memory.
     pub fn new(alloc: A, slots: usize) -> Result<Self, AllocError>
     where
         A: Copy,
@@ -42,7 +46,7 @@ impl<A: Allocator> Draft<A> {
     {
         Ok(Draft {
             bound: vec![in alloc; false; slots]?,
-            ops: Vec::new(alloc),
+            ops: Vec::with_capacity(alloc, MOST)?,
         })
     }
 

@@ -1,6 +1,7 @@
-use Rattle.std.proofs.Common.{refl, ap, arith, ◌∙◌, ◌≡◌, ◌∷◌, [], ◌++◌, length, get_or}
+use Rattle.std.proofs.Common.{refl, ap, arith, ◌∙◌, ◌≡◌, ◌∷◌, [], ◌++◌, length}
+use Rattle.std.proofs.Math.Seq.{take-append_seam}
 use Rattle.std.proofs.lemmas.List.{length-append}
-use Rattle.compiler_assembly.proofs.PoolLemmas.{pool_more, pool_same, before_last, last_is}
+use Rattle.compiler_assembly.proofs.PoolLemmas.{pool_same, before_last, new_last}
 use Rattle.compiler_assembly.proofs.pool.Pool.add.Goals as goal
 
 pub same-self : goal.same-self
@@ -12,26 +13,42 @@ same-term g c = refl
 pub invariant_of-self : goal.invariant_of-self
 invariant_of-self g c = rw c.in_default.ensures.kept c.self.invariant
 
-pub index-requires : goal.index-requires
-index-requires g c =
-    let all = c.push.new.terms.ok.0 in
-    let front = c.self.inside.terms.ok.0 in
-    let more = length-append c.self.inside.terms.items (c.args.term ∷ []) in
-    omega (arith, all, front, more, ap length c.in-Ok.ensures.ok, c.len-place.ensures)
-
-pub invariant_of-self-in-Ok-enter : goal.invariant_of-self-in-Ok-enter
-invariant_of-self-in-Ok-enter g c =
+pub enter_last-requires-clause-last : goal.enter_last-requires-clause-last
+enter_last-requires-clause-last g c =
     let front = c.self.inside.terms.items in
-    let new = rw (← c.self.view_is) at c.requires in
+    let all : c.as_slice.result.now ≡ front ++ c.args.term ∷ [] = c.as_slice.ensures.value ∙ c.in-Ok.ensures.ok in
     let count : c.len-place.result ≡ length front = c.len-place.ensures ∙ c.self.inside.terms.ok.0 in
-    let last : c.index.result.now ≡ get_or (front ++ c.args.term ∷ []) c.len-place.result c.index.result.now = rw (← c.in-Ok.ensures.ok) c.index.ensures in
-    let is = last_is front c.args.term c.len-place.result c.index.result.now count last in
-    rw c.in-Ok.ensures.ok (pool_more _ _ front c.args.term c.len-place.result c.self.invariant new count (omega (arith, count)) (rw (← is) c.in-Ok-enter.ensures.ok))
+    omega (arith, ap length all, length-append front (c.args.term ∷ []), count)
 
-pub invariant_of-self-in_default-enter : goal.invariant_of-self-in_default-enter
-invariant_of-self-in_default-enter g c =
+pub enter_last-requires-clause-count : goal.enter_last-requires-clause-count
+enter_last-requires-clause-count g c =
     let front = c.self.inside.terms.items in
-    rw (c.take_back.ensures, c.in-Ok.ensures.ok, before_last front c.args.term) (pool_same _ _ front c.self.invariant c.in_default-enter.ensures.kept)
+    let all : c.as_slice.result.now ≡ front ++ c.args.term ∷ [] = c.as_slice.ensures.value ∙ c.in-Ok.ensures.ok in
+    let count : c.len-place.result ≡ length front = c.len-place.ensures ∙ c.self.inside.terms.ok.0 in
+    omega (arith, ap length all, length-append front (c.args.term ∷ []), count, c.if-place-ge-MAX_COUNT.false)
+
+pub enter_last-requires-clause-front : goal.enter_last-requires-clause-front
+enter_last-requires-clause-front g c =
+    let front = c.self.inside.terms.items in
+    let all : c.as_slice.result.now ≡ front ++ c.args.term ∷ [] = c.as_slice.ensures.value ∙ c.in-Ok.ensures.ok in
+    let count : c.len-place.result ≡ length front = c.len-place.ensures ∙ c.self.inside.terms.ok.0 in
+    rw (all, count, take-append_seam front (c.args.term ∷ [])) c.self.invariant
+
+pub enter_last-requires-clause-new : goal.enter_last-requires-clause-new
+enter_last-requires-clause-new g c = λ d at.
+    let front = c.self.inside.terms.items in
+    let all : c.as_slice.result.now ≡ front ++ c.args.term ∷ [] = c.as_slice.ensures.value ∙ c.in-Ok.ensures.ok in
+    let count : c.len-place.result ≡ length front = c.len-place.ensures ∙ c.self.inside.terms.ok.0 in
+    let new = rw (← c.self.view_is) at c.requires in
+    new_last front c.args.term d c.len-place.result c.as_slice.result.now all count new at
+
+pub invariant_of-self-in-Ok-enter_last : goal.invariant_of-self-in-Ok-enter_last
+invariant_of-self-in-Ok-enter_last g c = rw (← c.as_slice.ensures.value) c.in-Ok-enter_last.ensures.ok
+
+pub invariant_of-self-in_default-enter_last : goal.invariant_of-self-in_default-enter_last
+invariant_of-self-in_default-enter_last g c =
+    let front = c.self.inside.terms.items in
+    rw (c.take_back.ensures, c.in-Ok.ensures.ok, before_last front c.args.term) (pool_same _ _ front c.self.invariant c.in_default-enter_last.ensures.kept)
 
 pub overflow_cast-number : goal.overflow_cast-number
 overflow_cast-number g c = omega (arith, c.if-place-ge-MAX_COUNT.false)
