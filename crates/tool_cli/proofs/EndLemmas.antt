@@ -20,7 +20,7 @@ use Rattle.tool_scan.specs.Scan.{StopsScan}
 use Rattle.tool_scan.specs.declared.options.ScanOptions.{ScanOptions}
 use Rattle.tool_script.specs.Input.{OfScript, StopsScript}
 use Rattle.tool_script.specs.Script.{beginning}
-use Rattle.tool_script.specs.Shell.{WritesAnswers, WritesFirst, StopsShell, ended}
+use Rattle.tool_script.specs.Shell.{WritesAnswers, WritesFirst, StopsShell}
 use Rattle.tool_script.proofs.PassLemmas.{appends_none}
 use Rattle.tool_cli.specs.Program.{Writes, StopsOn, HasOutcome, EndsTold, EndsTelling, EndsExplained, EndsInvocation, EndsAsked, EndsEarly, EndsHelp, EndsMistaken, EndsVersion}
 use Rattle.tool_cli.specs.Telling.{Tells}
@@ -153,7 +153,7 @@ nothing_first input old = record {
   out = [];
   more = [];
   st = beginning;
-  answered = ended;
+  answered = λ rest more after goes. goes;
   first = inl refl;
   gained = appends_none old;
 }

@@ -31,7 +31,7 @@ use Rattle.tool_script.specs.Scripts.{HasState}
 use Rattle.tool_script.specs.Shell.{Replies, Looked, Goes, FirstReplies, WritesAnswers, WritesFirst, StopsShell, refusal}
 use Rattle.tool_script.specs.Shell.Looked.{spelled, cut_short, refused}
 use Rattle.tool_script.specs.Shell.Goes.{ended, passed, goes_on, looked_at, given_up}
-use Rattle.tool_script.specs.Shells.{AreAnswered, StopsTerms, IsRefused, IsLookedAt, StopsText, LeadsOn, IsLineAnswered, MayFollow, IsAllAt, Stands, HoldsFirst, StopsHolding, IsToldBy}
+use Rattle.tool_script.specs.Shells.{AreAnswered, StopsTerms, IsRefused, IsLookedAt, StopsText, LeadsOn, IsLineAnswered, MayFollow, MayStandBehind, IsAllAt, Stands, HoldsFirst, StopsHolding, IsToldBy}
 use Rattle.tool_script.proofs.LineLemmas.{slice_end}
 use Rattle.tool_script.proofs.PassLemmas.{replied_more, appends_none, appends_join, consumes_join, passes_none, passes_more, passes_on, passes_put, passes_written}
 
@@ -49,9 +49,13 @@ before_rest : (p : Progress) (left : Option (List ℕ)) (l rest : List ℕ) → 
 before_rest progress.More left l rest whole may = whole rest
 before_rest progress.End left l rest whole may = subst (IsLineBefore l) (sym may) whole.0
 
-may_end : (p : Progress) → MayFollow p []
-may_end progress.More = tt
-may_end progress.End = refl
+pub may_more : (begun rest : List ℕ) → MayStandBehind progress.More begun rest
+may_more [] rest = tt
+may_more (b ∷ begun) rest = tt
+
+pub may_begun : (p : Progress) (begun rest : List ℕ) → 0 < length begun → MayStandBehind p begun rest
+may_begun p [] rest some = absurd (omega (arith, some))
+may_begun p (b ∷ begun) rest some = tt
 
 all_at : (p : Progress) (known left : Option (List ℕ)) (taken l : List ℕ) → Consumes known left taken → IsLine l p left → IsAllAt p known (taken ++ l)
 all_at progress.More known left taken l lost whole = tt
@@ -145,7 +149,7 @@ told_stops known old now later lines f result h (inr (is, written)) = subst (Sto
 -- no memory was given before anything was read
 pub stops_first : (known old : Option (List ℕ)) → WritesFirst known old old
 stops_first known old =
-    record { front = []; text = []; begins = begins_any known; out = []; more = []; st = beginning; answered = ended; first = inl refl; gained = appends_none old }
+    record { front = []; text = []; begins = begins_any known; out = []; more = []; st = beginning; answered = λ rest more after goes. goes; first = inl refl; gained = appends_none old }
   where
     begins_any : (k : Option (List ℕ)) → IfSome k (λ bytes. StartsWith bytes ([] ++ []))
     begins_any None = tt
@@ -302,7 +306,7 @@ module _ {S O A : Type 0} {s : Ghosts S A} {o : Ghosts O A} where
         out = [];
         st = beginning;
         state = has;
-        answered = ended;
+        answered = λ rest more after may goes. goes;
         on = λ rest more after may goes. goes;
         lost = none_lost known;
         all = tt;
@@ -334,7 +338,7 @@ module _ {S O A : Type 0} {s : Ghosts S A} {o : Ghosts O A} where
         out = t.out;
         st = t.st;
         state = led.0;
-        answered = t.answered;
+        answered = λ rest out after may goes. t.answered rest out after (may_more begun rest) goes;
         on = λ rest out after may goes. subst (λ m. Goes beginning [] m (t.out ++ out) after) (four t.front begun l rest)
             (t.on (l ++ rest) out after tt (led.1 rest out after (before_rest p left l rest whole may) goes));
         lost = subst (Consumes known after_left) (append_assoc t.front begun l) (consumes_join known left after_left (t.front ++ begun) l t.lost lost);
@@ -358,7 +362,7 @@ module _ {S O A : Type 0} {s : Ghosts S A} {o : Ghosts O A} where
         out = t.out ++ f.0;
         st = f.1;
         state = f.2;
-        answered = subst (λ m. Goes beginning [] m (t.out ++ f.0) f.1) none (subst (λ m. Goes beginning [] (front ++ []) m f.1) (append-nil (t.out ++ f.0)) (on [] [] f.1 (may_end p) ended));
+        answered = on;
         on = λ rest out after may goes. subst (λ m. Goes beginning [] (m ++ rest) ((t.out ++ f.0) ++ out) after) (sym none) (on rest out after may goes);
         lost = subst (Consumes known after_left) (append_assoc t.front begun l ∙ sym none) (consumes_join known left after_left (t.front ++ begun) l t.lost lost);
         all = subst (IsAllAt p known) (append_assoc t.front begun l ∙ sym none) (all_at p known left (t.front ++ begun) l t.lost whole);
@@ -395,8 +399,8 @@ module _ {S O A : Type 0} {s : Ghosts S A} {o : Ghosts O A} where
 
   -- ---- early ends
 
-  pub stands_hold : (script : script_type.Script S O A s o) (p : Progress) (known left old now : Option (List ℕ)) (begun lines : List ℕ) → Stands script p known left old now begun lines → HoldsFirst known old now lines
-  stands_hold script p known left old now begun lines t =
+  pub stands_hold : (script : script_type.Script S O A s o) (known left old now : Option (List ℕ)) (begun lines : List ℕ) → Stands script progress.More known left old now begun lines → HoldsFirst known old now lines
+  stands_hold script known left old now begun lines t =
       record {
         front = t.front;
         text = [];
@@ -404,18 +408,18 @@ module _ {S O A : Type 0} {s : Ghosts S A} {o : Ghosts O A} where
         out = t.out;
         more = [];
         st = t.st;
-        answered = t.answered;
+        answered = λ rest more after goes. t.answered rest more after (may_more begun rest) goes;
         first = inl refl;
         put = subst (λ m. Passes old now m lines) (sym (append-nil t.out)) t.put;
       }
 
-  pub unread_stops : (script : script_type.Script S O A s o) (p : Progress) (known left old now : Option (List ℕ)) (begun lines : List ℕ) (f : ToolFault) → IsReadFault f → Stands script p known left old now begun lines → StopsHolding known old now lines f
-  unread_stops script p known left old now begun lines f is t = read_stops known old now lines f is (stands_hold script p known left old now begun lines t)
+  pub unread_stops : (script : script_type.Script S O A s o) (known left old now : Option (List ℕ)) (begun lines : List ℕ) (f : ToolFault) → IsReadFault f → Stands script progress.More known left old now begun lines → StopsHolding known old now lines f
+  unread_stops script known left old now begun lines f is t = read_stops known old now lines f is (stands_hold script known left old now begun lines t)
 
   text_holds : (script : script_type.Script S O A s o) (p : Progress) (known left after_left old now later : Option (List ℕ)) (begun l text lines more : List ℕ)
-      → Stands script p known left old now begun lines → Consumes left after_left l → text ≡ begun ++ l
+      → ((rest : List ℕ) → MayStandBehind p begun rest) → Stands script p known left old now begun lines → Consumes left after_left l → text ≡ begun ++ l
       → StopsText script text now later lines more fault.Memory → HoldsFirst known old later more
-  text_holds script p known left after_left old now later begun l text lines more t lost whole stops =
+  text_holds script p known left after_left old now later begun l text lines more may t lost whole stops =
       let f = stops t.st t.state in
       let lost_all = subst (Consumes known after_left) (append_assoc t.front begun l) (consumes_join known left after_left (t.front ++ begun) l t.lost lost) in
       record {
@@ -425,29 +429,29 @@ module _ {S O A : Type 0} {s : Ghosts S A} {o : Ghosts O A} where
         out = t.out;
         more = f.2;
         st = t.st;
-        answered = t.answered;
+        answered = λ rest more after goes. t.answered rest more after (may rest) goes;
         first = f.4;
         put = passes_more old now later t.out lines f.2 more t.put f.5;
       }
 
   pub line_stops : (script : script_type.Script S O A s o) (p : Progress) (known left after_left old now later : Option (List ℕ)) (begun l text lines more : List ℕ) (f : ToolFault)
-      → Stands script p known left old now begun lines → Consumes left after_left l → text ≡ begun ++ l
+      → ((rest : List ℕ) → MayStandBehind p begun rest) → Stands script p known left old now begun lines → Consumes left after_left l → text ≡ begun ++ l
       → StopsText script text now later lines more f → StopsHolding known old later more f
-  line_stops script p known left after_left old now later begun l text lines more fault.Memory t lost whole stops = text_holds script p known left after_left old now later begun l text lines more t lost whole stops
-  line_stops script p known left after_left old now later begun l text lines more fault.WriteFailed t lost whole stops = tt
-  line_stops script p known left after_left old now later begun l text lines more (fault.Text g) t lost whole stops = absurd stops
-  line_stops script p known left after_left old now later begun l text lines more fault.BadInput t lost whole stops = absurd stops
-  line_stops script p known left after_left old now later begun l text lines more (fault.Specification g) t lost whole stops = absurd stops
-  line_stops script p known left after_left old now later begun l text lines more (fault.File g) t lost whole stops = absurd stops
-  line_stops script p known left after_left old now later begun l text lines more (fault.Code g n) t lost whole stops = absurd stops
-  line_stops script p known left after_left old now later begun l text lines more fault.ReadFailed t lost whole stops = absurd stops
-  line_stops script p known left after_left old now later begun l text lines more fault.TooSmall t lost whole stops = absurd stops
-  line_stops script p known left after_left old now later begun l text lines more fault.BadOptions t lost whole stops = absurd stops
+  line_stops script p known left after_left old now later begun l text lines more fault.Memory may t lost whole stops = text_holds script p known left after_left old now later begun l text lines more may t lost whole stops
+  line_stops script p known left after_left old now later begun l text lines more fault.WriteFailed may t lost whole stops = tt
+  line_stops script p known left after_left old now later begun l text lines more (fault.Text g) may t lost whole stops = absurd stops
+  line_stops script p known left after_left old now later begun l text lines more fault.BadInput may t lost whole stops = absurd stops
+  line_stops script p known left after_left old now later begun l text lines more (fault.Specification g) may t lost whole stops = absurd stops
+  line_stops script p known left after_left old now later begun l text lines more (fault.File g) may t lost whole stops = absurd stops
+  line_stops script p known left after_left old now later begun l text lines more (fault.Code g n) may t lost whole stops = absurd stops
+  line_stops script p known left after_left old now later begun l text lines more fault.ReadFailed may t lost whole stops = absurd stops
+  line_stops script p known left after_left old now later begun l text lines more fault.TooSmall may t lost whole stops = absurd stops
+  line_stops script p known left after_left old now later begun l text lines more fault.BadOptions may t lost whole stops = absurd stops
 
   pub given_stops : (script : script_type.Script S O A s o) (p : Progress) (known left old now later : Option (List ℕ)) (begun lines more : List ℕ) (f : ToolFault)
-      → StopsText script begun now later lines more f → Stands script p known left old now begun lines → StopsHolding known old later more f
-  given_stops script p known left old now later begun lines more f stops t =
-      line_stops script p known left left old now later begun [] begun lines more f t (none_lost left) (sym (append-nil begun)) stops
+      → 0 < length begun → StopsText script begun now later lines more f → Stands script p known left old now begun lines → StopsHolding known old later more f
+  given_stops script p known left old now later begun lines more f some stops t =
+      line_stops script p known left left old now later begun [] begun lines more f (λ rest. may_begun p begun rest some) t (none_lost left) (sym (append-nil begun)) stops
 
   -- ---- the end
 

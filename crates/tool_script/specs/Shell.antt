@@ -78,6 +78,11 @@ pub record FirstReplies (st : ScriptState) (text lines : List ℕ) : Type 0 wher
   pub replied : Replies st front replies after
   pub written : lines ≡ flat_map line replies
 
+-- a beginning of an input is answered, whatever stands behind it; so nothing is begun there that could go on
+abbrev pub IsAnsweredFirst : (front out : List ℕ) → ScriptState → Type 0
+IsAnsweredFirst front out st =
+    (rest more : List ℕ) (after : ScriptState) → Goes st [] rest more after → Goes beginning [] (front ++ rest) (out ++ more) after
+
 -- The writer gains what answers a beginning of the input, and maybe the replies to the first terms of the text that
 -- stands behind that.
 pub record WritesFirst (known old new : Option (List ℕ)) : Type 0 where
@@ -87,7 +92,7 @@ pub record WritesFirst (known old new : Option (List ℕ)) : Type 0 where
   pub out : List ℕ
   pub more : List ℕ
   pub st : ScriptState
-  pub answered : Goes beginning [] front out st
+  pub answered : IsAnsweredFirst front out st
   pub first : (more ≡ []) ⊎ FirstReplies st text more
   pub gained : Appends old new (out ++ more)
 

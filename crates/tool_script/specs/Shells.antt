@@ -1,5 +1,5 @@
 -- A shell in memory: its script, what is begun, and the lines that aren't written yet.
-use Rattle.std.specs.Prelude.{ℕ, ◌≡◌, ◌≢◌, ◌⊎◌, Bool, true, false, Option, IfSome, flat_map, List, [], ◌++◌, length}
+use Rattle.std.specs.Prelude.{ℕ, ◌≡◌, ◌≢◌, ◌⊎◌, Bool, true, false, Option, IfSome, flat_map, List, [], ◌∷◌, ◌++◌, length}
 use Rattle.std.specs.Io.{StartsWith}
 use Rattle.std.specs.Io.KnownBytes.{Appends, Consumes}
 use Rattle.term_core.specs.Datum.{Datum}
@@ -16,7 +16,7 @@ use Rattle.tool_script.specs.declared.script.Script as script_type
 use Rattle.tool_script.specs.Line.{IsLineBefore}
 use Rattle.tool_script.specs.Script.{ScriptState, beginning}
 use Rattle.tool_script.specs.Scripts.{HasState}
-use Rattle.tool_script.specs.Shell.{Replies, Looked, Goes, FirstReplies, refusal}
+use Rattle.tool_script.specs.Shell.{Replies, Looked, Goes, FirstReplies, IsAnsweredFirst, refusal}
 
 -- terms are replied, and their lines put behind the others, of which some may have gone to the writer
 abbrev pub AreAnswered : {S O A : Type 0} {s : Ghosts S A} {o : Ghosts O A} → script_type.Script S O A s o → script_type.Script S O A s o → List Datum → (before after : Option (List ℕ)) → (lines more : List ℕ) → Type 0
@@ -80,6 +80,11 @@ abbrev pub MayFollow : Progress → List ℕ → Type 0
 MayFollow progress.More rest = Unit {0}
 MayFollow progress.End rest = rest ≡ []
 
+-- and behind what was answered, with this begun there
+abbrev pub MayStandBehind : Progress → (begun rest : List ℕ) → Type 0
+MayStandBehind p [] rest = MayFollow p rest
+MayStandBehind p (b ∷ begun) rest = Unit {0}
+
 -- it was all that the reader had
 abbrev pub IsAllAt : Progress → Option (List ℕ) → List ℕ → Type 0
 IsAllAt progress.More known taken = Unit {0}
@@ -93,7 +98,8 @@ pub record Stands {S O A : Type 0} {s : Ghosts S A} {o : Ghosts O A} (script : s
     pub out : List ℕ
     pub st : ScriptState
     pub state : HasState script st
-    pub answered : Goes beginning [] front out st
+    pub answered : (rest more : List ℕ) (after : ScriptState) → MayStandBehind p begun rest → Goes st [] rest more after
+        → Goes beginning [] (front ++ rest) (out ++ more) after
     pub on : (rest more : List ℕ) (after : ScriptState) → MayFollow p rest → Goes st begun rest more after
         → Goes beginning [] ((front ++ begun) ++ rest) (out ++ more) after
     pub lost : Consumes known left (front ++ begun)
@@ -108,7 +114,7 @@ pub record HoldsFirst (known old now : Option (List ℕ)) (lines : List ℕ) : T
   pub out : List ℕ
   pub more : List ℕ
   pub st : ScriptState
-  pub answered : Goes beginning [] front out st
+  pub answered : IsAnsweredFirst front out st
   pub first : (more ≡ []) ⊎ FirstReplies st text more
   pub put : Passes old now (out ++ more) lines
 

@@ -43,4 +43,4 @@ returns-in-Err-clause-stopped g c =
 pub returns-clause-stopped : goal.returns-clause-stopped
 returns-clause-stopped g c =
     told_stops (reader_remaining g.R.Read.remaining c.args.input.now) (g.W.Write.contents c.args.writer.now) (g.W.Write.contents c.loop-line.writer) (g.W.Write.contents c.told-2.new.writer) c.loop-line.lines.items fault.ReadFailed c.told-2.result
-    (stands_hold c.loop-line.script progress.More (reader_remaining g.R.Read.remaining c.args.input.now) (reader_remaining g.R.Read.remaining c.loop-line.input) (g.W.Write.contents c.args.writer.now) (g.W.Write.contents c.loop-line.writer) c.loop-line.begun.items c.loop-line.lines.items c.loop-line.invariant) c.told-2.ensures
+    (stands_hold c.loop-line.script (reader_remaining g.R.Read.remaining c.args.input.now) (reader_remaining g.R.Read.remaining c.loop-line.input) (g.W.Write.contents c.args.writer.now) (g.W.Write.contents c.loop-line.writer) c.loop-line.begun.items c.loop-line.lines.items c.loop-line.invariant) c.told-2.ensures

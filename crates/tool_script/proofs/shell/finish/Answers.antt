@@ -10,6 +10,8 @@ returns-in-Ok-clause-ok g c =
     on_ok_weaker c.write_lines-in-Ok.result (λ w known left old t. stands_given c.args.script.now c.answer_text.new.script known left old (g.W.Write.contents c.args.writer.now) (g.W.Write.contents c.answer_text.new.writer) (g.W.Write.contents c.write_lines-in-Ok.new.writer) c.args.begun.now c.args.lines.now.items c.answer_text.new.lines.items c.in-Ok._kept some t c.in-Ok.ensures.ok w) c.write_lines-in-Ok.ensures.ok
 
 pub returns-in-Err-clause-stopped : goal.returns-in-Err-clause-stopped
-returns-in-Err-clause-stopped g c = λ known left old t.
+returns-in-Err-clause-stopped g c =
+    let some = some_of (length c.args.begun.now) (sym c.is_empty.ensures ∙ c.if-is_empty.false) in
+    λ known left old t.
     told_stops known old (g.W.Write.contents c.answer_text.new.writer) (g.W.Write.contents c.told.new.writer) c.answer_text.new.lines.items c.in-Err.fault c.told.result
-    (given_stops c.args.script.now progress.End known left old (g.W.Write.contents c.args.writer.now) (g.W.Write.contents c.answer_text.new.writer) c.args.begun.now c.args.lines.now.items c.answer_text.new.lines.items c.in-Err.fault c.in-Err.ensures.stopped t) c.told.ensures
+    (given_stops c.args.script.now progress.End known left old (g.W.Write.contents c.args.writer.now) (g.W.Write.contents c.answer_text.new.writer) c.args.begun.now c.args.lines.now.items c.answer_text.new.lines.items c.in-Err.fault some c.in-Err.ensures.stopped t) c.told.ensures
