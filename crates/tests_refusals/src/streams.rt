@@ -147,7 +147,7 @@ fn is_replied(written: &[u8], lines: usize) -> bool {
 #[test]
 fn each_read_of_a_shell_may_fail(rt: HostRuntime) {
     let reads = reads_of(&rt, rt.alloc(), SHELL);
-    assert!(rt; 10 < reads);
+    assert!(rt; 1 < reads);
     for call in 0..reads {
         assert!(rt; is_left_unread(&rt, rt.alloc(), call.saturating_add(1)), "{call}");
     }

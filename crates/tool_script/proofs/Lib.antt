@@ -18,3 +18,4 @@ mod GatherLemmas
 mod WorkedRows
 mod WorkedWalks
 mod WorkedLines
+mod AnswerLemmas

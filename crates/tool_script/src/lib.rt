@@ -15,7 +15,7 @@
 //! - `reply`: replies and their lines, `specs/Replies.antt`; `run`: from a reader to a writer, too, `specs/Input.antt`.
 //! - `shell`: replies while commands come, `specs/Shell.antt`, in memory `specs/Shells.antt`; `line`: the lines of its
 //!   input, `specs/Line.antt`.
-//! - `laws`: replies are one, `specs/Laws.antt`.
+//! - `laws`: replies are one, and whole lines are answered as a script, `specs/Laws.antt`.
 #![tactic(auto)]
 
 mod command;
@@ -32,7 +32,7 @@ mod walk;
 
 pub use command::{Ask, Command, Selection, read_command};
 pub use command_laws::terms_tell_commands;
-pub use laws::replies_are_one;
+pub use laws::{lines_are_a_script, replies_are_one};
 pub use reply::{CommandReply, put_reply};
 pub use run::run_script;
 pub use shell::run_shell;
