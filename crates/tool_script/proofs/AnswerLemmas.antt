@@ -51,8 +51,8 @@ looked_whole once st behind text now left ds spells (spelled replies found repli
   written = refl;
   none = refl;
 }
-looked_whole once st behind text now left ds spells (cut_short not_given no) = absurd (no.unspelled ds spells)
-looked_whole once st behind text now left ds spells (refused no why) = absurd (no.unspelled ds spells)
+looked_whole once st behind text now left ds spells (cut_short not_given wrong) = absurd (wrong.unspelled ds spells)
+looked_whole once st behind text now left ds spells (refused wrong why) = absurd (wrong.unspelled ds spells)
 
 -- and what is answered behind it
 pub record LineAnswers (st : ScriptState) (ds : List Datum) (rest out : List ℕ) (after : ScriptState) : Type 0 where

@@ -1,8 +1,13 @@
-use Rattle.std.proofs.Common.{◌∙◌, sym, length}
+use Rattle.std.proofs.Common.{◌∙◌, eqb-true, sym, length}
 use Rattle.std.proofs.lemmas.Result.{on_ok_weaker}
 use Rattle.tool_script.specs.declared.line.Progress.TheVariants as progress
-use Rattle.tool_script.proofs.ShellLemmas.{given_stops, some_of, stands_given, told_stops}
+use Rattle.tool_script.proofs.ShellLemmas.{given_stops, some_of, stands_ended, stands_given, told_stops}
 use Rattle.tool_script.proofs.shell.finish.Goals as goal
+
+pub returns-then-is_empty-clause-ok : goal.returns-then-is_empty-clause-ok
+returns-then-is_empty-clause-ok g c =
+    let none = eqb-true (length c.args.begun.now) 0 (sym c.is_empty.ensures ∙ c.if-is_empty.true) in
+    on_ok_weaker c.write_lines.result (λ w known left old t. stands_ended c.args.script.now known left old (g.W.Write.contents c.args.writer.now) (g.W.Write.contents c.write_lines.new.writer) c.args.begun.now c.args.lines.now.items none t w) c.write_lines.ensures.ok
 
 pub returns-in-Ok-clause-ok : goal.returns-in-Ok-clause-ok
 returns-in-Ok-clause-ok g c =
