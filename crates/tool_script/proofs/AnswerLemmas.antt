@@ -7,7 +7,7 @@ use Rattle.term_text.specs.Text.{Spells}
 use Rattle.tool_io.specs.Lines.{line}
 use Rattle.tool_script.specs.declared.line.Effect.{Effect}
 use Rattle.tool_script.specs.declared.line.Effect.TheVariants as effect
-use Rattle.tool_script.specs.Laws.{IsCommandLine, AreCommandLines}
+use Rattle.tool_script.specs.Laws.{AreCommandLines}
 use Rattle.tool_script.specs.Line.{first_line, behind_line, effect_of}
 use Rattle.tool_script.specs.Script.{ScriptState}
 use Rattle.tool_script.specs.Replied.{AreReplies}

@@ -1,5 +1,5 @@
 -- A shell goes on from line to line.
-use Rattle.std.proofs.Common.{◌≡◌, ◌≢◌, ◌↔◌, ◌⊎◌, inl, inr, ℕ, zero, suc, ◌+◌, ◌-◌, ◌<◌, Bool, true, false, Option, Some, None, IfSome, List, [], ◌∷◌, ◌++◌, take, drop, get_or, length, flat_map, refl, sym, ap, subst, ◌∙◌, append_assoc, arith}
+use Rattle.std.proofs.Common.{◌≡◌, ◌≢◌, ◌↔◌, inl, inr, ℕ, zero, suc, ◌+◌, ◌-◌, ◌<◌, Bool, true, false, Option, Some, None, IfSome, List, [], ◌∷◌, ◌++◌, take, drop, get_or, length, flat_map, refl, sym, ap, subst, ◌∙◌, append_assoc, arith}
 use Rattle.std.specs.Prelude.{if◌then◌else◌, ◌==◌, Result, Ok, Err, IfOk, IfErr, OnErr}
 use Rattle.std.proofs.lemmas.Bool.{true≢false}
 use Rattle.std.proofs.lemmas.List.{append-nil, take_more, take-append-drop}
@@ -24,16 +24,16 @@ use Rattle.tool_script.specs.declared.line.Effect.TheVariants as effect
 use Rattle.tool_script.specs.declared.line.Progress.{Progress}
 use Rattle.tool_script.specs.declared.line.Progress.TheVariants as progress
 use Rattle.tool_script.specs.declared.script.Script as script_type
-use Rattle.tool_script.specs.Line.{first_line, behind_line, is_idle, is_empty, has_dot, effect_of, IsLineBefore, IsLine, TakesLine}
+use Rattle.tool_script.specs.Line.{behind_line, is_empty, has_dot, effect_of, IsLineBefore, IsLine, TakesLine}
 use Rattle.tool_script.specs.Run.{IsPut}
 use Rattle.tool_script.specs.Script.{ScriptState, beginning}
 use Rattle.tool_script.specs.Scripts.{HasState}
-use Rattle.tool_script.specs.Shell.{Replies, Looked, Goes, FirstReplies, WritesAnswers, WritesFirst, StopsShell, refusal}
+use Rattle.tool_script.specs.Shell.{Looked, Goes, WritesAnswers, WritesFirst, StopsShell, refusal}
 use Rattle.tool_script.specs.Shell.Looked.{spelled, cut_short, refused}
 use Rattle.tool_script.specs.Shell.Goes.{ended, passed, goes_on, looked_at, given_up}
 use Rattle.tool_script.specs.Shells.{AreAnswered, StopsTerms, IsRefused, IsLookedAt, StopsText, LeadsOn, IsLineAnswered, MayFollow, MayStandBehind, IsAllAt, Stands, HoldsFirst, StopsHolding, IsToldBy}
 use Rattle.tool_script.proofs.LineLemmas.{slice_end}
-use Rattle.tool_script.proofs.PassLemmas.{replied_more, appends_none, appends_join, consumes_join, passes_none, passes_more, passes_on, passes_put, passes_written}
+use Rattle.tool_script.proofs.PassLemmas.{replied_more, appends_none, consumes_join, passes_none, passes_more, passes_on, passes_put, passes_written}
 
 -- ---- lines
 

@@ -1,6 +1,6 @@
 -- Lines worked out: what each does behind what is begun. A wrong definition fails here before any proof.
-use Rattle.std.proofs.Common.{◌≡◌, List, [], ◌∷◌, refl}
-use Rattle.std.specs.Prelude.{codes, true, false}
+use Rattle.std.proofs.Common.{◌≡◌, [], refl}
+use Rattle.std.specs.Prelude.{codes, false}
 use Rattle.tool_script.specs.declared.line.Effect.TheVariants as effect
 use Rattle.tool_script.specs.Line.{first_line, behind_line, effect_of, has_dot}
 

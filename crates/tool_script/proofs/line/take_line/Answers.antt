@@ -1,4 +1,4 @@
-use Rattle.std.proofs.Common.{◌≡◌, ◌-◌, ◌∙◌, rules, take, drop, length, ap, subst}
+use Rattle.std.proofs.Common.{◌≡◌, ◌∙◌, rules, drop, length, ap, subst}
 use Rattle.tool_script.specs.Line.{EndsLine}
 use Rattle.tool_script.proofs.LineLemmas.{slice_end, taken}
 use Rattle.tool_script.proofs.line.take_line.Goals as goal

@@ -1,4 +1,4 @@
-use Rattle.std.proofs.Common.{◌≡◌, [], rules, sym, subst}
+use Rattle.std.proofs.Common.{◌≡◌, rules, sym, subst}
 use Rattle.std.specs.Prelude.{Ok}
 use Rattle.std.specs.Io.Buffered.{reader_remaining}
 use Rattle.std.proofs.lemmas.Result.{on_ok_weaker, IfErr-weaker}
