@@ -3,9 +3,9 @@ _ets_tool() {
     local word=${COMP_WORDS[COMP_CWORD]} before=${COMP_WORDS[COMP_CWORD - 1]}
     COMPREPLY=()
     if [ "$COMP_CWORD" = 1 ]; then
-        mapfile -t COMPREPLY < <(compgen -W 'run test compile verify script scan explain help --help --version' -- "$word")
+        mapfile -t COMPREPLY < <(compgen -W 'run test compile verify script shell scan explain help --help --version' -- "$word")
     elif [ "$COMP_CWORD" = 2 ] && [ "$before" = help ]; then
-        mapfile -t COMPREPLY < <(compgen -W 'run test compile verify script scan explain help' -- "$word")
+        mapfile -t COMPREPLY < <(compgen -W 'run test compile verify script shell scan explain help' -- "$word")
     elif [ "${COMP_WORDS[1]}" = scan ] && [ "$before" = --kind ]; then
         mapfile -t COMPREPLY < <(compgen -W 'set bag duplicate_bag' -- "$word")
     elif [ "${COMP_WORDS[1]}" = scan ]; then

@@ -281,6 +281,29 @@ true.
 [{9,a}].
 ";
 
+/// Lines of a shell: commands, two of which share a line, one goes on in the next line, one is refused with what stands
+/// behind it in its line, one is given up, and one stands behind a comment.
+const SHELL: &str =
+    "{open,set,1,1,1}.\n{insert,0,{1,[a]}}. {insert,0,\n{1,[b]}}.\n{lookup 0,1}. {close}.\n{lookup,0,\n\n% all.\n{close}.";
+
+/// What they are replied.
+const SHELL_LINES: &str = "\
+true.
+true.
+true.
+{error,5,8}.
+{error,5,11}.
+[{1,[b]}].
+";
+
+#[test]
+fn each_request_of_a_shell_refused_in_turn(rt: HostRuntime) {
+    let replied = Case::answered(Request::Shell, SHELL, SHELL_LINES);
+    assert_eq!(rt; replied.tried(&rt, rt.alloc()), Ok(()));
+    let replied = Case::answered(Request::Shell, BAG_SCRIPT, BAG_LINES);
+    assert_eq!(rt; replied.tried(&rt, rt.alloc()), Ok(()));
+}
+
 #[test]
 fn each_request_of_a_script_refused_in_turn(rt: HostRuntime) {
     for input in [SET_SCRIPT, ORDERED_SET_SCRIPT] {

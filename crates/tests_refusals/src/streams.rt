@@ -1,4 +1,5 @@
 //! Commands whose reader or writer fails at each of its calls in turn, gives little at a time, or takes nothing.
+use crate::sweeps::lines_in;
 use kit_streams::{FILE, FailingReader, FailingWriter, INPUT, SlowReader};
 use part_hash::HashPart;
 use std::alloc::Global;
@@ -14,6 +15,15 @@ const MOST_CALLS: u32 = 10_000;
 /// Commands on a table, each with a reply.
 const SCRIPT: &str = "{open,set,1,1,1}. {insert,0,{1,[a]}}. {lookup,0,1}. {close}.";
 
+/// The same for a shell, and a text that is refused.
+const SHELL: (Request, &str) = (
+    Request::Shell,
+    "{open,set,1,1,1}.\n{insert,0,{1,[a]}}.\n{lookup 0,1}.\n{close}.\n",
+);
+
+/// What a shell replies.
+const REPLIES: [&str; 4] = ["true.\n", "true.\n", "{error,5,8}.\n", "[{1,[a]}].\n"];
+
 /// A scan by two workers.
 const SCAN: Request = Request::Scan(ScanOptions {
     kind: ScanKind::Set,
@@ -22,7 +32,7 @@ const SCAN: Request = Request::Scan(ScanOptions {
     workers: 2,
 });
 
-/// Each command, with an input on which it ends well.
+/// Each command that reads its input whole, with one on which it ends well.
 const CASES: [(Request, &str); 7] = [
     (Request::Run, INPUT),
     (Request::Test, INPUT),
@@ -104,6 +114,45 @@ fn each_read_of_each_command_may_fail(rt: HostRuntime) {
     }
 }
 
+/// The bytes that a failing reader gives at a call.
+const BYTES_OF_A_CALL: usize = 7;
+
+/// Whether a shell whose reader fails at this call is refused for that, and writes the replies to the lines that were
+/// read before.
+fn is_left_unread<H: Threads + Wait + Sync>(rt: &H, alloc: Global, call: u32) -> bool {
+    let (request, input) = SHELL;
+    let mut reader = FailingReader {
+        bytes: input.as_bytes(),
+        calls_left: call,
+    };
+    let mut out: Vec<u8> = Vec::new(alloc);
+    let ended = ended(rt, alloc, request, &mut reader, &mut out, "error E70\n");
+    let given = (call.saturating_sub(1) as usize).saturating_mul(BYTES_OF_A_CALL).min(input.len());
+    let lines = lines_in(&input.as_bytes()[..given]);
+    ended == (4, true) && is_replied(out.as_slice(), lines)
+}
+
+/// Whether these are so many of the replies.
+fn is_replied(written: &[u8], lines: usize) -> bool {
+    let mut rest = written;
+    for place in 0..REPLIES.len().min(lines) {
+        let Some(behind) = rest.strip_prefix(REPLIES[place].as_bytes()) else {
+            return false;
+        };
+        rest = behind;
+    }
+    rest.is_empty()
+}
+
+#[test]
+fn each_read_of_a_shell_may_fail(rt: HostRuntime) {
+    let reads = reads_of(&rt, rt.alloc(), SHELL);
+    assert!(rt; 1 < reads);
+    for call in 0..reads {
+        assert!(rt; is_left_unread(&rt, rt.alloc(), call.saturating_add(1)), "{call}");
+    }
+}
+
 /// Whether a command whose writer fails at this call is refused for that.
 fn is_unwritten<H: Threads + Wait + Sync>(
     rt: &H,
@@ -152,6 +201,7 @@ fn each_write_of_each_command_may_fail(rt: HostRuntime) {
     for case in CASES {
         assert!(rt; is_refused_at_each_write(&rt, rt.alloc(), case), "{case:?}");
     }
+    assert!(rt; is_refused_at_each_write(&rt, rt.alloc(), SHELL));
 }
 
 /// A writer that takes nothing.
@@ -193,6 +243,7 @@ fn a_writer_that_takes_nothing_is_refused(rt: HostRuntime) {
             "{case:?}"
         );
     }
+    assert!(rt; is_refused_where_nothing_is_taken(&rt, rt.alloc(), SHELL));
 }
 
 /// What a command writes that ends well.
@@ -235,12 +286,13 @@ fn is_read_slowly<H: Threads + Wait + Sync>(
 
 #[test]
 fn each_command_reads_slowly(rt: HostRuntime) {
-    for case in CASES {
-        for is_interrupted in [false, true] {
+    for is_interrupted in [false, true] {
+        for case in CASES {
             assert!(rt;
                 is_read_slowly(&rt, rt.alloc(), case, is_interrupted),
                 "{case:?}"
             );
         }
+        assert!(rt; is_read_slowly(&rt, rt.alloc(), SHELL, is_interrupted));
     }
 }

@@ -69,6 +69,7 @@ fn all_lines_are_passed_on(rt: HostRuntime) {
             "{error,65}.\n"
         )
     );
+    assert!(rt; passes_on(&rt, rt.alloc(), Request::Shell, "{close}.", "{error,65}.\n"));
     assert!(rt; passes_on(&rt, rt.alloc(), Request::Scan(options), INPUT, "2.\n1.\n"));
 }
 

@@ -1,7 +1,8 @@
 -- How the program ends.
-use Rattle.std.proofs.Common.{◌≡◌, ◌≢◌, ◌∙◌, ℕ, List, [], ◌++◌, Option, None, Some, Result, Ok, Err, refl, sym, ap, subst, inl, inr}
-use Rattle.std.proofs.lemmas.List.{append-nil}
+use Rattle.std.proofs.Common.{◌≡◌, ◌≢◌, ◌∙◌, ℕ, arith, length, List, [], ◌++◌, Option, None, Some, Result, Ok, Err, refl, sym, ap, subst, inl, inr}
+use Rattle.std.proofs.lemmas.List.{append-nil, take_all}
 use Rattle.std.specs.declared.alloc.AllocError.{AllocError}
+use Rattle.std.specs.Io.KnownBytes.{Appends}
 use Rattle.std.specs.Prelude.{OnOk, OnErr, IfErr, IfSome}
 use Rattle.clap.specs.Words.{kind_of}
 use Rattle.clap.specs.declared.error.Error.{Error}
@@ -19,6 +20,8 @@ use Rattle.tool_scan.specs.Options.{AreAllowed}
 use Rattle.tool_scan.specs.Scan.{StopsScan}
 use Rattle.tool_scan.specs.declared.options.ScanOptions.{ScanOptions}
 use Rattle.tool_script.specs.Input.{OfScript, StopsScript}
+use Rattle.tool_script.specs.Script.{beginning}
+use Rattle.tool_script.specs.Shell.{WritesAnswers, WritesFirst, StopsShell}
 use Rattle.tool_cli.specs.Program.{Writes, StopsOn, HasOutcome, EndsTold, EndsTelling, EndsExplained, EndsInvocation, EndsAsked, EndsEarly, EndsHelp, EndsMistaken, EndsVersion}
 use Rattle.tool_cli.specs.Telling.{Tells}
 use Rattle.tool_cli.specs.Why.{Explains}
@@ -27,9 +30,14 @@ use Rattle.tool_cli.specs.declared.words.Invocation.{Invocation}
 use Rattle.tool_cli.specs.declared.words.Request.{Request}
 use Rattle.tool_cli.specs.declared.words.Request.TheVariants as request
 
--- a command that is neither a script nor a scan
+appends_none : (a : Option (List ℕ)) → Appends a a []
+appends_none None = tt
+appends_none (Some xs) = sym (append-nil xs)
+
+-- a command that is neither a script, a shell nor a scan
 abbrev pub IsQuery : Request → Type 0
 IsQuery request.Script = ⊥
+IsQuery request.Shell = ⊥
 IsQuery (request.Scan o) = ⊥
 IsQuery r = Unit {0}
 
@@ -47,6 +55,7 @@ has_outcome request.Verify known old new (Err f) other ok stopped = stopped
 has_outcome (request.Explain keypos) known old new (Ok x) other ok stopped = ok
 has_outcome (request.Explain keypos) known old new (Err f) other ok stopped = stopped
 has_outcome request.Script known old new outcome other ok stopped = absurd other
+has_outcome request.Shell known old new outcome other ok stopped = absurd other
 has_outcome (request.Scan o) known old new outcome other ok stopped = absurd other
 
 -- and those of a script
@@ -54,6 +63,12 @@ pub has_replies : (known old new : Option (List ℕ)) (outcome : Result (Unit {0
     → IfErr outcome (λ f. StopsScript known old new f) → HasOutcome request.Script known old new outcome
 has_replies known old new (Ok x) ok stopped = ok
 has_replies known old new (Err f) ok stopped = stopped
+
+-- and those of a shell
+pub has_answers : (known old new : Option (List ℕ)) (outcome : Result (Unit {0}) ToolFault) → OnOk outcome (OfInput known (λ input. WritesAnswers input old new))
+    → IfErr outcome (StopsShell known old new) → HasOutcome request.Shell known old new outcome
+has_answers known old new (Ok x) ok stopped = ok
+has_answers known old new (Err f) ok stopped = stopped
 
 -- and those of a scan
 pub has_scanned : (o : ScanOptions) (known old new : Option (List ℕ)) (outcome : Result (Unit {0}) ToolFault) → OnOk outcome (AreAllowed o × OfTerms known (λ terms. Writes (request.Scan o) terms old new))
@@ -107,11 +122,53 @@ scan_given o known old new input fault.TooSmall given h = stops_given known old 
 scan_given o known old new input fault.ReadFailed given h = stops_given known old new input fault.ReadFailed _ given h
 scan_given o known old new input fault.WriteFailed given h = stops_given known old new input fault.WriteFailed _ given h
 
+first_given : (known old new : Option (List ℕ)) (input : List ℕ) → IsGiven known input → WritesFirst (Some input) old new → WritesFirst known old new
+first_given None old new input given h = record {
+  front = h.front;
+  text = h.text;
+  begins = tt;
+  out = h.out;
+  more = h.more;
+  st = h.st;
+  answered = h.answered;
+  first = h.first;
+  gained = h.gained;
+}
+first_given (Some bytes) old new input given h = subst (λ (known : List ℕ). WritesFirst (Some known) old new) given h
+
+shell_given : (known old new : Option (List ℕ)) (input : List ℕ) (f : ToolFault) → IsGiven known input → StopsShell (Some input) old new f → StopsShell known old new f
+shell_given known old new input fault.Memory given h = first_given known old new input given h
+shell_given known old new input fault.ReadFailed given h = first_given known old new input given h
+shell_given known old new input fault.WriteFailed given h = tt
+shell_given known old new input fault.BadOptions given h = absurd h
+shell_given known old new input (fault.Text f) given h = absurd h
+shell_given known old new input fault.BadInput given h = absurd h
+shell_given known old new input (fault.Specification f) given h = absurd h
+shell_given known old new input (fault.File f) given h = absurd h
+shell_given known old new input (fault.Code f b) given h = absurd h
+shell_given known old new input fault.TooSmall given h = absurd h
+
+-- nothing of an input is answered
+nothing_first : (input : List ℕ) (old : Option (List ℕ)) → WritesFirst (Some input) old old
+nothing_first input old = record {
+  front = [];
+  text = [];
+  begins = refl;
+  out = [];
+  more = [];
+  st = beginning;
+  answered = λ rest more after goes. goes;
+  first = inl refl;
+  gained = appends_none old;
+}
+
 -- a command that ran over the input ran over what the reader gave
 pub outcome_given : (r : Request) (known old new : Option (List ℕ)) (input : List ℕ) (outcome : Result (Unit {0}) ToolFault) → IsGiven known input
     → HasOutcome r (Some input) old new outcome → HasOutcome r known old new outcome
 outcome_given request.Script known old new input (Ok x) given h = of_given known input _ given h
 outcome_given request.Script known old new input (Err f) given h = script_given known old new input f given h
+outcome_given request.Shell known old new input (Ok x) given h = of_given known input _ given h
+outcome_given request.Shell known old new input (Err f) given h = shell_given known old new input f given h
 outcome_given (request.Scan o) known old new input (Ok x) given h = (h.0, of_given known input _ given h.1)
 outcome_given (request.Scan o) known old new input (Err f) given h = scan_given o known old new input f given h
 outcome_given request.Run known old new input (Ok x) given h = of_given known input _ given h
@@ -165,10 +222,26 @@ told_of_any fault.TooSmall input err err' failed status is h = absurd is
 told_of_any fault.BadOptions input err err' failed status is h = absurd is
 told_of_any fault.WriteFailed input err err' failed status is h = absurd is
 
+-- nor is one where a shell ends early
+told_of_shell : (f : ToolFault) (known out out' : Option (List ℕ)) (input : List ℕ) (err err' : Option (List ℕ)) (failed : Type 0) (status : ℕ) → StopsShell known out out' f
+    → EndsTelling [] (Err f) err err' failed status → EndsTelling input (Err f) err err' failed status
+told_of_shell fault.Memory known out out' input err err' failed status is h = h
+told_of_shell fault.ReadFailed known out out' input err err' failed status is h = h
+told_of_shell fault.WriteFailed known out out' input err err' failed status is h = h
+told_of_shell (fault.Text f) known out out' input err err' failed status is h = absurd is
+told_of_shell fault.BadInput known out out' input err err' failed status is h = absurd is
+told_of_shell (fault.Specification f) known out out' input err err' failed status is h = absurd is
+told_of_shell (fault.File f) known out out' input err err' failed status is h = absurd is
+told_of_shell (fault.Code f b) known out out' input err err' failed status is h = absurd is
+told_of_shell fault.TooSmall known out out' input err err' failed status is h = absurd is
+told_of_shell fault.BadOptions known out out' input err err' failed status is h = absurd is
+
 -- nothing is written then
 unread_outcome : (r : Request) (f : ToolFault) (input : List ℕ) (old : Option (List ℕ)) → IsReadFault f → HasOutcome r (Some input) old old (Err f)
 unread_outcome request.Script fault.Memory input old is = inl ((input, refl, tt), kept old)
 unread_outcome request.Script fault.ReadFailed input old is = inl ((input, refl, tt), kept old)
+unread_outcome request.Shell fault.Memory input old is = nothing_first input old
+unread_outcome request.Shell fault.ReadFailed input old is = nothing_first input old
 unread_outcome (request.Scan o) fault.Memory input old is = inl ((input, refl, tt), kept old)
 unread_outcome (request.Scan o) fault.ReadFailed input old is = inl ((input, refl, tt), kept old)
 unread_outcome request.Run fault.Memory input old is = inl ((input, refl, tt), kept old)
@@ -195,6 +268,52 @@ pub ends_unread : (r : Request) (f : ToolFault) (known out err err' : Option (Li
 ends_unread r f known out err err' failed status is h =
     ends_explained r known out out err err' failed status (unread_input known) (Err f) (unread_given known) (unread_outcome r f (unread_input known) out is)
     (told_of_any f (unread_input known) err err' failed status is h)
+
+-- ---- a shell that is explained, which reads its input as it comes
+
+begun_first : (out out' : Option (List ℕ)) (h : WritesFirst None out out') → WritesFirst (Some (h.front ++ h.text)) out out'
+begun_first out out' h = record {
+  front = h.front;
+  text = h.text;
+  begins = take_all (length (h.front ++ h.text)) (h.front ++ h.text) (omega arith);
+  out = h.out;
+  more = h.more;
+  st = h.st;
+  answered = h.answered;
+  first = h.first;
+  gained = h.gained;
+}
+
+-- what a shell that ends early is known to have read
+read_first : (out out' : Option (List ℕ)) (f : ToolFault) → StopsShell None out out' f → (input : List ℕ) × StopsShell (Some input) out out' f
+read_first out out' fault.Memory h = (h.front ++ h.text, begun_first out out' h)
+read_first out out' fault.ReadFailed h = (h.front ++ h.text, begun_first out out' h)
+read_first out out' fault.WriteFailed h = ([], tt)
+read_first out out' fault.BadOptions h = absurd h
+read_first out out' (fault.Text f) h = absurd h
+read_first out out' fault.BadInput h = absurd h
+read_first out out' (fault.Specification f) h = absurd h
+read_first out out' (fault.File f) h = absurd h
+read_first out out' (fault.Code f b) h = absurd h
+read_first out out' fault.TooSmall h = absurd h
+
+pub ends_shell : (known out out' err err' : Option (List ℕ)) (failed : Type 0) (status : ℕ) (outcome : Result (Unit {0}) ToolFault) → HasOutcome request.Shell known out out' outcome
+    → EndsTelling [] outcome err err' failed status → EndsExplained request.Shell known out out' err err' failed status
+ends_shell (Some bytes) out out' err err' failed status (Ok x) written ended =
+    ends_explained request.Shell (Some bytes) out out' err err' failed status bytes (Ok x) refl written ended
+ends_shell (Some bytes) out out' err err' failed status (Err f) written ended =
+    ends_explained request.Shell (Some bytes) out out' err err' failed status bytes (Err f) refl written (told_of_shell f (Some bytes) out out' bytes err err' failed status written ended)
+ends_shell None out out' err err' failed status (Ok x) written ended =
+    ends_explained request.Shell None out out' err err' failed status written.0 (Ok x) tt (written.0, refl, written.2) ended
+ends_shell None out out' err err' failed status (Err f) written ended =
+    let read = read_first out out' f written in
+    ends_explained request.Shell None out out' err err' failed status read.0 (Err f) tt read.1 (told_of_shell f None out out' read.0 err err' failed status written ended)
+
+pub is_shell_ended : (r : Request) (known out out' err err' : Option (List ℕ)) (failed : Type 0) (status : ℕ) (outcome : Result (Unit {0}) ToolFault) → r ≡ request.Shell
+    → HasOutcome r known out out' outcome → EndsTelling [] outcome err err' failed status → EndsExplained r known out out' err err' failed status
+is_shell_ended r known out out' err err' failed status outcome is written ended =
+    subst (λ (s : Request). EndsExplained s known out out' err err' failed status) (sym is)
+    (ends_shell known out out' err err' failed status outcome (subst (λ (s : Request). HasOutcome s known out out' outcome) is written) ended)
 
 -- ---- how the program ends where no command runs
 

@@ -10,7 +10,7 @@ use Rattle.clap.specs.declared.parser.matches.ArgMatches.TheViews.{out-ArgMatche
 use Rattle.clap.specs.declared.parser.matches.Found.{Found}
 use Rattle.clap.specs.declared.parser.matches.SubCommand.{SubCommand}
 use Rattle.clap.proofs.WalkLemmas.{one_text-rows}
-use Rattle.tool_cli.specs.Words.{Optioned, to_run, to_test, to_compile, to_verify, to_script, to_scan, to_explain, name_of, command_named}
+use Rattle.tool_cli.specs.Words.{Optioned, to_run, to_test, to_compile, to_verify, to_script, to_shell, to_scan, to_explain, name_of, command_named}
 use Rattle.tool_cli.specs.Words.{is_explained, IsFlagOf, IsRequestOf, IsReadAs, IsEntered}
 use Rattle.tool_cli.specs.declared.words.Detail.{Detail}
 use Rattle.tool_cli.specs.declared.words.Detail.TheVariants as detail
@@ -43,6 +43,7 @@ named_back to_test = refl
 named_back to_compile = refl
 named_back to_verify = refl
 named_back to_script = refl
+named_back to_shell = refl
 named_back to_scan = refl
 named_back to_explain = refl
 
@@ -63,6 +64,7 @@ pub record IsNoOther (name : Text) : Type 0 where
   pub compile : name ≢ codes "compile"
   pub verify : name ≢ codes "verify"
   pub script : name ≢ codes "script"
+  pub shell : name ≢ codes "shell"
   pub scan : name ≢ codes "scan"
   pub explain : name ≢ codes "explain"
 
@@ -72,6 +74,7 @@ run_left to_test r rows name is other read = absurd (other.test is)
 run_left to_compile r rows name is other read = absurd (other.compile is)
 run_left to_verify r rows name is other read = absurd (other.verify is)
 run_left to_script r rows name is other read = absurd (other.script is)
+run_left to_shell r rows name is other read = absurd (other.shell is)
 run_left to_scan r rows name is other read = absurd (other.scan is)
 run_left to_explain r rows name is other read = absurd (other.explain is)
 

@@ -15,7 +15,7 @@ use Rattle.clap.specs.declared.builder.value_parser.Reading.TheVariants as readi
 use Rattle.clap.specs.declared.builder.value_parser.ValueParser.{ValueParser}
 use Rattle.clap.specs.declared.builder.value_parser.ValueParser.TheVariants as parser
 use Rattle.clap.specs.declared.parser.matches.ValueSource.TheVariants as source
-use Rattle.tool_cli.specs.Words.{Optioned, to_run, to_test, to_compile, to_verify, to_script, to_scan, to_explain, Options, options_of, Given, Takes, number, kind, nothing}
+use Rattle.tool_cli.specs.Words.{Optioned, to_run, to_test, to_compile, to_verify, to_script, to_shell, to_scan, to_explain, Options, options_of, Given, Takes, number, kind, nothing}
 use Rattle.tool_cli.specs.Words.{takes_in, takes_of, is_given, is_value_of, text_given, number_given, options_by, request_of, invocation_of}
 use Rattle.tool_cli.specs.Words.{IsKindParser, IsKindOf, IsReadOf, IsFlagOf, is_explained, IsRequestOf, IsReadAs}
 use Rattle.tool_cli.specs.declared.words.Detail.TheVariants as detail
@@ -356,6 +356,7 @@ module _ (kinds : ValueParser) (good : IsKindParser kinds) where
   request_in_the_end to_compile given fit = refl
   request_in_the_end to_verify given fit = refl
   request_in_the_end to_script given fit = refl
+  request_in_the_end to_shell given fit = refl
   request_in_the_end to_explain given fit = (number_given (codes "keypos") given, refl, number_of to_explain (codes "keypos") 65535 given fit refl refl)
   request_in_the_end to_scan given fit = (
     options_by given,

@@ -7,7 +7,7 @@ use Rattle.clap.specs.Takes.{is_given}
 use Rattle.clap.specs.Walk.{Row, Rule, Text, arg_by_id, arg_by_index, arg_by_long, arg_by_short}
 use Rattle.clap.specs.Simple.{Shape, built, filled, help_rule, help_shape}
 use Rattle.clap.specs.declared.builder.value_parser.ValueParser.{ValueParser}
-use Rattle.tool_cli.specs.Words.{Optioned, to_run, to_test, to_compile, to_verify, to_script, to_scan, to_explain, name_of, tool_app}
+use Rattle.tool_cli.specs.Words.{Optioned, to_run, to_test, to_compile, to_verify, to_script, to_shell, to_scan, to_explain, name_of, tool_app}
 use Rattle.tool_cli.specs.Words.{Options, options_of, Takes, number, kind, nothing, takes_in, is_value_of, rule_for}
 use Rattle.tool_cli.proofs.KindLemmas.{by_test, same_text}
 
@@ -51,6 +51,7 @@ sound to_test = record { no_help = refl; why = refl; defaults = refl }
 sound to_compile = record { no_help = refl; why = refl; defaults = refl }
 sound to_verify = record { no_help = refl; why = refl; defaults = refl }
 sound to_script = record { no_help = refl; why = refl; defaults = refl }
+sound to_shell = record { no_help = refl; why = refl; defaults = refl }
 sound to_scan = record { no_help = refl; why = refl; defaults = refl }
 sound to_explain = record { no_help = refl; why = refl; defaults = refl }
 

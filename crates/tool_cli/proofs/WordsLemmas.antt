@@ -25,7 +25,7 @@ use Rattle.clap.specs.declared.parser.matches.ArgMatches.{ArgMatches}
 use Rattle.clap.specs.declared.parser.matches.ArgMatches.TheViews.{out-ArgMatches}
 use Rattle.clap.proofs.OnLiterals.{clap_on_literals}
 use Rattle.tool_cli.specs.Words.{Asked, command, help, version, topic, mistake, asked, asked_first, asked_options, command_named, commands}
-use Rattle.tool_cli.specs.Words.{Optioned, to_run, to_test, to_compile, to_verify, to_script, to_scan, to_explain, name_of, tool_app, Reads, IsEntered, IsKindParser}
+use Rattle.tool_cli.specs.Words.{Optioned, to_run, to_test, to_compile, to_verify, to_script, to_shell, to_scan, to_explain, name_of, tool_app, Reads, IsEntered, IsKindParser}
 use Rattle.tool_cli.specs.declared.words.Invocation.{Invocation}
 use Rattle.tool_cli.proofs.KindLemmas.{by_test, same_text, is_mistake, are_mistakes, Refuses, still_refused, no_more}
 use Rattle.tool_cli.proofs.RuleLemmas.{level}
@@ -172,6 +172,7 @@ module _ (kinds : ValueParser) (good : IsKindParser kinds) where
   behind to_compile p rest = rw (no_fault_past_stop top top_names (codes "compile") [] rest, past_stop top.rules top_names (codes "compile") [] rest) (no_more (fault_behind to_compile rest))
   behind to_verify p rest = rw (no_fault_past_stop top top_names (codes "verify") [] rest, past_stop top.rules top_names (codes "verify") [] rest) (no_more (fault_behind to_verify rest))
   behind to_script p rest = rw (no_fault_past_stop top top_names (codes "script") [] rest, past_stop top.rules top_names (codes "script") [] rest) (no_more (fault_behind to_script rest))
+  behind to_shell p rest = rw (no_fault_past_stop top top_names (codes "shell") [] rest, past_stop top.rules top_names (codes "shell") [] rest) (no_more (fault_behind to_shell rest))
   behind to_scan p rest = rw (no_fault_past_stop top top_names (codes "scan") [] rest, past_stop top.rules top_names (codes "scan") [] rest) (no_more (fault_behind to_scan rest))
   behind to_explain p rest = rw (no_fault_past_stop top top_names (codes "explain") [] rest, past_stop top.rules top_names (codes "explain") [] rest) (no_more (fault_behind to_explain rest))
 
@@ -182,6 +183,7 @@ module _ (kinds : ValueParser) (good : IsKindParser kinds) where
   found_at to_compile p rest = ap (λ w. entered (built (tool_app kinds)) w.stopped) (past_stop top.rules top_names (codes "compile") [] rest)
   found_at to_verify p rest = ap (λ w. entered (built (tool_app kinds)) w.stopped) (past_stop top.rules top_names (codes "verify") [] rest)
   found_at to_script p rest = ap (λ w. entered (built (tool_app kinds)) w.stopped) (past_stop top.rules top_names (codes "script") [] rest)
+  found_at to_shell p rest = ap (λ w. entered (built (tool_app kinds)) w.stopped) (past_stop top.rules top_names (codes "shell") [] rest)
   found_at to_scan p rest = ap (λ w. entered (built (tool_app kinds)) w.stopped) (past_stop top.rules top_names (codes "scan") [] rest)
   found_at to_explain p rest = ap (λ w. entered (built (tool_app kinds)) w.stopped) (past_stop top.rules top_names (codes "explain") [] rest)
 

@@ -168,6 +168,26 @@ help_behind_a_key : explain (codes "--keypos" ∷ codes "2" ∷ codes "-h" ∷ [
 unfolding clap_on_literals
 help_behind_a_key = refl
 
+-- ---- `shell`
+
+abbrev shell : List Text → Asked
+shell words = asked (codes "ets_tool" ∷ codes "shell" ∷ words)
+
+a_shell : shell [] ≡ plainly request.Shell
+a_shell = refl
+
+a_shell_with_why : shell (codes "--why" ∷ []) ≡ explained request.Shell
+unfolding clap_on_literals
+a_shell_with_why = refl
+
+a_shell_of_a_kind : shell (codes "--kind" ∷ codes "bag" ∷ []) ≡ mistake
+unfolding clap_on_literals
+a_shell_of_a_kind = refl
+
+help_on_a_shell : shell (codes "--help" ∷ []) ≡ help
+unfolding clap_on_literals
+help_on_a_shell = refl
+
 -- ---- the version
 
 abbrev only : Text → Asked

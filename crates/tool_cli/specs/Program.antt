@@ -3,7 +3,7 @@ use Rattle.std.specs.Prelude.{ℕ, ◌≡◌, ◌≢◌, ◌⊎◌, ◌++◌, Op
 use Rattle.term_core.specs.Datum.{Datum}
 use Rattle.std.specs.Io.KnownBytes.{Keeps, Appends}
 use Rattle.tool_io.specs.Fault.{status_of, line_of}
-use Rattle.tool_io.specs.Terms.{OfTerms}
+use Rattle.tool_io.specs.Terms.{OfInput, OfTerms}
 use Rattle.tool_io.specs.declared.fault.ToolFault.{ToolFault}
 use Rattle.tool_io.specs.declared.fault.ToolFault.TheVariants as fault
 use Rattle.tool_query.specs.Answers.Report.{answers, outcomes}
@@ -12,6 +12,7 @@ use Rattle.tool_query.specs.Run.{WritesAnswers, StopsAnswers, Stops}
 use Rattle.tool_explain.specs.Explain.{WritesExplanation, StopsExplanation}
 use Rattle.tool_script.specs.Run.{WritesReplies, StopsReplies}
 use Rattle.tool_script.specs.Input.{OfScript, StopsScript}
+use Rattle.tool_script.specs.Shell as shell
 use Rattle.tool_scan.specs.Options.{AreAllowed}
 use Rattle.tool_scan.specs.Scan.{WritesScan, StopsTerms, StopsScan}
 use Rattle.tool_cli.specs.Telling.{Tells, TellsText}
@@ -35,13 +36,14 @@ abbrev pub EndsWith : Result (Unit {0}) ToolFault → (err err' : Option (List �
 EndsWith (Ok x) err err' failed status = (status ≡ 0) × Keeps err err'
 EndsWith (Err f) err err' failed status = EndsBy f err err' failed status
 
--- what a command writes for terms
+-- what a command writes for terms; a shell's input is lines
 abbrev pub Writes : Request → List Datum → (old new : Option (List ℕ)) → Type 0
 Writes request.Run terms old new = WritesAnswers answers terms old new
 Writes request.Test terms old new = WritesAnswers outcomes terms old new
 Writes request.Compile terms old new = WritesFile terms old new
 Writes request.Verify terms old new = WritesVerdict terms old new
 Writes request.Script terms old new = WritesReplies terms old new
+Writes request.Shell terms old new = ⊥
 Writes (request.Scan o) terms old new = WritesScan o terms old new
 Writes (request.Explain keypos) terms old new = WritesExplanation keypos terms old new
 
@@ -52,6 +54,7 @@ StopsOn request.Test terms old new f = StopsAnswers outcomes terms old new f
 StopsOn request.Compile terms old new f = StopsFile terms old new f
 StopsOn request.Verify terms old new f = StopsVerdict terms old new f
 StopsOn request.Script terms old new f = StopsReplies terms old new f
+StopsOn request.Shell terms old new f = ⊥
 StopsOn (request.Scan o) terms old new f = StopsTerms o terms old new f
 StopsOn (request.Explain keypos) terms old new f = StopsExplanation terms old new f
 
@@ -60,6 +63,8 @@ abbrev pub HasOutcome : Request → (known old new : Option (List ℕ)) → Resu
     → Type 0
 HasOutcome request.Script known old new (Ok x) = OfScript known (λ terms. Writes request.Script terms old new)
 HasOutcome request.Script known old new (Err f) = StopsScript known old new f
+HasOutcome request.Shell known old new (Ok x) = OfInput known (λ input. shell.WritesAnswers input old new)
+HasOutcome request.Shell known old new (Err f) = shell.StopsShell known old new f
 HasOutcome (request.Scan o) known old new (Ok x) =
     AreAllowed o × OfTerms known (λ terms. Writes (request.Scan o) terms old new)
 HasOutcome (request.Scan o) known old new (Err f) = StopsScan o known old new f

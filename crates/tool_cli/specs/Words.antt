@@ -34,12 +34,13 @@ pub data Optioned : Type 0 where
   to_compile : Optioned
   to_verify : Optioned
   to_script : Optioned
+  to_shell : Optioned
   to_scan : Optioned
   to_explain : Optioned
 
 -- those without an option of their own, and all
 abbrev pub plain_commands : List Optioned
-plain_commands = to_run ∷ to_test ∷ to_compile ∷ to_verify ∷ to_script ∷ []
+plain_commands = to_run ∷ to_test ∷ to_compile ∷ to_verify ∷ to_script ∷ to_shell ∷ []
 
 abbrev pub commands : List Optioned
 commands = plain_commands ++ to_scan ∷ to_explain ∷ []
@@ -51,6 +52,7 @@ name_of to_test = codes "test"
 name_of to_compile = codes "compile"
 name_of to_verify = codes "verify"
 name_of to_script = codes "script"
+name_of to_shell = codes "shell"
 name_of to_scan = codes "scan"
 name_of to_explain = codes "explain"
 
@@ -156,6 +158,7 @@ request_of to_test given = request.Test
 request_of to_compile given = request.Compile
 request_of to_verify given = request.Verify
 request_of to_script given = request.Script
+request_of to_shell given = request.Shell
 request_of to_scan given = request.Scan (options_by given)
 request_of to_explain given = request.Explain (number_given (codes "keypos") given)
 
@@ -342,6 +345,7 @@ IsRequestOf to_test r rows = r ≡ request.Test
 IsRequestOf to_compile r rows = r ≡ request.Compile
 IsRequestOf to_verify r rows = r ≡ request.Verify
 IsRequestOf to_script r rows = r ≡ request.Script
+IsRequestOf to_shell r rows = r ≡ request.Shell
 IsRequestOf to_scan r rows = (o : ScanOptions) × (r ≡ request.Scan o) × AreRead o rows
 IsRequestOf to_explain r rows =
     (n : ℕ) × (r ≡ request.Explain n) × IsReadOf (codes "keypos") 65535 n rows

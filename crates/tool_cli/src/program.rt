@@ -1,5 +1,5 @@
 //! The program from its words to its status: what it reads, and what it writes on which of two streams.
-ghost use Rattle.std.specs.Prelude.{◌≡◌, ◌≢◌, ◌⊎◌, [], IfErr, OnOk, map};
+ghost use Rattle.std.specs.Prelude.{◌≡◌, ◌≢◌, ◌⊎◌, [], IfErr, MatchBool, OnOk, map};
 ghost use Rattle.std.specs.Io.KnownBytes.{Appends, Keeps};
 ghost use Rattle.clap.specs.Words.{kind_of};
 ghost use Rattle.std.specs.IoError.{error_kind};
@@ -27,7 +27,7 @@ use tool_explain::tool_explain;
 use tool_io::{ToolFault, fault_line, read_whole};
 use tool_query::{tool_compile, tool_run, tool_test, tool_verify};
 use tool_scan::tool_scan;
-use tool_script::run_script;
+use tool_script::{run_script, run_shell};
 
 /// The status of a program that did what it was asked.
 const DONE: u8 = 0;
@@ -106,7 +106,8 @@ pub fn run_invocation<
     }
 }
 
-/// As `run_request`, but what a refusal means is told behind its line. The input is read whole before the command runs.
+/// As `run_request`, but what a refusal means is told behind its line. The input is read whole before the command runs,
+/// but for a shell, which no byte of its input ends.
 pub fn run_explained<
     H: Threads + Wait + Sync,
     P: Part<A> + Drop + Send,
@@ -119,6 +120,10 @@ pub fn run_explained<
     ensures { EndsExplained request (R.remaining reader.old) (O.contents out.old)
         (O.contents out.new) (E.told err.old) (E.told err.new) (E.has_failed err.new) result }
 {
+    if is_shell(request) {
+        let outcome = command_outcome::<H, P, A, R, O>(rt, alloc, request, reader, out);
+        return end_explained(alloc, outcome, &[], err);
+    }
     match read_whole(alloc, reader) {
         Ok(input) => {
             let mut unread = input.as_slice();
@@ -133,6 +138,13 @@ pub fn run_explained<
         }
         Err(fault) => end_explained(alloc, Err(fault), &[], err),
     }
+}
+
+/// Whether a command takes its input line by line.
+fn is_shell(request: Request) -> bool
+    ensures { MatchBool result (request ≡ Request.Shell) (request ≢ Request.Shell) }
+{
+    matches!(request, Request::Shell)
 }
 
 /// Runs one command, and answers the status that the program ends with. Parts of the table of a scan are of the sort `P`.
@@ -170,6 +182,7 @@ fn command_outcome<
         Request::Compile => tool_compile(alloc, reader, out),
         Request::Verify => tool_verify(alloc, reader, out),
         Request::Script => run_script::<HashPart<A>, OrderPart<A>, A, R, O>(alloc, reader, out),
+        Request::Shell => run_shell::<HashPart<A>, OrderPart<A>, A, R, O>(alloc, reader, out),
         Request::Scan(options) => { tool_scan::<H, P, A, R, O>(rt, alloc, options, reader, out) }
         Request::Explain(keypos) => tool_explain(alloc, keypos, reader, out),
     }

@@ -32,6 +32,8 @@ pub enum Request {
     Verify,
     /// Reply to commands on tables.
     Script,
+    /// Reply to commands on tables while they come.
+    Shell,
     /// Answer a specification on objects that are put into a table, by several threads.
     Scan(ScanOptions),
     /// Show the code of a specification or of a code file, and which objects a walk by it looks at in a table whose key is
@@ -167,6 +169,26 @@ writes
   true.
   true.
   [{1,a}].";
+
+const SHELL_ABOUT: &str = "Reads commands on tables, and writes the reply to each while they come";
+
+const SHELL_EXAMPLE: &str = "\
+Reads from standard input, as term text: commands, as `script` reads them, line
+by line. What is begun is looked at when a line has a dot before white space, %
+or its end. Where it is terms each is replied; where it ends too early it goes
+on in the next line. An empty line, or the end of the input, gives up what is
+begun.
+Writes to standard output: for each command its reply as `script` writes it,
+and for what is begun and can't be read {error,N,At}., with the number of the
+refusal and the byte where it is met; none of its commands is obeyed then, and
+the next line begins anew. Replies are written before more is waited for.
+
+Example:
+  printf \"{open,set,1,1,1}.\\n{lookup,0,1.\\n{lookup,0,1}.\\n\" | ets_tool shell
+writes
+  true.
+  {error,5,11}.
+  [].";
 
 const SCAN_ABOUT: &str =
     "Reads a specification and then objects, and writes each answer by threads";
@@ -389,7 +411,8 @@ fn plain_program<'a>(alloc: Global) -> Result<Command<'a>, AllocError>
     let program = with_plain(alloc, program, "test", TEST_ABOUT, TEST_EXAMPLE)?;
     let program = with_plain(alloc, program, "compile", COMPILE_ABOUT, COMPILE_EXAMPLE)?;
     let program = with_plain(alloc, program, "verify", VERIFY_ABOUT, VERIFY_EXAMPLE)?;
-    with_plain(alloc, program, "script", SCRIPT_ABOUT, SCRIPT_EXAMPLE)
+    let program = with_plain(alloc, program, "script", SCRIPT_ABOUT, SCRIPT_EXAMPLE)?;
+    with_plain(alloc, program, "shell", SHELL_ABOUT, SHELL_EXAMPLE)
 }
 
 /// The program with its commands, as `clap` reads them.
@@ -461,6 +484,7 @@ fn request_in(name: &str, matches: &ArgMatches<'_>) -> Request
         "compile" => Request::Compile,
         "verify" => Request::Verify,
         "script" => Request::Script,
+        "shell" => Request::Shell,
         "scan" => Request::Scan(scan_options(matches)),
         "explain" => Request::Explain(number(matches, "keypos")),
         _ => Request::Run,

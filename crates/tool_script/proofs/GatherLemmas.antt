@@ -1,5 +1,5 @@
 -- Lines of replies that are gathered, and then written.
-use Rattle.std.proofs.Common.{◌≡◌, ℕ, ◌+◌, ◌<◌, Option, Some, None, List, [], ◌∷◌, ◌++◌, take, drop, get_or, length, flat_map, refl, sym, ap, subst, ◌∙◌, append_assoc}
+use Rattle.std.proofs.Common.{◌≡◌, ℕ, ◌+◌, ◌<◌, Option, List, [], ◌∷◌, ◌++◌, take, drop, get_or, length, flat_map, refl, sym, ap, subst, ◌∙◌, append_assoc}
 use Rattle.std.proofs.lemmas.List.{take_more, append-nil, take-append-drop}
 use Rattle.std.proofs.lemmas.List.Concat.{flat_map-append}
 use Rattle.std.specs.Io.KnownBytes.{Appends}
@@ -9,42 +9,22 @@ use Rattle.tool_io.specs.declared.fault.ToolFault.{ToolFault}
 use Rattle.tool_io.specs.declared.fault.ToolFault.TheVariants as fault
 use Rattle.tool_script.specs.Script.{ScriptState, beginning}
 use Rattle.tool_script.specs.Replied.{IsReply, AreReplies}
+use Rattle.tool_script.specs.Shell.{Replies}
 use Rattle.tool_script.specs.Run.{WritesReplies, StopsReplies}
+use Rattle.tool_script.proofs.PassLemmas.{replied_more, appends_join, appends_none}
 
--- terms are replied one after the other, up to a state
-abbrev Replied : ScriptState → List Datum → List Datum → ScriptState → Type 0
-Replied st [] [] after = st ≡ after
-Replied st (d ∷ ds) (r ∷ rs) after = (mid : ScriptState) × IsReply st d r mid × Replied mid ds rs after
-Replied st ds rs after = ⊥
-
-replied_more : (st : ScriptState) (ds rs : List Datum) (a b : ScriptState) (d r : Datum) → Replied st ds rs a → IsReply a d r b → Replied st (ds ++ d ∷ []) (rs ++ r ∷ []) b
-replied_more st [] [] a b d r before here = (b, subst (λ (s : ScriptState). IsReply s d r b) (sym before) here, refl)
-replied_more st [] (e ∷ rs) a b d r before here = absurd before
-replied_more st (e ∷ ds) [] a b d r before here = absurd before
-replied_more st (e ∷ ds) (q ∷ rs) a b d r (mid, first, rest) here = (mid, first, replied_more mid ds rs a b d r rest here)
-
-are_replies : (st : ScriptState) (ds rs : List Datum) (a : ScriptState) → Replied st ds rs a → AreReplies st ds rs
+are_replies : (st : ScriptState) (ds rs : List Datum) (a : ScriptState) → Replies st ds rs a → AreReplies st ds rs
 are_replies st [] [] a h = tt
 are_replies st [] (r ∷ rs) a h = absurd h
 are_replies st (d ∷ ds) [] a h = absurd h
 are_replies st (d ∷ ds) (r ∷ rs) a (mid, first, rest) = (mid, first, are_replies mid ds rs a rest)
-
-appends_join : (a b c : Option (List ℕ)) (x y : List ℕ) → Appends a b x → Appends b c y → Appends a c (x ++ y)
-appends_join None b c x y p q = tt
-appends_join (Some u) None c x y p q = absurd p
-appends_join (Some u) (Some v) None x y p q = absurd q
-appends_join (Some u) (Some v) (Some w) x y p q = rw (q, p) (append_assoc u x y)
-
-appends_none : (a : Option (List ℕ)) → Appends a a []
-appends_none None = tt
-appends_none (Some xs) = sym (append-nil xs)
 
 -- lines gathered after what was written are those of the replies so far
 pub record Gathered (terms : List Datum) (after : ScriptState) (old now : Option (List ℕ)) (lines : List ℕ) : Type 0 where
   pub done : List ℕ
   pub gained : Appends old now done
   pub replies : List Datum
-  pub replied : Replied beginning terms replies after
+  pub replied : Replies beginning terms replies after
   pub text : done ++ lines ≡ flat_map line replies
 
 pub gathered_none : (terms : List Datum) (old : Option (List ℕ)) → Gathered (take 0 terms) beginning old old []

@@ -10,6 +10,12 @@ mod ContinuationLemmas
 mod CourseLemmas
 mod ScriptLemmas
 mod SelectLemmas
+mod LineLemmas
+mod PassLemmas
+mod ShellLemmas
+mod RefusalLemmas
 mod GatherLemmas
 mod WorkedRows
 mod WorkedWalks
+mod WorkedLines
+mod AnswerLemmas

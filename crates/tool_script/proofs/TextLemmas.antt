@@ -51,7 +51,7 @@ number_bytes n small = decimal_bytes n small
 
 -- ---- refusals
 
-error_bytes : text_of (atom (codes "error")) ≡ codes "error"
+pub error_bytes : text_of (atom (codes "error")) ≡ codes "error"
 unfolding text_as is_reserved encode
 error_bytes = refl
 
@@ -94,7 +94,7 @@ list_put old between more new d ds first second third =
 
 -- ---- what is put at the end part by part
 
-four : (o a b c d : List ℕ) → (((o ++ a) ++ b) ++ c) ++ d ≡ o ++ (a ++ (b ++ (c ++ d)))
+pub four : (o a b c d : List ℕ) → (((o ++ a) ++ b) ++ c) ++ d ≡ o ++ (a ++ (b ++ (c ++ d)))
 four o a b c d =
     append_assoc ((o ++ a) ++ b) c d ∙ append_assoc (o ++ a) b (c ++ d) ∙ append_assoc o a (b ++ (c ++ d))
 
@@ -107,7 +107,7 @@ put_five old a b c d e p q r s new first second third fourth fifth =
     fifth ∙ ap (λ l. l ++ e) (fourth ∙ ap (λ l. l ++ d) (third ∙ ap (λ l. l ++ c) (second ∙ ap (λ l. l ++ b) first)))
     ∙ five old a b c d e
 
-tuple_text : (d : Datum) (ds : List Datum) → text_of (tuple (items_of (d ∷ ds))) ≡ codes "{" ++ (text_of d ++ (behind_commas ds ++ codes "}"))
+pub tuple_text : (d : Datum) (ds : List Datum) → text_of (tuple (items_of (d ∷ ds))) ≡ codes "{" ++ (text_of d ++ (behind_commas ds ++ codes "}"))
 tuple_text d ds =
     let text = text_of d in
     let rest = behind_commas ds in

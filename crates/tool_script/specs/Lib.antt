@@ -15,4 +15,7 @@ pub mod Opened
 pub mod Scripts
 pub mod Run
 pub mod Input
+pub mod Line
+pub mod Shell
+pub mod Shells
 pub mod Laws

@@ -1,8 +1,9 @@
-//! A law of what a script is replied, the contract of a function that does nothing.
-ghost use Rattle.tool_script.specs.Laws.{RepliesAreOne};
+//! Laws of what a script is replied and of what a shell answers, each the contract of a function that does nothing.
+ghost use Rattle.tool_script.specs.Laws.{RepliesAreOne, LinesAreAScript};
 
 use mspec_meaning::one_answer_is_meant;
 use mspec_reader::{one_fault_is_refused, one_specification_is_read};
+use term_text::a_text_spells_one_list;
 use walk_query::plans_are_one;
 
 /// From a state on, terms have one list of replies: a term is read as one specification or refused for one fault, and a
@@ -14,4 +15,11 @@ pub fn replies_are_one()
     one_fault_is_refused();
     one_answer_is_meant();
     plans_are_one();
+}
+
+/// Where commands stand whole in their lines, what a shell answers is what a script of these commands is replied.
+pub fn lines_are_a_script()
+    ensures { LinesAreAScript }
+{
+    a_text_spells_one_list();
 }

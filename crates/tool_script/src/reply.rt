@@ -7,12 +7,14 @@ ghost use Rattle.term_operand.specs.Operand.{boolean};
 ghost use Rattle.tool_io.specs.Lines.{line, text_of};
 ghost use Rattle.tool_script.specs.Script.{error, key_or_end};
 ghost use Rattle.tool_script.specs.Replies.{reply_term, behind_commas};
+ghost use Rattle.tool_script.specs.Shell.{refusal};
 ghost use Rattle.tool_script.specs.Walks.{arguments, fault_term, piece_term};
 
 use itoa::Buffer;
 use mspec_syntax::SpecFault;
 use std::alloc::{AllocError, Allocator, Global};
 use term_core::Term;
+use term_text::TextFault;
 use tool_io::put_line;
 
 /// What a command is replied.
@@ -145,6 +147,19 @@ fn put_fault<A: Allocator + Copy>(
     lines.extend_from_slice(text.as_slice())
 }
 
+/// Puts the line of the refusal of a text at the end. After an `Err` the lines are as before.
+pub(crate) fn put_refusal<A: Allocator + Copy>(
+    fault: TextFault,
+    lines: &mut Vec<u8, A>,
+) -> Result<(), AllocError>
+    ensures ok { OnOk result (lines.new.items ≡ lines.old.items ++ line (refusal fault)) }
+    ensures err { OnErr result (lines.new.items ≡ lines.old.items) }
+{
+    let mut text = Vec::new(*lines.allocator());
+    put_place(fault, &mut text)?;
+    lines.extend_from_slice(text.as_slice())
+}
+
 /// Puts these objects in a list at the end.
 fn put_list<A: Allocator + Copy>(
     objects: &[Term<A>],
@@ -209,6 +224,16 @@ fn put_arguments<A: Allocator>(fault: SpecFault, text: &mut Vec<u8, A>) -> Resul
     put_argument(Some(u64::from(fault.number())), text)?;
     put_argument(fault.clause().map(|clause| clause as u64), text)?;
     put_argument(fault.variable().map(u64::from), text)?;
+    text.extend_from_slice(b"}.\n")
+}
+
+/// Puts the line of the number of a text's fault, and of the byte where it is met, at the end.
+fn put_place<A: Allocator>(fault: TextFault, text: &mut Vec<u8, A>) -> Result<(), AllocError>
+    ensures { OnOk result (text.new.items ≡ text.old.items ++ line (refusal fault)) }
+{
+    text.extend_from_slice(b"{error")?;
+    put_argument(Some(u64::from(fault.number())), text)?;
+    put_argument(fault.at().map(|at| at as u64), text)?;
     text.extend_from_slice(b"}.\n")
 }
 

@@ -36,7 +36,7 @@ fn reply_to_term<S: Part<A> + Drop, O: Part<A> + Drop, A: Allocator + Copy>(
 }
 
 /// Puts the line of the reply to a term at the end.
-fn put_next<S: Part<A> + Drop, O: Part<A> + Drop, A: Allocator + Copy>(
+pub(crate) fn put_next<S: Part<A> + Drop, O: Part<A> + Drop, A: Allocator + Copy>(
     script: &mut Script<S, O, A>,
     term: &Term<A>,
     lines: &mut Vec<u8, A>,

@@ -63,7 +63,7 @@ pub(crate) struct Script<S: Part<A> + Drop, O: Part<A> + Drop, A: Allocator = Gl
 }
 
 impl<S: Part<A> + Drop, O: Part<A> + Drop, A: Allocator + Copy> Script<S, O, A> {
-    ghost use Rattle.std.specs.Prelude.{◌≡◌, ◌≤◌, ◌<◌, ◌+◌, IfOk, IsTrue};
+    ghost use Rattle.std.specs.Prelude.{◌≡◌, ◌≤◌, ◌<◌, ◌+◌, IfOk, IsFalse, IsTrue};
     ghost use Rattle.part_core.specs.declared.kind.TableKind.TheVariants.{OrderedSet};
     ghost use Rattle.part_core.specs.Served.{ServesUnordered};
     ghost use Rattle.tool_script.specs.Command.Command.{Open, Session, Walk, Close};
@@ -83,6 +83,13 @@ impl<S: Part<A> + Drop, O: Part<A> + Drop, A: Allocator + Copy> Script<S, O, A> 
             count: 0,
             walks: Vec::new(alloc),
         }
+    }
+
+    /// Whether as many tables were opened as can be counted.
+    pub(crate) fn is_full(&self) -> bool
+        ensures { IsFalse result → self.now.count < 18446744073709551615 }
+    {
+        self.count == u64::MAX
     }
 
     /// Opens a table.

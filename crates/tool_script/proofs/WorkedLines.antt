@@ -1,0 +1,59 @@
+-- Lines worked out: what each does behind what is begun. A wrong definition fails here before any proof.
+use Rattle.std.proofs.Common.{◌≡◌, [], refl}
+use Rattle.std.specs.Prelude.{codes, false}
+use Rattle.tool_script.specs.declared.line.Effect.TheVariants as effect
+use Rattle.tool_script.specs.Line.{first_line, behind_line, effect_of, has_dot}
+
+-- a command in its line is looked at, and so is the last one without a line feed
+whole : effect_of [] (codes "{close}.\n") ≡ effect.LooksAt
+whole = refl
+
+last : effect_of [] (codes "{close}.") ≡ effect.LooksAt
+last = refl
+
+in_front_of_comment : effect_of [] (codes "{close}.% all\n") ≡ effect.LooksAt
+in_front_of_comment = refl
+
+-- what has no dot goes on, and so does a dot inside a number or a name
+begun : effect_of [] (codes "{insert,0,\n") ≡ effect.GoesOn
+begun = refl
+
+inside : has_dot (codes "{a.b,1.5}\n") ≡ false
+inside = refl
+
+-- nothing is begun by white space, a comment or the end of the input
+blank : effect_of [] (codes " \t\n") ≡ effect.Passes
+blank = refl
+
+comment : effect_of [] (codes "  % a line. of a comment.\n") ≡ effect.Passes
+comment = refl
+
+end : effect_of [] [] ≡ effect.Passes
+end = refl
+
+-- behind what is begun a comment is no empty line, be there a dot in it or not
+comment_behind : effect_of (codes "{insert,0,\n") (codes "% the object\n") ≡ effect.GoesOn
+comment_behind = refl
+
+comment_with_dot : effect_of (codes "{insert,0,\n") (codes "% the object.\n") ≡ effect.LooksAt
+comment_with_dot = refl
+
+-- what is begun is given up by an empty line and by the end of the input
+empty_behind : effect_of (codes "{insert,0,\n") (codes "\n") ≡ effect.GivesUp
+empty_behind = refl
+
+end_behind : effect_of (codes "{insert,0,\n") [] ≡ effect.GivesUp
+end_behind = refl
+
+-- lines of an input
+one : first_line (codes "a.\nb.") ≡ codes "a.\n"
+one = refl
+
+rest : behind_line (codes "a.\nb.") ≡ codes "b."
+rest = refl
+
+unended : first_line (codes "b.") ≡ codes "b."
+unended = refl
+
+nothing : behind_line (codes "b.") ≡ []
+nothing = refl

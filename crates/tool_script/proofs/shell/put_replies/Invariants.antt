@@ -1,0 +1,8 @@
+-- The replies to the terms so far are put, and some of them passed on.
+use Rattle.std.proofs.Common.{take}
+use Rattle.tool_script.specs.Shells.{AreAnswered}
+use Rattle.tool_script.proofs.shell.put_replies.Given as goal
+
+abbrev pub invariant-loop-term : goal.invariant-loop-term
+invariant-loop-term g l =
+    AreAnswered l.fn.script l.script (take l.term-index l.terms) (g.W.Write.contents l.fn.writer) (g.W.Write.contents l.writer) l.fn.lines.items l.lines.items

@@ -1,0 +1,105 @@
+-- What a shell writes, which replies to the commands of its input while they come.
+use Rattle.std.specs.Prelude.{ℕ, ◌≡◌, ◌≢◌, ◌⊎◌, Bool, true, false, Option, Some, IfSome, flat_map, codes}
+use Rattle.std.specs.Prelude.{List, [], ◌∷◌, ◌++◌, length}
+use Rattle.std.specs.Io.{StartsWith}
+use Rattle.std.specs.Io.KnownBytes.{Appends}
+use Rattle.term_core.specs.Datum.{Datum}
+use Rattle.term_text.specs.Text.{Spells}
+use Rattle.term_text.specs.FaultNumbers.{number_of, place_of}
+use Rattle.term_text.specs.declared.fault.TextFault.{TextFault}
+use Rattle.term_text.specs.declared.fault.TextFault.TheVariants as faults
+use Rattle.tool_io.specs.Lines.{line}
+use Rattle.tool_io.specs.Terms.{IsNoText}
+use Rattle.tool_io.specs.declared.fault.ToolFault.{ToolFault}
+use Rattle.tool_io.specs.declared.fault.ToolFault.TheVariants as fault
+use Rattle.tool_script.specs.declared.line.Effect.TheVariants as effect
+use Rattle.tool_script.specs.Command.{called}
+use Rattle.tool_script.specs.Line.{first_line, behind_line, effect_of}
+use Rattle.tool_script.specs.Script.{ScriptState, beginning}
+use Rattle.tool_script.specs.Replied.{IsReply}
+use Rattle.tool_script.specs.Walks.{arguments}
+
+-- the refusal of a text, by the number of its fault and the byte where that is met
+abbrev pub refusal : TextFault → Datum
+refusal f = called (codes "error") (arguments (Some (number_of f)) ++ arguments (place_of f))
+
+-- terms are replied one after the other, from a state on, up to another
+abbrev pub Replies : ScriptState → List Datum → List Datum → ScriptState → Type 0
+Replies st [] [] after = st ≡ after
+Replies st (d ∷ ds) (reply ∷ replies) after =
+    (next : ScriptState) × IsReply st d reply next × Replies next ds replies after
+Replies st ds replies after = ⊥
+
+-- A text that is begun is looked at: the lines that are written, the script behind them, and what is begun still.
+pub data Looked (is_given_up : Bool) (st : ScriptState) (text : List ℕ) : List ℕ → ScriptState → List ℕ → Type 0 where
+  -- it spells terms, which are replied
+  spelled : {ds : List Datum} (replies : List Datum) {after : ScriptState} → Spells text ds → Replies st ds replies after
+      → Looked is_given_up st text (flat_map line replies) after []
+  -- it ends too early, and isn't given up, so it may go on
+  cut_short : is_given_up ≡ false → IsNoText text (faults.Syntax (length text)) → Looked is_given_up st text [] st text
+  -- it is refused, and none of its commands is obeyed
+  refused : {f : TextFault} → IsNoText text f → (is_given_up ≡ false → f ≢ faults.Syntax (length text))
+      → Looked is_given_up st text (line (refusal f)) st []
+
+-- From a state, behind what is begun, an input is answered line by line: the lines that are written, and the script
+-- behind them.
+pub data Goes : ScriptState → List ℕ → List ℕ → List ℕ → ScriptState → Type 0 where
+  -- the input has ended, and nothing is begun
+  ended : {st : ScriptState} → Goes st [] [] [] st
+  -- a line of white space or of a comment begins nothing
+  passed : {st after : ScriptState} {c : ℕ} {input out : List ℕ} → effect_of [] (first_line (c ∷ input)) ≡ effect.Passes
+      → Goes st [] (behind_line (c ∷ input)) out after → Goes st [] (c ∷ input) out after
+  -- a line without a dot goes behind what is begun
+  goes_on : {st after : ScriptState} {begun input out : List ℕ} → effect_of begun (first_line input) ≡ effect.GoesOn
+      → Goes st (begun ++ first_line input) (behind_line input) out after → Goes st begun input out after
+  -- one with a dot goes behind it, and it is looked at
+  looked_at : {st behind after : ScriptState} {begun input now left out : List ℕ}
+      → effect_of begun (first_line input) ≡ effect.LooksAt → Looked false st (begun ++ first_line input) now behind left
+      → Goes behind left (behind_line input) out after → Goes st begun input (now ++ out) after
+  -- an empty line, or the end of the input, gives up what is begun
+  given_up : {st behind after : ScriptState} {begun input now left out : List ℕ}
+      → effect_of begun (first_line input) ≡ effect.GivesUp → Looked true st begun now behind left
+      → Goes behind left (behind_line input) out after → Goes st begun input (now ++ out) after
+
+abbrev pub Answered : ScriptState → List ℕ → List ℕ → List ℕ → Type 0
+Answered st begun input out = (after : ScriptState) × Goes st begun input out after
+
+-- the writer gains what answers the input
+abbrev pub WritesAnswers : List ℕ → (old new : Option (List ℕ)) → Type 0
+WritesAnswers input old new = (out : List ℕ) × Answered beginning [] input out × Appends old new out
+
+-- the lines of the replies to a beginning of the terms that a text spells
+pub record FirstReplies (st : ScriptState) (text lines : List ℕ) : Type 0 where
+  pub front : List Datum
+  pub rest : List Datum
+  pub spelled : Spells text (front ++ rest)
+  pub replies : List Datum
+  pub after : ScriptState
+  pub replied : Replies st front replies after
+  pub written : lines ≡ flat_map line replies
+
+-- a beginning of an input is answered, whatever stands behind it; so nothing is begun there that could go on
+abbrev pub IsAnsweredFirst : (front out : List ℕ) → ScriptState → Type 0
+IsAnsweredFirst front out st =
+    (rest more : List ℕ) (after : ScriptState) → Goes st [] rest more after → Goes beginning [] (front ++ rest) (out ++ more) after
+
+-- The writer gains what answers a beginning of the input, and maybe the replies to the first terms of the text that
+-- stands behind that.
+pub record WritesFirst (known old new : Option (List ℕ)) : Type 0 where
+  pub front : List ℕ
+  pub text : List ℕ
+  pub begins : IfSome known (λ bytes. StartsWith bytes (front ++ text))
+  pub out : List ℕ
+  pub more : List ℕ
+  pub st : ScriptState
+  pub answered : IsAnsweredFirst front out st
+  pub first : (more ≡ []) ⊎ FirstReplies st text more
+  pub gained : Appends old new (out ++ more)
+
+-- how a shell ends early: for want of memory, or where reading failed, what was answered before is written; where
+-- writing failed nothing is said of what the writer got
+abbrev pub StopsShell : (known old new : Option (List ℕ)) → ToolFault → Type 0
+StopsShell known old new fault.Memory = WritesFirst known old new
+StopsShell known old new fault.ReadFailed = WritesFirst known old new
+StopsShell known old new fault.WriteFailed = Unit {0}
+StopsShell known old new f = ⊥

@@ -1,0 +1,129 @@
+-- A shell in memory: its script, what is begun, and the lines that aren't written yet.
+use Rattle.std.specs.Prelude.{ℕ, ◌≡◌, ◌≢◌, ◌⊎◌, Bool, true, false, Option, IfSome, flat_map, List, [], ◌∷◌, ◌++◌, length}
+use Rattle.std.specs.Io.{StartsWith}
+use Rattle.std.specs.Io.KnownBytes.{Appends, Consumes}
+use Rattle.term_core.specs.Datum.{Datum}
+use Rattle.term_text.specs.declared.fault.TextFault.{TextFault}
+use Rattle.term_text.specs.declared.fault.TextFault.TheVariants as faults
+use Rattle.part_core.specs.declared.part.Part.{Ghosts}
+use Rattle.tool_io.specs.Lines.{line, Passes}
+use Rattle.tool_io.specs.Terms.{IsNoText}
+use Rattle.tool_io.specs.declared.fault.ToolFault.{ToolFault}
+use Rattle.tool_io.specs.declared.fault.ToolFault.TheVariants as fault
+use Rattle.tool_script.specs.declared.line.Progress.{Progress}
+use Rattle.tool_script.specs.declared.line.Progress.TheVariants as progress
+use Rattle.tool_script.specs.declared.script.Script as script_type
+use Rattle.tool_script.specs.Line.{IsLineBefore}
+use Rattle.tool_script.specs.Script.{ScriptState, beginning}
+use Rattle.tool_script.specs.Scripts.{HasState}
+use Rattle.tool_script.specs.Shell.{Replies, Looked, Goes, FirstReplies, IsAnsweredFirst, refusal}
+
+-- terms are replied, and their lines put behind the others, of which some may have gone to the writer
+abbrev pub AreAnswered : {S O A : Type 0} {s : Ghosts S A} {o : Ghosts O A} → script_type.Script S O A s o → script_type.Script S O A s o → List Datum → (before after : Option (List ℕ)) → (lines more : List ℕ) → Type 0
+AreAnswered old new terms before after lines more =
+    (st : ScriptState) → HasState old st
+    → (replies : List Datum) × (behind : ScriptState) × Replies st terms replies behind × HasState new behind
+    × Passes before after (lines ++ flat_map line replies) more
+
+-- those of a beginning of the terms are, where memory ran out
+abbrev pub StopsTerms : {S O A : Type 0} {s : Ghosts S A} {o : Ghosts O A} → script_type.Script S O A s o → List Datum → (before after : Option (List ℕ)) → (lines more : List ℕ) → ToolFault → Type 0
+StopsTerms old terms before after lines more fault.Memory =
+    (st : ScriptState) → HasState old st
+    → (front rest replies : List Datum) × (behind : ScriptState) × (terms ≡ front ++ rest) × Replies st front replies behind
+    × Passes before after (lines ++ flat_map line replies) more
+StopsTerms old terms before after lines more fault.WriteFailed = Unit {0}
+StopsTerms old terms before after lines more f = ⊥
+
+-- a text that was refused is begun still, or its refusal is put behind the lines
+abbrev pub IsRefused : TextFault → ℕ → (is_given_up is_kept : Bool) → (lines more : List ℕ) → Type 0
+IsRefused f size is_given_up true lines more =
+    (f ≡ faults.Syntax size) × (is_given_up ≡ false) × (more ≡ lines)
+IsRefused f size is_given_up false lines more =
+    (f ≢ faults.Memory) × (is_given_up ≡ false → f ≢ faults.Syntax size) × (more ≡ lines ++ line (refusal f))
+
+-- a text is looked at: it is begun still and nothing has changed, or nothing is begun any more
+abbrev pub IsLookedAt : {S O A : Type 0} {s : Ghosts S A} {o : Ghosts O A} → script_type.Script S O A s o → script_type.Script S O A s o → (is_given_up : Bool) → (text : List ℕ) → (is_kept : Bool) → (before after : Option (List ℕ)) → (lines more : List ℕ) → Type 0
+IsLookedAt old new is_given_up text true before after lines more =
+    (is_given_up ≡ false) × IsNoText text (faults.Syntax (length text)) × ((st : ScriptState) → HasState old st → HasState new st)
+    × Passes before after lines more
+IsLookedAt old new is_given_up text false before after lines more =
+    (st : ScriptState) → HasState old st
+    → (now : List ℕ) × (behind : ScriptState) × Looked is_given_up st text now behind [] × HasState new behind
+    × Passes before after (lines ++ now) more
+
+-- where memory ran out, the replies to its first terms may be put behind the lines
+abbrev pub StopsText : {S O A : Type 0} {s : Ghosts S A} {o : Ghosts O A} → script_type.Script S O A s o → (text : List ℕ) → (before after : Option (List ℕ)) → (lines more : List ℕ) → ToolFault → Type 0
+StopsText old text before after lines more fault.Memory =
+    (st : ScriptState) → HasState old st
+    → (looked others now : List ℕ) × (text ≡ looked ++ others) × ((now ≡ []) ⊎ FirstReplies st looked now)
+    × Passes before after (lines ++ now) more
+StopsText old text before after lines more fault.WriteFailed = Unit {0}
+StopsText old text before after lines more f = ⊥
+
+-- whatever stands behind a line, and is answered from there, the line before it is answered so
+abbrev pub LeadsOn : ScriptState → (begun line now : List ℕ) → ScriptState → (left : List ℕ) → Type 0
+LeadsOn st begun line now behind left =
+    (rest out : List ℕ) (after : ScriptState) → IsLineBefore line rest → Goes behind left rest out after
+    → Goes st begun (line ++ rest) (now ++ out) after
+
+-- a line is answered: it is begun, or nothing is any more
+abbrev pub IsLineAnswered : {S O A : Type 0} {s : Ghosts S A} {o : Ghosts O A} → script_type.Script S O A s o → script_type.Script S O A s o → (begun line : List ℕ) → (is_kept : Bool) → (before after : Option (List ℕ)) → (lines more : List ℕ) → Type 0
+IsLineAnswered old new begun line true before after lines more =
+    ((st : ScriptState) → HasState old st → HasState new st × LeadsOn st begun line [] st (begun ++ line)) × Passes before after lines more
+IsLineAnswered old new begun line false before after lines more =
+    (st : ScriptState) → HasState old st
+    → (now : List ℕ) × (behind : ScriptState) × HasState new behind × LeadsOn st begun line now behind []
+    × Passes before after (lines ++ now) more
+
+-- what may follow: anything, or nothing
+abbrev pub MayFollow : Progress → List ℕ → Type 0
+MayFollow progress.More rest = Unit {0}
+MayFollow progress.End rest = rest ≡ []
+
+-- and behind what was answered, with this begun there
+abbrev pub MayStandBehind : Progress → (begun rest : List ℕ) → Type 0
+MayStandBehind p [] rest = MayFollow p rest
+MayStandBehind p (b ∷ begun) rest = Unit {0}
+
+-- it was all that the reader had
+abbrev pub IsAllAt : Progress → Option (List ℕ) → List ℕ → Type 0
+IsAllAt progress.More known taken = Unit {0}
+IsAllAt progress.End known taken = IfSome known (λ bytes. bytes ≡ taken)
+
+-- A shell between two lines: the input so far is what was answered and what is begun; from here on all is answered as
+-- from the beginning; and the lines are written or kept.
+pub record Stands {S O A : Type 0} {s : Ghosts S A} {o : Ghosts O A} (script : script_type.Script S O A s o) (p : Progress) (known left old now : Option (List ℕ)) (begun lines : List ℕ) : Type 0
+  where
+    pub front : List ℕ
+    pub out : List ℕ
+    pub st : ScriptState
+    pub state : HasState script st
+    pub answered : (rest more : List ℕ) (after : ScriptState) → MayStandBehind p begun rest → Goes st [] rest more after
+        → Goes beginning [] (front ++ rest) (out ++ more) after
+    pub on : (rest more : List ℕ) (after : ScriptState) → MayFollow p rest → Goes st begun rest more after
+        → Goes beginning [] ((front ++ begun) ++ rest) (out ++ more) after
+    pub lost : Consumes known left (front ++ begun)
+    pub all : IsAllAt p known (front ++ begun)
+    pub put : Passes old now out lines
+
+-- what is written and kept answers a beginning of the input, and maybe the first terms behind it
+pub record HoldsFirst (known old now : Option (List ℕ)) (lines : List ℕ) : Type 0 where
+  pub front : List ℕ
+  pub text : List ℕ
+  pub begins : IfSome known (λ bytes. StartsWith bytes (front ++ text))
+  pub out : List ℕ
+  pub more : List ℕ
+  pub st : ScriptState
+  pub answered : IsAnsweredFirst front out st
+  pub first : (more ≡ []) ⊎ FirstReplies st text more
+  pub put : Passes old now (out ++ more) lines
+
+abbrev pub StopsHolding : (known old now : Option (List ℕ)) → (lines : List ℕ) → ToolFault → Type 0
+StopsHolding known old now lines fault.Memory = HoldsFirst known old now lines
+StopsHolding known old now lines fault.ReadFailed = HoldsFirst known old now lines
+StopsHolding known old now lines fault.WriteFailed = Unit {0}
+StopsHolding known old now lines f = ⊥
+
+-- the lines are written where writing goes well
+abbrev pub IsToldBy : ToolFault → (old new : Option (List ℕ)) → (lines : List ℕ) → ToolFault → Type 0
+IsToldBy f old new lines result = (result ≡ fault.WriteFailed) ⊎ ((result ≡ f) × Appends old new lines)

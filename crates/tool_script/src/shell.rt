@@ -1,0 +1,308 @@
+//! A shell: commands are replied to while they come, from a reader to a writer.
+ghost use Rattle.std.specs.Prelude.{◌≡◌, ◌≢◌, ◌≤◌, ℕ, Option, List, [], false, if◌then◌else◌, IfErr, IfOk, IsTrue, MatchBool, OnErr, OnOk, length, take, drop};
+ghost use Rattle.std.specs.Io.Buffered.{reader_remaining};
+ghost use Rattle.part_core.specs.declared.kind.TableKind.TheVariants.{OrderedSet};
+ghost use Rattle.part_core.specs.Served.{ServesUnordered};
+ghost use Rattle.tool_io.specs.Lines.{Passes};
+ghost use Rattle.tool_io.specs.Terms.{OfInput};
+ghost use Rattle.tool_script.specs.Run.{IsPut};
+ghost use Rattle.tool_script.specs.Script.{beginning};
+ghost use Rattle.tool_script.specs.Scripts.{HasState};
+ghost use Rattle.tool_script.specs.Shell.{WritesAnswers, StopsShell};
+ghost use Rattle.tool_script.specs.Shells.{AreAnswered, StopsTerms, IsRefused, IsLookedAt, StopsText, IsLineAnswered, Stands, StopsHolding, IsToldBy};
+
+use crate::line::{Effect, Progress, effect_behind, take_line};
+use crate::reply::put_refusal;
+use crate::run::put_next;
+use crate::script::Script;
+use part_core::Part;
+use std::alloc::{AllocError, Allocator};
+use std::io::{BufRead, BufReader, Read, Write};
+use term_core::Term;
+use term_text::{TextFault, read_terms};
+use tool_io::{ToolFault, write_if_many, write_lines};
+
+/// Puts the line of the reply to a term at the end. There is no memory for more tables than can be counted.
+fn put_counted<S: Part<A> + Drop, O: Part<A> + Drop, A: Allocator + Copy>(
+    script: &mut Script<S, O, A>,
+    term: &Term<A>,
+    lines: &mut Vec<u8, A>,
+) -> Result<(), AllocError>
+    requires unordered { ServesUnordered S.serves }
+    requires ordered { IsTrue (O.serves OrderedSet) }
+    ensures ok { OnOk result
+        (IsPut script.old script.new term.now lines.old.items lines.new.items) }
+    ensures err { OnErr result (lines.new.items ≡ lines.old.items) }
+{
+    if script.is_full() {
+        return Err(AllocError);
+    }
+    put_next(script, term, lines)
+}
+
+/// Puts the lines of the replies to these terms at the end, and writes them where they are many. Nothing is begun still.
+fn put_replies<S: Part<A> + Drop, O: Part<A> + Drop, A: Allocator + Copy, W: Write>(
+    script: &mut Script<S, O, A>,
+    terms: &[Term<A>],
+    writer: &mut W,
+    lines: &mut Vec<u8, A>,
+) -> Result<bool, ToolFault>
+    requires unordered { ServesUnordered S.serves }
+    requires ordered { IsTrue (O.serves OrderedSet) }
+    ensures ok { IfOk result (λ is_kept. (is_kept ≡ false) × AreAnswered script.old script.new terms.now
+        (W.contents writer.old) (W.contents writer.new) lines.old.items lines.new.items) }
+    ensures stopped { IfErr result (StopsTerms script.old terms.now
+        (W.contents writer.old) (W.contents writer.new) lines.old.items lines.new.items) }
+{
+    for term in terms {
+        match put_counted(script, term, lines) {
+            Ok(()) => write_if_many(writer, lines)?,
+            Err(AllocError) => return Err(ToolFault::Memory),
+        }
+    }
+    Ok(false)
+}
+
+/// Whether no memory was given.
+fn is_want_of_memory(fault: TextFault) -> bool
+    ensures { MatchBool result (fault ≡ TextFault.Memory) (fault ≢ TextFault.Memory) }
+{
+    matches!(fault, TextFault::Memory)
+}
+
+/// Whether a text of so many bytes that was refused is begun still: it ends too early, and isn't given up.
+fn is_begun_still(fault: TextFault, size: usize, is_given_up: bool) -> bool
+    ensures { MatchBool result ((fault ≡ TextFault.Syntax size) × (is_given_up ≡ false))
+        (is_given_up ≡ false → fault ≢ TextFault.Syntax size) }
+{
+    match fault {
+        TextFault::Syntax(at) => at == size && !is_given_up,
+        _ => false,
+    }
+}
+
+/// Answers a text of so many bytes that was refused: whether it is begun still. Else its refusal is put at the end of
+/// the lines.
+fn refuse<A: Allocator + Copy>(
+    fault: TextFault,
+    size: usize,
+    is_given_up: bool,
+    lines: &mut Vec<u8, A>,
+) -> Result<bool, ToolFault>
+    ensures ok { IfOk result (λ is_kept.
+        IsRefused fault size is_given_up is_kept lines.old.items lines.new.items) }
+    ensures failed { IfErr result (λ f. f ≡ ToolFault.Memory) }
+    ensures err { OnErr result (lines.new.items ≡ lines.old.items) }
+{
+    if is_want_of_memory(fault) {
+        return Err(ToolFault::Memory);
+    }
+    if is_begun_still(fault, size, is_given_up) {
+        return Ok(true);
+    }
+    match put_refusal(fault, lines) {
+        Ok(()) => Ok(false),
+        Err(AllocError) => Err(ToolFault::Memory),
+    }
+}
+
+/// Looks at a text that is begun, and answers whether it is still. Else its replies, or its refusal, are put at the end
+/// of the lines.
+fn answer_text<S: Part<A> + Drop, O: Part<A> + Drop, A: Allocator + Copy, W: Write>(
+    alloc: A,
+    script: &mut Script<S, O, A>,
+    text: &[u8],
+    is_given_up: bool,
+    writer: &mut W,
+    lines: &mut Vec<u8, A>,
+) -> Result<bool, ToolFault>
+    requires unordered { ServesUnordered S.serves }
+    requires ordered { IsTrue (O.serves OrderedSet) }
+    ensures ok { IfOk result (λ is_kept. IsLookedAt script.old script.new is_given_up text.now is_kept
+        (W.contents writer.old) (W.contents writer.new) lines.old.items lines.new.items) }
+    ensures stopped { IfErr result (StopsText script.old text.now
+        (W.contents writer.old) (W.contents writer.new) lines.old.items lines.new.items) }
+{
+    match read_terms(alloc, text) {
+        Ok(terms) => put_replies(script, terms.as_slice(), writer, lines),
+        Err(fault) => refuse(fault, text.len(), is_given_up, lines),
+    }
+}
+
+/// Answers a line, which stands from this place on behind what is begun: whether it is begun, too.
+fn answer_line<S: Part<A> + Drop, O: Part<A> + Drop, A: Allocator + Copy, W: Write>(
+    alloc: A,
+    script: &mut Script<S, O, A>,
+    text: &[u8],
+    start: usize,
+    writer: &mut W,
+    lines: &mut Vec<u8, A>,
+) -> Result<bool, ToolFault>
+    requires unordered { ServesUnordered S.serves }
+    requires ordered { IsTrue (O.serves OrderedSet) }
+    requires within { start ≤ length text.now }
+    ensures ok { IfOk result (λ is_kept. IsLineAnswered script.old script.new
+        (take start text.now) (drop start text.now) is_kept
+        (W.contents writer.old) (W.contents writer.new) lines.old.items lines.new.items) }
+    ensures stopped { IfErr result (StopsText script.old text.now
+        (W.contents writer.old) (W.contents writer.new) lines.old.items lines.new.items) }
+{
+    match effect_behind(&text[..start], &text[start..]) {
+        Effect::Passes => Ok(false),
+        Effect::GoesOn => Ok(true),
+        Effect::LooksAt => answer_text(alloc, script, text, false, writer, lines),
+        Effect::GivesUp => answer_text(alloc, script, &text[..start], true, writer, lines),
+    }
+}
+
+/// Writes the lines before a read that may wait: no whole line is there.
+fn write_before<A: Allocator, W: Write>(
+    ahead: &[u8],
+    writer: &mut W,
+    lines: &mut Vec<u8, A>,
+) -> Result<(), ToolFault>
+    ensures ok { OnOk result (Passes (W.contents writer.old) (W.contents writer.new)
+        lines.old.items lines.new.items) }
+    ensures failed { IfErr result (λ fault. fault ≡ ToolFault.WriteFailed) }
+{
+    if ahead.contains(&b'\n') {
+        return Ok(());
+    }
+    write_lines(writer, lines)
+}
+
+/// Lets go what was begun, unless it is still.
+fn keep<A: Allocator>(begun: &mut Vec<u8, A>, is_kept: bool)
+    ensures { begun.new.items ≡ (if is_kept then begun.old.items else []) }
+{
+    if !is_kept {
+        begun.clear();
+    }
+}
+
+/// Takes the next line of the input, and answers it.
+fn answer_next<S: Part<A> + Drop, O: Part<A> + Drop, A: Allocator + Copy, B: BufRead, W: Write>(
+    alloc: A,
+    script: &mut Script<S, O, A>,
+    input: &mut B,
+    begun: &mut Vec<u8, A>,
+    writer: &mut W,
+    lines: &mut Vec<u8, A>,
+) -> Result<Progress, ToolFault>
+    requires unordered { ServesUnordered S.serves }
+    requires ordered { IsTrue (O.serves OrderedSet) }
+    ensures ok { IfOk result (λ progress. (known old : Option (List ℕ))
+        → Stands script.old Progress.More known (B.remaining input.old) old (W.contents writer.old)
+        begun.old.items lines.old.items
+        → Stands script.new progress known (B.remaining input.new) old (W.contents writer.new)
+        begun.new.items lines.new.items) }
+    ensures stopped { IfErr result (λ fault. (known old : Option (List ℕ))
+        → Stands script.old Progress.More known (B.remaining input.old) old (W.contents writer.old)
+        begun.old.items lines.old.items
+        → StopsHolding known old (W.contents writer.new) lines.new.items fault) }
+{
+    let start = begun.len();
+    let progress = take_line(input, begun)?;
+    match answer_line(alloc, script, begun.as_slice(), start, writer, lines) {
+        Ok(is_kept) => {
+            keep(begun, is_kept);
+            Ok(progress)
+        }
+        Err(fault) => Err(fault),
+    }
+}
+
+/// Writes the lines that were gathered before a shell ends early, and answers how it ends.
+fn told<A: Allocator, W: Write>(
+    fault: ToolFault,
+    writer: &mut W,
+    lines: &mut Vec<u8, A>,
+) -> ToolFault
+    ensures { IsToldBy fault (W.contents writer.old) (W.contents writer.new) lines.old.items result }
+{
+    match write_lines(writer, lines) {
+        Ok(()) => fault,
+        Err(failed) => failed,
+    }
+}
+
+/// Gives up what is begun at the end of the input, and writes the lines.
+fn finish<S: Part<A> + Drop, O: Part<A> + Drop, A: Allocator + Copy, W: Write>(
+    alloc: A,
+    script: &mut Script<S, O, A>,
+    begun: &[u8],
+    writer: &mut W,
+    lines: &mut Vec<u8, A>,
+) -> Result<(), ToolFault>
+    requires unordered { ServesUnordered S.serves }
+    requires ordered { IsTrue (O.serves OrderedSet) }
+    ensures ok { OnOk result ((known left old : Option (List ℕ))
+        → Stands script.old Progress.End known left old (W.contents writer.old)
+        begun.now lines.old.items
+        → OfInput known (λ input. WritesAnswers input old (W.contents writer.new))) }
+    ensures stopped { IfErr result (λ fault. (known left old : Option (List ℕ))
+        → Stands script.old Progress.End known left old (W.contents writer.old)
+        begun.now lines.old.items
+        → StopsShell known old (W.contents writer.new) fault) }
+{
+    if begun.is_empty() {
+        return write_lines(writer, lines);
+    }
+    match answer_text(alloc, script, begun, true, writer, lines) {
+        Ok(_kept) => write_lines(writer, lines),
+        Err(fault) => Err(told(fault, writer, lines)),
+    }
+}
+
+/// Answers an input line by line.
+fn answer_input<S: Part<A> + Drop, O: Part<A> + Drop, A: Allocator + Copy, R: Read, W: Write>(
+    alloc: A,
+    script: &mut Script<S, O, A>,
+    input: &mut BufReader<R, A>,
+    writer: &mut W,
+) -> Result<(), ToolFault>
+    requires unordered { ServesUnordered S.serves }
+    requires ordered { IsTrue (O.serves OrderedSet) }
+    requires beginning { HasState script.old beginning }
+    ensures ok { OnOk result (OfInput (reader_remaining R.remaining input.old) (λ input.
+        WritesAnswers input (W.contents writer.old) (W.contents writer.new))) }
+    ensures stopped { IfErr result (StopsShell (reader_remaining R.remaining input.old)
+        (W.contents writer.old) (W.contents writer.new)) }
+{
+    let mut begun = Vec::new(alloc);
+    let mut lines = Vec::new(alloc);
+    for _line in 0..u64::MAX {
+        write_before(input.buffer(), writer, &mut lines)?;
+        match answer_next(alloc, script, input, &mut begun, writer, &mut lines) {
+            Ok(Progress::More) => {}
+            Ok(Progress::End) => return finish(alloc, script, begun.as_slice(), writer, &mut lines),
+            Err(fault) => return Err(told(fault, writer, &mut lines)),
+        }
+    }
+    Err(told(ToolFault::ReadFailed, writer, &mut lines))
+}
+
+/// Reads commands line by line, to the reader's end, and writes the line of the reply to each while they come: sets and
+/// bags are made of parts `S`, ordered sets of parts `O`. What is begun is looked at when a line has a dot before white
+/// space, `%` or its end. Where it spells terms these are replied; where it ends too early the next line goes behind it,
+/// but for an empty line or the end of the input, which give it up; and else its refusal is replied, and none of its
+/// commands is obeyed. Where memory runs out or the reader fails, what was answered before is written.
+#[tactic(auto, using(crate::proofs::ShellLemmas::stops_first))]
+pub fn run_shell<S: Part<A> + Drop, O: Part<A> + Drop, A: Allocator + Copy, R: Read, W: Write>(
+    alloc: A,
+    reader: &mut R,
+    writer: &mut W,
+) -> Result<(), ToolFault>
+    requires unordered { ServesUnordered S.serves }
+    requires ordered { IsTrue (O.serves OrderedSet) }
+    ensures ok { OnOk result (OfInput (R.remaining reader.old) (λ input.
+        WritesAnswers input (W.contents writer.old) (W.contents writer.new))) }
+    ensures stopped { IfErr result (StopsShell (R.remaining reader.old)
+        (W.contents writer.old) (W.contents writer.new)) }
+{
+    let mut script: Script<S, O, A> = Script::new(alloc);
+    match BufReader::new(alloc, reader) {
+        Ok(mut input) => answer_input(alloc, &mut script, &mut input, writer),
+        Err(_refused) => Err(ToolFault::Memory),
+    }
+}
