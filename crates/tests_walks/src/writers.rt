@@ -301,6 +301,26 @@ fn put_piece<A: Allocator>(alloc: Global, piece: &[Term<A>], lines: &mut Vec<u8>
     lines.push(b'\n').ok()
 }
 
+/// Puts the line of a piece at the end, writes behind it, and carries the walk on; none where a call is refused again.
+fn next_behind<P: Part<A> + Drop, A: Allocator + Copy>(
+    alloc: Global,
+    heap: A,
+    watch: &mut Watch<'_>,
+    table: &mut LocalTable<P, A>,
+    piece: &[Term<A>],
+    walk: Continuation<A>,
+    writes: &[Term<A>],
+    row: Row,
+    lines: &mut Vec<u8>,
+) -> Option<Step<A>> {
+    let is_put = put_piece(alloc, piece, lines).is_some();
+    if is_put && written_at(watch, table, writes).is_some() {
+        gone_on_at(heap, watch, table, walk, row)
+    } else {
+        None
+    }
+}
+
 /// Puts the pieces of a walk at the end, each on a line, with what is written between them; none where a call is
 /// refused again.
 fn walked<P: Part<A> + Drop, A: Allocator + Copy>(
@@ -313,16 +333,16 @@ fn walked<P: Part<A> + Drop, A: Allocator + Copy>(
     row: Row,
     lines: &mut Vec<u8>,
 ) -> Option<()> {
-    let mut step = begun_at(heap, watch, table, query, row)?;
+    let mut next = begun_at(heap, watch, table, query, row);
     for _piece in 0..MOST_PIECES {
-        match step {
-            Step::Piece(piece, walk) => {
-                put_piece(alloc, piece.as_slice(), lines)?;
-                written_at(watch, table, writes)?;
-                step = gone_on_at(heap, watch, table, walk, row)?;
+        next = match next {
+            Some(Step::Piece(piece, walk)) => {
+                let piece = piece.as_slice();
+                next_behind(alloc, heap, watch, table, piece, walk, writes, row, lines)
             }
-            Step::End(_query) => return Some(()),
-        }
+            Some(Step::End(_query)) => return Some(()),
+            None => return None,
+        };
     }
     None
 }
