@@ -75,7 +75,7 @@ stops_from [] f e = absurd cc
 stops_from (c ∷ cs) f e = at_sentence c cs f (failed_before (stops.At f.0 f.1) (sentence_at (c ∷ cs)) e)
 
 front_stops : {text rest : List ℕ} {ds : List Datum} → Front text ds rest → (f : Fault) → SentencesStop (after_gap false rest) f → text_at text ≡ Err f
-front_stops (at_first {text}) f h = text_stops f (whole_gap text) h
+front_stops {text} at_first f h = text_stops f (whole_gap text) h
 front_stops (behind {t} {rest} front s) f h =
     let before = behind_dot_stops f s.term s.dot s.ended (whole_gap rest) h in
     let begun = gap_first s.gap (spelled_first s.term) in
