@@ -1,8 +1,8 @@
-use Rattle.std.proofs.Common.{◌≡◌, [], ◌∷◌, ◌++◌, true, false, Ok, Some, refl, sym, ap, ◌∙◌, rules}
+use Rattle.std.proofs.Common.{◌≡◌, [], false, refl, rules}
 use Rattle.std.specs.Str.{chars}
 use Rattle.std.proofs.lemmas.Result.{err_from_is_err_and}
 use Rattle.term_text.specs.TokenReading.{after_gap}
-use Rattle.term_text.specs.Reading.{sentence_step, next_at}
+use Rattle.term_text.specs.Reading.{sentence_step}
 use Rattle.term_text.proofs.Steps.{ends, goes_on, is_done}
 use Rattle.term_text.proofs.Texts.{sentence_shrinks}
 use Rattle.term_text.proofs.Readers.{no_sentence, text_fails, text_is, next_step_fails, next_step_is, next_nothing}
