@@ -1,5 +1,5 @@
 -- The characters of a text, from the left.
-use Rattle.std.proofs.Common.{◌≡◌, ℕ, suc, ◌+◌, ◌≤◌, ◌<◌, inl, inr, Bool, true, false, cond, List, [], ◌∷◌, ◌++◌, length, take, drop, get_or, Option, Some, None, Ok, Err, refl, sym, ap, ◌∙◌, arith}
+use Rattle.std.proofs.Common.{◌≡◌, ℕ, suc, ◌+◌, ◌≤◌, ◌<◌, inl, inr, Bool, true, false, List, [], ◌∷◌, ◌++◌, length, take, drop, get_or, Option, Some, None, Ok, Err, refl, sym, ap, ◌∙◌, arith}
 use Rattle.std.specs.Prelude.{◌==◌, ◌&&◌}
 use Rattle.std.specs.Char.{is_ascii_digit, is_ascii_lowercase}
 use Rattle.std.specs.Str.{IsUtf8, IsCharBoundary, chars, encode_utf8_all}
@@ -10,7 +10,7 @@ use Rattle.std.specs.List.{slice_get}
 use Rattle.term_text.specs.Character.{EndsAscii, line_feed, percent, minus, plus, dot, single_quote, double_quote, open_brace, open_bracket, number_sign, less, is_white_space, is_word}
 use Rattle.term_text.specs.declared.stop.Cause.TheVariants.{Syntax}
 use Rattle.term_text.specs.Tokens.{EndsRun}
-use Rattle.term_text.specs.TokenReading.{Fault, after_gap, behind, behind_both, begins, begins_gap, dot_at, expect, expect_both, number_run, behind_sign, opening, is_sign}
+use Rattle.term_text.specs.TokenReading.{after_gap, behind, behind_both, begins, begins_gap, dot_at, expect, expect_both, number_run, behind_sign, opening, is_sign}
 
 -- ---- the first byte
 

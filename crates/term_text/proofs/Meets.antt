@@ -1,6 +1,6 @@
 -- What is due, the reader comes to: what it stops for there, it stops for in the whole text. So it stops for each cause.
-use Rattle.std.proofs.Common.{◌≡◌, ◌≢◌, ℕ, zero, suc, ◌+◌, ◌-◌, ◌≤◌, ◌<◌, List, [], ◌∷◌, ◌++◌, length, take, Ok, Err, refl, sym, ap, ◌∙◌, arith}
-use Rattle.std.specs.Str.{encode_utf8_all, chars, IsValidUpTo}
+use Rattle.std.proofs.Common.{◌≡◌, ◌≢◌, ℕ, ◌+◌, ◌-◌, List, length, take, Err, refl, sym, ap, ◌∙◌, arith}
+use Rattle.std.specs.Str.{chars}
 use Rattle.std.proofs.lemmas.List.{length-append, take_at}
 use Rattle.term_core.specs.Datum.{Datum}
 use Rattle.term_text.specs.declared.fault.TextFault.{TextFault}

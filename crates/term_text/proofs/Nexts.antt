@@ -1,13 +1,12 @@
 -- The next term of what is left of a text.
-use Rattle.std.proofs.Common.{◌≡◌, ◌≢◌, ◌⊎◌, ◌<◌, inl, inr, false, ℕ, List, [], ◌∷◌, ◌++◌, length, Option, Some, None, Result, Ok, Err, refl, sym, ap, ◌∙◌, arith, append_assoc}
-use Rattle.std.specs.Prelude.{IfOk, IfErr}
+use Rattle.std.proofs.Common.{◌≡◌, ◌≢◌, ◌⊎◌, ◌<◌, inl, inr, false, ℕ, List, [], ◌∷◌, ◌++◌, length, Option, Some, None, Ok, Err, refl, sym, ◌∙◌, arith, append_assoc}
+use Rattle.std.specs.Prelude.{IfOk}
 use Rattle.std.proofs.lemmas.List.{append-nil}
-use Rattle.std.specs.Str.{chars, IsUtf8, IsValidUpTo}
+use Rattle.std.specs.Str.{chars, IsUtf8}
 use Rattle.term_core.specs.Datum.{Datum}
-use Rattle.term_text.specs.Text.{Spelled, Sentences, Sentence, Front, Next}
+use Rattle.term_text.specs.Text.{Sentences, Sentence, Front, Next}
 use Rattle.term_text.specs.Text.Sentences.{none, sentence}
 use Rattle.term_text.specs.Text.Front.{at_first, behind}
-use Rattle.term_text.specs.Causes.{HasCause}
 use Rattle.term_text.specs.Laws.{IsRefusal}
 use Rattle.term_text.specs.Fault.{fault_of}
 use Rattle.term_text.specs.declared.fault.TextFault.TheVariants as faults
@@ -15,7 +14,7 @@ use Rattle.term_text.specs.declared.stop.Cause.{Cause}
 use Rattle.term_text.specs.declared.stop.Cause.TheVariants as causes
 use Rattle.term_text.specs.declared.stop.Stop.{Stop}
 use Rattle.term_text.specs.declared.stop.Stop.TheVariants as stops
-use Rattle.term_text.specs.TokenReading.{Fault, ◌>>=◌, Fails, after_gap}
+use Rattle.term_text.specs.TokenReading.{Fault, Fails, after_gap}
 use Rattle.term_text.specs.Reading.{sentence_at, next_from, next_at, text_at}
 use Rattle.term_text.proofs.Steps.{bind_holds, holds_at}
 use Rattle.term_text.proofs.Items.{gap_shorter}
@@ -75,7 +74,7 @@ stops_from [] f e = absurd cc
 stops_from (c ∷ cs) f e = at_sentence c cs f (failed_before (stops.At f.0 f.1) (sentence_at (c ∷ cs)) e)
 
 front_stops : {text rest : List ℕ} {ds : List Datum} → Front text ds rest → (f : Fault) → SentencesStop (after_gap false rest) f → text_at text ≡ Err f
-front_stops (at_first {text}) f h = text_stops f (whole_gap text) h
+front_stops {text} at_first f h = text_stops f (whole_gap text) h
 front_stops (behind {t} {rest} front s) f h =
     let before = behind_dot_stops f s.term s.dot s.ended (whole_gap rest) h in
     let begun = gap_first s.gap (spelled_first s.term) in

@@ -1,6 +1,6 @@
 -- What the reader stops for at a place that is due, what is due there first stops it for.
-use Rattle.std.proofs.Common.{◌≡◌, ◌≢◌, ◌&&◌, ℕ, zero, suc, ◌+◌, ◌-◌, ◌≤◌, ◌<◌, inl, inr, Bool, true, false, cond, List, [], ◌∷◌, ◌++◌, length, drop, Option, Some, None, Result, Ok, Err, ℤ, pos, negsuc, refl, sym, ap, subst, ◌∙◌, arith, lit<, append_assoc}
-use Rattle.std.specs.Prelude.{IfSome, ◌==◌, nat_lt, nat_le}
+use Rattle.std.proofs.Common.{◌≡◌, ◌≢◌, ◌&&◌, ℕ, zero, suc, ◌+◌, ◌-◌, ◌≤◌, ◌<◌, inl, inr, Bool, true, false, cond, List, [], ◌∷◌, ◌++◌, length, Option, Some, None, Result, Ok, Err, ℤ, pos, negsuc, refl, sym, ap, ◌∙◌, arith, lit<, append_assoc}
+use Rattle.std.specs.Prelude.{IfSome, ◌==◌}
 use Rattle.std.specs.List.{Contains, AllByRecursion}
 use Rattle.std.specs.List.Sorted.{IsPermutation}
 use Rattle.std.specs.Char.{is_ascii_digit, is_ascii_lowercase}
@@ -17,19 +17,17 @@ use Rattle.term_text.specs.declared.stop.Cause.TheVariants as causes
 use Rattle.term_text.specs.declared.token.Marks.{Marks}
 use Rattle.term_text.specs.declared.token.Opening.{Opening}
 use Rattle.term_text.specs.declared.token.Opening.TheVariants as opens
-use Rattle.term_text.specs.Tokens.{Gap, Number, Integer}
+use Rattle.term_text.specs.Tokens.{Gap, Integer}
 use Rattle.term_text.specs.Text.{Segment, Spelled, Pair, BeginsGap}
-use Rattle.term_text.specs.Causes.{Due, Due as due, Place, Quotes, Row, most_elements, mark_of, most_characters, HasLevel, MayStand, IsNew, EndsGap, WholeGap, BeginsWith, BeginsWithBoth, BeginsInteger, BeginsTerm, BeginsDot, FollowsElement, IsWide, IsNoByte}
+use Rattle.term_text.specs.Causes.{Quotes, Row, most_elements, mark_of, most_characters, HasLevel, MayStand, IsNew, EndsGap, WholeGap, BeginsWith, BeginsWithBoth, BeginsInteger, BeginsTerm, BeginsDot, FollowsElement, IsWide, IsNoByte}
 use Rattle.term_text.specs.Causes.WholeGap.{up_to, to_the_end}
-use Rattle.term_text.specs.Causes.Place.{a_sentence, a_term, an_element, a_pair, a_segment, a_character, a_letter}
 use Rattle.term_text.specs.Causes.Row.{in_tuple, in_list}
 use Rattle.term_text.specs.Causes.Quotes.{of_atom, of_string, of_bytes}
 use Rattle.term_text.specs.Causes.IsWide.{wide, wide_positive, wide_negative}
-use Rattle.term_text.specs.Causes.{BeginsTerm as begins_term}
 use Rattle.term_text.specs.TokenReading.{Fault, Read, ◌>>=◌, steps, after_gap, expect, expect_both, behind, behind_both, opening, begins, is_sign, integer_at, word_at, quoted_at, quoted_step, next_quoted, character_at, is_allowed, dot_at, begins_gap}
-use Rattle.term_text.specs.Reading.{separated, comma_in, behind_comma, enter, enter_as, atom_marks, string_marks, byte_marks, string_at, byte_of, byte_at, segment_as, segment_at, segments_at, binary_at, integer_term_at, word_term_at, quoted_atom_at, element_at, tuple_at, list_at, list_end, has_key, pair_at, map_at, form_at, tail_form, term_at, tail_at, sentence_at, sentence_step, text_at}
+use Rattle.term_text.specs.Reading.{separated, comma_in, behind_comma, enter, enter_as, atom_marks, string_marks, byte_marks, string_at, byte_of, byte_at, segment_as, segment_at, binary_at, integer_term_at, word_term_at, quoted_atom_at, element_at, tuple_at, list_at, list_end, has_key, pair_at, map_at, form_at, tail_form, term_at, tail_at, sentence_at, sentence_step, text_at}
 use Rattle.term_text.proofs.Tokens.{gap_again}
-use Rattle.term_text.proofs.Words.{Opens, opening_holds, opening_integer, opening_word, number_again, number_begins, unsigned_sign, WordSoFar, word_too_long, each_more, integer_begins, integer_again}
+use Rattle.term_text.proofs.Words.{Opens, opening_holds, opening_integer, opening_word, number_again, number_begins, unsigned_sign, word_too_long, each_more, integer_begins, integer_again}
 use Rattle.term_text.proofs.Items.{gap_shorter}
 use Rattle.term_text.proofs.Shorter.{spelled_shorter, segment_shorter, pair_shorter}
 use Rattle.term_text.proofs.Sound.{cell_count-cells}

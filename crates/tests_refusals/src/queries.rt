@@ -100,7 +100,10 @@ fn swept_late(alloc: Global, input: &str) -> SweepOutcome {
 
 #[test]
 fn each_request_before_a_late_fault_refused_in_turn(rt: HostRuntime) {
-    let behind = swept_late(rt.alloc(), "[{{'$1'},[],[{{'$1',[]}}]}]. {1}. {[2]}. {\"3\"");
+    let behind = swept_late(
+        rt.alloc(),
+        "[{{'$1'},[],[{{'$1',[]}}]}]. {1}. {[2]}. {\"3\"",
+    );
     assert!(rt; behind.is_complete(), "{behind:?}");
     let nothing = swept_late(rt.alloc(), "[{{'$1'},[],['$3']}]. {1}. {[2]}. {\"3\"");
     assert!(rt; nothing.is_complete(), "{nothing:?}");

@@ -124,8 +124,7 @@ impl<'a> Case<'a> {
 
 #[test]
 fn each_request_refused_in_turn(rt: HostRuntime) {
-    let answered =
-        Case::answered(Request::Run, MADE, MADE_LINES).tried_up_to(&rt, rt.alloc(), 0);
+    let answered = Case::answered(Request::Run, MADE, MADE_LINES).tried_up_to(&rt, rt.alloc(), 0);
     assert_eq!(rt; answered, Ok(()));
     let refused = Case {
         request: Request::Run,

@@ -1,8 +1,9 @@
 -- Why an input has no terms.
-use Rattle.std.proofs.Common.{◌≡◌, ◌≢◌, ◌↔◌, ℕ, inl, inr, Option, Some, None, List, [], ◌∷◌, length, refl, arith}
-use Rattle.std.specs.Str.{IsValidUpTo}
+use Rattle.std.proofs.Common.{◌≡◌, ◌≢◌, ◌↔◌, ◌⊎◌, ℕ, inl, inr, Option, Some, None, List, [], ◌∷◌, length, refl, arith}
+use Rattle.std.specs.Str.{IsUtf8, IsValidUpTo, chars}
 use Rattle.term_core.specs.Datum.{Datum}
-use Rattle.term_text.specs.Text.{Spells}
+use Rattle.term_text.specs.Text.{Spells, Sentences}
+use Rattle.term_text.specs.Laws.{IsRefusal, HasOneFault}
 use Rattle.term_text.specs.Causes.{HasCause}
 use Rattle.term_text.specs.declared.fault.TextFault.{TextFault}
 use Rattle.term_text.specs.declared.fault.TextFault.TheVariants as text
@@ -14,6 +15,9 @@ use Rattle.tool_io.specs.Wrapped.{of_text}
 
 no_text : (input : List ℕ) (f : TextFault) → f ≢ text.Memory → ((ds : List Datum) → Spells input ds → f ≡ text.Memory) → HasCause input f → ((at : ℕ) → (f ≡ text.BadUtf8 at) ↔ IsValidUpTo input at) → IsNoText input f
 no_text input f other only cause bad = record { unspelled = λ ds spelled. other (only ds spelled); other = other; cause = cause; bad_utf8 = bad }
+
+refused_input : HasOneFault → (input : List ℕ) (f : TextFault) → IsRefusal input f → IsNoText input f
+refused_input one input f r = record { unspelled = λ ds spelled. one.none input ds f spelled r; other = r.other; cause = r.cause; bad_utf8 = r.bad_utf8 }
 
 -- a text that is refused, though not for want of memory, spells nothing
 pub text_refused : (input : List ℕ) (f : TextFault) → ((ds : List Datum) → Spells input ds → f ≡ text.Memory) → HasCause input f → ((at : ℕ) → (f ≡ text.BadUtf8 at) ↔ IsValidUpTo input at) → IsUnspelled input (of_text f)
@@ -66,3 +70,24 @@ pub unread : (known : Option (List ℕ)) (f : ToolFault) → IsReadFault f → O
 unread known f h =
     let none = unspelled known f h in
     (none.0, none.1, unspelled_is_unread none.0 f none.2)
+
+-- ---- term by term
+
+-- what refuses a text, refuses it as an input
+pub refusal_unspelled : HasOneFault → (input : List ℕ) (f : TextFault) → IsRefusal input f → IsUnspelled input (of_text f)
+refusal_unspelled one input text.Memory r = tt
+refusal_unspelled one input (text.TooDeep at) r = refused_input one input (text.TooDeep at) r
+refusal_unspelled one input (text.TooLong at) r = refused_input one input (text.TooLong at) r
+refusal_unspelled one input (text.DuplicateKey at) r = refused_input one input (text.DuplicateKey at) r
+refusal_unspelled one input (text.Syntax at) r = refused_input one input (text.Syntax at) r
+refusal_unspelled one input (text.BadUtf8 at) r = refused_input one input (text.BadUtf8 at) r
+refusal_unspelled one input (text.IntegerRange at) r = refused_input one input (text.IntegerRange at) r
+refusal_unspelled one input (text.UnsupportedEscape at) r = refused_input one input (text.UnsupportedEscape at) r
+
+pub next_unspelled : HasOneFault → (input : List ℕ) (f : TextFault) → (f ≡ text.Memory) ⊎ IsRefusal input f → IsUnspelled input (of_text f)
+next_unspelled one input f (inl memory) = rw memory tt
+next_unspelled one input f (inr r) = refusal_unspelled one input f r
+
+-- no term stands first
+pub nothing_first : (input : List ℕ) → IsUtf8 input → Sentences (chars input) [] → IsUnread input (fault.Text (text.Syntax (length input)))
+nothing_first input utf8 s = inr (record { spelled = record { utf8 = utf8; sentences = s }; place = refl })

@@ -74,7 +74,7 @@ pub fn text_of(input: &[u8]) -> Result<&str, ToolFault>
     a_text_has_one_fault();
     match term_text::text_of(input) {
         Ok(text) => Ok(text),
-        Err(fault) => Err(ToolFault::from(fault)),
+        Err(refused) => Err(ToolFault::from(refused)),
     }
 }
 
@@ -93,7 +93,7 @@ pub fn next_of<'t, A: Allocator + Copy>(
     a_text_has_one_fault();
     match next_term(alloc, text, rest) {
         Ok(next) => Ok(next),
-        Err(fault) => Err(ToolFault::from(fault)),
+        Err(refused) => Err(ToolFault::from(refused)),
     }
 }
 

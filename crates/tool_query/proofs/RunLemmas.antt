@@ -51,13 +51,16 @@ has_terms input text rest first objects is utf8 s more = rw is at (record { spel
 
 -- the lines of a query are written
 pub report_written : (r : Report) (input text rest lines : List ℕ) (first : Datum) (q : Query) (old new : Option (List ℕ)) → text ≡ input → IsUtf8 text → Sentence (chars text) first rest → Asks r first q → AnswersText r (Answers q) rest lines → Appends old new lines → OfItsTerms input (λ terms. WritesAnswers r terms old new)
-report_written r input text rest lines first q old new is utf8 s asks a gained =
-    (first ∷ a.objects, has_terms input text rest first a.objects is utf8 s a.spelled, record {
-      query = q;
-      objects = a.objects;
-      asked = record { first = first; whole = refl; asks = asks };
-      answered = record { out = lines; lines = a.lines; gained = gained };
-    })
+report_written r input text rest lines first q old new is utf8 s asks a gained = (
+  first ∷ a.objects,
+  has_terms input text rest first a.objects is utf8 s a.spelled,
+  record {
+    query = q;
+    objects = a.objects;
+    asked = record { first = first; whole = refl; asks = asks };
+    answered = record { out = lines; lines = a.lines; gained = gained };
+  },
+)
 
 -- the writer fails
 pub report_failed : (r : Report) (input text rest lines : List ℕ) (first : Datum) (R : Datum → Option Datum → Type 0) (old new : Option (List ℕ)) (f : ToolFault) → text ≡ input → IsUtf8 text → Sentence (chars text) first rest → AnswersText r R rest lines → f ≡ fault.WriteFailed → StopsAt input old new f (λ terms. StopsAnswers r terms old new f)

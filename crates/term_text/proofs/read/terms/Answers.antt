@@ -1,29 +1,29 @@
-use Rattle.std.proofs.Common.{◌≡◌, [], ◌∷◌, ◌++◌, true, false, Ok, Some, refl, sym, ap, ◌∙◌, rules}
+use Rattle.std.proofs.Common.{◌≡◌, [], false, refl, rules}
 use Rattle.std.specs.Str.{chars}
 use Rattle.std.proofs.lemmas.Result.{err_from_is_err_and}
 use Rattle.term_text.specs.TokenReading.{after_gap}
-use Rattle.term_text.specs.Reading.{sentence_step, next_at}
+use Rattle.term_text.specs.Reading.{sentence_step}
 use Rattle.term_text.proofs.Steps.{ends, goes_on, is_done}
 use Rattle.term_text.proofs.Texts.{sentence_shrinks}
 use Rattle.term_text.proofs.Readers.{no_sentence, text_fails, text_is, next_step_fails, next_step_is, next_nothing}
 use Rattle.term_text.proofs.read.terms.Goals as goal
 
-pub returns-in_err-next : goal.returns-in_err-next
-returns-in_err-next g c =
+pub returns-in_err-term : goal.returns-in_err-term
+returns-in_err-term g c =
     let p = err_from_is_err_and c.from_residual.result c.from_residual.ensures.1 in
-    rw (p.1, p.2) (text_fails _ (chars c.args.text.now) (ends sentence_step sentence_shrinks _ c.loop-term.terms.items (after_gap false (chars c.loop-term.rest.now)) _ (next_step_fails _ c.loop-term.terms.items (chars c.loop-term.rest.now) c.in_err-next.ensures) c.loop-term.invariant.1))
+    rw (p.1, p.2) (text_fails _ (chars c.args.text.now) (ends sentence_step sentence_shrinks _ c.loop-terms.terms.items (after_gap false (chars c.loop-terms.rest.now)) _ (next_step_fails _ c.loop-terms.terms.items (chars c.loop-terms.rest.now) c.in_err-term.ensures) c.loop-terms.invariant.1))
 
-pub loop-term-smaller : goal.loop-term-smaller
-loop-term-smaller g c =
-    let one = next_step_is c.loop-term.terms.items (chars c.loop-term.rest.now) c.in-Some.term (chars c.in-Some.after.now) c.in_ok-next.ensures in
-    sentence_shrinks.shorter c.loop-term.terms.items (after_gap false (chars c.loop-term.rest.now)) _ one refl
+pub loop-terms-smaller : goal.loop-terms-smaller
+loop-terms-smaller g c =
+    let one = next_step_is c.loop-terms.terms.items (chars c.loop-terms.rest.now) c.in-Some.term (chars c.in-Some.after.now) (rw c.in-Some.is at c.in_ok-term.ensures) in
+    sentence_shrinks.shorter c.loop-terms.terms.items (after_gap false (chars c.loop-terms.rest.now)) _ one refl
 
-pub loop-term-preserved : goal.loop-term-preserved
-loop-term-preserved g c =
-    let one = next_step_is c.loop-term.terms.items (chars c.loop-term.rest.now) c.in-Some.term (chars c.in-Some.after.now) c.in_ok-next.ensures in
-    (search rules, rw c.in_ok-push.ensures.items (goes_on sentence_step sentence_shrinks c.loop-term.terms.items _ (after_gap false (chars c.loop-term.rest.now)) _ _ one c.loop-term.invariant.1))
+pub loop-terms-preserved : goal.loop-terms-preserved
+loop-terms-preserved g c =
+    let one = next_step_is c.loop-terms.terms.items (chars c.loop-terms.rest.now) c.in-Some.term (chars c.in-Some.after.now) (rw c.in-Some.is at c.in_ok-term.ensures) in
+    (search rules, rw c.in_ok-push.ensures.items (goes_on sentence_step sentence_shrinks c.loop-terms.terms.items _ (after_gap false (chars c.loop-terms.rest.now)) _ _ one c.loop-terms.invariant.1))
 
 pub returns-in_default : goal.returns-in_default
 returns-in_default g c =
-    let nothing : after_gap false (chars c.loop-term.rest.now) ≡ [] = next_nothing (chars c.loop-term.rest.now) c.in_ok-next.ensures in
-    text_is (chars c.args.text.now) c.loop-term.terms.items [] (is_done sentence_step sentence_shrinks c.loop-term.terms.items c.loop-term.terms.items (after_gap false (chars c.loop-term.rest.now)) [] _ (no_sentence c.loop-term.terms.items _ (rw nothing refl)) c.loop-term.invariant.1)
+    let nothing : after_gap false (chars c.loop-terms.rest.now) ≡ [] = next_nothing (chars c.loop-terms.rest.now) (rw c.in_default.is at c.in_ok-term.ensures) in
+    text_is (chars c.args.text.now) c.loop-terms.terms.items [] (is_done sentence_step sentence_shrinks c.loop-terms.terms.items c.loop-terms.terms.items (after_gap false (chars c.loop-terms.rest.now)) [] _ (no_sentence c.loop-terms.terms.items _ (rw nothing refl)) c.loop-terms.invariant.1)

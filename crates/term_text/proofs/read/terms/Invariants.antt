@@ -6,9 +6,9 @@ use Rattle.term_text.specs.TokenReading.{all_steps, after_gap}
 use Rattle.term_text.specs.Reading.{sentence_step}
 use Rattle.term_text.proofs.read.terms.Given as goal
 
-abbrev pub invariant-loop-term : goal.invariant-loop-term
-invariant-loop-term g l =
+abbrev pub invariant-loop-terms : goal.invariant-loop-terms
+invariant-loop-terms g l =
     shadow (Utf8 l.rest) × (all_steps sentence_step l.terms.items (after_gap false (chars l.rest)) ≡ all_steps sentence_step [] (after_gap false (chars l.fn.text)))
 
-abbrev pub decreases-loop-term : goal.decreases-loop-term
-decreases-loop-term g l = length (after_gap false (chars l.rest))
+abbrev pub decreases-loop-terms : goal.decreases-loop-terms
+decreases-loop-terms g l = length (after_gap false (chars l.rest))

@@ -1,4 +1,4 @@
-use Rattle.std.proofs.Common.{◌≡◌, refl, rules}
+use Rattle.std.proofs.Common.{rules}
 use Rattle.std.specs.Str.{chars}
 use Rattle.term_text.proofs.Nexts.{next_is_there, next_is_read, next_stops_for, next_refusal}
 use Rattle.term_text.proofs.text.next_term.Goals as goal

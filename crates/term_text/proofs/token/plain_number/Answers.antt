@@ -1,6 +1,5 @@
-use Rattle.std.proofs.Common.{◌≡◌, Ok, rules}
+use Rattle.std.proofs.Common.{rules}
 use Rattle.std.specs.Str.{chars}
-use Rattle.term_text.specs.TokenReading.{Read, integer_at}
 use Rattle.term_text.proofs.Short.{plain_number}
 use Rattle.term_text.proofs.token.plain_number.Goals as goal
 

@@ -2,7 +2,6 @@ use Rattle.std.proofs.Common.{length}
 use Rattle.std.specs.Str.{chars}
 use denote.Text.{Utf8}
 use denote.Shadow.{shadow}
-use Rattle.term_text.specs.Character.{is_word}
 use Rattle.term_text.proofs.Words.{WordSoFar}
 use Rattle.term_text.proofs.token.word.Given as goal
 
