@@ -2,6 +2,7 @@
 use Rattle.std.proofs.Common.{◌≡◌, ◌≢◌, ◌∙◌, ℕ, arith, length, List, [], ◌++◌, Option, None, Some, Result, Ok, Err, refl, sym, ap, subst, inl, inr}
 use Rattle.std.proofs.lemmas.List.{append-nil, take_all}
 use Rattle.std.specs.declared.alloc.AllocError.{AllocError}
+use Rattle.std.specs.Io.KnownBytes.{Appends}
 use Rattle.std.specs.Prelude.{OnOk, OnErr, IfErr, IfSome}
 use Rattle.clap.specs.Words.{kind_of}
 use Rattle.clap.specs.declared.error.Error.{Error}
@@ -21,7 +22,6 @@ use Rattle.tool_scan.specs.declared.options.ScanOptions.{ScanOptions}
 use Rattle.tool_script.specs.Input.{OfScript, StopsScript}
 use Rattle.tool_script.specs.Script.{beginning}
 use Rattle.tool_script.specs.Shell.{WritesAnswers, WritesFirst, StopsShell}
-use Rattle.tool_script.proofs.PassLemmas.{appends_none}
 use Rattle.tool_cli.specs.Program.{Writes, StopsOn, HasOutcome, EndsTold, EndsTelling, EndsExplained, EndsInvocation, EndsAsked, EndsEarly, EndsHelp, EndsMistaken, EndsVersion}
 use Rattle.tool_cli.specs.Telling.{Tells}
 use Rattle.tool_cli.specs.Why.{Explains}
@@ -143,6 +143,10 @@ shell_given known old new input (fault.Specification f) given h = absurd h
 shell_given known old new input (fault.File f) given h = absurd h
 shell_given known old new input (fault.Code f b) given h = absurd h
 shell_given known old new input fault.TooSmall given h = absurd h
+
+appends_none : (a : Option (List ℕ)) → Appends a a []
+appends_none None = tt
+appends_none (Some xs) = sym (append-nil xs)
 
 -- nothing of an input is answered
 nothing_first : (input : List ℕ) (old : Option (List ℕ)) → WritesFirst (Some input) old old
