@@ -200,9 +200,16 @@ fn is_reached_alone<'h, P: Part<&'h Failing<Global>> + Drop>(
 /// Whether it is let go; none for want of memory.
 fn is_let_go<R: Wait>(rt: &R, heap: &Failing<Global>, life: Life) -> Option<bool> {
     match life {
-        Life::Table(middle) => is_reached_at::<R, HashPart<&Failing<Global>>>(rt, heap, middle, None),
+        Life::Table(middle) => is_reached_at::<R, HashPart<&Failing<Global>>>(
+            rt, heap, middle, None,
+        ),
         Life::LocalTable(middle) => is_reached_alone::<HashPart<&Failing<Global>>>(heap, middle),
-        Life::Closed(count) => is_reached_at::<R, HashPart<&Failing<Global>>>(rt, heap, Middle::Fix, Some(count)),
+        Life::Closed(count) => is_reached_at::<R, HashPart<&Failing<Global>>>(
+            rt,
+            heap,
+            Middle::Fix,
+            Some(count),
+        ),
         Life::Query => {
             let _query = query_of(heap, NAMED)?;
             Some(true)

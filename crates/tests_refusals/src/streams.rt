@@ -127,7 +127,9 @@ fn is_left_unread<H: Threads + Wait + Sync>(rt: &H, alloc: Global, call: u32) ->
     };
     let mut out: Vec<u8> = Vec::new(alloc);
     let ended = ended(rt, alloc, request, &mut reader, &mut out, "error E70\n");
-    let given = (call.saturating_sub(1) as usize).saturating_mul(BYTES_OF_A_CALL).min(input.len());
+    let given = (call.saturating_sub(1) as usize)
+        .saturating_mul(BYTES_OF_A_CALL)
+        .min(input.len());
     let lines = lines_in(&input.as_bytes()[..given]);
     ended == (4, true) && is_replied(out.as_slice(), lines)
 }
@@ -149,7 +151,10 @@ fn each_read_of_a_shell_may_fail(rt: HostRuntime) {
     let reads = reads_of(&rt, rt.alloc(), SHELL);
     assert!(rt; 1 < reads);
     for call in 0..reads {
-        assert!(rt; is_left_unread(&rt, rt.alloc(), call.saturating_add(1)), "{call}");
+        assert!(rt;
+            is_left_unread(&rt, rt.alloc(), call.saturating_add(1)),
+            "{call}"
+        );
     }
 }
 
