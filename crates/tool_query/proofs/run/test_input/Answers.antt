@@ -8,7 +8,7 @@ use Rattle.tool_query.proofs.run.test_input.Goals as goal
 
 pub returns-in_err-text-clause-refused : goal.returns-in_err-text-clause-refused
 returns-in_err-text-clause-refused g c =
-    let p = err_from_is_err_and c.from_residual-in_err-text.result c.from_residual-in_err-text.ensures.1 in
+    let p = err_from_is_err_and c.from_residual.result c.from_residual.ensures.1 in
     rw (p.1, p.2) (report_unspelled c.args.input.now c.args.input.now _ _ _ refl c.in_err-text.ensures.refused)
 
 pub returns-in_err-first-clause-refused : goal.returns-in_err-first-clause-refused
