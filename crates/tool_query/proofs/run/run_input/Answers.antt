@@ -43,8 +43,8 @@ returns-in_err-read_on-in-Err-clause-refused g c =
     let p = err_from_is_err_and c.from_residual-in_err-read_on-in-Err.result c.from_residual-in_err-read_on-in-Err.ensures.1 in
     rw (p.1, p.2) (report_unspelled c.args.input.now _ _ _ _ c.in_ok-text.ensures.ok (c.in_err-read_on-in-Err.ensures.refused (c.in_ok-first.first ∷ []) (one_front c.in_ok-first.ensures.ok)))
 
-pub returns-in_ok-read_on-in-Err-clause-refused : goal.returns-in_ok-read_on-in-Err-clause-refused
-returns-in_ok-read_on-in-Err-clause-refused g c =
+pub returns-clause-refused : goal.returns-clause-refused
+returns-clause-refused g c =
     let utf8 : IsUtf8 c.in_ok-text.text.now = search rules in
     let rest = c.in_ok-read_on-in-Err.ensures.ok in
     report_nothing answers c.args.input.now c.in_ok-text.text.now _ c.in_ok-first.first rest.0 _ _ c.in_ok-text.ensures.ok utf8 c.in_ok-first.ensures.ok rest.1 c.in-Err.ensures.refused
