@@ -48,3 +48,15 @@ returns-clause-refused g c =
     let utf8 : IsUtf8 c.in_ok-text.text.now = search rules in
     let rest = c.in_ok-read_on-in-Err.ensures.ok in
     report_nothing answers c.args.input.now c.in_ok-text.text.now _ c.in_ok-first.first rest.0 _ _ c.in_ok-text.ensures.ok utf8 c.in_ok-first.ensures.ok rest.1 c.in-Err.ensures.refused
+
+pub run_lines-requires-text-text : goal.run_lines-requires-text-text
+run_lines-requires-text-text g c = search rules
+
+pub run_lines-requires-text-rest : goal.run_lines-requires-text-rest
+run_lines-requires-text-rest g c = search rules
+
+pub read_on-requires-text-text : goal.read_on-requires-text-text
+read_on-requires-text-text g c = search rules
+
+pub read_on-requires-text-rest : goal.read_on-requires-text-rest
+read_on-requires-text-rest g c = search rules
