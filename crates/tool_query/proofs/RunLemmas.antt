@@ -47,7 +47,9 @@ parted (d ∷ ds) first some is = ap (λ e. e ∷ ds) (sym is) ∙ ap (λ es. fi
 
 -- terms of which one is read by itself
 pub has_terms : (input text rest : List ℕ) (first : Datum) (objects : List Datum) → text ≡ input → IsUtf8 text → Sentence (chars text) first rest → Sentences rest objects → HasTerms input (first ∷ objects)
-has_terms input text rest first objects is utf8 s more = rw is at (record { spelled = record { utf8 = utf8; sentences = sentence_first s more }; some = omega arith })
+has_terms input text rest first objects is utf8 s more =
+    let here : HasTerms text (first ∷ objects) = record { spelled = record { utf8 = utf8; sentences = sentence_first s more }; some = omega arith } in
+    rw is at here
 
 -- the lines of a query are written
 pub report_written : (r : Report) (input text rest lines : List ℕ) (first : Datum) (q : Query) (old new : Option (List ℕ)) → text ≡ input → IsUtf8 text → Sentence (chars text) first rest → Asks r first q → AnswersText r (Answers q) rest lines → Appends old new lines → OfItsTerms input (λ terms. WritesAnswers r terms old new)

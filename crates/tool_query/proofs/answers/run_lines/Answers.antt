@@ -17,7 +17,7 @@ loop-lines-preserved g c =
 
 pub returns-in_err-object-clause-refused : goal.returns-in_err-object-clause-refused
 returns-in_err-object-clause-refused g c =
-    let p = err_from_is_err_and c.from_residual-in_err-object.result c.from_residual-in_err-object.ensures.1 in
+    let p = err_from_is_err_and c.from_residual.result c.from_residual.ensures.1 in
     λ ds front. rw (p.1, p.2) (c.in_err-object.ensures.refused _ (answered_front _ _ (chars c.args.text.now) _ _ _ ds front c.loop-lines.invariant.1))
 
 pub returns-in_default-clause-ok : goal.returns-in_default-clause-ok

@@ -6,21 +6,21 @@ use Rattle.term_text.specs.Text.Front.{at_first, behind}
 use Rattle.term_text.proofs.Nexts.{sentence_shorter, front_whole, front_join}
 use Rattle.tool_query.proofs.run.read_on.Goals as goal
 
-pub loop-left-init : goal.loop-left-init
-loop-left-init g c = (search rules, [], at_first)
+pub loop-object-init : goal.loop-object-init
+loop-object-init g c = (search rules, ([], at_first))
 
-pub loop-left-smaller : goal.loop-left-smaller
-loop-left-smaller g c = sentence_shorter (rw c.in-Some.is at c.in_ok-_term.ensures.ok)
+pub loop-object-smaller : goal.loop-object-smaller
+loop-object-smaller g c = sentence_shorter (rw c.in-Some.is at c.in_ok-object.ensures.ok)
 
-pub loop-left-preserved : goal.loop-left-preserved
-loop-left-preserved g c =
-    (search rules, c.loop-left.invariant.1 ++ c.in-Some._term ∷ [], behind c.loop-left.invariant.2 (rw c.in-Some.is at c.in_ok-_term.ensures.ok))
+pub loop-object-preserved : goal.loop-object-preserved
+loop-object-preserved g c =
+    (search rules, (c.loop-object.invariant.1.0 ++ c.in-Some.object ∷ [], behind c.loop-object.invariant.1.1 (rw c.in-Some.is at c.in_ok-object.ensures.ok)))
 
-pub returns-in_err-_term-clause-refused : goal.returns-in_err-_term-clause-refused
-returns-in_err-_term-clause-refused g c =
+pub returns-in_err-object-clause-refused : goal.returns-in_err-object-clause-refused
+returns-in_err-object-clause-refused g c =
     let p = err_from_is_err_and c.from_residual.result c.from_residual.ensures.1 in
-    λ ds front. rw (p.1, p.2) (c.in_err-_term.ensures.refused _ (front_join front c.loop-left.invariant.2))
+    λ ds front. rw (p.1, p.2) (c.in_err-object.ensures.refused _ (front_join front c.loop-object.invariant.1.1))
 
 pub returns-in_default-clause-ok : goal.returns-in_default-clause-ok
 returns-in_default-clause-ok g c =
-    (c.loop-left.invariant.1, rw append-nil at (front_whole c.loop-left.invariant.2 (rw c.in_default.is at c.in_ok-_term.ensures.ok)))
+    (c.loop-object.invariant.1.0, rw append-nil at (front_whole c.loop-object.invariant.1.1 (rw c.in_default.is at c.in_ok-object.ensures.ok)))

@@ -10,7 +10,7 @@ use Rattle.tool_query.proofs.run.run_input.Goals as goal
 
 pub returns-in_err-text-clause-refused : goal.returns-in_err-text-clause-refused
 returns-in_err-text-clause-refused g c =
-    let p = err_from_is_err_and c.from_residual-in_err-text.result c.from_residual-in_err-text.ensures.1 in
+    let p = err_from_is_err_and c.from_residual.result c.from_residual.ensures.1 in
     rw (p.1, p.2) (report_unspelled c.args.input.now c.args.input.now _ _ _ refl c.in_err-text.ensures.refused)
 
 pub returns-in_err-first-clause-refused : goal.returns-in_err-first-clause-refused
@@ -43,8 +43,20 @@ returns-in_err-read_on-in-Err-clause-refused g c =
     let p = err_from_is_err_and c.from_residual-in_err-read_on-in-Err.result c.from_residual-in_err-read_on-in-Err.ensures.1 in
     rw (p.1, p.2) (report_unspelled c.args.input.now _ _ _ _ c.in_ok-text.ensures.ok (c.in_err-read_on-in-Err.ensures.refused (c.in_ok-first.first ∷ []) (one_front c.in_ok-first.ensures.ok)))
 
-pub returns-in_ok-read_on-in-Err-clause-refused : goal.returns-in_ok-read_on-in-Err-clause-refused
-returns-in_ok-read_on-in-Err-clause-refused g c =
+pub returns-clause-refused : goal.returns-clause-refused
+returns-clause-refused g c =
     let utf8 : IsUtf8 c.in_ok-text.text.now = search rules in
     let rest = c.in_ok-read_on-in-Err.ensures.ok in
     report_nothing answers c.args.input.now c.in_ok-text.text.now _ c.in_ok-first.first rest.0 _ _ c.in_ok-text.ensures.ok utf8 c.in_ok-first.ensures.ok rest.1 c.in-Err.ensures.refused
+
+pub run_lines-requires-text-text : goal.run_lines-requires-text-text
+run_lines-requires-text-text g c = search rules
+
+pub run_lines-requires-text-rest : goal.run_lines-requires-text-rest
+run_lines-requires-text-rest g c = search rules
+
+pub read_on-requires-text-text : goal.read_on-requires-text-text
+read_on-requires-text-text g c = search rules
+
+pub read_on-requires-text-rest : goal.read_on-requires-text-rest
+read_on-requires-text-rest g c = search rules
