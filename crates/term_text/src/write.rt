@@ -376,11 +376,7 @@ fn put_segments<B: Allocator>(
 }
 
 /// Appends a binary.
-fn put_binary<B: Allocator>(
-    form: Form,
-    bytes: &[u8],
-    out: &mut Added<B>,
-) -> Result<(), AllocError>
+fn put_binary<B: Allocator>(form: Form, bytes: &[u8], out: &mut Added<B>) -> Result<(), AllocError>
     ensures front { out.new.front ≡ out.old.front }
     ensures items { OnOk result (out.new.items ≡ out.old.items
         ++ encode_utf8_all (binary_text form bytes.now)) }

@@ -37,7 +37,9 @@ fn is_put<R: Wait, P: Part<Global> + Drop>(
     requires { pass.old.gate ≡ gate.now }
 {
     match object(alloc, 7) {
-        Some(object) => gate.turn(rt, pass, &mut PartOp::Insert(Some(object))).is_ok(),
+        Some(object) => gate
+            .turn(rt, pass, &mut PartOp::Insert(Some(object)))
+            .is_ok(),
         None => false,
     }
 }
