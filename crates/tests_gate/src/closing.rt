@@ -27,6 +27,23 @@ fn key_behind<P: Part<Global> + Drop>(alloc: Global, gate: Gate<P>, pass: Pass<P
     only_key(alloc, &gate.close(pass).ok()?)
 }
 
+/// Whether an object is put in through a gate.
+fn is_put<R: Wait, P: Part<Global> + Drop>(
+    rt: &R,
+    alloc: Global,
+    gate: &Gate<P>,
+    pass: &mut Pass<P>,
+) -> bool
+    requires { pass.old.gate ≡ gate.now }
+{
+    match object(alloc, 7) {
+        Some(object) => gate
+            .turn(rt, pass, &mut PartOp::Insert(Some(object)))
+            .is_ok(),
+        None => false,
+    }
+}
+
 /// A gate, through which its first session puts an object in, is closed with the pass of its second one: the object's
 /// key.
 fn closed<R: Wait, P: Part<Global> + Drop>(rt: &R, alloc: Global, kind: TableKind) -> Option<u32> {
@@ -34,9 +51,11 @@ fn closed<R: Wait, P: Part<Global> + Drop>(rt: &R, alloc: Global, kind: TableKin
     let (gate, mut passes) = Gate::new(alloc, part, 2).ok()?;
     let second = passes.pop()?;
     let mut first = passes.pop()?;
-    let mut op = PartOp::Insert(Some(object(alloc, 7)?));
-    gate.turn(rt, &mut first, &mut op).ok()?;
-    key_behind(alloc, gate, second)
+    if is_put(rt, alloc, &gate, &mut first) {
+        key_behind(alloc, gate, second)
+    } else {
+        None
+    }
 }
 
 #[test]

@@ -2,10 +2,10 @@
 ghost use Rattle.std.specs.Prelude.{◌≡◌};
 
 use crate::objects::{object, put_both};
-use crate::pairs::{last_two, local_table, put_and_fixed};
+use crate::pairs::{last_two, local_table};
 use gate::Closed;
 use kit_alloc::{Failing, sweep, sweep_onward};
-use kit_rows::{put, term_of};
+use kit_rows::term_of;
 use mspec_reader::read_spec;
 use part_core::{Part, TableKind};
 use part_hash::HashPart;
@@ -65,24 +65,13 @@ fn query_of<A: Allocator + Copy>(heap: A, text: &[u8]) -> Option<Query<A>> {
     Query::from_spec(heap, &read_spec(heap, &term).ok()?, 1).ok()
 }
 
-/// The object `{{3}}`, whose key takes memory.
-fn nested<A: Allocator + Copy>(heap: A) -> Option<Term<A>> {
-    let key = object(heap, 3)?;
-    let mut elements = Vec::with_capacity(heap, 1).ok()?;
-    if put(&mut elements, key) {
-        Term::tuple(heap, elements).ok()
-    } else {
-        None
-    }
-}
-
-/// Puts it in.
+/// Puts the object `{{3}}` in, whose key takes memory.
 fn put_nested<A: Allocator + Copy, T: Turns<A>>(heap: A, turns: &mut T) -> Option<()>
     requires { T.is_ready turns.old }
     ensures ready { T.is_ready turns.new }
     ensures same { T.home turns.new ≡ T.home turns.old }
 {
-    let object = nested(heap)?;
+    let object = term_of(heap, b"{{3}}.")?;
     insert(turns, object).ok()
 }
 
@@ -108,16 +97,6 @@ fn is_deleted<A: Allocator, T: Turns<A>>(turns: &mut T, key: &Term<A>) -> Option
     fix(turns).ok()?;
     delete(turns, key);
     Some(!member(turns, key))
-}
-
-/// The same of the key of three objects.
-fn is_fixed<A: Allocator + Copy, T: Turns<A>>(heap: A, turns: &mut T) -> Option<bool>
-    requires { T.is_ready turns.old }
-    ensures ready { T.is_ready turns.new }
-    ensures same { T.home turns.new ≡ T.home turns.old }
-{
-    let key = object(heap, 3)?;
-    is_deleted(turns, &key)
 }
 
 /// A walk behind its first piece, with the other objects of that key.
@@ -167,16 +146,6 @@ fn are_given<A: Allocator, T: Turns<A>>(turns: &mut T, key: &Term<A>) -> Option<
     Some(found.len() == 3 && taken.len() == 3)
 }
 
-/// The same of the key that has three.
-fn is_replied<A: Allocator + Copy, T: Turns<A>>(heap: A, turns: &mut T) -> Option<bool>
-    requires { T.is_ready turns.old }
-    ensures ready { T.is_ready turns.new }
-    ensures same { T.home turns.new ≡ T.home turns.old }
-{
-    let key = object(heap, 3)?;
-    are_given(turns, &key)
-}
-
 /// Whether a session that puts objects in comes so far; none for want of memory.
 fn is_reached<A: Allocator + Copy, T: Turns<A>>(
     heap: A,
@@ -188,36 +157,13 @@ fn is_reached<A: Allocator + Copy, T: Turns<A>>(
     ensures same { T.home turns.new ≡ T.home turns.old }
 {
     put_all(heap, turns)?;
+    let key = object(heap, 3)?;
     match middle {
-        Middle::Fix => is_fixed(heap, turns),
+        Middle::Fix => is_deleted(turns, &key),
         Middle::OnePiece => is_begun(heap, turns),
         Middle::TwoPieces => is_gone_on(heap, turns),
-        Middle::Reply => is_replied(heap, turns),
+        Middle::Reply => are_given(turns, &key),
     }
-}
-
-/// The same at a table, which is let go.
-fn is_reached_at<'h, R: Wait, P: Part<&'h Failing<Global>> + Drop>(
-    rt: &R,
-    heap: &'h Failing<Global>,
-    middle: Middle,
-) -> Option<bool> {
-    let Ok((table, sessions)) = Table::<P, &Failing<Global>>::open(heap, OPTIONS) else {
-        return None;
-    };
-    let (mut session, _other) = last_two(&table, sessions)?;
-    let mut at = table.at(rt, &mut session);
-    is_reached(heap, &mut at, middle)
-}
-
-/// The same at a table on one thread.
-fn is_reached_alone<'h, P: Part<&'h Failing<Global>> + Drop>(
-    heap: &'h Failing<Global>,
-    middle: Middle,
-) -> Option<bool> {
-    let mut table = local_table::<&Failing<Global>, P>(heap, OPTIONS)?;
-    let mut at = table.at(0);
-    is_reached(heap, &mut at, middle)
 }
 
 /// Whether so many parts come out; the others are let go.
@@ -232,26 +178,48 @@ fn are_out<A: Allocator, P: Part<A> + Drop>(closed: Closed<P, A>, count: u8) -> 
     true
 }
 
-/// Whether so many parts come out of a table that is closed while another session fixes it, which doesn't leave.
-fn are_closed<'h, R: Wait, P: Part<&'h Failing<Global>> + Drop>(
+/// The same at a table, which is let go; or closed behind so many of its parts, while the session doesn't leave.
+fn is_reached_at<'h, R: Wait, P: Part<&'h Failing<Global>> + Drop>(
     rt: &R,
     heap: &'h Failing<Global>,
-    count: u8,
+    middle: Middle,
+    out: Option<u8>,
 ) -> Option<bool> {
     let Ok((table, sessions)) = Table::<P, &Failing<Global>>::open(heap, OPTIONS) else {
         return None;
     };
-    let (first, second) = last_two(&table, sessions)?;
-    let _first = put_and_fixed(rt, heap, &table, first)?;
-    Some(are_out(table.close(second), count))
+    let (mut session, other) = last_two(&table, sessions)?;
+    let mut at = table.at(rt, &mut session);
+    let is_reached = is_reached(heap, &mut at, middle)?;
+    match out {
+        None => Some(is_reached),
+        Some(count) => Some(is_reached && are_out(table.close(other), count)),
+    }
+}
+
+/// The same at a table on one thread.
+fn is_reached_alone<'h, P: Part<&'h Failing<Global>> + Drop>(
+    heap: &'h Failing<Global>,
+    middle: Middle,
+) -> Option<bool> {
+    let mut table = local_table::<&Failing<Global>, P>(heap, OPTIONS)?;
+    let mut at = table.at(0);
+    is_reached(heap, &mut at, middle)
 }
 
 /// Whether it is let go; none for want of memory.
 fn is_let_go<R: Wait>(rt: &R, heap: &Failing<Global>, life: Life) -> Option<bool> {
     match life {
-        Life::Table(middle) => is_reached_at::<R, HashPart<&Failing<Global>>>(rt, heap, middle),
+        Life::Table(middle) => is_reached_at::<R, HashPart<&Failing<Global>>>(
+            rt, heap, middle, None,
+        ),
         Life::LocalTable(middle) => is_reached_alone::<HashPart<&Failing<Global>>>(heap, middle),
-        Life::Closed(count) => are_closed::<R, HashPart<&Failing<Global>>>(rt, heap, count),
+        Life::Closed(count) => is_reached_at::<R, HashPart<&Failing<Global>>>(
+            rt,
+            heap,
+            Middle::Fix,
+            Some(count),
+        ),
         Life::Query => {
             let _query = query_of(heap, NAMED)?;
             Some(true)
