@@ -1,6 +1,6 @@
 -- How the program ends.
-use Rattle.std.proofs.Common.{◌≡◌, ◌≢◌, ◌∙◌, ℕ, arith, length, List, [], ◌++◌, Option, None, Some, Result, Ok, Err, refl, sym, ap, subst, inl, inr}
-use Rattle.std.proofs.lemmas.List.{append-nil, take_all}
+use Rattle.std.proofs.Common.{◌≡◌, ◌≢◌, ◌∙◌, ℕ, List, [], ◌++◌, Option, None, Some, Result, Ok, Err, refl, sym, ap, subst, inl, inr}
+use Rattle.std.proofs.lemmas.List.{append-nil}
 use Rattle.std.specs.declared.alloc.AllocError.{AllocError}
 use Rattle.std.specs.Io.KnownBytes.{Appends}
 use Rattle.std.specs.Prelude.{OnOk, OnErr, IfErr, IfSome}
@@ -125,8 +125,8 @@ scan_given o known old new input fault.WriteFailed given h = stops_given known o
 first_given : (known old new : Option (List ℕ)) (input : List ℕ) → IsGiven known input → WritesFirst (Some input) old new → WritesFirst known old new
 first_given None old new input given h = record {
   front = h.front;
-  text = h.text;
-  begins = tt;
+  rest = h.rest;
+  whole = tt;
   out = h.out;
   more = h.more;
   st = h.st;
@@ -152,8 +152,8 @@ shell_given known old new input fault.TooSmall given h = absurd h
 nothing_first : (input : List ℕ) (old : Option (List ℕ)) → WritesFirst (Some input) old old
 nothing_first input old = record {
   front = [];
-  text = [];
-  begins = refl;
+  rest = input;
+  whole = refl;
   out = [];
   more = [];
   st = beginning;
@@ -271,11 +271,11 @@ ends_unread r f known out err err' failed status is h =
 
 -- ---- a shell that is explained, which reads its input as it comes
 
-begun_first : (out out' : Option (List ℕ)) (h : WritesFirst None out out') → WritesFirst (Some (h.front ++ h.text)) out out'
+begun_first : (out out' : Option (List ℕ)) (h : WritesFirst None out out') → WritesFirst (Some (h.front ++ h.rest)) out out'
 begun_first out out' h = record {
   front = h.front;
-  text = h.text;
-  begins = take_all (length (h.front ++ h.text)) (h.front ++ h.text) (omega arith);
+  rest = h.rest;
+  whole = refl;
   out = h.out;
   more = h.more;
   st = h.st;
@@ -286,8 +286,8 @@ begun_first out out' h = record {
 
 -- what a shell that ends early is known to have read
 read_first : (out out' : Option (List ℕ)) (f : ToolFault) → StopsShell None out out' f → (input : List ℕ) × StopsShell (Some input) out out' f
-read_first out out' fault.Memory h = (h.front ++ h.text, begun_first out out' h)
-read_first out out' fault.ReadFailed h = (h.front ++ h.text, begun_first out out' h)
+read_first out out' fault.Memory h = (h.front ++ h.rest, begun_first out out' h)
+read_first out out' fault.ReadFailed h = (h.front ++ h.rest, begun_first out out' h)
 read_first out out' fault.WriteFailed h = ([], tt)
 read_first out out' fault.BadOptions h = absurd h
 read_first out out' (fault.Text f) h = absurd h

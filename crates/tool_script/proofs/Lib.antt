@@ -19,3 +19,4 @@ mod WorkedRows
 mod WorkedWalks
 mod WorkedLines
 mod AnswerLemmas
+mod OutputLemmas

@@ -7,13 +7,19 @@ use Rattle.tool_script.specs.declared.line.Effect.TheVariants as effect
 use Rattle.tool_script.specs.Line.{IsLineBefore, effect_of}
 use Rattle.tool_script.specs.Script.{ScriptState, beginning}
 use Rattle.tool_script.specs.Replied.{AreReplies}
-use Rattle.tool_script.specs.Shell.{Answered}
+use Rattle.tool_script.specs.Shell.{Goes, Answered}
 
 -- terms have one list of replies
 abbrev pub RepliesAreOne : Type 0
 RepliesAreOne =
     (st : ScriptState) (terms a b : List Datum) → AreReplies st terms a → AreReplies st terms b
     → a ≡ b
+
+-- From a state on and behind what is begun, a shell writes one thing for an input, and one state is behind it.
+abbrev pub ShellOutputIsOne : Type 0
+ShellOutputIsOne =
+    (st p q : ScriptState) (begun input a b : List ℕ) → Goes st begun input a p → Goes st begun input b q
+    → (a ≡ b) × (p ≡ q)
 
 -- commands stand whole in a line: it ends with its line feed, has a dot by which it is looked at, and spells them
 pub record IsCommandLine (bytes : List ℕ) (terms : List Datum) : Type 0 where

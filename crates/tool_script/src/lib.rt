@@ -2,8 +2,8 @@
 //!
 //! The one contract: the lines that are written are those of the replies to the script's terms (`AreReplies` of
 //! `specs/Replied.antt`), for want of memory those of a beginning of them (`specs/Run.antt`). A shell writes them while
-//! commands come, by one rule for each sort of line (`Goes` of `specs/Shell.antt`). Which parts the tables are made of is
-//! the caller's choice: any that keep the trait `Part`.
+//! commands come, by one rule for each sort of line (`Goes` of `specs/Shell.antt`). Which parts the tables are made of
+//! is the caller's choice: any that keep the trait `Part`.
 //!
 //! - `command`: the commands that stand in memory (`specs/Commands.antt`), and how they are read from terms
 //!   (`specs/Reading.antt`); `command_laws`: terms tell commands (`command_term` of `specs/Command.antt`).
@@ -15,7 +15,7 @@
 //! - `reply`: replies and their lines, `specs/Replies.antt`; `run`: from a reader to a writer, too, `specs/Input.antt`.
 //! - `shell`: replies while commands come, `specs/Shell.antt`, in memory `specs/Shells.antt`; `line`: the lines of its
 //!   input, `specs/Line.antt`.
-//! - `laws`: replies are one, and whole lines are answered as a script, `specs/Laws.antt`.
+//! - `laws`: replies and what a shell writes are one, and whole lines are answered as a script, `specs/Laws.antt`.
 #![tactic(auto)]
 
 mod command;
@@ -32,7 +32,7 @@ mod walk;
 
 pub use command::{Ask, Command, Selection, read_command};
 pub use command_laws::terms_tell_commands;
-pub use laws::{lines_are_a_script, replies_are_one};
+pub use laws::{lines_are_a_script, replies_are_one, shell_output_is_one};
 pub use reply::{CommandReply, put_reply};
 pub use run::run_script;
 pub use shell::run_shell;

@@ -9,7 +9,7 @@ ghost use Rattle.tool_script.specs.Run.{IsPut};
 ghost use Rattle.tool_script.specs.Script.{beginning};
 ghost use Rattle.tool_script.specs.Scripts.{HasState};
 ghost use Rattle.tool_script.specs.Shell.{WritesAnswers, StopsShell};
-ghost use Rattle.tool_script.specs.Shells.{AreAnswered, StopsTerms, IsRefused, IsLookedAt, StopsText, IsLineAnswered, Stands, StopsHolding, IsToldBy};
+ghost use Rattle.tool_script.specs.Shells.{AreAnswered, StopsTerms, IsRefused, IsLookedAt, StopsText, StopsLine, IsLineAnswered, Stands, StopsHolding, IsToldBy};
 
 use crate::line::{Effect, Progress, effect_behind, take_line};
 use crate::reply::put_refusal;
@@ -144,7 +144,8 @@ fn answer_line<S: Part<A> + Drop, O: Part<A> + Drop, A: Allocator + Copy, W: Wri
     ensures ok { IfOk result (λ is_kept. IsLineAnswered script.old script.new
         (take start text.now) (drop start text.now) is_kept
         (W.contents writer.old) (W.contents writer.new) lines.old.items lines.new.items) }
-    ensures stopped { IfErr result (StopsText script.old text.now
+    ensures stopped { IfErr result (StopsLine script.old
+        (take start text.now) (drop start text.now)
         (W.contents writer.old) (W.contents writer.new) lines.old.items lines.new.items) }
 {
     match effect_behind(&text[..start], &text[start..]) {
