@@ -20,3 +20,6 @@ mod WorkedWalks
 mod WorkedLines
 mod AnswerLemmas
 mod OutputLemmas
+mod CutLemmas
+mod PieceLemmas
+mod ScriptShellLemmas

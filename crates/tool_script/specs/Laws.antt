@@ -1,10 +1,10 @@
 -- Laws of what a script is replied, and of what a shell answers.
-use Rattle.std.specs.Prelude.{ℕ, ◌≡◌, List, [], ◌∷◌, flat_map}
+use Rattle.std.specs.Prelude.{ℕ, ◌≡◌, List, [], ◌∷◌, ◌++◌, flat_map, true}
 use Rattle.term_core.specs.Datum.{Datum}
 use Rattle.term_text.specs.Text.{Spells}
 use Rattle.tool_io.specs.Lines.{line}
 use Rattle.tool_script.specs.declared.line.Effect.TheVariants as effect
-use Rattle.tool_script.specs.Line.{IsLineBefore, effect_of}
+use Rattle.tool_script.specs.Line.{AreWholeLines, IsLineBefore, effect_of, is_empty}
 use Rattle.tool_script.specs.Script.{ScriptState, beginning}
 use Rattle.tool_script.specs.Replied.{AreReplies}
 use Rattle.tool_script.specs.Shell.{Goes, Answered}
@@ -38,3 +38,16 @@ LinesAreAScript =
     (rows : List (List ℕ × List Datum)) (out : List ℕ) → AreCommandLines rows
     → Answered beginning [] (flat_map (λ row. row.0) rows) out
     → (replies : List Datum) × AreReplies beginning (flat_map (λ row. row.1) rows) replies × (out ≡ flat_map line replies)
+
+-- an empty line of an input stands inside of no term: what is in front of it spells terms
+abbrev pub IsUnbroken : List ℕ → Type 0
+IsUnbroken input =
+    (front blank rest : List ℕ) → input ≡ front ++ (blank ++ rest) → AreWholeLines front → IsLineBefore blank rest
+    → is_empty blank ≡ true → (terms : List Datum) × Spells front terms
+
+-- what a shell answers a text that spells terms, whose empty lines stand inside of none, is what a script of them is
+-- replied
+abbrev pub AScriptIsAShell : Type 0
+AScriptIsAShell =
+    (input out : List ℕ) (terms : List Datum) → Spells input terms → IsUnbroken input → Answered beginning [] input out
+    → (replies : List Datum) × AreReplies beginning terms replies × (out ≡ flat_map line replies)

@@ -1,5 +1,5 @@
 //! Laws of what a script is replied and of what a shell answers, each the contract of a function that does nothing.
-ghost use Rattle.tool_script.specs.Laws.{RepliesAreOne, ShellOutputIsOne, LinesAreAScript};
+ghost use Rattle.tool_script.specs.Laws.{RepliesAreOne, ShellOutputIsOne, LinesAreAScript, AScriptIsAShell};
 
 use mspec_meaning::one_answer_is_meant;
 use mspec_reader::{one_fault_is_refused, one_specification_is_read};
@@ -35,4 +35,13 @@ pub fn lines_are_a_script()
     ensures { LinesAreAScript }
 {
     a_text_spells_one_list();
+}
+
+/// Wherever a script's lines are cut, but for an empty line inside of a term, what a shell answers it is what the script
+/// is replied: what is begun and ends too early goes on, and is never refused.
+pub fn a_script_is_a_shell()
+    ensures { AScriptIsAShell }
+{
+    a_text_spells_one_list();
+    a_text_has_one_fault();
 }

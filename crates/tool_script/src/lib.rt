@@ -15,7 +15,9 @@
 //! - `reply`: replies and their lines, `specs/Replies.antt`; `run`: from a reader to a writer, too, `specs/Input.antt`.
 //! - `shell`: replies while commands come, `specs/Shell.antt`, in memory `specs/Shells.antt`; `line`: the lines of its
 //!   input, `specs/Line.antt`.
-//! - `laws`: replies and what a shell writes are one, and whole lines are answered as a script, `specs/Laws.antt`.
+//! - `prompt`: a shell for a person, `specs/Prompt.antt`.
+//! - `laws`: replies and what a shell writes are one, and a shell answers a script as `run_script` does,
+//!   `specs/Laws.antt`.
 #![tactic(auto)]
 
 mod command;
@@ -23,6 +25,7 @@ mod command_laws;
 mod laws;
 mod line;
 mod open;
+mod prompt;
 mod reply;
 mod run;
 mod script;
@@ -32,7 +35,10 @@ mod walk;
 
 pub use command::{Ask, Command, Selection, read_command};
 pub use command_laws::terms_tell_commands;
-pub use laws::{lines_are_a_script, replies_are_one, shell_output_is_one};
+pub use laws::{
+    a_script_is_a_shell, lines_are_a_script, replies_are_one, shell_output_is_one,
+};
+pub use prompt::run_prompt;
 pub use reply::{CommandReply, put_reply};
 pub use run::run_script;
 pub use shell::run_shell;

@@ -71,7 +71,7 @@ fn is_want_of_memory(fault: TextFault) -> bool
 }
 
 /// Whether a text of so many bytes that was refused is begun still: it ends too early, and isn't given up.
-fn is_begun_still(fault: TextFault, size: usize, is_given_up: bool) -> bool
+pub(crate) fn is_begun_still(fault: TextFault, size: usize, is_given_up: bool) -> bool
     ensures { MatchBool result ((fault ≡ TextFault.Syntax size) × (is_given_up ≡ false))
         (is_given_up ≡ false → fault ≢ TextFault.Syntax size) }
 {
@@ -157,7 +157,7 @@ fn answer_line<S: Part<A> + Drop, O: Part<A> + Drop, A: Allocator + Copy, W: Wri
 }
 
 /// Writes the lines before a read that may wait: no whole line is there.
-fn write_before<A: Allocator, W: Write>(
+pub(crate) fn write_before<A: Allocator, W: Write>(
     ahead: &[u8],
     writer: &mut W,
     lines: &mut Vec<u8, A>,
@@ -173,7 +173,7 @@ fn write_before<A: Allocator, W: Write>(
 }
 
 /// Lets go what was begun, unless it is still.
-fn keep<A: Allocator>(begun: &mut Vec<u8, A>, is_kept: bool)
+pub(crate) fn keep<A: Allocator>(begun: &mut Vec<u8, A>, is_kept: bool)
     ensures { begun.new.items ≡ (if is_kept then begun.old.items else []) }
 {
     if !is_kept {
@@ -214,7 +214,7 @@ fn answer_next<S: Part<A> + Drop, O: Part<A> + Drop, A: Allocator + Copy, B: Buf
 }
 
 /// Writes the lines that were gathered before a shell ends early, and answers how it ends.
-fn told<A: Allocator, W: Write>(
+pub(crate) fn told<A: Allocator, W: Write>(
     fault: ToolFault,
     writer: &mut W,
     lines: &mut Vec<u8, A>,
