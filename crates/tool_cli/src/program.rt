@@ -147,7 +147,8 @@ fn is_shell(request: Request) -> bool
     matches!(request, Request::Shell | Request::Prompt)
 }
 
-/// Runs one command, and answers the status that the program ends with. Parts of the table of a scan are of the sort `P`.
+/// Runs one command, and answers the status that the program ends with. Parts of the table of a scan are of the sort
+/// `P`.
 pub fn run_request<
     H: Threads + Wait + Sync,
     P: Part<A> + Drop + Send,

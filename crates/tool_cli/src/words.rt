@@ -38,8 +38,8 @@ pub enum Request {
     Prompt,
     /// Answer a specification on objects that are put into a table, by several threads.
     Scan(ScanOptions),
-    /// Show the code of a specification or of a code file, and which objects a walk by it looks at in a table whose key is
-    /// at this place, counted from 1.
+    /// Show the code of a specification or of a code file, and which objects a walk by it looks at in a table whose key
+    /// is at this place, counted from 1.
     Explain(u16),
 }
 

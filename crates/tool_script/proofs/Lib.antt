@@ -23,3 +23,4 @@ mod OutputLemmas
 mod CutLemmas
 mod PieceLemmas
 mod ScriptShellLemmas
+mod PromptLemmas

@@ -331,10 +331,10 @@ idle_read : (bytes : List ℕ) → IsUtf8 bytes → is_idle bytes ≡ true → O
 idle_read [] u h one = ap (after_gap false) chars-nil
 idle_read (c ∷ l) u h one = elim (cases_eq c percent) [
   | inl e ↦ let low : c < 128 = omega (arith, e) in
-    ap (after_gap false) (first low) ∙ rw (eq-eqb c percent e) (comment_read (chars l) l (encodes-chars l (behind low)) (skip (c ∷ []) l one))
+      ap (after_gap false) (first low) ∙ rw (eq-eqb c percent e) (comment_read (chars l) l (encodes-chars l (behind low)) (skip (c ∷ []) l one))
   | inr n ↦ let parts = and_parts (is_white_space c) (is_idle l) (rw (ne_eqb c percent n) at h) in
-    let low = white_low c parts.0 in
-    ap (after_gap false) (first low) ∙ rw (ne_eqb c percent n, parts.0) (idle_read l (behind low) parts.1 (skip (c ∷ []) l one))
+      let low = white_low c parts.0 in
+      ap (after_gap false) (first low) ∙ rw (ne_eqb c percent n, parts.0) (idle_read l (behind low) parts.1 (skip (c ∷ []) l one))
 ]
   where
     ascii : c < 128 → c ∷ l ≡ encode_utf8 c ++ l

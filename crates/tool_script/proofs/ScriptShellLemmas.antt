@@ -210,9 +210,9 @@ module _ (once : SpellsOne) (one : HasOneFault) where
       let rest = behind_line input in
       elim (comes st behind (begun ++ first_line input) now left rest ds l.goes l.spelled l.unbroken looked) [
         | is_replied r ↦ answers_with st behind ds now left more rest r
-          (script_answers behind after left rest more r.rest.others (fresh left rest r.none) (subst (λ m. Spells (m ++ rest) r.rest.others) (sym r.none) r.rest.spelled) (subst (λ m. Unbroken m rest) (sym r.none) r.rest.unbroken) goes)
+            (script_answers behind after left rest more r.rest.others (fresh left rest r.none) (subst (λ m. Spells (m ++ rest) r.rest.others) (sym r.none) r.rest.spelled) (subst (λ m. Unbroken m rest) (sym r.none) r.rest.unbroken) goes)
         | is_begun nothing same still ↦ subst (λ m. Answers st ds (m ++ more)) (sym nothing) (subst (λ (s : ScriptState). Answers s ds more) same
-          (script_answers behind after left rest more ds (subst (λ m. MayGoOn m rest) (sym still) l.goes) (subst (λ m. Spells (m ++ rest) ds) (sym still) l.spelled) (subst (λ m. Unbroken m rest) (sym still) l.unbroken) goes))
+            (script_answers behind after left rest more ds (subst (λ m. MayGoOn m rest) (sym still) l.goes) (subst (λ m. Spells (m ++ rest) ds) (sym still) l.spelled) (subst (λ m. Unbroken m rest) (sym still) l.unbroken) goes))
       ]
   script_answers st after begun input out ds may spells un (given_up {behind} {now} {left} {out = more} is looked goes) =
       let l = first_line input in

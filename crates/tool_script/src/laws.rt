@@ -37,8 +37,8 @@ pub fn lines_are_a_script()
     a_text_spells_one_list();
 }
 
-/// Wherever a script's lines are cut, but for an empty line inside of a term, what a shell answers it is what the script
-/// is replied: what is begun and ends too early goes on, and is never refused.
+/// Wherever a script's lines are cut, but for an empty line inside of a term, what a shell answers it is what the
+/// script is replied: what is begun and ends too early goes on, and is never refused.
 pub fn a_script_is_a_shell()
     ensures { AScriptIsAShell }
 {

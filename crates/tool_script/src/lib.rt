@@ -8,8 +8,8 @@
 //! - `command`: the commands that stand in memory (`specs/Commands.antt`), and how they are read from terms
 //!   (`specs/Reading.antt`); `command_laws`: terms tell commands (`command_term` of `specs/Command.antt`).
 //! - A command goes this way: `run` reads it from its term; `script` obeys it, and forwards what a session asks to the
-//!   table that is open; `open` admits the session; `session` performs the call. `specs/Scripts.antt`, `Opened.antt` and
-//!   `State.antt` say which state each is in.
+//!   table that is open; `open` admits the session; `session` performs the call. `specs/Scripts.antt`, `Opened.antt`
+//!   and `State.antt` say which state each is in.
 //! - What is asked by a specification goes the same way, with the walks that can go on, to `walk`
 //!   (`specs/Verdict.antt`, `Walks.antt`); these walks: `specs/Held.antt`, in memory `Continuations.antt`.
 //! - `reply`: replies and their lines, `specs/Replies.antt`; `run`: from a reader to a writer, too, `specs/Input.antt`.
@@ -35,9 +35,7 @@ mod walk;
 
 pub use command::{Ask, Command, Selection, read_command};
 pub use command_laws::terms_tell_commands;
-pub use laws::{
-    a_script_is_a_shell, lines_are_a_script, replies_are_one, shell_output_is_one,
-};
+pub use laws::{a_script_is_a_shell, lines_are_a_script, replies_are_one, shell_output_is_one};
 pub use prompt::run_prompt;
 pub use reply::{CommandReply, put_reply};
 pub use run::run_script;

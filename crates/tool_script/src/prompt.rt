@@ -288,7 +288,7 @@ fn answer_next<S: Part<A> + Drop, O: Part<A> + Drop, A: Allocator + Copy, B: Buf
 ) -> Result<Progress, ToolFault>
     requires unordered { ServesUnordered S.serves }
     requires ordered { IsTrue (O.serves OrderedSet) }
-    ensures stopped { IfErr result IsStreamFault }
+    ensures { IfErr result IsStreamFault }
 {
     let start = begun.len();
     let progress = take_line(input, begun)?;
@@ -308,7 +308,7 @@ fn ask<A: Allocator, W: Write>(
     writer: &mut W,
     lines: &mut Vec<u8, A>,
 ) -> Result<(), ToolFault>
-    ensures stopped { IfErr result IsStreamFault }
+    ensures { IfErr result IsStreamFault }
 {
     let prompt = if is_begun { BEGUN } else { FRESH };
     match lines.extend_from_slice(prompt) {
@@ -344,7 +344,7 @@ fn finish<S: Part<A> + Drop, O: Part<A> + Drop, A: Allocator + Copy, W: Write>(
 ) -> Result<(), ToolFault>
     requires unordered { ServesUnordered S.serves }
     requires ordered { IsTrue (O.serves OrderedSet) }
-    ensures stopped { IfErr result IsStreamFault }
+    ensures { IfErr result IsStreamFault }
 {
     match give_up(alloc, script, begun, lines) {
         Ok(_kept) => write_lines(writer, lines),
@@ -361,7 +361,7 @@ fn answer_input<S: Part<A> + Drop, O: Part<A> + Drop, A: Allocator + Copy, R: Re
 ) -> Result<(), ToolFault>
     requires unordered { ServesUnordered S.serves }
     requires ordered { IsTrue (O.serves OrderedSet) }
-    ensures stopped { IfErr result IsStreamFault }
+    ensures { IfErr result IsStreamFault }
 {
     let mut begun = Vec::new(alloc);
     let mut lines = Vec::new(alloc);
@@ -386,7 +386,7 @@ pub fn run_prompt<S: Part<A> + Drop, O: Part<A> + Drop, A: Allocator + Copy, R: 
 ) -> Result<(), ToolFault>
     requires unordered { ServesUnordered S.serves }
     requires ordered { IsTrue (O.serves OrderedSet) }
-    ensures stopped { IfErr result IsStreamFault }
+    ensures { IfErr result IsStreamFault }
 {
     let mut script: Script<S, O, A> = Script::new(alloc);
     match BufReader::new(alloc, reader) {

@@ -40,7 +40,8 @@ fn put_counted<S: Part<A> + Drop, O: Part<A> + Drop, A: Allocator + Copy>(
     put_next(script, term, lines)
 }
 
-/// Puts the lines of the replies to these terms at the end, and writes them where they are many. Nothing is begun still.
+/// Puts the lines of the replies to these terms at the end, and writes them where they are many. Nothing is begun
+/// still.
 fn put_replies<S: Part<A> + Drop, O: Part<A> + Drop, A: Allocator + Copy, W: Write>(
     script: &mut Script<S, O, A>,
     terms: &[Term<A>],
@@ -285,9 +286,9 @@ fn answer_input<S: Part<A> + Drop, O: Part<A> + Drop, A: Allocator + Copy, R: Re
 
 /// Reads commands line by line, to the reader's end, and writes the line of the reply to each while they come: sets and
 /// bags are made of parts `S`, ordered sets of parts `O`. What is begun is looked at when a line has a dot before white
-/// space, `%` or its end. Where it spells terms these are replied; where it ends too early the next line goes behind it,
-/// but for an empty line or the end of the input, which give it up; and else its refusal is replied, and none of its
-/// commands is obeyed. Where memory runs out or the reader fails, what was answered before is written.
+/// space, `%` or its end. Where it spells terms these are replied; where it ends too early the next line goes behind
+/// it, but for an empty line or the end of the input, which give it up; and else its refusal is replied, and none of
+/// its commands is obeyed. Where memory runs out or the reader fails, what was answered before is written.
 #[tactic(auto, using(crate::proofs::ShellLemmas::stops_first))]
 pub fn run_shell<S: Part<A> + Drop, O: Part<A> + Drop, A: Allocator + Copy, R: Read, W: Write>(
     alloc: A,
