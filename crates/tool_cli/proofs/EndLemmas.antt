@@ -2,7 +2,6 @@
 use Rattle.std.proofs.Common.{◌≡◌, ◌≢◌, ◌∙◌, ℕ, arith, length, List, [], ◌++◌, Option, None, Some, Result, Ok, Err, refl, sym, ap, subst, inl, inr}
 use Rattle.std.proofs.lemmas.List.{append-nil, take_all}
 use Rattle.std.specs.declared.alloc.AllocError.{AllocError}
-use Rattle.std.specs.Io.KnownBytes.{Appends}
 use Rattle.std.specs.Prelude.{OnOk, OnErr, IfErr, IfSome}
 use Rattle.clap.specs.Words.{kind_of}
 use Rattle.clap.specs.declared.error.Error.{Error}
@@ -14,6 +13,7 @@ use Rattle.tool_io.specs.Input.{IsReadFault}
 use Rattle.tool_io.specs.Terms.{OfInput, OfTerms}
 use Rattle.tool_io.specs.declared.fault.ToolFault.{ToolFault}
 use Rattle.tool_io.specs.declared.fault.ToolFault.TheVariants as fault
+use Rattle.tool_io.proofs.LineLemmas.{appends_none}
 use Rattle.tool_query.proofs.RunLemmas.{kept}
 use Rattle.tool_query.specs.Run.{Stops}
 use Rattle.tool_scan.specs.Options.{AreAllowed}
@@ -29,10 +29,6 @@ use Rattle.tool_cli.specs.Words.{Asked, command, help, version, topic, mistake, 
 use Rattle.tool_cli.specs.declared.words.Invocation.{Invocation}
 use Rattle.tool_cli.specs.declared.words.Request.{Request}
 use Rattle.tool_cli.specs.declared.words.Request.TheVariants as request
-
-appends_none : (a : Option (List ℕ)) → Appends a a []
-appends_none None = tt
-appends_none (Some xs) = sym (append-nil xs)
 
 -- a command that is neither a script, a shell nor a scan
 abbrev pub IsQuery : Request → Type 0
