@@ -12,6 +12,8 @@ _ets_tool() {
         mapfile -t COMPREPLY < <(compgen -W '--kind --keypos --parts --workers --why --help' -- "$word")
     elif [ "${COMP_WORDS[1]}" = run ] || [ "${COMP_WORDS[1]}" = test ]; then
         mapfile -t COMPREPLY < <(compgen -W '--strings --why --help' -- "$word")
+    elif [ "${COMP_WORDS[1]}" = shell ]; then
+        mapfile -t COMPREPLY < <(compgen -W '--prompt --why --help' -- "$word")
     elif [ "${COMP_WORDS[1]}" = explain ]; then
         mapfile -t COMPREPLY < <(compgen -W '--keypos --why --help' -- "$word")
     else

@@ -1,6 +1,6 @@
 -- How the program ends.
-use Rattle.std.proofs.Common.{◌≡◌, ◌≢◌, ◌∙◌, ℕ, arith, length, List, [], ◌++◌, Option, None, Some, Result, Ok, Err, refl, sym, ap, subst, inl, inr}
-use Rattle.std.proofs.lemmas.List.{append-nil, take_all}
+use Rattle.std.proofs.Common.{◌≡◌, ◌≢◌, ◌∙◌, ℕ, List, [], ◌++◌, Option, None, Some, Result, Ok, Err, refl, sym, ap, subst, inl, inr}
+use Rattle.std.proofs.lemmas.List.{append-nil}
 use Rattle.std.specs.declared.alloc.AllocError.{AllocError}
 use Rattle.std.specs.Prelude.{OnOk, OnErr, IfErr, IfSome}
 use Rattle.clap.specs.Words.{kind_of}
@@ -21,8 +21,9 @@ use Rattle.tool_scan.specs.Scan.{StopsScan}
 use Rattle.tool_scan.specs.declared.options.ScanOptions.{ScanOptions}
 use Rattle.tool_script.specs.Input.{OfScript, StopsScript}
 use Rattle.tool_script.specs.Script.{beginning}
+use Rattle.tool_script.specs.Prompt.{IsStreamFault}
 use Rattle.tool_script.specs.Shell.{WritesAnswers, WritesFirst, StopsShell}
-use Rattle.tool_cli.specs.Program.{Writes, StopsOn, HasOutcome, EndsTold, EndsTelling, EndsExplained, EndsInvocation, EndsAsked, EndsEarly, EndsHelp, EndsMistaken, EndsVersion}
+use Rattle.tool_cli.specs.Program.{Writes, StopsOn, HasOutcome, IsShell, EndsTold, EndsTelling, EndsExplained, EndsInvocation, EndsAsked, EndsEarly, EndsHelp, EndsMistaken, EndsVersion}
 use Rattle.tool_cli.specs.Telling.{Tells}
 use Rattle.tool_cli.specs.Why.{Explains}
 use Rattle.tool_cli.specs.Words.{Asked, command, help, version, topic, mistake, Reads}
@@ -34,6 +35,7 @@ use Rattle.tool_cli.specs.declared.words.Request.TheVariants as request
 abbrev pub IsQuery : Request → Type 0
 IsQuery request.Script = ⊥
 IsQuery request.Shell = ⊥
+IsQuery request.Prompt = ⊥
 IsQuery (request.Scan o) = ⊥
 IsQuery r = Unit {0}
 
@@ -52,6 +54,7 @@ has_outcome (request.Explain keypos) known old new (Ok x) other ok stopped = ok
 has_outcome (request.Explain keypos) known old new (Err f) other ok stopped = stopped
 has_outcome request.Script known old new outcome other ok stopped = absurd other
 has_outcome request.Shell known old new outcome other ok stopped = absurd other
+has_outcome request.Prompt known old new outcome other ok stopped = absurd other
 has_outcome (request.Scan o) known old new outcome other ok stopped = absurd other
 
 -- and those of a script
@@ -65,6 +68,11 @@ pub has_answers : (known old new : Option (List ℕ)) (outcome : Result (Unit {0
     → IfErr outcome (StopsShell known old new) → HasOutcome request.Shell known old new outcome
 has_answers known old new (Ok x) ok stopped = ok
 has_answers known old new (Err f) ok stopped = stopped
+
+-- of one for a person there is one
+pub has_prompted : (known old new : Option (List ℕ)) (outcome : Result (Unit {0}) ToolFault) → IfErr outcome IsStreamFault → HasOutcome request.Prompt known old new outcome
+has_prompted known old new (Ok x) stopped = tt
+has_prompted known old new (Err f) stopped = stopped
 
 -- and those of a scan
 pub has_scanned : (o : ScanOptions) (known old new : Option (List ℕ)) (outcome : Result (Unit {0}) ToolFault) → OnOk outcome (AreAllowed o × OfTerms known (λ terms. Writes (request.Scan o) terms old new))
@@ -121,8 +129,8 @@ scan_given o known old new input fault.WriteFailed given h = stops_given known o
 first_given : (known old new : Option (List ℕ)) (input : List ℕ) → IsGiven known input → WritesFirst (Some input) old new → WritesFirst known old new
 first_given None old new input given h = record {
   front = h.front;
-  text = h.text;
-  begins = tt;
+  rest = h.rest;
+  whole = tt;
   out = h.out;
   more = h.more;
   st = h.st;
@@ -148,8 +156,8 @@ shell_given known old new input fault.TooSmall given h = absurd h
 nothing_first : (input : List ℕ) (old : Option (List ℕ)) → WritesFirst (Some input) old old
 nothing_first input old = record {
   front = [];
-  text = [];
-  begins = refl;
+  rest = input;
+  whole = refl;
   out = [];
   more = [];
   st = beginning;
@@ -165,6 +173,8 @@ outcome_given request.Script known old new input (Ok x) given h = of_given known
 outcome_given request.Script known old new input (Err f) given h = script_given known old new input f given h
 outcome_given request.Shell known old new input (Ok x) given h = of_given known input _ given h
 outcome_given request.Shell known old new input (Err f) given h = shell_given known old new input f given h
+outcome_given request.Prompt known old new input (Ok x) given h = tt
+outcome_given request.Prompt known old new input (Err f) given h = h
 outcome_given (request.Scan o) known old new input (Ok x) given h = (h.0, of_given known input _ given h.1)
 outcome_given (request.Scan o) known old new input (Err f) given h = scan_given o known old new input f given h
 outcome_given (request.Run form) known old new input (Ok x) given h = of_given known input _ given h
@@ -238,6 +248,8 @@ unread_outcome request.Script fault.Memory input old is = inl ((input, refl, tt)
 unread_outcome request.Script fault.ReadFailed input old is = inl ((input, refl, tt), kept old)
 unread_outcome request.Shell fault.Memory input old is = nothing_first input old
 unread_outcome request.Shell fault.ReadFailed input old is = nothing_first input old
+unread_outcome request.Prompt fault.Memory input old is = tt
+unread_outcome request.Prompt fault.ReadFailed input old is = tt
 unread_outcome (request.Scan o) fault.Memory input old is = inl ((input, refl, tt), kept old)
 unread_outcome (request.Scan o) fault.ReadFailed input old is = inl ((input, refl, tt), kept old)
 unread_outcome (request.Run form) fault.Memory input old is = inl ((input, refl, tt), kept old)
@@ -267,11 +279,11 @@ ends_unread r f known out err err' failed status is h =
 
 -- ---- a shell that is explained, which reads its input as it comes
 
-begun_first : (out out' : Option (List ℕ)) (h : WritesFirst None out out') → WritesFirst (Some (h.front ++ h.text)) out out'
+begun_first : (out out' : Option (List ℕ)) (h : WritesFirst None out out') → WritesFirst (Some (h.front ++ h.rest)) out out'
 begun_first out out' h = record {
   front = h.front;
-  text = h.text;
-  begins = take_all (length (h.front ++ h.text)) (h.front ++ h.text) (omega arith);
+  rest = h.rest;
+  whole = refl;
   out = h.out;
   more = h.more;
   st = h.st;
@@ -282,8 +294,8 @@ begun_first out out' h = record {
 
 -- what a shell that ends early is known to have read
 read_first : (out out' : Option (List ℕ)) (f : ToolFault) → StopsShell None out out' f → (input : List ℕ) × StopsShell (Some input) out out' f
-read_first out out' fault.Memory h = (h.front ++ h.text, begun_first out out' h)
-read_first out out' fault.ReadFailed h = (h.front ++ h.text, begun_first out out' h)
+read_first out out' fault.Memory h = (h.front ++ h.rest, begun_first out out' h)
+read_first out out' fault.ReadFailed h = (h.front ++ h.rest, begun_first out out' h)
 read_first out out' fault.WriteFailed h = ([], tt)
 read_first out out' fault.BadOptions h = absurd h
 read_first out out' (fault.Text f) h = absurd h
@@ -305,11 +317,38 @@ ends_shell None out out' err err' failed status (Err f) written ended =
     let read = read_first out out' f written in
     ends_explained request.Shell None out out' err err' failed status read.0 (Err f) tt read.1 (told_of_shell f None out out' read.0 err err' failed status written ended)
 
-pub is_shell_ended : (r : Request) (known out out' err err' : Option (List ℕ)) (failed : Type 0) (status : ℕ) (outcome : Result (Unit {0}) ToolFault) → r ≡ request.Shell
+-- one for a person is told of in the same way
+told_of_prompt : (f : ToolFault) (input : List ℕ) (err err' : Option (List ℕ)) (failed : Type 0) (status : ℕ) → IsStreamFault f
+    → EndsTelling [] (Err f) err err' failed status → EndsTelling input (Err f) err err' failed status
+told_of_prompt fault.Memory input err err' failed status is h = h
+told_of_prompt fault.ReadFailed input err err' failed status is h = h
+told_of_prompt fault.WriteFailed input err err' failed status is h = h
+told_of_prompt (fault.Text f) input err err' failed status is h = absurd is
+told_of_prompt fault.BadInput input err err' failed status is h = absurd is
+told_of_prompt (fault.Specification f) input err err' failed status is h = absurd is
+told_of_prompt (fault.File f) input err err' failed status is h = absurd is
+told_of_prompt (fault.Code f b) input err err' failed status is h = absurd is
+told_of_prompt fault.TooSmall input err err' failed status is h = absurd is
+told_of_prompt fault.BadOptions input err err' failed status is h = absurd is
+
+ends_prompt : (known out out' err err' : Option (List ℕ)) (failed : Type 0) (status : ℕ) (outcome : Result (Unit {0}) ToolFault) → HasOutcome request.Prompt known out out' outcome
+    → EndsTelling [] outcome err err' failed status → EndsExplained request.Prompt known out out' err err' failed status
+ends_prompt known out out' err err' failed status (Ok x) written ended =
+    ends_explained request.Prompt known out out' err err' failed status (unread_input known) (Ok x) (unread_given known) tt ended
+ends_prompt known out out' err err' failed status (Err f) written ended =
+    ends_explained request.Prompt known out out' err err' failed status (unread_input known) (Err f) (unread_given known) written (told_of_prompt f (unread_input known) err err' failed status written ended)
+
+pub is_shell_ended : (r : Request) (known out out' err err' : Option (List ℕ)) (failed : Type 0) (status : ℕ) (outcome : Result (Unit {0}) ToolFault) → IsShell r
     → HasOutcome r known out out' outcome → EndsTelling [] outcome err err' failed status → EndsExplained r known out out' err err' failed status
-is_shell_ended r known out out' err err' failed status outcome is written ended =
-    subst (λ (s : Request). EndsExplained s known out out' err err' failed status) (sym is)
-    (ends_shell known out out' err err' failed status outcome (subst (λ (s : Request). HasOutcome s known out out' outcome) is written) ended)
+is_shell_ended request.Shell known out out' err err' failed status outcome is written ended = ends_shell known out out' err err' failed status outcome written ended
+is_shell_ended request.Prompt known out out' err err' failed status outcome is written ended = ends_prompt known out out' err err' failed status outcome written ended
+is_shell_ended request.Run known out out' err err' failed status outcome is written ended = absurd is
+is_shell_ended request.Test known out out' err err' failed status outcome is written ended = absurd is
+is_shell_ended request.Compile known out out' err err' failed status outcome is written ended = absurd is
+is_shell_ended request.Verify known out out' err err' failed status outcome is written ended = absurd is
+is_shell_ended request.Script known out out' err err' failed status outcome is written ended = absurd is
+is_shell_ended (request.Scan o) known out out' err err' failed status outcome is written ended = absurd is
+is_shell_ended (request.Explain keypos) known out out' err err' failed status outcome is written ended = absurd is
 
 -- ---- how the program ends where no command runs
 

@@ -366,7 +366,7 @@ module _ (kinds : ValueParser) (good : IsKindParser kinds) where
   request_in_the_end to_compile given fit = refl
   request_in_the_end to_verify given fit = refl
   request_in_the_end to_script given fit = refl
-  request_in_the_end to_shell given fit = refl
+  request_in_the_end to_shell given fit = (is_given given (codes "prompt"), refl, flag_of to_shell (codes "prompt") given fit refl)
   request_in_the_end to_explain given fit = (number_given (codes "keypos") given, refl, number_of to_explain (codes "keypos") 65535 given fit refl refl)
   request_in_the_end to_scan given fit = (
     options_by given,

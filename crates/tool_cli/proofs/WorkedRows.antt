@@ -181,6 +181,18 @@ a_shell_with_why : shell (codes "--why" ∷ []) ≡ explained request.Shell
 unfolding clap_on_literals
 a_shell_with_why = refl
 
+a_shell_for_a_person : shell (codes "--prompt" ∷ []) ≡ plainly request.Prompt
+unfolding clap_on_literals
+a_shell_for_a_person = refl
+
+a_shell_with_both : shell (codes "--why" ∷ codes "--prompt" ∷ []) ≡ explained request.Prompt
+unfolding clap_on_literals
+a_shell_with_both = refl
+
+prompt_twice : shell (codes "--prompt" ∷ codes "--prompt" ∷ []) ≡ mistake
+unfolding clap_on_literals
+prompt_twice = refl
+
 a_shell_of_a_kind : shell (codes "--kind" ∷ codes "bag" ∷ []) ≡ mistake
 unfolding clap_on_literals
 a_shell_of_a_kind = refl

@@ -12,6 +12,7 @@ use Rattle.tool_query.specs.Run.{WritesAnswers, StopsAnswers, Stops}
 use Rattle.tool_explain.specs.Explain.{WritesExplanation, StopsExplanation}
 use Rattle.tool_script.specs.Run.{WritesReplies, StopsReplies}
 use Rattle.tool_script.specs.Input.{OfScript, StopsScript}
+use Rattle.tool_script.specs.Prompt.{IsStreamFault}
 use Rattle.tool_script.specs.Shell as shell
 use Rattle.tool_scan.specs.Options.{AreAllowed}
 use Rattle.tool_scan.specs.Scan.{WritesScan, StopsTerms, StopsScan}
@@ -44,6 +45,7 @@ Writes request.Compile terms old new = WritesFile terms old new
 Writes request.Verify terms old new = WritesVerdict terms old new
 Writes request.Script terms old new = WritesReplies terms old new
 Writes request.Shell terms old new = ⊥
+Writes request.Prompt terms old new = ⊥
 Writes (request.Scan o) terms old new = WritesScan o terms old new
 Writes (request.Explain keypos) terms old new = WritesExplanation keypos terms old new
 
@@ -55,22 +57,32 @@ StopsOn request.Compile terms old new f = StopsFile terms old new f
 StopsOn request.Verify terms old new f = StopsVerdict terms old new f
 StopsOn request.Script terms old new f = StopsReplies terms old new f
 StopsOn request.Shell terms old new f = ⊥
+StopsOn request.Prompt terms old new f = ⊥
 StopsOn (request.Scan o) terms old new f = StopsTerms o terms old new f
 StopsOn (request.Explain keypos) terms old new f = StopsExplanation terms old new f
 
--- what a command's outcome says of standard output; of a script there may be no term, and a scan's options are allowed
+-- What a command's outcome says of standard output; of a script there may be no term, and a scan's options are allowed.
+-- Of a shell for a person it says nothing but why it ends early.
 abbrev pub HasOutcome : Request → (known old new : Option (List ℕ)) → Result (Unit {0}) ToolFault
     → Type 0
 HasOutcome request.Script known old new (Ok x) = OfScript known (λ terms. Writes request.Script terms old new)
 HasOutcome request.Script known old new (Err f) = StopsScript known old new f
 HasOutcome request.Shell known old new (Ok x) = OfInput known (λ input. shell.WritesAnswers input old new)
 HasOutcome request.Shell known old new (Err f) = shell.StopsShell known old new f
+HasOutcome request.Prompt known old new (Ok x) = Unit {0}
+HasOutcome request.Prompt known old new (Err f) = IsStreamFault f
 HasOutcome (request.Scan o) known old new (Ok x) =
     AreAllowed o × OfTerms known (λ terms. Writes (request.Scan o) terms old new)
 HasOutcome (request.Scan o) known old new (Err f) = StopsScan o known old new f
 HasOutcome r known old new (Ok x) = OfTerms known (λ terms. Writes r terms old new)
 HasOutcome r known old new (Err f) =
     Stops known old new f (λ terms. StopsOn r terms old new f)
+
+-- a command takes its input line by line
+abbrev pub IsShell : Request → Type 0
+IsShell request.Shell = Unit {0}
+IsShell request.Prompt = Unit {0}
+IsShell r = ⊥
 
 -- a command ran, and its outcome ends the program
 pub record EndsRequest (r : Request) (known out out' err err' : Option (List ℕ)) (failed : Type 0)

@@ -43,10 +43,10 @@ pub data Optioned : Type 0 where
 
 -- those that have no option with a value, and all
 abbrev pub plain_commands : List Optioned
-plain_commands = to_run ∷ to_test ∷ to_compile ∷ to_verify ∷ to_script ∷ to_shell ∷ []
+plain_commands = to_run ∷ to_test ∷ to_compile ∷ to_verify ∷ to_script ∷ []
 
 abbrev pub commands : List Optioned
-commands = plain_commands ++ to_scan ∷ to_explain ∷ []
+commands = plain_commands ++ to_shell ∷ to_scan ∷ to_explain ∷ []
 
 -- the name of a command
 abbrev pub name_of : Optioned → Text
@@ -106,6 +106,7 @@ options_of to_scan =
     (codes "kind", kind)
     ∷ (codes "keypos", number 65535)
     ∷ (codes "parts", number 64) ∷ (codes "workers", number 16) ∷ (codes "why", nothing) ∷ []
+options_of to_shell = (codes "prompt", nothing) ∷ (codes "why", nothing) ∷ []
 options_of to_explain = (codes "keypos", number 65535) ∷ (codes "why", nothing) ∷ []
 options_of to_run = (codes "strings", nothing) ∷ (codes "why", nothing) ∷ []
 options_of to_test = (codes "strings", nothing) ∷ (codes "why", nothing) ∷ []
@@ -160,6 +161,10 @@ options_by given = record {
 abbrev pub form_by : Given → Form
 form_by given = if is_given given (codes "strings") then form.Readable else form.Canonical
 
+-- a shell is for a person where `--prompt` is given
+abbrev pub shell_for : Bool → Request
+shell_for is_prompting = if is_prompting then request.Prompt else request.Shell
+
 -- the command that they are given to
 abbrev pub request_of : Optioned → Given → Request
 request_of to_run given = request.Run (form_by given)
@@ -167,7 +172,7 @@ request_of to_test given = request.Test (form_by given)
 request_of to_compile given = request.Compile
 request_of to_verify given = request.Verify
 request_of to_script given = request.Script
-request_of to_shell given = request.Shell
+request_of to_shell given = shell_for (is_given given (codes "prompt"))
 request_of to_scan given = request.Scan (options_by given)
 request_of to_explain given = request.Explain (number_given (codes "keypos") given)
 
@@ -356,7 +361,7 @@ IsRequestOf to_test r rows =
 IsRequestOf to_compile r rows = r ≡ request.Compile
 IsRequestOf to_verify r rows = r ≡ request.Verify
 IsRequestOf to_script r rows = r ≡ request.Script
-IsRequestOf to_shell r rows = r ≡ request.Shell
+IsRequestOf to_shell r rows = (b : Bool) × (r ≡ shell_for b) × IsFlagOf (codes "prompt") b rows
 IsRequestOf to_scan r rows = (o : ScanOptions) × (r ≡ request.Scan o) × AreRead o rows
 IsRequestOf to_explain r rows =
     (n : ℕ) × (r ≡ request.Explain n) × IsReadOf (codes "keypos") 65535 n rows

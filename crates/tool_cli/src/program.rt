@@ -1,10 +1,10 @@
 //! The program from its words to its status: what it reads, and what it writes on which of two streams.
-ghost use Rattle.std.specs.Prelude.{◌≡◌, ◌≢◌, ◌⊎◌, [], IfErr, MatchBool, OnOk, map};
+ghost use Rattle.std.specs.Prelude.{◌≡◌, ◌⊎◌, [], IfErr, MatchBool, OnOk, map};
 ghost use Rattle.std.specs.Io.KnownBytes.{Appends, Keeps};
 ghost use Rattle.clap.specs.Words.{kind_of};
 ghost use Rattle.std.specs.IoError.{error_kind};
 ghost use Rattle.part_core.specs.Served.{ServesUnordered};
-ghost use Rattle.tool_cli.specs.Program.{HasOutcome, EndsBy, EndsWith, EndsRequest, EndsHelp, EndsVersion, EndsEarly};
+ghost use Rattle.tool_cli.specs.Program.{HasOutcome, IsShell, EndsBy, EndsWith, EndsRequest, EndsHelp, EndsVersion, EndsEarly};
 ghost use Rattle.tool_cli.specs.Program.{EndsTelling, EndsExplained, EndsInvocation};
 ghost use Rattle.tool_cli.specs.Program.{TellsMistake, EndsMistaken, EndsAsked, EndsProgram};
 ghost use Rattle.tool_cli.specs.Telling.{TellsText};
@@ -27,7 +27,7 @@ use tool_explain::tool_explain;
 use tool_io::{ToolFault, fault_line, read_whole};
 use tool_query::{tool_compile, tool_run, tool_test, tool_verify};
 use tool_scan::tool_scan;
-use tool_script::{run_script, run_shell};
+use tool_script::{run_prompt, run_script, run_shell};
 
 /// The status of a program that did what it was asked.
 const DONE: u8 = 0;
@@ -142,12 +142,13 @@ pub fn run_explained<
 
 /// Whether a command takes its input line by line.
 fn is_shell(request: Request) -> bool
-    ensures { MatchBool result (request ≡ Request.Shell) (request ≢ Request.Shell) }
+    ensures { MatchBool result (IsShell request) (¬ IsShell request) }
 {
-    matches!(request, Request::Shell)
+    matches!(request, Request::Shell | Request::Prompt)
 }
 
-/// Runs one command, and answers the status that the program ends with. Parts of the table of a scan are of the sort `P`.
+/// Runs one command, and answers the status that the program ends with. Parts of the table of a scan are of the sort
+/// `P`.
 pub fn run_request<
     H: Threads + Wait + Sync,
     P: Part<A> + Drop + Send,
@@ -183,6 +184,7 @@ fn command_outcome<
         Request::Verify => tool_verify(alloc, reader, out),
         Request::Script => run_script::<HashPart<A>, OrderPart<A>, A, R, O>(alloc, reader, out),
         Request::Shell => run_shell::<HashPart<A>, OrderPart<A>, A, R, O>(alloc, reader, out),
+        Request::Prompt => run_prompt::<HashPart<A>, OrderPart<A>, A, R, O>(alloc, reader, out),
         Request::Scan(options) => { tool_scan::<H, P, A, R, O>(rt, alloc, options, reader, out) }
         Request::Explain(keypos) => tool_explain(alloc, keypos, reader, out),
     }

@@ -7,8 +7,9 @@ use crate::telling::shown;
 use std::alloc::{AllocError, Allocator};
 use tool_io::ToolFault;
 
-/// Puts what a refusal of this input means at the end: a text of one line, and where a byte of the input is at fault the
-/// numbers of its line and column, that line, and a caret under the byte. Where no memory is given what was there stays.
+/// Puts what a refusal of this input means at the end: a text of one line, and where a byte of the input is at fault
+/// the numbers of its line and column, that line, and a caret under the byte. Where no memory is given what was there
+/// stays.
 #[tactic(auto, using(crate::proofs::WhyLemmas::is_put))]
 pub(crate) fn put_meaning<A: Allocator + Copy>(
     alloc: A,

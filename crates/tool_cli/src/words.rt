@@ -9,7 +9,7 @@ ghost use Rattle.term_text.specs.Canonical.{shows_strings};
 ghost use Rattle.term_text.specs.declared.write.Form.{Form as FormValue};
 ghost use Rattle.tool_scan.specs.declared.options.ScanKind.{ScanKind as KindValue};
 ghost use Rattle.tool_cli.specs.Words.{asked, Reads, bare_app, option_rule, rule_for, shape_with, command_shape, tool_app};
-ghost use Rattle.tool_cli.specs.Words.{kind, number, nothing, plain_commands, to_scan, to_explain, Optioned, name_of, is_explained};
+ghost use Rattle.tool_cli.specs.Words.{kind, number, nothing, plain_commands, to_shell, to_scan, to_explain, Optioned, name_of, is_explained, shell_for};
 ghost use Rattle.tool_cli.specs.Words.{IsKindOf, IsKindParser, IsReadOf, IsFlagOf, AreRead, IsRequestOf, IsReadAs, IsEntered};
 ghost use Rattle.tool_cli.specs.declared.words.Detail.{Detail as DetailValue};
 ghost use Rattle.tool_cli.specs.declared.words.Invocation.{Invocation as InvocationValue};
@@ -37,10 +37,12 @@ pub enum Request {
     Script,
     /// Reply to commands on tables while they come.
     Shell,
+    /// The same for a person, with a prompt, and with what a refusal means.
+    Prompt,
     /// Answer a specification on objects that are put into a table, by several threads.
     Scan(ScanOptions),
-    /// Show the code of a specification or of a code file, and which objects a walk by it looks at in a table whose key is
-    /// at this place, counted from 1.
+    /// Show the code of a specification or of a code file, and which objects a walk by it looks at in a table whose key
+    /// is at this place, counted from 1.
     Explain(u16),
 }
 
@@ -187,6 +189,8 @@ Writes to standard output: for each command its reply as `script` writes it,
 and for what is begun and can't be read {error,N,At}., with the number of the
 refusal and the byte where it is met; none of its commands is obeyed then, and
 the next line begins anew. Replies are written before more is waited for.
+With --prompt, for a person: `> ` in front of a line, `| ` in front of one that
+goes on, \"ab\" in the place of [97,98], and what a refusal means in comments.
 
 Example:
   printf \"{open,set,1,1,1}.\\n{lookup,0,1.\\n{lookup,0,1}.\\n\" | ets_tool shell
@@ -260,6 +264,8 @@ const KEYPOS_HELP: &str = "The element of an object that is its key: 1 to 65535"
 const PARTS_HELP: &str = "How many parts the keys are spread over: 1 to 64";
 
 const WORKERS_HELP: &str = "How many threads answer: 1 to 16";
+
+const PROMPT_HELP: &str = "Show a prompt, write texts as such, and say what a refusal means";
 
 const WHY_HELP: &str = "Say what a refusal means, behind its line";
 
@@ -353,6 +359,14 @@ fn why<'a>(alloc: Global) -> Arg<'a>
     flag(alloc, "why", WHY_HELP)
 }
 
+/// That a shell is for a person.
+fn prompt<'a>(alloc: Global) -> Arg<'a>
+    ensures rule { (p : ParserValue) → rule_of result ≡ rule_for p (codes "prompt") nothing }
+    ensures local { result.global ≡ false }
+{
+    flag(alloc, "prompt", PROMPT_HELP)
+}
+
 /// The names of kinds.
 fn kind_names<'a>() -> ValueParser<'a>
     ensures { IsKindParser result }
@@ -393,6 +407,16 @@ fn workers<'a>(alloc: Global) -> Arg<'a>
 {
     let numbers = value_parser!(u16).range(1..=16);
     option(alloc, "workers", WORKERS_HELP, "N", "1", numbers)
+}
+
+/// The command `shell`, with its options.
+fn shell_command<'a>(alloc: Global) -> Result<Command<'a>, AllocError>
+    ensures shape { IfOk result (λ command. (p : ParserValue) → shape_of command ≡ command_shape p to_shell) }
+    ensures local { IfOk result (λ command. (fields_of command).has_globals ≡ false) }
+{
+    command(alloc, "shell", SHELL_ABOUT, SHELL_EXAMPLE)
+        .arg(prompt(alloc))?
+        .arg(why(alloc))
 }
 
 /// The command `scan`, with its options.
@@ -456,8 +480,7 @@ fn plain_program<'a>(alloc: Global) -> Result<Command<'a>, AllocError>
     let program = with_answering(alloc, program, "test", TEST_ABOUT, TEST_EXAMPLE)?;
     let program = with_plain(alloc, program, "compile", COMPILE_ABOUT, COMPILE_EXAMPLE)?;
     let program = with_plain(alloc, program, "verify", VERIFY_ABOUT, VERIFY_EXAMPLE)?;
-    let program = with_plain(alloc, program, "script", SCRIPT_ABOUT, SCRIPT_EXAMPLE)?;
-    with_plain(alloc, program, "shell", SHELL_ABOUT, SHELL_EXAMPLE)
+    with_plain(alloc, program, "script", SCRIPT_ABOUT, SCRIPT_EXAMPLE)
 }
 
 /// The program with its commands, as `clap` reads them.
@@ -465,6 +488,7 @@ fn program<'a>(alloc: Global) -> Result<Command<'a>, AllocError>
     ensures { IfOk result (λ command. (p : ParserValue) × IsKindParser p × (app_of command ≡ tool_app p)) }
 {
     plain_program(alloc)?
+        .subcommand(shell_command(alloc)?)?
         .subcommand(scan_command(alloc)?)?
         .subcommand(explain_command(alloc)?)
 }
@@ -529,6 +553,18 @@ fn form_in(matches: &ArgMatches<'_>) -> Form
     }
 }
 
+/// What a shell is asked to do.
+fn shell_request(matches: &ArgMatches<'_>) -> Request
+    requires { (b : Bool) × IsFlagOf (codes "prompt") b (rows_of (found_of matches.now)) }
+    ensures { (b : Bool) → IsFlagOf (codes "prompt") b (rows_of (found_of matches.now)) → result ≡ shell_for b }
+{
+    if matches.get_flag("prompt") {
+        Request::Prompt
+    } else {
+        Request::Shell
+    }
+}
+
 /// What the command of this name is asked to do.
 fn request_in(name: &str, matches: &ArgMatches<'_>) -> Request
     requires { (which : Optioned) × (r : RequestValue) × (name.now ≡ name_of which)
@@ -541,7 +577,7 @@ fn request_in(name: &str, matches: &ArgMatches<'_>) -> Request
         "compile" => Request::Compile,
         "verify" => Request::Verify,
         "script" => Request::Script,
-        "shell" => Request::Shell,
+        "shell" => shell_request(matches),
         "scan" => Request::Scan(scan_options(matches)),
         "explain" => Request::Explain(number(matches, "keypos")),
         _ => Request::Run(form_in(matches)),

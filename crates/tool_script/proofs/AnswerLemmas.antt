@@ -103,7 +103,7 @@ nothing_more st after begun input out none empty (goes_on is goes) = absurd (at_
 nothing_more st after begun input out none empty (looked_at is looked goes) = absurd (at_end effect.LooksAt begun input none empty is (λ e. cc))
 nothing_more st after begun input out none empty (given_up is looked goes) = absurd (at_end effect.GivesUp begun input none empty is (λ e. cc))
 
-replied_with : (st mid : ScriptState) (ds es rs : List Datum) (out more : List ℕ) → Replies st ds rs mid → out ≡ flat_map line rs ++ more
+pub replied_with : (st mid : ScriptState) (ds es rs : List Datum) (out more : List ℕ) → Replies st ds rs mid → out ≡ flat_map line rs ++ more
     → (qs : List Datum) × AreReplies mid es qs × (more ≡ flat_map line qs) → (replies : List Datum) × AreReplies st (ds ++ es) replies × (out ≡ flat_map line replies)
 replied_with st mid ds es rs out more replied written (qs, are, is) = (
   rs ++ qs,

@@ -19,3 +19,8 @@ mod WorkedRows
 mod WorkedWalks
 mod WorkedLines
 mod AnswerLemmas
+mod OutputLemmas
+mod CutLemmas
+mod PieceLemmas
+mod ScriptShellLemmas
+mod PromptLemmas

@@ -46,8 +46,8 @@ module _ (one_reading : HasOneReading) (not_refused : ReadIsNotRefused) (one_ref
   comes_once (Judging o d go) a b p q (v, is, here) (w, also, there) =
       given_once (go v) (go w) a b p q (ap go (judged_once o d v w is also)) here there
 
-  -- a term is replied once
-  replied_once : (st : ScriptState) (d a b : Datum) (p q : ScriptState) → IsReply st d a p → IsReply st d b q → (a ≡ b) × (p ≡ q)
+  -- a term is replied once, and the script comes to one state
+  pub replied_once : (st : ScriptState) (d a b : Datum) (p q : ScriptState) → IsReply st d a p → IsReply st d b q → (a ≡ b) × (p ≡ q)
   replied_once st d a b p q (inl (c, is, here)) (inl (e, also, there)) =
       let same : course st st.current c ≡ course st st.current e = ap (course st st.current) (command_term_is_one c e (sym is ∙ also)) in
       comes_once (course st st.current e) a b p q (subst (λ (x : Course ScriptState). Comes x a p) same here) there

@@ -1,11 +1,10 @@
 -- A shell goes on from line to line.
-use Rattle.std.proofs.Common.{◌≡◌, ◌≢◌, ◌↔◌, inl, inr, ℕ, zero, suc, ◌+◌, ◌-◌, ◌<◌, Bool, true, false, Option, Some, None, IfSome, List, [], ◌∷◌, ◌++◌, take, drop, get_or, length, flat_map, refl, sym, ap, subst, ◌∙◌, append_assoc, arith}
+use Rattle.std.proofs.Common.{◌≡◌, ◌≢◌, ◌⊎◌, ◌↔◌, inl, inr, ℕ, zero, suc, ◌+◌, ◌-◌, ◌<◌, Bool, true, false, Option, Some, None, IfSome, List, [], ◌∷◌, ◌++◌, take, drop, get_or, length, flat_map, refl, sym, ap, subst, ◌∙◌, append_assoc, arith}
 use Rattle.std.specs.Prelude.{if◌then◌else◌, ◌==◌, Result, Ok, Err, IfOk, IfErr, OnErr}
 use Rattle.std.proofs.lemmas.Bool.{true≢false}
 use Rattle.std.proofs.lemmas.List.{append-nil, take_more, take-append-drop}
 use Rattle.std.proofs.lemmas.List.Concat.{flat_map-append}
 use Rattle.std.proofs.Math.Seq.{take-append_seam, drop-append_seam}
-use Rattle.std.specs.Io.{StartsWith}
 use Rattle.std.specs.Io.KnownBytes.{Appends, Consumes, prepend_known}
 use Rattle.std.specs.Str.{IsValidUpTo}
 use Rattle.term_core.specs.Datum.{Datum}
@@ -24,14 +23,15 @@ use Rattle.tool_script.specs.declared.line.Effect.TheVariants as effect
 use Rattle.tool_script.specs.declared.line.Progress.{Progress}
 use Rattle.tool_script.specs.declared.line.Progress.TheVariants as progress
 use Rattle.tool_script.specs.declared.script.Script as script_type
-use Rattle.tool_script.specs.Line.{behind_line, is_empty, has_dot, effect_of, IsLineBefore, IsLine, TakesLine}
+use Rattle.tool_script.specs.Line.{first_line, behind_line, is_empty, has_dot, effect_of, IsLineBefore, IsLine, TakesLine}
 use Rattle.tool_script.specs.Run.{IsPut}
 use Rattle.tool_script.specs.Script.{ScriptState, beginning}
 use Rattle.tool_script.specs.Scripts.{HasState}
-use Rattle.tool_script.specs.Shell.{Looked, Goes, WritesAnswers, WritesFirst, StopsShell, refusal}
+use Rattle.tool_script.specs.Shell.{Looked, Goes, IsLookedAtNext, FirstReplies, AreFirstReplies, WritesAnswers, WritesFirst, StopsShell, refusal}
+use Rattle.tool_script.specs.Shell.IsLookedAtNext.{by_dot, by_giving_up, behind_line_begun, behind_cut_short}
 use Rattle.tool_script.specs.Shell.Looked.{spelled, cut_short, refused}
 use Rattle.tool_script.specs.Shell.Goes.{ended, passed, goes_on, looked_at, given_up}
-use Rattle.tool_script.specs.Shells.{AreAnswered, StopsTerms, IsRefused, IsLookedAt, StopsText, LeadsOn, IsLineAnswered, MayFollow, MayStandBehind, IsAllAt, Stands, HoldsFirst, StopsHolding, IsToldBy}
+use Rattle.tool_script.specs.Shells.{AreAnswered, StopsTerms, IsRefused, IsLookedAt, StopsText, IsLookedAtBy, StopsLine, LeadsOn, LooksOn, IsLineAnswered, MayFollow, MayStandBehind, IsAllAt, Stands, HoldsFirst, StopsHolding, IsToldBy}
 use Rattle.tool_script.proofs.LineLemmas.{slice_end}
 use Rattle.tool_io.proofs.LineLemmas.{appends_none}
 use Rattle.tool_script.proofs.PassLemmas.{replied_more, consumes_join, passes_none, passes_more, passes_on, passes_put, passes_written}
@@ -42,10 +42,6 @@ use Rattle.tool_script.proofs.PassLemmas.{replied_more, consumes_join, passes_no
 one_more : (rs : List Datum) (r : Datum) → flat_map line rs ++ line r ≡ flat_map line (rs ++ r ∷ [])
 one_more rs r = ap (λ l. flat_map line rs ++ l) (sym (append-nil (line r))) ∙ sym (flat_map-append line rs (r ∷ []))
 
--- what begins a text
-begins_with : (xs front rest : List ℕ) → xs ≡ front ++ rest → StartsWith xs front
-begins_with xs front rest is = ap (take (length front)) is ∙ take-append_seam front rest
-
 before_rest : (p : Progress) (left : Option (List ℕ)) (l rest : List ℕ) → IsLine l p left → MayFollow p rest → IsLineBefore l rest
 before_rest progress.More left l rest whole may = whole rest
 before_rest progress.End left l rest whole may = subst (IsLineBefore l) (sym may) whole.0
@@ -54,7 +50,7 @@ pub may_more : (begun rest : List ℕ) → MayStandBehind progress.More begun re
 may_more [] rest = tt
 may_more (b ∷ begun) rest = tt
 
-pub may_begun : (p : Progress) (begun rest : List ℕ) → 0 < length begun → MayStandBehind p begun rest
+may_begun : (p : Progress) (begun rest : List ℕ) → 0 < length begun → MayStandBehind p begun rest
 may_begun p [] rest some = absurd (omega (arith, some))
 may_begun p (b ∷ begun) rest some = tt
 
@@ -63,6 +59,38 @@ all_at progress.More known left taken l lost whole = tt
 all_at progress.End None left taken l lost whole = tt
 all_at progress.End (Some xs) None taken l lost whole = absurd lost
 all_at progress.End (Some xs) (Some ys) taken l lost whole = lost ∙ ap (λ m. taken ++ m) whole.1
+
+-- what is left behind a line, where that is known
+abbrev left_behind : Progress → Option (List ℕ) → List ℕ
+left_behind progress.End left = []
+left_behind progress.More None = []
+left_behind progress.More (Some xs) = xs
+
+may_left : (p : Progress) (left : Option (List ℕ)) → MayFollow p (left_behind p left)
+may_left progress.End left = refl
+may_left progress.More left = tt
+
+-- so the input is what was taken, the line and that
+whole_with : (p : Progress) (known left after : Option (List ℕ)) (taken l : List ℕ) → Consumes known left taken → Consumes left after l → IsLine l p left → IfSome known (λ bytes. bytes ≡ taken ++ (l ++ left_behind p after))
+whole_with progress.End known left after taken l lost gone whole = at_end known (all_at progress.End known left taken l lost whole)
+  where
+    at_end : (k : Option (List ℕ)) → IfSome k (λ bytes. bytes ≡ taken ++ l) → IfSome k (λ bytes. bytes ≡ taken ++ (l ++ []))
+    at_end None is = tt
+    at_end (Some xs) is = is ∙ ap (λ m. taken ++ m) (sym (append-nil l))
+whole_with progress.More None left after taken l lost gone whole = tt
+whole_with progress.More (Some xs) None after taken l lost gone whole = absurd lost
+whole_with progress.More (Some xs) (Some ys) None taken l lost gone whole = absurd gone
+whole_with progress.More (Some xs) (Some ys) (Some zs) taken l lost gone whole = lost ∙ ap (λ m. taken ++ m) gone
+
+whole_left : (known left : Option (List ℕ)) (taken : List ℕ) → Consumes known left taken → IfSome known (λ bytes. bytes ≡ taken ++ left_behind progress.More left)
+whole_left None left taken lost = tt
+whole_left (Some xs) None taken lost = absurd lost
+whole_left (Some xs) (Some ys) taken lost = lost
+
+-- what was begun stands in front of what is left
+apart_from : (known : Option (List ℕ)) (front begun rest : List ℕ) → IfSome known (λ bytes. bytes ≡ (front ++ begun) ++ rest) → IfSome known (λ bytes. bytes ≡ front ++ (begun ++ rest))
+apart_from None front begun rest is = tt
+apart_from (Some xs) front begun rest is = is ∙ append_assoc front begun rest
 
 -- ---- what a line does
 
@@ -94,6 +122,37 @@ leads_given : (st : ScriptState) (begun l now : List ℕ) (behind : ScriptState)
 leads_given st begun l now behind left is looked = λ rest out after before goes.
     given_up (ap (effect_of begun) before.0 ∙ is) looked (subst (λ xs. Goes behind left xs out after) (sym before.1) goes)
 
+-- ---- the text that is looked at next
+
+on_from : (begun l rest text : List ℕ) → IsLineBefore l rest → IsLookedAtNext (begun ++ l) rest text → IsLookedAtNext (begun ++ first_line (l ++ rest)) (behind_line (l ++ rest)) text
+on_from begun l rest text before next =
+    subst (λ xs. IsLookedAtNext (begun ++ xs) (behind_line (l ++ rest)) text) (sym before.0) (subst (λ xs. IsLookedAtNext (begun ++ l) xs text) (sym before.1) next)
+
+on_kept : (begun l : List ℕ) → effect_of begun l ≡ effect.GoesOn → LooksOn begun l
+on_kept begun l is = λ rest text before next. behind_line_begun (ap (effect_of begun) before.0 ∙ is) (on_from begun l rest text before next)
+
+on_cut_short : (begun l : List ℕ) → effect_of begun l ≡ effect.LooksAt → IsNoText (begun ++ l) (faults.Syntax (length (begun ++ l))) → LooksOn begun l
+on_cut_short begun l is none = λ rest text before next.
+    behind_cut_short (ap (effect_of begun) before.0 ∙ is) (subst (λ xs. IsNoText (begun ++ xs) (faults.Syntax (length (begun ++ xs)))) (sym before.0) none) (on_from begun l rest text before next)
+
+by_line : (begun l : List ℕ) → effect_of begun l ≡ effect.LooksAt → IsLookedAtBy begun l (begun ++ l)
+by_line begun l is = λ rest before. subst (λ xs. IsLookedAtNext begun (l ++ rest) (begun ++ xs)) before.0 (by_dot (ap (effect_of begun) before.0 ∙ is))
+
+by_empty : (begun l : List ℕ) → effect_of begun l ≡ effect.GivesUp → IsLookedAtBy begun l begun
+by_empty begun l is = λ rest before. by_giving_up (ap (effect_of begun) before.0 ∙ is)
+
+by_end : (begun : List ℕ) → 0 < length begun → IsLookedAtNext begun [] begun
+by_end [] some = absurd (omega (arith, some))
+by_end (b ∷ begun) some = by_giving_up refl
+
+-- what a line comes to is what is looked at next there
+first_there : (st : ScriptState) (begun l rest now : List ℕ) → IsLineBefore l rest → ((text : List ℕ) → IsLookedAtNext begun (l ++ rest) text → IsLookedAtNext [] (begun ++ (l ++ rest)) text)
+    → (now ≡ []) ⊎ ((text : List ℕ) × IsLookedAtBy begun l text × FirstReplies st text now) → AreFirstReplies st (begun ++ (l ++ rest)) now
+first_there st begun l rest now before next (inl none) = inl none
+first_there st begun l rest now before next (inr (text, by, first)) = inr (text, next text (by rest before), first)
+
+-- ---- the end
+
 -- what is begun is given up at the end of the input
 ends_given : (st : ScriptState) (begun now : List ℕ) (behind : ScriptState) → 0 < length begun → Looked true st begun now behind [] → Goes st begun [] (now ++ []) behind
 ends_given st [] now behind some looked = absurd (omega (arith, some))
@@ -106,13 +165,6 @@ no_text text f other only cause bad = record { unspelled = λ ds spells. other (
 
 four : (front begun l rest : List ℕ) → (front ++ begun) ++ (l ++ rest) ≡ (front ++ (begun ++ l)) ++ rest
 four front begun l rest = sym (append_assoc (front ++ begun) l rest) ∙ ap (λ m. m ++ rest) (append_assoc front begun l)
-
-known_begins : (known left : Option (List ℕ)) (front begun looked others : List ℕ) → Consumes known left (front ++ begun) → begun ≡ looked ++ others → IfSome known (λ bytes. StartsWith bytes (front ++ looked))
-known_begins None left front begun looked others lost is = tt
-known_begins (Some xs) None front begun looked others lost is = absurd lost
-known_begins (Some xs) (Some ys) front begun looked others lost is =
-    begins_with xs (front ++ looked) (others ++ ys)
-    (lost ∙ ap (λ m. (front ++ m) ++ ys) is ∙ ap (λ m. m ++ ys) (sym (append_assoc front looked others)) ∙ append_assoc (front ++ looked) others ys)
 
 read_stops : (known old now : Option (List ℕ)) (lines : List ℕ) (f : ToolFault) → IsReadFault f → HoldsFirst known old now lines → StopsHolding known old now lines f
 read_stops known old now lines fault.Memory is h = h
@@ -129,7 +181,7 @@ read_stops known old now lines fault.WriteFailed is h = absurd is
 -- what is held is written
 holds_written : (known old now later : Option (List ℕ)) (lines : List ℕ) → HoldsFirst known old now lines → Appends now later lines → WritesFirst known old later
 holds_written known old now later lines h written =
-    record { front = h.front; text = h.text; begins = h.begins; out = h.out; more = h.more; st = h.st; answered = h.answered; first = h.first; gained = passes_written old now later (h.out ++ h.more) lines h.put written }
+    record { front = h.front; rest = h.rest; whole = h.whole; out = h.out; more = h.more; st = h.st; answered = h.answered; first = h.first; gained = passes_written old now later (h.out ++ h.more) lines h.put written }
 
 stops_by : (known old now later : Option (List ℕ)) (lines : List ℕ) (f : ToolFault) → StopsHolding known old now lines f → Appends now later lines → StopsShell known old later f
 stops_by known old now later lines fault.Memory h written = holds_written known old now later lines h written
@@ -147,14 +199,14 @@ pub told_stops : (known old now later : Option (List ℕ)) (lines : List ℕ) (f
 told_stops known old now later lines f result h (inl is) = rw is tt
 told_stops known old now later lines f result h (inr (is, written)) = subst (StopsShell known old later) (sym is) (stops_by known old now later lines f h written)
 
+none_lost : (k : Option (List ℕ)) → Consumes k k []
+none_lost None = tt
+none_lost (Some xs) = refl
+
 -- no memory was given before anything was read
 pub stops_first : (known old : Option (List ℕ)) → WritesFirst known old old
 stops_first known old =
-    record { front = []; text = []; begins = begins_any known; out = []; more = []; st = beginning; answered = λ rest more after goes. goes; first = inl refl; gained = appends_none old }
-  where
-    begins_any : (k : Option (List ℕ)) → IfSome k (λ bytes. StartsWith bytes ([] ++ []))
-    begins_any None = tt
-    begins_any (Some xs) = refl
+    record { front = []; rest = left_behind progress.More known; whole = whole_left known known [] (none_lost known); out = []; more = []; st = beginning; answered = λ rest more after goes. goes; first = inl refl; gained = appends_none old }
 
 -- nothing was read ahead
 pub ahead_none : (capacity : ℕ) (buffer : List ℕ) (known : Option (List ℕ)) → capacity ≡ 8192 → buffer ≡ [] → (if capacity == 0 then None else prepend_known buffer known) ≡ known
@@ -172,10 +224,6 @@ some_of (suc n) is = omega arith
 pub at_line : (e : Effect) (text : List ℕ) (n : ℕ) → e ≡ effect_of (take n text) (take (length text - n) (drop n text)) → effect_of (take n text) (drop n text) ≡ e
 at_line e text n is =
     sym (is ∙ ap (effect_of (take n text)) (slice_end text n))
-
-none_lost : (k : Option (List ℕ)) → Consumes k k []
-none_lost None = tt
-none_lost (Some xs) = refl
 
 module _ {S O A : Type 0} {s : Ghosts S A} {o : Ghosts O A} where
   -- ---- terms
@@ -224,7 +272,7 @@ module _ {S O A : Type 0} {s : Ghosts S A} {o : Ghosts O A} where
       → Spells text ds → StopsTerms old ds a b lines more f → StopsText old text a b lines more f
   text_stops old text ds a b lines more fault.Memory spells stops = λ st has.
       let f = stops st has in
-      (text, [], flat_map line f.2, sym (append-nil text), inr (record { front = f.0; rest = f.1; spelled = subst (Spells text) f.4 spells; replies = f.2; after = f.3; replied = f.5; written = refl }), f.6)
+      (flat_map line f.2, inr (record { front = f.0; rest = f.1; spelled = subst (Spells text) f.4 spells; replies = f.2; after = f.3; replied = f.5; written = refl }), f.6)
   text_stops old text ds a b lines more fault.WriteFailed spells stops = tt
   text_stops old text ds a b lines more (fault.Text g) spells stops = absurd stops
   text_stops old text ds a b lines more fault.BadInput spells stops = absurd stops
@@ -238,7 +286,7 @@ module _ {S O A : Type 0} {s : Ghosts S A} {o : Ghosts O A} where
   -- nothing was put
   pub text_stays : (old : script_type.Script S O A s o) (text : List ℕ) (a : Option (List ℕ)) (lines more : List ℕ) (f : ToolFault) → f ≡ fault.Memory → more ≡ lines → StopsText old text a a lines more f
   text_stays old text a lines more f is same =
-      subst (StopsText old text a a lines more) (sym is) (λ st has. ([], text, [], refl, inl refl, passes_put a lines [] more (same ∙ sym (append-nil lines))))
+      subst (StopsText old text a a lines more) (sym is) (λ st has. ([], inl refl, passes_put a lines [] more (same ∙ sym (append-nil lines))))
 
   pub refused_stops : (old : script_type.Script S O A s o) (text : List ℕ) (a : Option (List ℕ)) (lines more : List ℕ) (r : Result Bool ToolFault) → IfErr r (λ f. f ≡ fault.Memory) → OnErr r (more ≡ lines) → IfErr r (StopsText old text a a lines more)
   refused_stops old text a lines more (Ok b) is same = tt
@@ -263,7 +311,7 @@ module _ {S O A : Type 0} {s : Ghosts S A} {o : Ghosts O A} where
       → IsLookedAt old new false text is_kept a b lines more → IsLineAnswered old new begun l is_kept a b lines more
   line_looked old new begun l text true a b lines more whole is h =
       let none = subst (λ t. IsNoText t (faults.Syntax (length t))) (sym whole) h.1 in
-      (λ st has. (h.2 st has, leads_looked st begun l [] st (begun ++ l) is (cut_short refl none)), h.3)
+      (λ st has. (h.2 st has, leads_looked st begun l [] st (begun ++ l) is (cut_short refl none)), on_cut_short begun l is none, h.3)
   line_looked old new begun l text false a b lines more whole is h = λ st has.
       let f = h st has in
       (f.0, f.1, f.3, leads_looked st begun l f.0 f.1 [] is (subst (λ t. Looked false st t f.0 f.1 []) (sym whole) f.2), f.4)
@@ -281,22 +329,31 @@ module _ {S O A : Type 0} {s : Ghosts S A} {o : Ghosts O A} where
 
   pub line_kept : (old : script_type.Script S O A s o) (begun l : List ℕ) (a : Option (List ℕ)) (lines : List ℕ) → effect_of begun l ≡ effect.GoesOn → IsLineAnswered old old begun l true a a lines lines
   line_kept old begun l a lines is =
-      (λ st has. (has, leads_kept st begun l is), subst (λ m. Passes a a m lines) (append-nil lines) (passes_none a lines))
+      (λ st has. (has, leads_kept st begun l is), on_kept begun l is, subst (λ m. Passes a a m lines) (append-nil lines) (passes_none a lines))
 
-  pub text_longer : (old : script_type.Script S O A s o) (begun l text : List ℕ) (a b : Option (List ℕ)) (lines more : List ℕ) (f : ToolFault) → begun ++ l ≡ text
-      → StopsText old begun a b lines more f → StopsText old text a b lines more f
-  text_longer old begun l text a b lines more fault.Memory whole stops = λ st has.
+  -- where memory ran out, of the text that is looked at by the line
+  text_by : (old : script_type.Script S O A s o) (begun l text : List ℕ) (a b : Option (List ℕ)) (lines more : List ℕ) (f : ToolFault) → IsLookedAtBy begun l text → StopsText old text a b lines more f → StopsLine old begun l a b lines more f
+  text_by old begun l text a b lines more fault.Memory by stops = λ st has.
       let f = stops st has in
-      (f.0, f.1 ++ l, f.2, sym whole ∙ ap (λ m. m ++ l) f.3 ∙ append_assoc f.0 f.1 l, f.4, f.5)
-  text_longer old begun l text a b lines more fault.WriteFailed whole stops = tt
-  text_longer old begun l text a b lines more (fault.Text g) whole stops = absurd stops
-  text_longer old begun l text a b lines more fault.BadInput whole stops = absurd stops
-  text_longer old begun l text a b lines more (fault.Specification g) whole stops = absurd stops
-  text_longer old begun l text a b lines more (fault.File g) whole stops = absurd stops
-  text_longer old begun l text a b lines more (fault.Code g n) whole stops = absurd stops
-  text_longer old begun l text a b lines more fault.ReadFailed whole stops = absurd stops
-  text_longer old begun l text a b lines more fault.TooSmall whole stops = absurd stops
-  text_longer old begun l text a b lines more fault.BadOptions whole stops = absurd stops
+      (f.0, elim f.1 [ inl none ↦ inl none | inr first ↦ inr (text, by, first) ], f.2)
+  text_by old begun l text a b lines more fault.WriteFailed by stops = tt
+  text_by old begun l text a b lines more (fault.Text g) by stops = absurd stops
+  text_by old begun l text a b lines more fault.BadInput by stops = absurd stops
+  text_by old begun l text a b lines more (fault.Specification g) by stops = absurd stops
+  text_by old begun l text a b lines more (fault.File g) by stops = absurd stops
+  text_by old begun l text a b lines more (fault.Code g n) by stops = absurd stops
+  text_by old begun l text a b lines more fault.ReadFailed by stops = absurd stops
+  text_by old begun l text a b lines more fault.TooSmall by stops = absurd stops
+  text_by old begun l text a b lines more fault.BadOptions by stops = absurd stops
+
+  pub looked_stops : (old : script_type.Script S O A s o) (begun l text : List ℕ) (a b : Option (List ℕ)) (lines more : List ℕ) (f : ToolFault) → begun ++ l ≡ text → effect_of begun l ≡ effect.LooksAt
+      → StopsText old text a b lines more f → StopsLine old begun l a b lines more f
+  looked_stops old begun l text a b lines more f whole is stops =
+      text_by old begun l text a b lines more f (subst (IsLookedAtBy begun l) whole (by_line begun l is)) stops
+
+  pub given_up_stops : (old : script_type.Script S O A s o) (begun l : List ℕ) (a b : Option (List ℕ)) (lines more : List ℕ) (f : ToolFault) → effect_of begun l ≡ effect.GivesUp
+      → StopsText old begun a b lines more f → StopsLine old begun l a b lines more f
+  given_up_stops old begun l a b lines more f is stops = text_by old begun l begun a b lines more f (by_empty begun l is) stops
 
   -- ---- from line to line
 
@@ -309,6 +366,7 @@ module _ {S O A : Type 0} {s : Ghosts S A} {o : Ghosts O A} where
         state = has;
         answered = λ rest more after may goes. goes;
         on = λ rest more after may goes. goes;
+        next = λ rest text may next. next;
         lost = none_lost known;
         all = tt;
         put = passes_none old [];
@@ -324,6 +382,7 @@ module _ {S O A : Type 0} {s : Ghosts S A} {o : Ghosts O A} where
         state = t.state;
         answered = t.answered;
         on = t.on;
+        next = t.next;
         lost = t.lost;
         all = t.all;
         put = passes_on old now later t.out lines more t.put passes;
@@ -342,9 +401,10 @@ module _ {S O A : Type 0} {s : Ghosts S A} {o : Ghosts O A} where
         answered = λ rest out after may goes. t.answered rest out after (may_more begun rest) goes;
         on = λ rest out after may goes. subst (λ m. Goes beginning [] m (t.out ++ out) after) (four t.front begun l rest)
             (t.on (l ++ rest) out after tt (led.1 rest out after (before_rest p left l rest whole may) goes));
+        next = λ rest text may next. subst (λ m. IsLookedAtNext [] m text) (sym (append_assoc begun l rest)) (t.next (l ++ rest) text tt (h.1 rest text (before_rest p left l rest whole may) next));
         lost = subst (Consumes known after_left) (append_assoc t.front begun l) (consumes_join known left after_left (t.front ++ begun) l t.lost lost);
         all = subst (IsAllAt p known) (append_assoc t.front begun l) (all_at p known left (t.front ++ begun) l t.lost whole);
-        put = passes_on old now later t.out lines more t.put h.1;
+        put = passes_on old now later t.out lines more t.put h.2;
       }
 
   next_cleared : (before behind : script_type.Script S O A s o) (p : Progress) (known left after_left old now later : Option (List ℕ)) (begun l lines more : List ℕ)
@@ -365,6 +425,7 @@ module _ {S O A : Type 0} {s : Ghosts S A} {o : Ghosts O A} where
         state = f.2;
         answered = on;
         on = λ rest out after may goes. subst (λ m. Goes beginning [] (m ++ rest) ((t.out ++ f.0) ++ out) after) (sym none) (on rest out after may goes);
+        next = λ rest text may next. next;
         lost = subst (Consumes known after_left) (append_assoc t.front begun l ∙ sym none) (consumes_join known left after_left (t.front ++ begun) l t.lost lost);
         all = subst (IsAllAt p known) (append_assoc t.front begun l ∙ sym none) (all_at p known left (t.front ++ begun) l t.lost whole);
         put = passes_more old now later t.out lines f.0 more t.put f.4;
@@ -402,10 +463,11 @@ module _ {S O A : Type 0} {s : Ghosts S A} {o : Ghosts O A} where
 
   pub stands_hold : (script : script_type.Script S O A s o) (known left old now : Option (List ℕ)) (begun lines : List ℕ) → Stands script progress.More known left old now begun lines → HoldsFirst known old now lines
   stands_hold script known left old now begun lines t =
+      let rest = left_behind progress.More left in
       record {
         front = t.front;
-        text = [];
-        begins = known_begins known left t.front begun [] begun t.lost refl;
+        rest = begun ++ rest;
+        whole = apart_from known t.front begun rest (whole_left known left (t.front ++ begun) t.lost);
         out = t.out;
         more = [];
         st = t.st;
@@ -417,42 +479,80 @@ module _ {S O A : Type 0} {s : Ghosts S A} {o : Ghosts O A} where
   pub unread_stops : (script : script_type.Script S O A s o) (known left old now : Option (List ℕ)) (begun lines : List ℕ) (f : ToolFault) → IsReadFault f → Stands script progress.More known left old now begun lines → StopsHolding known old now lines f
   unread_stops script known left old now begun lines f is t = read_stops known old now lines f is (stands_hold script known left old now begun lines t)
 
-  text_holds : (script : script_type.Script S O A s o) (p : Progress) (known left after_left old now later : Option (List ℕ)) (begun l text lines more : List ℕ)
-      → ((rest : List ℕ) → MayStandBehind p begun rest) → Stands script p known left old now begun lines → Consumes left after_left l → text ≡ begun ++ l
-      → StopsText script text now later lines more fault.Memory → HoldsFirst known old later more
-  text_holds script p known left after_left old now later begun l text lines more may t lost whole stops =
+  line_holds : (script : script_type.Script S O A s o) (p : Progress) (known left after_left old now later : Option (List ℕ)) (begun l lines more : List ℕ)
+      → Stands script progress.More known left old now begun lines → Consumes left after_left l → IsLine l p left
+      → StopsLine script begun l now later lines more fault.Memory → HoldsFirst known old later more
+  line_holds script p known left after_left old now later begun l lines more t lost whole stops =
       let f = stops t.st t.state in
-      let lost_all = subst (Consumes known after_left) (append_assoc t.front begun l) (consumes_join known left after_left (t.front ++ begun) l t.lost lost) in
+      let rest = left_behind p after_left in
       record {
         front = t.front;
-        text = f.0;
-        begins = known_begins known after_left t.front (begun ++ l) f.0 f.1 lost_all (sym whole ∙ f.3);
+        rest = begun ++ (l ++ rest);
+        whole = apart_from known t.front begun (l ++ rest) (whole_with p known left after_left (t.front ++ begun) l t.lost lost whole);
         out = t.out;
-        more = f.2;
+        more = f.0;
         st = t.st;
-        answered = λ rest more after goes. t.answered rest more after (may rest) goes;
-        first = f.4;
-        put = passes_more old now later t.out lines f.2 more t.put f.5;
+        answered = λ others more after goes. t.answered others more after (may_more begun others) goes;
+        first = first_there t.st begun l rest f.0 (before_rest p left l rest whole (may_left p after_left)) (λ text next. t.next (l ++ rest) text tt next) f.1;
+        put = passes_more old now later t.out lines f.0 more t.put f.2;
       }
 
-  pub line_stops : (script : script_type.Script S O A s o) (p : Progress) (known left after_left old now later : Option (List ℕ)) (begun l text lines more : List ℕ) (f : ToolFault)
-      → ((rest : List ℕ) → MayStandBehind p begun rest) → Stands script p known left old now begun lines → Consumes left after_left l → text ≡ begun ++ l
-      → StopsText script text now later lines more f → StopsHolding known old later more f
-  line_stops script p known left after_left old now later begun l text lines more fault.Memory may t lost whole stops = text_holds script p known left after_left old now later begun l text lines more may t lost whole stops
-  line_stops script p known left after_left old now later begun l text lines more fault.WriteFailed may t lost whole stops = tt
-  line_stops script p known left after_left old now later begun l text lines more (fault.Text g) may t lost whole stops = absurd stops
-  line_stops script p known left after_left old now later begun l text lines more fault.BadInput may t lost whole stops = absurd stops
-  line_stops script p known left after_left old now later begun l text lines more (fault.Specification g) may t lost whole stops = absurd stops
-  line_stops script p known left after_left old now later begun l text lines more (fault.File g) may t lost whole stops = absurd stops
-  line_stops script p known left after_left old now later begun l text lines more (fault.Code g n) may t lost whole stops = absurd stops
-  line_stops script p known left after_left old now later begun l text lines more fault.ReadFailed may t lost whole stops = absurd stops
-  line_stops script p known left after_left old now later begun l text lines more fault.TooSmall may t lost whole stops = absurd stops
-  line_stops script p known left after_left old now later begun l text lines more fault.BadOptions may t lost whole stops = absurd stops
+  line_stops : (script : script_type.Script S O A s o) (p : Progress) (known left after_left old now later : Option (List ℕ)) (begun l lines more : List ℕ) (f : ToolFault)
+      → Stands script progress.More known left old now begun lines → Consumes left after_left l → IsLine l p left
+      → StopsLine script begun l now later lines more f → StopsHolding known old later more f
+  line_stops script p known left after_left old now later begun l lines more fault.Memory t lost whole stops = line_holds script p known left after_left old now later begun l lines more t lost whole stops
+  line_stops script p known left after_left old now later begun l lines more fault.WriteFailed t lost whole stops = tt
+  line_stops script p known left after_left old now later begun l lines more (fault.Text g) t lost whole stops = absurd stops
+  line_stops script p known left after_left old now later begun l lines more fault.BadInput t lost whole stops = absurd stops
+  line_stops script p known left after_left old now later begun l lines more (fault.Specification g) t lost whole stops = absurd stops
+  line_stops script p known left after_left old now later begun l lines more (fault.File g) t lost whole stops = absurd stops
+  line_stops script p known left after_left old now later begun l lines more (fault.Code g n) t lost whole stops = absurd stops
+  line_stops script p known left after_left old now later begun l lines more fault.ReadFailed t lost whole stops = absurd stops
+  line_stops script p known left after_left old now later begun l lines more fault.TooSmall t lost whole stops = absurd stops
+  line_stops script p known left after_left old now later begun l lines more fault.BadOptions t lost whole stops = absurd stops
 
-  pub given_stops : (script : script_type.Script S O A s o) (p : Progress) (known left old now later : Option (List ℕ)) (begun lines more : List ℕ) (f : ToolFault)
-      → 0 < length begun → StopsText script begun now later lines more f → Stands script p known left old now begun lines → StopsHolding known old later more f
-  given_stops script p known left old now later begun lines more f some stops t =
-      line_stops script p known left left old now later begun [] begun lines more f (λ rest. may_begun p begun rest some) t (none_lost left) (sym (append-nil begun)) stops
+  -- a line was taken, and the shell stops at it
+  pub next_stops : (script : script_type.Script S O A s o) (p : Progress) (known left after_left old now later : Option (List ℕ)) (begun text lines more : List ℕ) (size : ℕ) (f : ToolFault) → size ≡ length begun
+      → (t : TakesLine left after_left begun text p) → StopsLine script (take size text) (drop size text) now later lines more f
+      → Stands script progress.More known left old now begun lines → StopsHolding known old later more f
+  next_stops script p known left after_left old now later begun text lines more size f sized takes stops t =
+      let front : take size text ≡ begun = ap (λ n. take n text) sized ∙ ap (take (length begun)) takes.gained ∙ take-append_seam begun takes.line in
+      let rest : drop size text ≡ takes.line = ap (λ n. drop n text) sized ∙ ap (drop (length begun)) takes.gained ∙ drop-append_seam begun takes.line in
+      line_stops script p known left after_left old now later begun takes.line lines more f t takes.lost takes.whole
+      (subst (λ m. StopsLine script begun m now later lines more f) rest (subst (λ m. StopsLine script m (drop size text) now later lines more f) front stops))
+
+  given_holds : (script : script_type.Script S O A s o) (known left old now later : Option (List ℕ)) (begun lines more : List ℕ)
+      → 0 < length begun → StopsText script begun now later lines more fault.Memory → Stands script progress.End known left old now begun lines → HoldsFirst known old later more
+  given_holds script known left old now later begun lines more some stops t =
+      let f = stops t.st t.state in
+      record {
+        front = t.front;
+        rest = begun ++ [];
+        whole = apart_from known t.front begun [] (none_left known t.all);
+        out = t.out;
+        more = f.0;
+        st = t.st;
+        answered = λ rest more after goes. t.answered rest more after (may_begun progress.End begun rest some) goes;
+        first = elim f.1 [ inl none ↦ inl none | inr first ↦ inr (begun, t.next [] begun refl (by_end begun some), first) ];
+        put = passes_more old now later t.out lines f.0 more t.put f.2;
+      }
+    where
+      none_left : (k : Option (List ℕ)) → IfSome k (λ bytes. bytes ≡ t.front ++ begun) → IfSome k (λ bytes. bytes ≡ (t.front ++ begun) ++ [])
+      none_left None is = tt
+      none_left (Some xs) is = is ∙ sym (append-nil (t.front ++ begun))
+
+  pub given_stops : (script : script_type.Script S O A s o) (known left old now later : Option (List ℕ)) (begun lines more : List ℕ) (f : ToolFault)
+      → 0 < length begun → StopsText script begun now later lines more f → Stands script progress.End known left old now begun lines → StopsHolding known old later more f
+  given_stops script known left old now later begun lines more fault.Memory some stops t = given_holds script known left old now later begun lines more some stops t
+  given_stops script known left old now later begun lines more fault.WriteFailed some stops t = tt
+  given_stops script known left old now later begun lines more (fault.Text g) some stops t = absurd stops
+  given_stops script known left old now later begun lines more fault.BadInput some stops t = absurd stops
+  given_stops script known left old now later begun lines more (fault.Specification g) some stops t = absurd stops
+  given_stops script known left old now later begun lines more (fault.File g) some stops t = absurd stops
+  given_stops script known left old now later begun lines more (fault.Code g n) some stops t = absurd stops
+  given_stops script known left old now later begun lines more fault.ReadFailed some stops t = absurd stops
+  given_stops script known left old now later begun lines more fault.TooSmall some stops t = absurd stops
+  given_stops script known left old now later begun lines more fault.BadOptions some stops t = absurd stops
 
   -- ---- the end
 

@@ -2,7 +2,9 @@
 use Rattle.std.proofs.Common.{◌≡◌, [], refl}
 use Rattle.std.specs.Prelude.{codes, false}
 use Rattle.tool_script.specs.declared.line.Effect.TheVariants as effect
-use Rattle.tool_script.specs.Line.{first_line, behind_line, effect_of, has_dot}
+use Rattle.tool_script.specs.Line.{first_line, behind_line, effect_of, has_dot, AreWholeLines}
+use Rattle.tool_script.specs.Shell.{IsLookedAtNext}
+use Rattle.tool_script.specs.Shell.IsLookedAtNext.{by_dot, by_giving_up, behind_line_begun}
 
 -- a command in its line is looked at, and so is the last one without a line feed
 whole : effect_of [] (codes "{close}.\n") ≡ effect.LooksAt
@@ -57,3 +59,23 @@ unended = refl
 
 nothing : behind_line (codes "b.") ≡ []
 nothing = refl
+
+-- whole lines end with a line feed, and none are whole
+two_lines : AreWholeLines (codes "{close}.\n% all.\n")
+two_lines = refl
+
+no_lines : AreWholeLines []
+no_lines = tt
+
+cut_line : AreWholeLines (codes "{close}.\n{cl") → ⊥
+cut_line is = absurd (cc)
+
+-- the text that is looked at next: a command over two lines, and one that an empty line gives up
+over_lines : IsLookedAtNext [] (codes "{close\n}.\n{close}.\n") (codes "{close\n}.\n")
+over_lines = behind_line_begun refl (by_dot refl)
+
+up_to_empty : IsLookedAtNext [] (codes "{close\n \n{close}.\n") (codes "{close\n")
+up_to_empty = behind_line_begun refl (by_giving_up refl)
+
+up_to_end : IsLookedAtNext [] (codes "{close") (codes "{close")
+up_to_end = behind_line_begun refl (by_giving_up refl)

@@ -19,3 +19,4 @@ pub mod Line
 pub mod Shell
 pub mod Shells
 pub mod Laws
+pub mod Prompt

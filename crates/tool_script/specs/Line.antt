@@ -58,3 +58,9 @@ pub record TakesLine (before after : Option (List ℕ)) (old new : List ℕ) (p 
 abbrev pub EndsLine : List ℕ → Progress → Type 0
 EndsLine line progress.More = (0 < length line) × (slice_index line (length line - 1) ≡ line_feed)
 EndsLine line progress.End = 0 < length line → slice_index line (length line - 1) ≢ line_feed
+
+-- whole lines: the last byte, if there is one, is a line feed
+abbrev pub AreWholeLines : List ℕ → Type 0
+AreWholeLines [] = Unit {0}
+AreWholeLines (c ∷ []) = c ≡ line_feed
+AreWholeLines (c ∷ d ∷ bytes) = AreWholeLines (d ∷ bytes)

@@ -1,7 +1,6 @@
 -- What a shell writes, which replies to the commands of its input while they come.
 use Rattle.std.specs.Prelude.{ℕ, ◌≡◌, ◌≢◌, ◌⊎◌, Bool, true, false, Option, Some, IfSome, flat_map, codes}
 use Rattle.std.specs.Prelude.{List, [], ◌∷◌, ◌++◌, length}
-use Rattle.std.specs.Io.{StartsWith}
 use Rattle.std.specs.Io.KnownBytes.{Appends}
 use Rattle.term_core.specs.Datum.{Datum}
 use Rattle.term_text.specs.Text.{Spells}
@@ -68,6 +67,20 @@ Answered st begun input out = (after : ScriptState) × Goes st begun input out a
 abbrev pub WritesAnswers : List ℕ → (old new : Option (List ℕ)) → Type 0
 WritesAnswers input old new = (out : List ℕ) × Answered beginning [] input out × Appends old new out
 
+-- Behind what is begun, this is the text of an input that is looked at in the end: all that is begun there, with the
+-- lines up to one that has a dot, or up to where an empty line or the end of the input gives it up. What ends too early
+-- when it is looked at goes on.
+pub data IsLookedAtNext : List ℕ → List ℕ → List ℕ → Type 0 where
+  by_dot : {begun input : List ℕ} → effect_of begun (first_line input) ≡ effect.LooksAt
+      → IsLookedAtNext begun input (begun ++ first_line input)
+  by_giving_up : {begun input : List ℕ} → effect_of begun (first_line input) ≡ effect.GivesUp
+      → IsLookedAtNext begun input begun
+  behind_line_begun : {begun input text : List ℕ} → effect_of begun (first_line input) ≡ effect.GoesOn
+      → IsLookedAtNext (begun ++ first_line input) (behind_line input) text → IsLookedAtNext begun input text
+  behind_cut_short : {begun input text : List ℕ} → effect_of begun (first_line input) ≡ effect.LooksAt
+      → IsNoText (begun ++ first_line input) (faults.Syntax (length (begun ++ first_line input)))
+      → IsLookedAtNext (begun ++ first_line input) (behind_line input) text → IsLookedAtNext begun input text
+
 -- the lines of the replies to a beginning of the terms that a text spells
 pub record FirstReplies (st : ScriptState) (text lines : List ℕ) : Type 0 where
   pub front : List Datum
@@ -78,22 +91,27 @@ pub record FirstReplies (st : ScriptState) (text lines : List ℕ) : Type 0 wher
   pub replied : Replies st front replies after
   pub written : lines ≡ flat_map line replies
 
+-- none, or those to the first terms of the text of an input that is looked at next
+abbrev pub AreFirstReplies : ScriptState → List ℕ → List ℕ → Type 0
+AreFirstReplies st input lines =
+    (lines ≡ []) ⊎ ((text : List ℕ) × IsLookedAtNext [] input text × FirstReplies st text lines)
+
 -- a beginning of an input is answered, whatever stands behind it; so nothing is begun there that could go on
 abbrev pub IsAnsweredFirst : (front out : List ℕ) → ScriptState → Type 0
 IsAnsweredFirst front out st =
     (rest more : List ℕ) (after : ScriptState) → Goes st [] rest more after → Goes beginning [] (front ++ rest) (out ++ more) after
 
--- The writer gains what answers a beginning of the input, and maybe the replies to the first terms of the text that
--- stands behind that.
+-- The writer gains what answers a beginning of the input, and maybe the replies to the first terms of the text that is
+-- looked at next in what stands behind that.
 pub record WritesFirst (known old new : Option (List ℕ)) : Type 0 where
   pub front : List ℕ
-  pub text : List ℕ
-  pub begins : IfSome known (λ bytes. StartsWith bytes (front ++ text))
+  pub rest : List ℕ
+  pub whole : IfSome known (λ bytes. bytes ≡ front ++ rest)
   pub out : List ℕ
   pub more : List ℕ
   pub st : ScriptState
   pub answered : IsAnsweredFirst front out st
-  pub first : (more ≡ []) ⊎ FirstReplies st text more
+  pub first : AreFirstReplies st rest more
   pub gained : Appends old new (out ++ more)
 
 -- how a shell ends early: for want of memory, or where reading failed, what was answered before is written; where

@@ -1,6 +1,5 @@
 -- A shell in memory: its script, what is begun, and the lines that aren't written yet.
 use Rattle.std.specs.Prelude.{ℕ, ◌≡◌, ◌≢◌, ◌⊎◌, Bool, true, false, Option, IfSome, flat_map, List, [], ◌∷◌, ◌++◌, length}
-use Rattle.std.specs.Io.{StartsWith}
 use Rattle.std.specs.Io.KnownBytes.{Appends, Consumes}
 use Rattle.term_core.specs.Datum.{Datum}
 use Rattle.term_text.specs.declared.fault.TextFault.{TextFault}
@@ -16,7 +15,7 @@ use Rattle.tool_script.specs.declared.script.Script as script_type
 use Rattle.tool_script.specs.Line.{IsLineBefore}
 use Rattle.tool_script.specs.Script.{ScriptState, beginning}
 use Rattle.tool_script.specs.Scripts.{HasState}
-use Rattle.tool_script.specs.Shell.{Replies, Looked, Goes, FirstReplies, IsAnsweredFirst, refusal}
+use Rattle.tool_script.specs.Shell.{Replies, Looked, Goes, IsLookedAtNext, FirstReplies, AreFirstReplies, IsAnsweredFirst, refusal}
 
 -- terms are replied, and their lines put behind the others, of which some may have gone to the writer
 abbrev pub AreAnswered : {S O A : Type 0} {s : Ghosts S A} {o : Ghosts O A} → script_type.Script S O A s o → script_type.Script S O A s o → List Datum → (before after : Option (List ℕ)) → (lines more : List ℕ) → Type 0
@@ -55,10 +54,22 @@ IsLookedAt old new is_given_up text false before after lines more =
 abbrev pub StopsText : {S O A : Type 0} {s : Ghosts S A} {o : Ghosts O A} → script_type.Script S O A s o → (text : List ℕ) → (before after : Option (List ℕ)) → (lines more : List ℕ) → ToolFault → Type 0
 StopsText old text before after lines more fault.Memory =
     (st : ScriptState) → HasState old st
-    → (looked others now : List ℕ) × (text ≡ looked ++ others) × ((now ≡ []) ⊎ FirstReplies st looked now)
-    × Passes before after (lines ++ now) more
+    → (now : List ℕ) × ((now ≡ []) ⊎ FirstReplies st text now) × Passes before after (lines ++ now) more
 StopsText old text before after lines more fault.WriteFailed = Unit {0}
 StopsText old text before after lines more f = ⊥
+
+-- whatever stands behind a line, the text that is looked at next is this one
+abbrev pub IsLookedAtBy : (begun line text : List ℕ) → Type 0
+IsLookedAtBy begun line text = (rest : List ℕ) → IsLineBefore line rest → IsLookedAtNext begun (line ++ rest) text
+
+-- as for a text, of the one that is looked at where a line stands behind what is begun
+abbrev pub StopsLine : {S O A : Type 0} {s : Ghosts S A} {o : Ghosts O A} → script_type.Script S O A s o → (begun line : List ℕ) → (before after : Option (List ℕ)) → (lines more : List ℕ) → ToolFault → Type 0
+StopsLine old begun line before after lines more fault.Memory =
+    (st : ScriptState) → HasState old st
+    → (now : List ℕ) × ((now ≡ []) ⊎ ((text : List ℕ) × IsLookedAtBy begun line text × FirstReplies st text now))
+    × Passes before after (lines ++ now) more
+StopsLine old begun line before after lines more fault.WriteFailed = Unit {0}
+StopsLine old begun line before after lines more f = ⊥
 
 -- whatever stands behind a line, and is answered from there, the line before it is answered so
 abbrev pub LeadsOn : ScriptState → (begun line now : List ℕ) → ScriptState → (left : List ℕ) → Type 0
@@ -66,10 +77,16 @@ LeadsOn st begun line now behind left =
     (rest out : List ℕ) (after : ScriptState) → IsLineBefore line rest → Goes behind left rest out after
     → Goes st begun (line ++ rest) (now ++ out) after
 
+-- and the text that is looked at next, where the line is begun with what was begun, is the one from there on
+abbrev pub LooksOn : (begun line : List ℕ) → Type 0
+LooksOn begun line =
+    (rest text : List ℕ) → IsLineBefore line rest → IsLookedAtNext (begun ++ line) rest text → IsLookedAtNext begun (line ++ rest) text
+
 -- a line is answered: it is begun, or nothing is any more
 abbrev pub IsLineAnswered : {S O A : Type 0} {s : Ghosts S A} {o : Ghosts O A} → script_type.Script S O A s o → script_type.Script S O A s o → (begun line : List ℕ) → (is_kept : Bool) → (before after : Option (List ℕ)) → (lines more : List ℕ) → Type 0
 IsLineAnswered old new begun line true before after lines more =
-    ((st : ScriptState) → HasState old st → HasState new st × LeadsOn st begun line [] st (begun ++ line)) × Passes before after lines more
+    ((st : ScriptState) → HasState old st → HasState new st × LeadsOn st begun line [] st (begun ++ line))
+    × LooksOn begun line × Passes before after lines more
 IsLineAnswered old new begun line false before after lines more =
     (st : ScriptState) → HasState old st
     → (now : List ℕ) × (behind : ScriptState) × HasState new behind × LeadsOn st begun line now behind []
@@ -102,20 +119,21 @@ pub record Stands {S O A : Type 0} {s : Ghosts S A} {o : Ghosts O A} (script : s
         → Goes beginning [] (front ++ rest) (out ++ more) after
     pub on : (rest more : List ℕ) (after : ScriptState) → MayFollow p rest → Goes st begun rest more after
         → Goes beginning [] ((front ++ begun) ++ rest) (out ++ more) after
+    pub next : (rest text : List ℕ) → MayFollow p rest → IsLookedAtNext begun rest text → IsLookedAtNext [] (begun ++ rest) text
     pub lost : Consumes known left (front ++ begun)
     pub all : IsAllAt p known (front ++ begun)
     pub put : Passes old now out lines
 
--- what is written and kept answers a beginning of the input, and maybe the first terms behind it
+-- what is written and kept answers a beginning of the input, and maybe the first terms that are looked at behind it
 pub record HoldsFirst (known old now : Option (List ℕ)) (lines : List ℕ) : Type 0 where
   pub front : List ℕ
-  pub text : List ℕ
-  pub begins : IfSome known (λ bytes. StartsWith bytes (front ++ text))
+  pub rest : List ℕ
+  pub whole : IfSome known (λ bytes. bytes ≡ front ++ rest)
   pub out : List ℕ
   pub more : List ℕ
   pub st : ScriptState
   pub answered : IsAnsweredFirst front out st
-  pub first : (more ≡ []) ⊎ FirstReplies st text more
+  pub first : AreFirstReplies st rest more
   pub put : Passes old now (out ++ more) lines
 
 abbrev pub StopsHolding : (known old now : Option (List ℕ)) → (lines : List ℕ) → ToolFault → Type 0

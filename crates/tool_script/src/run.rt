@@ -18,7 +18,7 @@ use term_core::Term;
 use tool_io::{BAD_INPUT, ToolFault, out_of_memory, read_script, write_if_many, write_lines};
 
 /// The reply to a term: to the command that it says, else a refusal.
-fn reply_to_term<S: Part<A> + Drop, O: Part<A> + Drop, A: Allocator + Copy>(
+pub(crate) fn reply_to_term<S: Part<A> + Drop, O: Part<A> + Drop, A: Allocator + Copy>(
     script: &mut Script<S, O, A>,
     term: &Term<A>,
 ) -> Result<CommandReply<A>, AllocError>

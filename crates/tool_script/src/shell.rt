@@ -9,7 +9,7 @@ ghost use Rattle.tool_script.specs.Run.{IsPut};
 ghost use Rattle.tool_script.specs.Script.{beginning};
 ghost use Rattle.tool_script.specs.Scripts.{HasState};
 ghost use Rattle.tool_script.specs.Shell.{WritesAnswers, StopsShell};
-ghost use Rattle.tool_script.specs.Shells.{AreAnswered, StopsTerms, IsRefused, IsLookedAt, StopsText, IsLineAnswered, Stands, StopsHolding, IsToldBy};
+ghost use Rattle.tool_script.specs.Shells.{AreAnswered, StopsTerms, IsRefused, IsLookedAt, StopsText, StopsLine, IsLineAnswered, Stands, StopsHolding, IsToldBy};
 
 use crate::line::{Effect, Progress, effect_behind, take_line};
 use crate::reply::put_refusal;
@@ -40,7 +40,8 @@ fn put_counted<S: Part<A> + Drop, O: Part<A> + Drop, A: Allocator + Copy>(
     put_next(script, term, lines)
 }
 
-/// Puts the lines of the replies to these terms at the end, and writes them where they are many. Nothing is begun still.
+/// Puts the lines of the replies to these terms at the end, and writes them where they are many. Nothing is begun
+/// still.
 fn put_replies<S: Part<A> + Drop, O: Part<A> + Drop, A: Allocator + Copy, W: Write>(
     script: &mut Script<S, O, A>,
     terms: &[Term<A>],
@@ -71,7 +72,7 @@ fn is_want_of_memory(fault: TextFault) -> bool
 }
 
 /// Whether a text of so many bytes that was refused is begun still: it ends too early, and isn't given up.
-fn is_begun_still(fault: TextFault, size: usize, is_given_up: bool) -> bool
+pub(crate) fn is_begun_still(fault: TextFault, size: usize, is_given_up: bool) -> bool
     ensures { MatchBool result ((fault ≡ TextFault.Syntax size) × (is_given_up ≡ false))
         (is_given_up ≡ false → fault ≢ TextFault.Syntax size) }
 {
@@ -144,7 +145,8 @@ fn answer_line<S: Part<A> + Drop, O: Part<A> + Drop, A: Allocator + Copy, W: Wri
     ensures ok { IfOk result (λ is_kept. IsLineAnswered script.old script.new
         (take start text.now) (drop start text.now) is_kept
         (W.contents writer.old) (W.contents writer.new) lines.old.items lines.new.items) }
-    ensures stopped { IfErr result (StopsText script.old text.now
+    ensures stopped { IfErr result (StopsLine script.old
+        (take start text.now) (drop start text.now)
         (W.contents writer.old) (W.contents writer.new) lines.old.items lines.new.items) }
 {
     match effect_behind(&text[..start], &text[start..]) {
@@ -156,7 +158,7 @@ fn answer_line<S: Part<A> + Drop, O: Part<A> + Drop, A: Allocator + Copy, W: Wri
 }
 
 /// Writes the lines before a read that may wait: no whole line is there.
-fn write_before<A: Allocator, W: Write>(
+pub(crate) fn write_before<A: Allocator, W: Write>(
     ahead: &[u8],
     writer: &mut W,
     lines: &mut Vec<u8, A>,
@@ -172,7 +174,7 @@ fn write_before<A: Allocator, W: Write>(
 }
 
 /// Lets go what was begun, unless it is still.
-fn keep<A: Allocator>(begun: &mut Vec<u8, A>, is_kept: bool)
+pub(crate) fn keep<A: Allocator>(begun: &mut Vec<u8, A>, is_kept: bool)
     ensures { begun.new.items ≡ (if is_kept then begun.old.items else []) }
 {
     if !is_kept {
@@ -213,7 +215,7 @@ fn answer_next<S: Part<A> + Drop, O: Part<A> + Drop, A: Allocator + Copy, B: Buf
 }
 
 /// Writes the lines that were gathered before a shell ends early, and answers how it ends.
-fn told<A: Allocator, W: Write>(
+pub(crate) fn told<A: Allocator, W: Write>(
     fault: ToolFault,
     writer: &mut W,
     lines: &mut Vec<u8, A>,
@@ -284,9 +286,9 @@ fn answer_input<S: Part<A> + Drop, O: Part<A> + Drop, A: Allocator + Copy, R: Re
 
 /// Reads commands line by line, to the reader's end, and writes the line of the reply to each while they come: sets and
 /// bags are made of parts `S`, ordered sets of parts `O`. What is begun is looked at when a line has a dot before white
-/// space, `%` or its end. Where it spells terms these are replied; where it ends too early the next line goes behind it,
-/// but for an empty line or the end of the input, which give it up; and else its refusal is replied, and none of its
-/// commands is obeyed. Where memory runs out or the reader fails, what was answered before is written.
+/// space, `%` or its end. Where it spells terms these are replied; where it ends too early the next line goes behind
+/// it, but for an empty line or the end of the input, which give it up; and else its refusal is replied, and none of
+/// its commands is obeyed. Where memory runs out or the reader fails, what was answered before is written.
 #[tactic(auto, using(crate::proofs::ShellLemmas::stops_first))]
 pub fn run_shell<S: Part<A> + Drop, O: Part<A> + Drop, A: Allocator + Copy, R: Read, W: Write>(
     alloc: A,

@@ -1,5 +1,5 @@
 use Rattle.tool_cli.specs.declared.words.Request.TheVariants as request
-use Rattle.tool_cli.proofs.EndLemmas.{has_outcome, has_replies, has_answers, has_scanned}
+use Rattle.tool_cli.proofs.EndLemmas.{has_outcome, has_replies, has_answers, has_prompted, has_scanned}
 use Rattle.tool_cli.proofs.program.command_outcome.Goals as goal
 
 pub returns-in-Run : goal.returns-in-Run
@@ -19,6 +19,9 @@ returns-in-Script g c = rw c.in-Script.is (has_replies _ _ _ c.run_script.result
 
 pub returns-in-Shell : goal.returns-in-Shell
 returns-in-Shell g c = rw c.in-Shell.is (has_answers _ _ _ c.run_shell.result c.run_shell.ensures.ok c.run_shell.ensures.stopped)
+
+pub returns-in-Prompt : goal.returns-in-Prompt
+returns-in-Prompt g c = rw c.in-Prompt.is (has_prompted _ _ _ c.run_prompt.result c.run_prompt.ensures)
 
 pub returns-in-Scan : goal.returns-in-Scan
 returns-in-Scan g c = rw c.in-Scan.is (has_scanned c.in-Scan.options _ _ _ c.tool_scan.result c.tool_scan.ensures.ok c.tool_scan.ensures.refused)

@@ -1,6 +1,6 @@
 use Rattle.std.proofs.Common.{◌∙◌, sym, ap, arith, rules}
 use Rattle.clap.specs.Words.{found_of, rows_of}
-use Rattle.tool_cli.specs.Words.{to_run, to_test, to_scan, to_explain}
+use Rattle.tool_cli.specs.Words.{to_run, to_test, to_shell, to_scan, to_explain}
 use Rattle.tool_cli.specs.declared.words.Request.TheVariants as request
 use Rattle.tool_cli.proofs.ReadLemmas.{request_named, run_left, IsNoOther}
 use Rattle.tool_cli.proofs.words.request_in.Goals as goal
@@ -31,6 +31,16 @@ pub scan_options-requires : goal.scan_options-requires
 scan_options-requires c =
     let read = request_named c.requires.0 to_scan c.requires.1 (rows_of (found_of c.args.matches.now)) c.args.name.now c.requires.2 c.in-scan.is c.requires.3 in
     (read.0, read.2)
+
+pub shell_request-requires : goal.shell_request-requires
+shell_request-requires c =
+    let read = request_named c.requires.0 to_shell c.requires.1 (rows_of (found_of c.args.matches.now)) c.args.name.now c.requires.2 c.in-shell.is c.requires.3 in
+    (read.0, read.2)
+
+pub returns-in-shell : goal.returns-in-shell
+returns-in-shell c = λ which r named is.
+    let read = request_named which to_shell r (rows_of (found_of c.args.matches.now)) c.args.name.now named c.in-shell.is is in
+    c.shell_request.ensures read.0 read.2 ∙ sym read.1
 
 pub returns-in-scan : goal.returns-in-scan
 returns-in-scan c = λ which r named is.

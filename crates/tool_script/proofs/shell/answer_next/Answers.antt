@@ -1,7 +1,6 @@
 use Rattle.std.proofs.Common.{◌≡◌, length, rules}
 use Rattle.std.proofs.lemmas.Result.{err_from_is_err_and}
-use Rattle.tool_script.specs.declared.line.Progress.TheVariants as progress
-use Rattle.tool_script.proofs.ShellLemmas.{line_stops, may_more, next_stands, unread_stops}
+use Rattle.tool_script.proofs.ShellLemmas.{next_stands, next_stops, unread_stops}
 use Rattle.tool_script.proofs.shell.answer_next.Goals as goal
 
 pub returns-in_err-progress-clause-stopped : goal.returns-in_err-progress-clause-stopped
@@ -18,7 +17,7 @@ returns-in-Ok-clause-ok g c =
 
 pub returns-in-Err-clause-stopped : goal.returns-in-Err-clause-stopped
 returns-in-Err-clause-stopped g c =
-    let takes = c.in_ok-progress.ensures.ok in
+    let size : c.len-start.result ≡ length c.args.begun.now.items = search rules in
     let stops = rw c.as_slice.ensures.value at c.in-Err.ensures.stopped in
-    λ known old t. line_stops c.args.script.now progress.More known (g.B.Read.remaining c.args.input.now) (g.B.Read.remaining c.take_line.new.input) old (g.W.Write.contents c.args.writer.now) (g.W.Write.contents c.answer_line.new.writer) c.args.begun.now.items takes.line c.take_line.new.bytes.items c.args.lines.now.items c.answer_line.new.lines.items c.in-Err.fault
-    (may_more c.args.begun.now.items) t takes.lost takes.gained stops
+    λ known old t. next_stops c.args.script.now c.in_ok-progress.progress known (g.B.Read.remaining c.args.input.now) (g.B.Read.remaining c.take_line.new.input) old (g.W.Write.contents c.args.writer.now) (g.W.Write.contents c.answer_line.new.writer) c.args.begun.now.items c.take_line.new.bytes.items c.args.lines.now.items c.answer_line.new.lines.items c.len-start.result c.in-Err.fault
+    size c.in_ok-progress.ensures.ok stops t

@@ -1,6 +1,5 @@
 use Rattle.std.proofs.Common.{◌∙◌, eqb-true, sym, length}
 use Rattle.std.proofs.lemmas.Result.{on_ok_weaker}
-use Rattle.tool_script.specs.declared.line.Progress.TheVariants as progress
 use Rattle.tool_script.proofs.ShellLemmas.{given_stops, some_of, stands_ended, stands_given, told_stops}
 use Rattle.tool_script.proofs.shell.finish.Goals as goal
 
@@ -19,4 +18,4 @@ returns-in-Err-clause-stopped g c =
     let some = some_of (length c.args.begun.now) (sym c.is_empty.ensures ∙ c.if-is_empty.false) in
     λ known left old t.
     told_stops known old (g.W.Write.contents c.answer_text.new.writer) (g.W.Write.contents c.told.new.writer) c.answer_text.new.lines.items c.in-Err.fault c.told.result
-    (given_stops c.args.script.now progress.End known left old (g.W.Write.contents c.args.writer.now) (g.W.Write.contents c.answer_text.new.writer) c.args.begun.now c.args.lines.now.items c.answer_text.new.lines.items c.in-Err.fault some c.in-Err.ensures.stopped t) c.told.ensures
+    (given_stops c.args.script.now known left old (g.W.Write.contents c.args.writer.now) (g.W.Write.contents c.answer_text.new.writer) c.args.begun.now c.args.lines.now.items c.answer_text.new.lines.items c.in-Err.fault some c.in-Err.ensures.stopped t) c.told.ensures

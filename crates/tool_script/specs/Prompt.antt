@@ -1,0 +1,10 @@
+-- How a shell for a person ends early.
+use Rattle.tool_io.specs.declared.fault.ToolFault.{ToolFault}
+use Rattle.tool_io.specs.declared.fault.ToolFault.TheVariants as fault
+
+-- for want of memory, or where a stream failed: no byte of an input ends it
+abbrev pub IsStreamFault : ToolFault → Type 0
+IsStreamFault fault.Memory = Unit {0}
+IsStreamFault fault.ReadFailed = Unit {0}
+IsStreamFault fault.WriteFailed = Unit {0}
+IsStreamFault f = ⊥
