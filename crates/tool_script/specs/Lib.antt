@@ -18,4 +18,5 @@ pub mod Input
 pub mod Line
 pub mod Shell
 pub mod Shells
+pub mod Engine
 pub mod Laws

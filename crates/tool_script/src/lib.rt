@@ -15,11 +15,13 @@
 //! - `reply`: replies and their lines, `specs/Replies.antt`; `run`: from a reader to a writer, too, `specs/Input.antt`.
 //! - `shell`: replies while commands come, `specs/Shell.antt`, in memory `specs/Shells.antt`; `line`: the lines of its
 //!   input, `specs/Line.antt`.
+//! - `engine`: a script that goes on from text to text, `specs/Engine.antt`.
 //! - `laws`: replies are one, and whole lines are answered as a script, `specs/Laws.antt`.
 #![tactic(auto)]
 
 mod command;
 mod command_laws;
+mod engine;
 mod laws;
 mod line;
 mod open;
@@ -32,6 +34,7 @@ mod walk;
 
 pub use command::{Ask, Command, Selection, read_command};
 pub use command_laws::terms_tell_commands;
+pub use engine::{Engine, Halt};
 pub use laws::{lines_are_a_script, replies_are_one};
 pub use reply::{CommandReply, put_reply};
 pub use run::run_script;
