@@ -1,5 +1,5 @@
 -- An engine goes on from term to term, and from text to text.
-use Rattle.std.proofs.Common.{◌≡◌, ◌⊎◌, ◌↔◌, inl, inr, ℕ, ◌+◌, ◌<◌, List, [], ◌∷◌, ◌++◌, take, drop, get_or, length, flat_map, refl, sym, ap, subst, ◌∙◌, append_assoc}
+use Rattle.std.proofs.Common.{◌≡◌, ◌↔◌, inl, inr, ℕ, ◌+◌, ◌<◌, List, [], ◌∷◌, ◌++◌, take, drop, get_or, length, flat_map, refl, sym, ap, subst, ◌∙◌, append_assoc}
 use Rattle.std.proofs.lemmas.List.{append-nil, take_more, take-append-drop}
 use Rattle.std.proofs.lemmas.List.Concat.{flat_map-append}
 use Rattle.std.specs.Str.{IsValidUpTo}
@@ -10,6 +10,7 @@ use Rattle.term_text.specs.declared.fault.TextFault.{TextFault}
 use Rattle.term_text.specs.declared.fault.TextFault.TheVariants as faults
 use Rattle.part_core.specs.declared.part.Part.{Ghosts}
 use Rattle.tool_io.specs.Lines.{line}
+use Rattle.tool_io.proofs.TermsLemmas.{text_refused}
 use Rattle.tool_script.specs.declared.script.Script as script_type
 use Rattle.tool_script.specs.Engine.{ArePut, ArePutFirst, IsUnread}
 use Rattle.tool_script.specs.Run.{IsPut}
@@ -20,6 +21,17 @@ use Rattle.tool_script.proofs.PassLemmas.{replied_more}
 
 one_more : (rs : List Datum) (r : Datum) → flat_map line rs ++ line r ≡ flat_map line (rs ++ r ∷ [])
 one_more rs r = ap (λ l. flat_map line rs ++ l) (sym (append-nil (line r))) ∙ sym (flat_map-append line rs (r ∷ []))
+
+-- a text that is refused
+pub unread : (input : List ℕ) (f : TextFault) → ((ds : List Datum) → Spells input ds → f ≡ faults.Memory) → HasCause input f → ((at : ℕ) → (f ≡ faults.BadUtf8 at) ↔ IsValidUpTo input at) → IsUnread input f
+unread input faults.Memory only cause bad = inl refl
+unread input (faults.TooDeep at) only cause bad = inr (text_refused input (faults.TooDeep at) only cause bad)
+unread input (faults.TooLong at) only cause bad = inr (text_refused input (faults.TooLong at) only cause bad)
+unread input (faults.DuplicateKey at) only cause bad = inr (text_refused input (faults.DuplicateKey at) only cause bad)
+unread input (faults.Syntax at) only cause bad = inr (text_refused input (faults.Syntax at) only cause bad)
+unread input (faults.BadUtf8 at) only cause bad = inr (text_refused input (faults.BadUtf8 at) only cause bad)
+unread input (faults.IntegerRange at) only cause bad = inr (text_refused input (faults.IntegerRange at) only cause bad)
+unread input (faults.UnsupportedEscape at) only cause bad = inr (text_refused input (faults.UnsupportedEscape at) only cause bad)
 
 module _ {S O A : Type 0} {s : Ghosts S A} {o : Ghosts O A} where
   pub put_none : (script : script_type.Script S O A s o) (lines : List ℕ) → ArePut script script [] lines lines
