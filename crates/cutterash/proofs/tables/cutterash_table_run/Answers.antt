@@ -4,7 +4,7 @@ use Rattle.cutterash.specs.Tables.{Obeys}
 use Rattle.cutterash.proofs.tables.cutterash_table_run.Goals as goal
 
 pub returns-clause-open : goal.returns-clause-open
-returns-clause-open c = λ open.
+returns-clause-open c = λ opened.
     let was : c.deref_mut.result.now ≡ c.args.table.now.kept = c.deref_mut.ensures.value ∙ c.in-Some.ensures.taken.1 in
     let now : c.obeyed-reply.new.kept ≡ c.of-2.result.kept = sym (c.of-2.ensures.1 ∙ c.of.ensures) in (
       c.of-2.ensures.0,
