@@ -10,14 +10,13 @@
 //!   one keeps; `loose`: a box as its pointer. The functions that make a handle of a box and a box of a handle are
 //!   proved by hand.
 //! - `tables`: the exports for tables; those for filters stand here.
-//! - `text`: what calls do with texts; `reply`: what they reply; `fault`: the numbers of refusals.
+//! - `text`: what calls do with texts; `reply`: what they reply.
 #![tactic(auto)]
 
 ghost use Rattle.std.specs.Prelude.{◌≡◌, ◌⊎◌, true, false};
 ghost use Rattle.cutterash.specs.Reply.{closed_reply, refusal_reply};
 ghost use Rattle.cutterash.specs.Calls.{Compiles, Loads, IsOpened, Keeps, Answers};
 
-mod fault;
 mod filter;
 mod kept;
 mod loaded;

@@ -3,7 +3,6 @@ ghost use Rattle.std.specs.Prelude.{◌≡◌, ◌++◌, length, slice_index_or}
 ghost use Rattle.std.specs.Option.{option_to_list};
 ghost use Rattle.cutterash.specs.Reply.{IsPut, Gives, put_status, refusal_status, nothing_reply, closed_reply, done_reply, lost_reply, refusal_reply, bounds_reply};
 
-use crate::fault::{arguments, number};
 use tool_io::ToolFault;
 
 /// The status of a call that did what it is for.
@@ -170,8 +169,8 @@ fn counted(arguments: (Option<u64>, Option<u64>)) -> (u32, u64, u64)
 pub(crate) fn refused(fault: ToolFault) -> Reply
     ensures { result ≡ refusal_reply fault }
 {
-    let number = number(fault);
-    let (count, first, second) = counted(arguments(fault));
+    let number = fault.number();
+    let (count, first, second) = counted(fault.arguments());
     Reply {
         status: status_of_number(number),
         number: u32::from(number),

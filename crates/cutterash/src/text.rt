@@ -1,18 +1,14 @@
 //! What calls do with the texts that they are given.
 ghost use Rattle.std.specs.Prelude.{◌≡◌, IfOk, IfErr, option_map};
 ghost use Rattle.tool_io.specs.Terms.{HasTerms};
-ghost use Rattle.tool_query.specs.Code.{IsFileOf};
 ghost use Rattle.cutterash.specs.Calls.{IsNoTerm, IsCompiled, IsUncompiled, IsAnswered};
 
-use code_file::encode;
-use compiler::compile;
 use machine::run;
-use mspec_syntax::Spec;
-use std::alloc::{AllocError, Global};
+use std::alloc::Global;
 use term_core::Term;
 use term_text::{TextFault, read_terms, write_term};
 use tool_io::ToolFault;
-use tool_query::{only, specification_of};
+use tool_query::{file_of, only, specification_of};
 use verifier::Verified;
 
 /// The terms of a text, each with a dot behind it, at least one.
@@ -28,14 +24,6 @@ fn some_terms(alloc: Global, text: &[u8]) -> Result<Vec<Term>, ToolFault>
         return Err(ToolFault::Text(TextFault::Syntax(text.len())));
     }
     Ok(terms)
-}
-
-/// The file of a specification's code.
-fn file_of(alloc: Global, specification: &Spec) -> Result<Vec<u8>, AllocError>
-    ensures { IfOk result (λ bytes. IsFileOf specification.now bytes.items) }
-{
-    let code = compile(alloc, specification)?;
-    encode(alloc, code.code())
 }
 
 /// The code file of the specification that a text spells, with a dot behind it.
