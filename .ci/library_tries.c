@@ -196,6 +196,133 @@ static void try_many(const uint8_t *file, size_t length, long calls) {
     HOLDS(in_use == held);
 }
 
+static struct cutterash_reply obey(struct cutterash_table *table, const char *text, uint8_t *room, size_t length) {
+    return cutterash_table_run(table, (const uint8_t *)text, strlen(text), room, length);
+}
+
+/* A reply of so many bytes, which stand at the front of the room. */
+static bool answers(struct cutterash_reply reply, const char *lines, const uint8_t *room) {
+    return is(reply, CUTTERASH_DONE, 0, 0, 0, 0, strlen(lines)) && memcmp(room, lines, strlen(lines)) == 0;
+}
+
+/* Tables that are closed, no text and no room, texts that are refused, replies that have no room. */
+static void try_table(void) {
+    struct cutterash_table table = {0};
+    uint8_t room[256], before[256];
+    memset(room, 0x5a, sizeof room);
+    memcpy(before, room, sizeof room);
+    HOLDS(is(obey(&table, "{close}.", room, sizeof room), CUTTERASH_CLOSED, 0, 0, 0, 0, 0));
+    HOLDS(is(cutterash_table_replies(&table, room, sizeof room), CUTTERASH_CLOSED, 0, 0, 0, 0, 0));
+    cutterash_table_close(&table);
+    HOLDS(!table.is_open && memcmp(room, before, sizeof room) == 0);
+
+    HOLDS(is(cutterash_table_open(&table), CUTTERASH_DONE, 0, 0, 0, 0, 0) && table.is_open);
+    HOLDS(answers(cutterash_table_replies(&table, room, 0), "", room));
+    HOLDS(answers(obey(&table, "", room, 0), "", room));
+    HOLDS(answers(obey(&table, " % nothing\n", room, 0), "", room));
+    HOLDS(memcmp(room, before, sizeof room) == 0);
+    HOLDS(answers(obey(&table, "{member,0,1}. 5. {open,set,1,4,2}.", room, sizeof room),
+                  "{error,65}.\n{error,65}.\ntrue.\n", room));
+    HOLDS(memcmp(room + 30, before + 30, sizeof room - 30) == 0);
+    HOLDS(answers(obey(&table, "{insert,0,{1,a}}. {insert,1,{1,b}}. {insert,0,{7}}. {fix,0}.", room, sizeof room),
+                  "true.\ntrue.\ntrue.\ntrue.\n", room));
+
+    /* A text that is refused changes nothing: none of its commands is obeyed, and the lines stay. */
+    HOLDS(refuses(obey(&table, "{delete,0,1}. {delete,0", room, sizeof room), 5, 1, 23, 0));
+    HOLDS(refuses(obey(&table, "{delete,0,1}. \377.", room, sizeof room), 6, 1, 14, 0));
+    HOLDS(answers(cutterash_table_replies(&table, room, sizeof room), "true.\ntrue.\ntrue.\ntrue.\n", room));
+
+    /* Lines without room are kept, and the commands are obeyed. */
+    memset(room, 0x5a, sizeof room);
+    HOLDS(is(obey(&table, "{take,0,1}. {select,0,[{'_',[],['$_']}],1}.", room, 8), CUTTERASH_NO_ROOM, 0, 0, 0, 0, 20));
+    HOLDS(is(cutterash_table_replies(&table, room, 19), CUTTERASH_NO_ROOM, 0, 0, 0, 0, 20));
+    HOLDS(memcmp(room, before, sizeof room) == 0);
+    HOLDS(answers(cutterash_table_replies(&table, room, 20), "[{1,b}].\n{[{7}],0}.\n", room));
+    HOLDS(answers(cutterash_table_replies(&table, room, sizeof room), "[{1,b}].\n{[{7}],0}.\n", room));
+    HOLDS(answers(obey(&table, "{more,0,0}. {more,0,0}. {member,0,1}. {close}. {close}.", room, sizeof room),
+                  "'$end_of_table'.\n{error,62}.\nfalse.\n[{7}].\n{error,65}.\n", room));
+
+    /* What an open table keeps is let go when it is opened again. */
+    HOLDS(answers(obey(&table, "{open,bag,1,1,1}. {insert,0,{1}}.", room, sizeof room), "true.\ntrue.\n", room));
+    HOLDS(is(cutterash_table_open(&table), CUTTERASH_DONE, 0, 0, 0, 0, 0));
+    HOLDS(answers(cutterash_table_replies(&table, room, sizeof room), "", room));
+    HOLDS(answers(obey(&table, "{member,0,1}.", room, sizeof room), "{error,65}.\n", room));
+    cutterash_table_close(&table);
+    cutterash_table_close(&table);
+    HOLDS(is(obey(&table, "", room, sizeof room), CUTTERASH_CLOSED, 0, 0, 0, 0, 0));
+}
+
+/* What is asked where requests for memory are refused in turn, and its replies. */
+static const char asked[] =
+    "{insert,0,{1,{a,[2,3]}}}. {insert,0,{3,b}}. {lookup,0,1}. {take,0,3}. {first,0}. {next,0,1}. {insert_new,0,{4,c}}. "
+    "{select,0,[{{'$1',{a,'_'}},[],['$1']}],1}. {more,0,0}. {select_count,0,[{'_',[],[true]}]}. "
+    "{select_delete,0,[{{4,'_'},[],[true]}]}. {fix,0}. {unfix,0}. {delete,0,4}. {close}.";
+static const char replied[] =
+    "true.\ntrue.\n[{1,{a,[2,3]}}].\n[{3,b}].\n1.\n'$end_of_table'.\ntrue.\n"
+    "{[1],0}.\n'$end_of_table'.\n2.\n1.\ntrue.\ntrue.\ntrue.\n[{1,{a,[2,3]}}].\n";
+
+/* Each request for memory is refused in turn. A run that can't read its text leaves the table as it was; one in which memory
+ * runs out behind that leaves it at its beginning, with a beginning of the lines. */
+static void try_table_memory(const char *open_text) {
+    uint8_t room[512];
+    struct cutterash_table table = {0};
+    struct cutterash_reply reply;
+    long n, all = in_use;
+    for (n = 0, reply.status = CUTTERASH_NO_MEMORY; reply.status == CUTTERASH_NO_MEMORY; n++) {
+        given = n;
+        reply = cutterash_table_open(&table);
+        given = -1;
+        HOLDS(table.is_open ? reply.status == CUTTERASH_DONE : is(reply, CUTTERASH_NO_MEMORY, 1, 0, 0, 0, 0) && in_use == all);
+    }
+    long unread = 0, lost = 0;
+    for (n = 0, reply.status = CUTTERASH_LOST; reply.status != CUTTERASH_DONE && n < 100000; n++) {
+        HOLDS(cutterash_table_open(&table).status == CUTTERASH_DONE);
+        HOLDS(answers(obey(&table, open_text, room, sizeof room), "true.\n", room));
+        given = n;
+        reply = obey(&table, asked, room, sizeof room);
+        given = -1;
+        HOLDS(table.is_open);
+        if (reply.status == CUTTERASH_NO_MEMORY) {
+            unread++;
+            HOLDS(is(reply, CUTTERASH_NO_MEMORY, 1, 0, 0, 0, 0));
+            HOLDS(answers(cutterash_table_replies(&table, room, sizeof room), "true.\n", room));
+            HOLDS(answers(obey(&table, "{member,0,1}.", room, sizeof room), "false.\n", room));
+        } else if (reply.status == CUTTERASH_LOST) {
+            lost++;
+            HOLDS(is(reply, CUTTERASH_LOST, 1, 0, 0, 0, reply.length) && reply.length < strlen(replied));
+            HOLDS(cutterash_table_replies(&table, room, sizeof room).length == reply.length);
+            HOLDS(memcmp(room, replied, reply.length) == 0 && (reply.length == 0 || room[reply.length - 1] == '\n'));
+            HOLDS(answers(obey(&table, "{member,0,1}.", room, sizeof room), "{error,65}.\n", room));
+        } else
+            HOLDS(answers(reply, replied, room));
+    }
+    HOLDS(unread > 10 && lost > 10);
+    cutterash_table_close(&table);
+    HOLDS(in_use == all);
+}
+
+/* So many calls of a table, over which no block is lost; one that is opened again has as many as at first. */
+static void try_table_many(const char *open_text, long calls) {
+    static const char *const texts[] = {"{insert,0,{1,[a,{b,\"cd\"}]}}.", "{lookup,0,1}.", "{insert,0,{2,b}}. {delete,0,2}.", "{lookup,0",
+                                        "{select,0,[{{'$1','_'},[],['$1']}]}."};
+    uint8_t room[64];
+    struct cutterash_table table = {0};
+    long held = in_use, opened = 0;
+    for (long i = 0; i < calls; i++) {
+        if (i % 4096 == 0) {
+            HOLDS(cutterash_table_open(&table).status == CUTTERASH_DONE);
+            HOLDS(obey(&table, open_text, room, sizeof room).status == CUTTERASH_DONE);
+            if (i == 0)
+                opened = in_use;
+            HOLDS(in_use == opened);
+        }
+        struct cutterash_reply reply = obey(&table, texts[i % 5], room, i % 7 == 0 ? 0 : sizeof room);
+        HOLDS(reply.status == (i % 5 == 3 ? CUTTERASH_REFUSED : i % 7 == 0 ? CUTTERASH_NO_ROOM : CUTTERASH_DONE));
+    }
+    cutterash_table_close(&table);
+    HOLDS(in_use == held);
+}
+
 int main(int count, char **words) {
     uint8_t file[512];
     long calls = count > 1 ? atol(words[1]) : 1000000;
@@ -206,5 +333,11 @@ int main(int count, char **words) {
     try_run(file, reply.length);
     try_memory(file, reply.length);
     try_many(file, reply.length, calls);
+    static const char *const kinds[] = {"{open,set,1,4,1}.", "{open,ordered_set,1,1,1}.", "{open,bag,1,1,1}."};
+    try_table();
+    for (size_t i = 0; i < 3; i++) {
+        try_table_memory(kinds[i]);
+        try_table_many(kinds[i], i == 2 ? 10000 : calls / 2);
+    }
     return failed;
 }

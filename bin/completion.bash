@@ -10,6 +10,8 @@ _ets_tool() {
         mapfile -t COMPREPLY < <(compgen -W 'set bag duplicate_bag' -- "$word")
     elif [ "${COMP_WORDS[1]}" = scan ]; then
         mapfile -t COMPREPLY < <(compgen -W '--kind --keypos --parts --workers --why --help' -- "$word")
+    elif [ "${COMP_WORDS[1]}" = run ] || [ "${COMP_WORDS[1]}" = test ]; then
+        mapfile -t COMPREPLY < <(compgen -W '--strings --why --help' -- "$word")
     elif [ "${COMP_WORDS[1]}" = shell ]; then
         mapfile -t COMPREPLY < <(compgen -W '--prompt --why --help' -- "$word")
     elif [ "${COMP_WORDS[1]}" = explain ]; then

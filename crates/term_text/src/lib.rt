@@ -34,4 +34,4 @@ pub use law::{
     readable_text_is_read_back,
 };
 pub use text::{next_term, read_terms, text_of};
-pub use write::{write_binary, write_readable, write_term};
+pub use write::{Form, write_as, write_binary, write_readable, write_term};

@@ -21,10 +21,12 @@ use std::alloc::{AllocError, Allocator};
 use std::mem;
 use term_core::{Term, View};
 
-/// Whether lists and binaries of printable characters are written between double quotes.
-#[derive(Clone, Copy)]
-enum Form {
+/// How lists and binaries of printable characters are written.
+#[derive(Clone, Copy, Debug, PartialEq, Eq)]
+pub enum Form {
+    /// As lists and as bytes: the one canonical text.
     Canonical,
+    /// Between double quotes, for persons.
     Readable,
 }
 
@@ -555,8 +557,8 @@ fn put_back<B: Allocator>(
     ended
 }
 
-/// Appends a text of a term. After an `Err` the text is as before.
-fn write_as<A: Allocator, B: Allocator + Copy>(
+/// Appends the text of a term in such a form. After an `Err` the text is as before.
+pub fn write_as<A: Allocator, B: Allocator + Copy>(
     form: Form,
     term: &Term<A>,
     out: &mut Vec<u8, B>,

@@ -2,7 +2,7 @@
 //! for the last line. No line is written before the last has been put together.
 use kit_alloc::{Failing, SweepOutcome, sweep, sweep_onward};
 use std::alloc::{Allocator, Global};
-use term_text::TextFault;
+use term_text::{Form, TextFault};
 use tool_io::ToolFault;
 use tool_query::{tool_run, tool_test};
 
@@ -30,7 +30,7 @@ fn is_right_or_out_of_memory<B: Allocator>(
 fn is_run(alloc: Global, heap: &Failing<Global>) -> bool {
     let mut reader = MADE.as_bytes();
     let mut written = Vec::new(alloc);
-    let ended = tool_run(heap, &mut reader, &mut written);
+    let ended = tool_run(heap, Form::Canonical, &mut reader, &mut written);
     is_right_or_out_of_memory(ended, heap, written.as_slice(), MADE_LINES) && heap.blocks() == 0
 }
 
@@ -60,7 +60,7 @@ fn swept_test(alloc: Global) -> SweepOutcome {
     sweep(alloc, 4_000, |heap| {
         let mut reader = input.as_bytes();
         let mut written = Vec::new(alloc);
-        let ended = tool_test(heap, &mut reader, &mut written);
+        let ended = tool_test(heap, Form::Canonical, &mut reader, &mut written);
         is_right_or_out_of_memory(ended, heap, written.as_slice(), lines) && heap.blocks() == 0
     })
 }
@@ -92,7 +92,7 @@ fn swept_late(alloc: Global, input: &str) -> SweepOutcome {
     sweep(alloc, 2_000, |heap| {
         let mut reader = input.as_bytes();
         let mut written = Vec::new(alloc);
-        let ended = tool_run(heap, &mut reader, &mut written);
+        let ended = tool_run(heap, Form::Canonical, &mut reader, &mut written);
         is_refused_or_out_of_memory(ended, heap, written.as_slice(), input.len())
             && heap.blocks() == 0
     })

@@ -1,6 +1,7 @@
 //! Readers that fail, give one byte at a time or are interrupted.
 use kit_streams::{FailingReader, INPUT, SlowReader};
 use std::alloc::Global;
+use term_text::Form;
 use tool_io::{ToolFault, read_within};
 use tool_query::tool_run;
 
@@ -48,7 +49,7 @@ fn writes_slowly(alloc: Global, input: &str, is_interrupted: bool, lines: &str) 
         is_due: false,
     };
     let mut written = Vec::new(alloc);
-    match tool_run(alloc, &mut reader, &mut written) {
+    match tool_run(alloc, Form::Canonical, &mut reader, &mut written) {
         Ok(()) => written.as_slice() == lines.as_bytes(),
         Err(_) => false,
     }
@@ -68,7 +69,7 @@ fn run_reading(alloc: Global, call: u32) -> Result<(), ToolFault> {
         calls_left: call,
     };
     let mut written = Vec::new(alloc);
-    tool_run(alloc, &mut reader, &mut written)
+    tool_run(alloc, Form::Canonical, &mut reader, &mut written)
 }
 
 #[test]

@@ -7,6 +7,7 @@ use part_plain::PlainPart;
 use std::alloc::Global;
 use std::sync::Wait;
 use std::thread::Threads;
+use term_text::Form;
 use tool_cli::{Request, Told, run_request};
 
 /// Whether what was told is the line of want of memory, or nothing.
@@ -124,10 +125,14 @@ impl<'a> Case<'a> {
 
 #[test]
 fn each_request_refused_in_turn(rt: HostRuntime) {
-    let answered = Case::answered(Request::Run, MADE, MADE_LINES).tried_up_to(&rt, rt.alloc(), 0);
+    let answered = Case::answered(Request::Run(Form::Canonical), MADE, MADE_LINES).tried_up_to(
+        &rt,
+        rt.alloc(),
+        0,
+    );
     assert_eq!(rt; answered, Ok(()));
     let refused = Case {
-        request: Request::Run,
+        request: Request::Run(Form::Canonical),
         input: "[{{'$1'},[],['$3']}]. {1}.",
         lines: "",
         line: "error E16 0 3\n",
@@ -144,7 +149,7 @@ fn each_request_over_code_files_refused_in_turn(rt: HostRuntime) {
     assert_eq!(rt; verified.tried(&rt, rt.alloc()), Ok(()));
     let input =
         "<<69,77,83,67,0,1,0,0,0,1,2,0,4,116,114,117,101,0,3,2,0,0,24,25,0,1,0,2,0,0,0,0,0,0>>. a.";
-    let ran = Case::answered(Request::Run, input, "true.\n");
+    let ran = Case::answered(Request::Run(Form::Canonical), input, "true.\n");
     assert_eq!(rt; ran.tried(&rt, rt.alloc()), Ok(()));
 }
 

@@ -6,6 +6,7 @@ use std::alloc::Global;
 use std::io::{self, Read, Write};
 use std::sync::Wait;
 use std::thread::Threads;
+use term_text::Form;
 use tool_cli::{Request, Told, run_request};
 use tool_scan::{ScanKind, ScanOptions};
 
@@ -34,8 +35,8 @@ const SCAN: Request = Request::Scan(ScanOptions {
 
 /// Each command that reads its input whole, with one on which it ends well.
 const CASES: [(Request, &str); 7] = [
-    (Request::Run, INPUT),
-    (Request::Test, INPUT),
+    (Request::Run(Form::Canonical), INPUT),
+    (Request::Test(Form::Canonical), INPUT),
     (Request::Compile, "[{'_',[],[true]}]."),
     (Request::Verify, FILE),
     (Request::Explain(1), FILE),

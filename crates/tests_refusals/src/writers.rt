@@ -4,6 +4,7 @@ use part_hash::HashPart;
 use std::alloc::Global;
 use std::sync::Wait;
 use std::thread::Threads;
+use term_text::Form;
 use tool_cli::{Request, Told, run_request, run_words};
 use tool_io::ToolFault;
 use tool_query::tool_run;
@@ -55,8 +56,24 @@ fn all_lines_are_passed_on(rt: HostRuntime) {
         parts: 2,
         workers: 2,
     };
-    assert!(rt; passes_on(&rt, rt.alloc(), Request::Run, MATCHED, "1.\n"));
-    assert!(rt; passes_on(&rt, rt.alloc(), Request::Test, MATCHED, "{ok,1}.\nfalse.\n"));
+    assert!(rt;
+        passes_on(
+            &rt,
+            rt.alloc(),
+            Request::Run(Form::Canonical),
+            MATCHED,
+            "1.\n"
+        )
+    );
+    assert!(rt;
+        passes_on(
+            &rt,
+            rt.alloc(),
+            Request::Test(Form::Canonical),
+            MATCHED,
+            "{ok,1}.\nfalse.\n"
+        )
+    );
     assert!(rt; passes_on(&rt, rt.alloc(), Request::Compile, "[].", EMPTY));
     assert!(rt; passes_on(&rt, rt.alloc(), Request::Verify, FILE, "{ok,2,1}.\n"));
     assert!(rt; passes_on(&rt, rt.alloc(), Request::Explain(1), "[].", EXPLAINED));
@@ -76,7 +93,7 @@ fn all_lines_are_passed_on(rt: HostRuntime) {
 fn run_writing(alloc: Global, call: u32) -> Result<(), ToolFault> {
     let mut reader = INPUT.as_bytes();
     let mut writer = FailingWriter { calls_left: call };
-    tool_run(alloc, &mut reader, &mut writer)
+    tool_run(alloc, Form::Canonical, &mut reader, &mut writer)
 }
 
 #[test]
@@ -115,7 +132,7 @@ fn left_by_an_untold_refusal<H: Threads + Wait + Sync>(rt: &H, alloc: Global) ->
     let status = run_request::<H, HashPart<Global>, _, _, _, _>(
         rt,
         alloc,
-        Request::Run,
+        Request::Run(Form::Canonical),
         &mut reader,
         &mut out,
         &mut err,
@@ -138,7 +155,7 @@ fn passed_on_of_a_refusal<H: Threads + Wait + Sync>(
     let _status = run_request::<H, HashPart<Global>, _, _, _, _>(
         rt,
         alloc,
-        Request::Run,
+        Request::Run(Form::Canonical),
         &mut reader,
         &mut out,
         &mut err,

@@ -2,7 +2,6 @@
 use Rattle.std.proofs.Common.{◌≡◌, ◌≢◌, ◌∙◌, ℕ, List, [], ◌++◌, Option, None, Some, Result, Ok, Err, refl, sym, ap, subst, inl, inr}
 use Rattle.std.proofs.lemmas.List.{append-nil}
 use Rattle.std.specs.declared.alloc.AllocError.{AllocError}
-use Rattle.std.specs.Io.KnownBytes.{Appends}
 use Rattle.std.specs.Prelude.{OnOk, OnErr, IfErr, IfSome}
 use Rattle.clap.specs.Words.{kind_of}
 use Rattle.clap.specs.declared.error.Error.{Error}
@@ -14,6 +13,7 @@ use Rattle.tool_io.specs.Input.{IsReadFault}
 use Rattle.tool_io.specs.Terms.{OfInput, OfTerms}
 use Rattle.tool_io.specs.declared.fault.ToolFault.{ToolFault}
 use Rattle.tool_io.specs.declared.fault.ToolFault.TheVariants as fault
+use Rattle.tool_io.proofs.LineLemmas.{appends_none}
 use Rattle.tool_query.proofs.RunLemmas.{kept}
 use Rattle.tool_query.specs.Run.{Stops}
 use Rattle.tool_scan.specs.Options.{AreAllowed}
@@ -31,10 +31,6 @@ use Rattle.tool_cli.specs.declared.words.Invocation.{Invocation}
 use Rattle.tool_cli.specs.declared.words.Request.{Request}
 use Rattle.tool_cli.specs.declared.words.Request.TheVariants as request
 
-appends_none : (a : Option (List ℕ)) → Appends a a []
-appends_none None = tt
-appends_none (Some xs) = sym (append-nil xs)
-
 -- a command that is neither a script, a shell nor a scan
 abbrev pub IsQuery : Request → Type 0
 IsQuery request.Script = ⊥
@@ -46,10 +42,10 @@ IsQuery r = Unit {0}
 -- what a command's two clauses say of its outcome
 pub has_outcome : (r : Request) (known old new : Option (List ℕ)) (outcome : Result (Unit {0}) ToolFault) → IsQuery r → OnOk outcome (OfTerms known (λ terms. Writes r terms old new))
     → IfErr outcome (λ f. Stops known old new f (λ terms. StopsOn r terms old new f)) → HasOutcome r known old new outcome
-has_outcome request.Run known old new (Ok x) other ok stopped = ok
-has_outcome request.Run known old new (Err f) other ok stopped = stopped
-has_outcome request.Test known old new (Ok x) other ok stopped = ok
-has_outcome request.Test known old new (Err f) other ok stopped = stopped
+has_outcome (request.Run form) known old new (Ok x) other ok stopped = ok
+has_outcome (request.Run form) known old new (Err f) other ok stopped = stopped
+has_outcome (request.Test form) known old new (Ok x) other ok stopped = ok
+has_outcome (request.Test form) known old new (Err f) other ok stopped = stopped
 has_outcome request.Compile known old new (Ok x) other ok stopped = ok
 has_outcome request.Compile known old new (Err f) other ok stopped = stopped
 has_outcome request.Verify known old new (Ok x) other ok stopped = ok
@@ -181,10 +177,10 @@ outcome_given request.Prompt known old new input (Ok x) given h = tt
 outcome_given request.Prompt known old new input (Err f) given h = h
 outcome_given (request.Scan o) known old new input (Ok x) given h = (h.0, of_given known input _ given h.1)
 outcome_given (request.Scan o) known old new input (Err f) given h = scan_given o known old new input f given h
-outcome_given request.Run known old new input (Ok x) given h = of_given known input _ given h
-outcome_given request.Run known old new input (Err f) given h = stops_given known old new input f _ given h
-outcome_given request.Test known old new input (Ok x) given h = of_given known input _ given h
-outcome_given request.Test known old new input (Err f) given h = stops_given known old new input f _ given h
+outcome_given (request.Run form) known old new input (Ok x) given h = of_given known input _ given h
+outcome_given (request.Run form) known old new input (Err f) given h = stops_given known old new input f _ given h
+outcome_given (request.Test form) known old new input (Ok x) given h = of_given known input _ given h
+outcome_given (request.Test form) known old new input (Err f) given h = stops_given known old new input f _ given h
 outcome_given request.Compile known old new input (Ok x) given h = of_given known input _ given h
 outcome_given request.Compile known old new input (Err f) given h = stops_given known old new input f _ given h
 outcome_given request.Verify known old new input (Ok x) given h = of_given known input _ given h
@@ -256,10 +252,10 @@ unread_outcome request.Prompt fault.Memory input old is = tt
 unread_outcome request.Prompt fault.ReadFailed input old is = tt
 unread_outcome (request.Scan o) fault.Memory input old is = inl ((input, refl, tt), kept old)
 unread_outcome (request.Scan o) fault.ReadFailed input old is = inl ((input, refl, tt), kept old)
-unread_outcome request.Run fault.Memory input old is = inl ((input, refl, tt), kept old)
-unread_outcome request.Run fault.ReadFailed input old is = inl ((input, refl, tt), kept old)
-unread_outcome request.Test fault.Memory input old is = inl ((input, refl, tt), kept old)
-unread_outcome request.Test fault.ReadFailed input old is = inl ((input, refl, tt), kept old)
+unread_outcome (request.Run form) fault.Memory input old is = inl ((input, refl, tt), kept old)
+unread_outcome (request.Run form) fault.ReadFailed input old is = inl ((input, refl, tt), kept old)
+unread_outcome (request.Test form) fault.Memory input old is = inl ((input, refl, tt), kept old)
+unread_outcome (request.Test form) fault.ReadFailed input old is = inl ((input, refl, tt), kept old)
 unread_outcome request.Compile fault.Memory input old is = inl ((input, refl, tt), kept old)
 unread_outcome request.Compile fault.ReadFailed input old is = inl ((input, refl, tt), kept old)
 unread_outcome request.Verify fault.Memory input old is = inl ((input, refl, tt), kept old)

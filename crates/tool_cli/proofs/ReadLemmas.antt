@@ -10,6 +10,9 @@ use Rattle.clap.specs.declared.parser.matches.ArgMatches.TheViews.{out-ArgMatche
 use Rattle.clap.specs.declared.parser.matches.Found.{Found}
 use Rattle.clap.specs.declared.parser.matches.SubCommand.{SubCommand}
 use Rattle.clap.proofs.WalkLemmas.{one_text-rows}
+use Rattle.term_text.specs.Canonical.{shows_strings}
+use Rattle.term_text.specs.declared.write.Form.{Form}
+use Rattle.term_text.specs.declared.write.Form.TheVariants as form
 use Rattle.tool_cli.specs.Words.{Optioned, to_run, to_test, to_compile, to_verify, to_script, to_shell, to_scan, to_explain, name_of, command_named}
 use Rattle.tool_cli.specs.Words.{is_explained, IsFlagOf, IsRequestOf, IsReadAs, IsEntered}
 use Rattle.tool_cli.specs.declared.words.Detail.{Detail}
@@ -33,6 +36,14 @@ explained detail.Explained is = refl
 pub unexplained : (d : Detail) → false ≡ is_explained d → detail.Line ≡ d
 unexplained detail.Line is = refl
 unexplained detail.Explained is = absurd (true≢false (sym is))
+
+pub readable : (f : Form) → true ≡ shows_strings f → form.Readable ≡ f
+readable form.Canonical is = absurd (true≢false is)
+readable form.Readable is = refl
+
+pub unreadable : (f : Form) → false ≡ shows_strings f → form.Canonical ≡ f
+unreadable form.Canonical is = refl
+unreadable form.Readable is = absurd (true≢false (sym is))
 
 -- ---- the command's name
 
@@ -68,8 +79,8 @@ pub record IsNoOther (name : Text) : Type 0 where
   pub scan : name ≢ codes "scan"
   pub explain : name ≢ codes "explain"
 
-pub run_left : (which : Optioned) (r : Request) (rows : List Row) (name : Text) → name ≡ name_of which → IsNoOther name → IsRequestOf which r rows → request.Run ≡ r
-run_left to_run r rows name is other read = sym read
+pub run_left : (which : Optioned) (r : Request) (rows : List Row) (name : Text) → name ≡ name_of which → IsNoOther name → IsRequestOf which r rows → IsRequestOf to_run r rows
+run_left to_run r rows name is other read = read
 run_left to_test r rows name is other read = absurd (other.test is)
 run_left to_compile r rows name is other read = absurd (other.compile is)
 run_left to_verify r rows name is other read = absurd (other.verify is)

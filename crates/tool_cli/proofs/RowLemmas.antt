@@ -16,7 +16,9 @@ use Rattle.clap.specs.declared.builder.value_parser.ValueParser.{ValueParser}
 use Rattle.clap.specs.declared.builder.value_parser.ValueParser.TheVariants as parser
 use Rattle.clap.specs.declared.parser.matches.ValueSource.TheVariants as source
 use Rattle.tool_cli.specs.Words.{Optioned, to_run, to_test, to_compile, to_verify, to_script, to_shell, to_scan, to_explain, Options, options_of, Given, Takes, number, kind, nothing}
-use Rattle.tool_cli.specs.Words.{takes_in, takes_of, is_given, is_value_of, text_given, number_given, options_by, request_of, invocation_of}
+use Rattle.term_text.specs.Canonical.{shows_strings}
+use Rattle.term_text.specs.declared.write.Form.TheVariants as form
+use Rattle.tool_cli.specs.Words.{takes_in, takes_of, is_given, form_by, is_value_of, text_given, number_given, options_by, request_of, invocation_of}
 use Rattle.tool_cli.specs.Words.{IsKindParser, IsKindOf, IsReadOf, IsFlagOf, is_explained, IsRequestOf, IsReadAs}
 use Rattle.tool_cli.specs.declared.words.Detail.TheVariants as detail
 use Rattle.tool_cli.proofs.KindLemmas.{by_test, same_text, text_itself, are_mistakes}
@@ -350,9 +352,17 @@ module _ (kinds : ValueParser) (good : IsKindParser kinds) where
   explained_is true = refl
   explained_is false = refl
 
+  form_is : (b : Bool) → b ≡ shows_strings (if b then form.Readable else form.Canonical)
+  form_is true = refl
+  form_is false = refl
+
+  form_in_the_end : (which : Optioned) (given : Given) → AreFit which given → takes_of which (codes "strings") ≡ Some nothing → IsFlagOf (codes "strings") (shows_strings (form_by given)) (with_defaults which (rows_of which given))
+  form_in_the_end which given fit is =
+      subst (λ b. IsFlagOf (codes "strings") b (with_defaults which (rows_of which given))) (form_is (is_given given (codes "strings"))) (flag_of which (codes "strings") given fit is)
+
   request_in_the_end : (which : Optioned) (given : Given) → AreFit which given → IsRequestOf which (request_of which given) (with_defaults which (rows_of which given))
-  request_in_the_end to_run given fit = refl
-  request_in_the_end to_test given fit = refl
+  request_in_the_end to_run given fit = (form_by given, refl, form_in_the_end to_run given fit refl)
+  request_in_the_end to_test given fit = (form_by given, refl, form_in_the_end to_test given fit refl)
   request_in_the_end to_compile given fit = refl
   request_in_the_end to_verify given fit = refl
   request_in_the_end to_script given fit = refl

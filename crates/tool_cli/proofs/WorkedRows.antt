@@ -2,6 +2,7 @@
 use Rattle.std.proofs.Common.{◌≡◌, ℕ, List, [], ◌∷◌, refl, codes}
 use Rattle.clap.proofs.OnLiterals.{clap_on_literals}
 use Rattle.clap.specs.Walk.{Text}
+use Rattle.term_text.specs.declared.write.Form.TheVariants as form
 use Rattle.tool_scan.specs.declared.options.ScanKind.{ScanKind}
 use Rattle.tool_scan.specs.declared.options.ScanKind.TheVariants as kinds
 use Rattle.tool_cli.specs.Words.{Asked, command, help, version, topic, mistake, asked}
@@ -241,16 +242,32 @@ behind_an_option = refl
 abbrev run : List Text → Asked
 run words = asked (codes "ets_tool" ∷ codes "run" ∷ words)
 
-without_why : run [] ≡ plainly request.Run
+without_why : run [] ≡ plainly (request.Run form.Canonical)
 without_why = refl
 
-with_why : run (codes "--why" ∷ []) ≡ explained request.Run
+with_why : run (codes "--why" ∷ []) ≡ explained (request.Run form.Canonical)
 unfolding clap_on_literals
 with_why = refl
 
-why_before_dashes : run (codes "--why" ∷ codes "--" ∷ []) ≡ explained request.Run
+why_before_dashes : run (codes "--why" ∷ codes "--" ∷ []) ≡ explained (request.Run form.Canonical)
 unfolding clap_on_literals
 why_before_dashes = refl
+
+with_strings : run (codes "--strings" ∷ []) ≡ plainly (request.Run form.Readable)
+unfolding clap_on_literals
+with_strings = refl
+
+strings_and_why : run (codes "--why" ∷ codes "--strings" ∷ []) ≡ explained (request.Run form.Readable)
+unfolding clap_on_literals
+strings_and_why = refl
+
+strings_twice : run (codes "--strings" ∷ codes "--strings" ∷ []) ≡ mistake
+unfolding clap_on_literals
+strings_twice = refl
+
+strings_with_a_value : run (codes "--strings=true" ∷ []) ≡ mistake
+unfolding clap_on_literals
+strings_with_a_value = refl
 
 why_behind_dashes : run (codes "--" ∷ codes "--why" ∷ []) ≡ mistake
 unfolding clap_on_literals

@@ -39,8 +39,8 @@ EndsWith (Err f) err err' failed status = EndsBy f err err' failed status
 
 -- what a command writes for terms; a shell's input is lines
 abbrev pub Writes : Request → List Datum → (old new : Option (List ℕ)) → Type 0
-Writes request.Run terms old new = WritesAnswers answers terms old new
-Writes request.Test terms old new = WritesAnswers outcomes terms old new
+Writes (request.Run form) terms old new = WritesAnswers (answers form) terms old new
+Writes (request.Test form) terms old new = WritesAnswers (outcomes form) terms old new
 Writes request.Compile terms old new = WritesFile terms old new
 Writes request.Verify terms old new = WritesVerdict terms old new
 Writes request.Script terms old new = WritesReplies terms old new
@@ -51,8 +51,8 @@ Writes (request.Explain keypos) terms old new = WritesExplanation keypos terms o
 
 -- how it ends early
 abbrev pub StopsOn : Request → List Datum → (old new : Option (List ℕ)) → ToolFault → Type 0
-StopsOn request.Run terms old new f = StopsAnswers answers terms old new f
-StopsOn request.Test terms old new f = StopsAnswers outcomes terms old new f
+StopsOn (request.Run form) terms old new f = StopsAnswers (answers form) terms old new f
+StopsOn (request.Test form) terms old new f = StopsAnswers (outcomes form) terms old new f
 StopsOn request.Compile terms old new f = StopsFile terms old new f
 StopsOn request.Verify terms old new f = StopsVerdict terms old new f
 StopsOn request.Script terms old new f = StopsReplies terms old new f

@@ -18,6 +18,9 @@ use Rattle.clap.specs.declared.builder.value_parser.ValueParser.{ValueParser}
 use Rattle.clap.specs.declared.builder.value_parser.ValueParser.TheVariants as parser
 use Rattle.clap.specs.declared.error.Error.{Error}
 use Rattle.clap.specs.declared.error.kind.ErrorKind.TheVariants as error
+use Rattle.term_text.specs.Canonical.{shows_strings}
+use Rattle.term_text.specs.declared.write.Form.{Form}
+use Rattle.term_text.specs.declared.write.Form.TheVariants as form
 use Rattle.tool_scan.specs.Options.{is_kind, kind_named}
 use Rattle.tool_scan.specs.declared.options.ScanKind.{ScanKind}
 use Rattle.tool_scan.specs.declared.options.ScanOptions.{ScanOptions}
@@ -38,7 +41,7 @@ pub data Optioned : Type 0 where
   to_scan : Optioned
   to_explain : Optioned
 
--- those without an option of their own, and all
+-- those that have no option with a value, and all
 abbrev pub plain_commands : List Optioned
 plain_commands = to_run ∷ to_test ∷ to_compile ∷ to_verify ∷ to_script ∷ []
 
@@ -105,6 +108,8 @@ options_of to_scan =
     ∷ (codes "parts", number 64) ∷ (codes "workers", number 16) ∷ (codes "why", nothing) ∷ []
 options_of to_shell = (codes "prompt", nothing) ∷ (codes "why", nothing) ∷ []
 options_of to_explain = (codes "keypos", number 65535) ∷ (codes "why", nothing) ∷ []
+options_of to_run = (codes "strings", nothing) ∷ (codes "why", nothing) ∷ []
+options_of to_test = (codes "strings", nothing) ∷ (codes "why", nothing) ∷ []
 options_of which = (codes "why", nothing) ∷ []
 
 -- what the option of a name takes, none of another name
@@ -152,14 +157,18 @@ options_by given = record {
   workers = number_given (codes "workers") given;
 }
 
+-- texts are readable where `--strings` is given
+abbrev pub form_by : Given → Form
+form_by given = if is_given given (codes "strings") then form.Readable else form.Canonical
+
 -- a shell is for a person where `--prompt` is given
 abbrev pub shell_for : Bool → Request
 shell_for is_prompting = if is_prompting then request.Prompt else request.Shell
 
 -- the command that they are given to
 abbrev pub request_of : Optioned → Given → Request
-request_of to_run given = request.Run
-request_of to_test given = request.Test
+request_of to_run given = request.Run (form_by given)
+request_of to_test given = request.Test (form_by given)
 request_of to_compile given = request.Compile
 request_of to_verify given = request.Verify
 request_of to_script given = request.Script
@@ -345,8 +354,10 @@ is_explained detail.Explained = true
 
 -- what a command asks for is what its rows hold
 abbrev pub IsRequestOf : Optioned → Request → List Row → Type 0
-IsRequestOf to_run r rows = r ≡ request.Run
-IsRequestOf to_test r rows = r ≡ request.Test
+IsRequestOf to_run r rows =
+    (f : Form) × (r ≡ request.Run f) × IsFlagOf (codes "strings") (shows_strings f) rows
+IsRequestOf to_test r rows =
+    (f : Form) × (r ≡ request.Test f) × IsFlagOf (codes "strings") (shows_strings f) rows
 IsRequestOf to_compile r rows = r ≡ request.Compile
 IsRequestOf to_verify r rows = r ≡ request.Verify
 IsRequestOf to_script r rows = r ≡ request.Script

@@ -178,8 +178,8 @@ fn command_outcome<
         (O.contents out.new) result }
 {
     match request {
-        Request::Run => tool_run(alloc, reader, out),
-        Request::Test => tool_test(alloc, reader, out),
+        Request::Run(form) => tool_run(alloc, form, reader, out),
+        Request::Test(form) => tool_test(alloc, form, reader, out),
         Request::Compile => tool_compile(alloc, reader, out),
         Request::Verify => tool_verify(alloc, reader, out),
         Request::Script => run_script::<HashPart<A>, OrderPart<A>, A, R, O>(alloc, reader, out),

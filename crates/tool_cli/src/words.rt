@@ -5,6 +5,8 @@ ghost use Rattle.clap.specs.declared.builder.value_parser.ValueParser.{ValuePars
 ghost use Rattle.clap.specs.declared.builder.value_parser.ValueParser.TheVariants.{Signed};
 ghost use Rattle.clap.specs.declared.builder.command.Command.TheViews.{out-Command as fields_of};
 ghost use Rattle.clap.specs.declared.parser.matches.ArgMatches.TheViews.{out-ArgMatches};
+ghost use Rattle.term_text.specs.Canonical.{shows_strings};
+ghost use Rattle.term_text.specs.declared.write.Form.{Form as FormValue};
 ghost use Rattle.tool_scan.specs.declared.options.ScanKind.{ScanKind as KindValue};
 ghost use Rattle.tool_cli.specs.Words.{asked, Reads, bare_app, option_rule, rule_for, shape_with, command_shape, tool_app};
 ghost use Rattle.tool_cli.specs.Words.{kind, number, nothing, plain_commands, to_shell, to_scan, to_explain, Optioned, name_of, is_explained, shell_for};
@@ -17,15 +19,16 @@ use clap::builder::ValueParser;
 use clap::{Arg, ArgAction, ArgMatches, Command, Error, value_parser};
 use std::alloc::{AllocError, Global};
 use std::convert::AsStr;
+use term_text::Form;
 use tool_scan::{ScanKind, ScanOptions};
 
 /// What the program is asked to do.
 #[derive(Clone, Copy, Debug, PartialEq, Eq)]
 pub enum Request {
-    /// Answer a specification or a code file on objects.
-    Run,
-    /// Show how each object comes out.
-    Test,
+    /// Answer a specification or a code file on objects, in texts of this form.
+    Run(Form),
+    /// Show how each object comes out, in texts of this form.
+    Test(Form),
     /// Write the code file of a specification.
     Compile,
     /// Say what is in a code file.
@@ -92,7 +95,8 @@ Reads from standard input, as term text: a match specification, or a code file
 as a binary, then the objects, each term followed by a dot.
 Writes to standard output: for each object that the specification answers on
 the answer, a dot and a line feed, in the order of the objects. Where the
-input is refused nothing is written.
+input is refused nothing is written. With --strings lists and binaries of
+printable characters stand between double quotes.
 
 Example:
   printf \"[{{'\\$1','\\$1'},[],['\\$_']}]. {1,1}. {1,2}.\" | ets_tool run
@@ -107,7 +111,8 @@ Reads from standard input, as term text: a match specification, then the
 objects, each term followed by a dot.
 Writes to standard output, for each object in their order: {ok,A}. where the
 specification answers A, and false. where it answers nothing. Where the input
-is refused nothing is written.
+is refused nothing is written. With --strings lists and binaries of printable
+characters stand between double quotes.
 
 Example:
   printf \"[{{'\\$1','\\$2'},[{'>','\\$1',1}],['\\$2']}]. {1,a}. {2,b}.\" | ets_tool test
@@ -264,6 +269,8 @@ const PROMPT_HELP: &str = "Show a prompt, write texts as such, and say what a re
 
 const WHY_HELP: &str = "Say what a refusal means, behind its line";
 
+const STRINGS_HELP: &str = "Write printable text between double quotes";
+
 /// The program without its commands, one of which it wants.
 fn tool<'a>(alloc: Global) -> Command<'a>
     ensures { app_of result ≡ bare_app }
@@ -297,6 +304,22 @@ fn plain_command<'a>(
     command(alloc, name, about, example).arg(why(alloc))
 }
 
+/// A command whose options are `--strings` and `--why`.
+fn answering_command<'a>(
+    alloc: Global,
+    name: &'a str,
+    about: &'a str,
+    example: &'a str,
+) -> Result<Command<'a>, AllocError>
+    ensures shape { IfOk result (λ command. (p : ParserValue) → shape_of command
+        ≡ shape_with p name.entry.now ((codes "strings", nothing) ∷ (codes "why", nothing) ∷ [])) }
+    ensures local { IfOk result (λ command. (fields_of command).has_globals ≡ false) }
+{
+    command(alloc, name, about, example)
+        .arg(flag(alloc, "strings", STRINGS_HELP))?
+        .arg(why(alloc))
+}
+
 /// An option of such a value, which is another if it isn't given.
 fn option<'a>(
     alloc: Global,
@@ -317,15 +340,23 @@ fn option<'a>(
         .value_parser(values)
 }
 
+/// A flag.
+fn flag<'a>(alloc: Global, name: &'a str, about: &'a str) -> Arg<'a>
+    ensures rule { (p : ParserValue) → rule_of result ≡ rule_for p name.entry.now nothing }
+    ensures local { result.global ≡ false }
+{
+    Arg::new(alloc, name)
+        .long(name)
+        .help(about)
+        .action(ArgAction::SetTrue)
+}
+
 /// That a refusal is explained.
 fn why<'a>(alloc: Global) -> Arg<'a>
     ensures rule { (p : ParserValue) → rule_of result ≡ rule_for p (codes "why") nothing }
     ensures local { result.global ≡ false }
 {
-    Arg::new(alloc, "why")
-        .long("why")
-        .help(WHY_HELP)
-        .action(ArgAction::SetTrue)
+    flag(alloc, "why", WHY_HELP)
 }
 
 /// That a shell is for a person.
@@ -333,10 +364,7 @@ fn prompt<'a>(alloc: Global) -> Arg<'a>
     ensures rule { (p : ParserValue) → rule_of result ≡ rule_for p (codes "prompt") nothing }
     ensures local { result.global ≡ false }
 {
-    Arg::new(alloc, "prompt")
-        .long("prompt")
-        .help(PROMPT_HELP)
-        .action(ArgAction::SetTrue)
+    flag(alloc, "prompt", PROMPT_HELP)
 }
 
 /// The names of kinds.
@@ -429,13 +457,27 @@ fn with_plain<'a>(
     program.subcommand(plain_command(alloc, name, about, example)?)
 }
 
-/// The program with the commands that have no option but `--why`.
+/// The program with one more command, whose options are `--strings` and `--why`.
+fn with_answering<'a>(
+    alloc: Global,
+    program: Command<'a>,
+    name: &'a str,
+    about: &'a str,
+    example: &'a str,
+) -> Result<Command<'a>, AllocError>
+    ensures { IfOk result (λ new. (p : ParserValue) → app_of new ≡ with_subcommand (app_of program.entry)
+        (shape_with p name.entry.now ((codes "strings", nothing) ∷ (codes "why", nothing) ∷ []))) }
+{
+    program.subcommand(answering_command(alloc, name, about, example)?)
+}
+
+/// The program with the commands that have no option with a value.
 fn plain_program<'a>(alloc: Global) -> Result<Command<'a>, AllocError>
     ensures { IfOk result (λ command. (p : ParserValue) → app_of command
         ≡ fold with_subcommand bare_app (map (command_shape p) plain_commands)) }
 {
-    let program = with_plain(alloc, tool(alloc), "run", RUN_ABOUT, RUN_EXAMPLE)?;
-    let program = with_plain(alloc, program, "test", TEST_ABOUT, TEST_EXAMPLE)?;
+    let program = with_answering(alloc, tool(alloc), "run", RUN_ABOUT, RUN_EXAMPLE)?;
+    let program = with_answering(alloc, program, "test", TEST_ABOUT, TEST_EXAMPLE)?;
     let program = with_plain(alloc, program, "compile", COMPILE_ABOUT, COMPILE_EXAMPLE)?;
     let program = with_plain(alloc, program, "verify", VERIFY_ABOUT, VERIFY_EXAMPLE)?;
     with_plain(alloc, program, "script", SCRIPT_ABOUT, SCRIPT_EXAMPLE)
@@ -499,6 +541,18 @@ fn detail_in(matches: &ArgMatches<'_>) -> Detail
     }
 }
 
+/// The form in which answers are written.
+fn form_in(matches: &ArgMatches<'_>) -> Form
+    requires { (f : FormValue) × IsFlagOf (codes "strings") (shows_strings f) (rows_of (found_of matches.now)) }
+    ensures { (f : FormValue) → IsFlagOf (codes "strings") (shows_strings f) (rows_of (found_of matches.now)) → result ≡ f }
+{
+    if matches.get_flag("strings") {
+        Form::Readable
+    } else {
+        Form::Canonical
+    }
+}
+
 /// What a shell is asked to do.
 fn shell_request(matches: &ArgMatches<'_>) -> Request
     requires { (b : Bool) × IsFlagOf (codes "prompt") b (rows_of (found_of matches.now)) }
@@ -519,14 +573,14 @@ fn request_in(name: &str, matches: &ArgMatches<'_>) -> Request
         → IsRequestOf which r (rows_of (found_of matches.now)) → result ≡ r }
 {
     match name {
-        "test" => Request::Test,
+        "test" => Request::Test(form_in(matches)),
         "compile" => Request::Compile,
         "verify" => Request::Verify,
         "script" => Request::Script,
         "shell" => shell_request(matches),
         "scan" => Request::Scan(scan_options(matches)),
         "explain" => Request::Explain(number(matches, "keypos")),
-        _ => Request::Run,
+        _ => Request::Run(form_in(matches)),
     }
 }
 

@@ -3,17 +3,27 @@ use Rattle.std.specs.Prelude.{ℕ, ◌≡◌, Option, List, [], ◌∷◌, ◌++
 use Rattle.std.specs.Io.KnownBytes.{Appends}
 use Rattle.std.specs.Str.{encode_utf8_all}
 use Rattle.term_core.specs.Datum.{Datum}
-use Rattle.term_text.specs.Canonical.{canonical}
+use Rattle.term_text.specs.Canonical.{text_as}
+use Rattle.term_text.specs.declared.write.Form.{Form}
+use Rattle.term_text.specs.declared.write.Form.TheVariants as forms
 use Rattle.tool_io.specs.declared.fault.ToolFault.{ToolFault}
 use Rattle.tool_io.specs.declared.fault.ToolFault.TheVariants as fault
 
--- the canonical text of a term in UTF-8
+-- the text of a term in such a form, in UTF-8
+abbrev pub text_in : Form → Datum → List ℕ
+text_in f d = encode_utf8_all (text_as f d)
+
+-- the same, a dot and a line feed
+abbrev pub line_in : Form → Datum → List ℕ
+line_in f d = text_in f d ++ 46 ∷ 10 ∷ []
+
+-- the canonical text of a term
 abbrev pub text_of : Datum → List ℕ
-text_of d = encode_utf8_all (canonical d)
+text_of d = text_in forms.Canonical d
 
 -- the same, a dot and a line feed
 abbrev pub line : Datum → List ℕ
-line d = text_of d ++ 46 ∷ 10 ∷ []
+line d = line_in forms.Canonical d
 
 -- what is gathered is passed to the writer, or stays
 pub record Passes (before after : Option (List ℕ)) (old new : List ℕ) : Type 0 where

@@ -140,7 +140,7 @@ fn routine_argument(body: u16) -> Option<u64>
 
 impl ToolFault {
     /// The number of the refusal.
-    fn number(self) -> u8
+    pub fn number(self) -> u8
         ensures { result ≡ number_of self }
     {
         match self {
@@ -159,7 +159,7 @@ impl ToolFault {
 
     /// What stands behind the number: a place in the text or in the file; an instruction and then its body, where that
     /// isn't the main one, or a body alone; or a clause and then a variable.
-    fn arguments(self) -> (Option<u64>, Option<u64>)
+    pub fn arguments(self) -> (Option<u64>, Option<u64>)
         ensures { option_to_list result.0 ++ option_to_list result.1 ≡ arguments_of self }
     {
         match self {

@@ -19,7 +19,7 @@ mod terms;
 
 pub use fault::{ToolFault, fault_line};
 pub use input::{most_reads, read_whole, read_within};
-pub use lines::{out_of_memory, put_line, write_if_many, write_lines};
+pub use lines::{out_of_memory, put_line, put_line_in, write_if_many, write_lines};
 pub use numbers::{
     BAD_INPUT, BAD_LIMIT, READ_FAILED, STRANGER_CONTINUATION, STRANGER_SESSION, WRITE_FAILED,
 };

@@ -1,16 +1,43 @@
 //! Lines that are gathered, and then written.
 ghost use Rattle.std.specs.Prelude.{◌≡◌, ◌++◌, [], IfErr, OnOk, OnErr};
 ghost use Rattle.std.specs.Io.KnownBytes.{Appends};
-ghost use Rattle.tool_io.specs.Lines.{text_of, Passes, EndsBy};
+ghost use Rattle.tool_io.specs.Lines.{text_in, text_of, Passes, EndsBy};
 
 use crate::fault::ToolFault;
 use std::alloc::{AllocError, Allocator};
 use std::io::Write;
 use term_core::Term;
-use term_text::write_term;
+use term_text::{Form, write_as};
 
 /// How many bytes of output are gathered before they are written.
 const WRITE_SIZE: usize = 65_536;
+
+/// Puts the text of a term in such a form at the end, between these bytes. After an `Err` the lines are as before.
+pub fn put_line_in<A: Allocator + Copy>(
+    form: Form,
+    before: &[u8],
+    term: &Term<A>,
+    after: &[u8],
+    lines: &mut Vec<u8, A>,
+) -> Result<(), AllocError>
+    ensures ok { OnOk result (lines.new.items ≡ lines.old.items
+        ++ (before.now ++ (text_in form term.now ++ after.now))) }
+    ensures err { OnErr result (lines.new.items ≡ lines.old.items) }
+{
+    let start = lines.len();
+    lines.extend_from_slice(before)?;
+    if let Err(AllocError) = write_as(form, term, lines) {
+        lines.truncate(start);
+        return Err(AllocError);
+    }
+    match lines.extend_from_slice(after) {
+        Ok(()) => Ok(()),
+        Err(AllocError) => {
+            lines.truncate(start);
+            Err(AllocError)
+        }
+    }
+}
 
 /// Puts the canonical text of a term at the end, between these bytes. After an `Err` the lines are as before.
 pub fn put_line<A: Allocator + Copy>(
@@ -23,19 +50,7 @@ pub fn put_line<A: Allocator + Copy>(
         ++ (before.now ++ (text_of term.now ++ after.now))) }
     ensures err { OnErr result (lines.new.items ≡ lines.old.items) }
 {
-    let start = lines.len();
-    lines.extend_from_slice(before)?;
-    if let Err(AllocError) = write_term(term, lines) {
-        lines.truncate(start);
-        return Err(AllocError);
-    }
-    match lines.extend_from_slice(after) {
-        Ok(()) => Ok(()),
-        Err(AllocError) => {
-            lines.truncate(start);
-            Err(AllocError)
-        }
-    }
+    put_line_in(Form::Canonical, before, term, after, lines)
 }
 
 /// Writes the lines that were gathered before memory ran out, and answers how the command ends.

@@ -1,5 +1,5 @@
 -- The lines on the terms of a text, one after the other.
-use Rattle.std.proofs.Common.{◌≡◌, ℕ, Option, List, [], ◌∷◌, ◌++◌, refl, sym, append_assoc}
+use Rattle.std.proofs.Common.{ℕ, Option, List, [], ◌∷◌, ◌++◌, refl, append_assoc}
 use Rattle.std.proofs.lemmas.List.{append-nil}
 use Rattle.term_core.specs.Datum.{Datum}
 use Rattle.term_text.specs.Text.{Sentences, Sentence, Front}

@@ -48,8 +48,8 @@ module _ (one_reading : HasOneReading) (one_code : OneCode) where
 
 module _ (spells_one : SpellsOne) (one_reading : HasOneReading) (one_meaning : HasOneMeaning) (one_code : OneCode) (one_budget : HasOneBudget) (one_depth : DepthIsOne) where
   asks_once : (w : Report) (d : Datum) (q r : Query) → Asks w d q → Asks w d r → q ≡ r
-  asks_once answers d q r h k = query_once one_reading one_code d q r h k
-  asks_once outcomes d q r h k = meant_once one_reading one_code d q r h k
+  asks_once (answers f) d q r h k = query_once one_reading one_code d q r h k
+  asks_once (outcomes f) d q r h k = meant_once one_reading one_code d q r h k
 
   answer_once : (q : Query) (d : Datum) (a b : Option Datum) → Answers q d a → Answers q d b → a ≡ b
   answer_once (Query.meant s) d a b h k = one_meaning s d a b h k

@@ -8,35 +8,36 @@ use Rattle.term_core.specs.Datum.Datum.{integer}
 use Rattle.term_core.specs.Datum.Items.{no_items, item}
 use Rattle.std.specs.Str.{encode_utf8_all}
 use Rattle.term_text.specs.Character.{open_brace, close_brace, comma}
+use Rattle.term_text.specs.declared.write.Form.{Form}
 use Rattle.term_text.specs.declared.write.Form.TheVariants as forms
 use Rattle.term_text.specs.Canonical.{text_as, items_text, more_items_text, is_reserved}
 use Rattle.term_text.proofs.Bytes.{tuple_bytes, items_bytes, more_items_bytes, no_more_items}
-use Rattle.tool_io.specs.Lines.{text_of, line}
+use Rattle.tool_io.specs.Lines.{text_in, text_of, line_in, line}
 use Rattle.tool_query.specs.Answers.{outcome_of, ok_term}
 use Rattle.tool_query.specs.Code.{verdict}
 
-ok_bytes : text_of ok_term ≡ codes "ok"
+ok_bytes : (f : Form) → text_in f ok_term ≡ codes "ok"
 unfolding text_as is_reserved encode
-ok_bytes = refl
+ok_bytes f = refl
 
 -- one more element, which is the last
-last_item : (d : Datum) → encode_utf8_all (more_items_text forms.Canonical (item d no_items)) ≡ comma ∷ text_of d
-last_item d =
-    more_items_bytes forms.Canonical d [] ∙ ap (λ (l : List ℕ). comma ∷ (text_of d ++ l)) no_more_items forms.Canonical ∙ ap (λ (l : List ℕ). comma ∷ l) (append-nil (text_of d))
+last_item : (f : Form) (d : Datum) → encode_utf8_all (more_items_text f (item d no_items)) ≡ comma ∷ text_in f d
+last_item f d =
+    more_items_bytes f d [] ∙ ap (λ (l : List ℕ). comma ∷ (text_in f d ++ l)) (no_more_items f) ∙ ap (λ (l : List ℕ). comma ∷ l) (append-nil (text_in f d))
 
 -- the line of an answer, between its braces
-pub outcome_line : (d : Datum) → line (outcome_of (Some d)) ≡ codes "{ok," ++ (text_of d ++ codes "}.\n")
-outcome_line d =
-    let text = text_of d in
-    let items : encode_utf8_all (items_text forms.Canonical (item ok_term (item d no_items))) ≡ codes "ok" ++ (comma ∷ text) =
-    items_bytes forms.Canonical ok_term (d ∷ []) ∙ ap (λ (l : List ℕ). l ++ encode_utf8_all (more_items_text forms.Canonical (item d no_items))) ok_bytes ∙ ap (λ (l : List ℕ). codes "ok" ++ l) (last_item d) in
-    ap (λ (l : List ℕ). l ++ 46 ∷ 10 ∷ []) (tuple_bytes forms.Canonical (item ok_term (item d no_items)) ∙ ap (λ (l : List ℕ). open_brace ∷ (l ++ close_brace ∷ [])) items)
+pub outcome_line : (f : Form) (d : Datum) → line_in f (outcome_of (Some d)) ≡ codes "{ok," ++ (text_in f d ++ codes "}.\n")
+outcome_line f d =
+    let text = text_in f d in
+    let items : encode_utf8_all (items_text f (item ok_term (item d no_items))) ≡ codes "ok" ++ (comma ∷ text) =
+    items_bytes f ok_term (d ∷ []) ∙ ap (λ (l : List ℕ). l ++ encode_utf8_all (more_items_text f (item d no_items))) (ok_bytes f) ∙ ap (λ (l : List ℕ). codes "ok" ++ l) (last_item f d) in
+    ap (λ (l : List ℕ). l ++ 46 ∷ 10 ∷ []) (tuple_bytes f (item ok_term (item d no_items)) ∙ ap (λ (l : List ℕ). open_brace ∷ (l ++ close_brace ∷ [])) items)
     ∙ ap (λ (l : List ℕ). codes "{ok," ++ l) (append_assoc text (close_brace ∷ []) (46 ∷ 10 ∷ []))
 
 -- the line where there is no answer
-pub false_line : line (outcome_of None) ≡ codes "false.\n"
+pub false_line : (f : Form) → line_in f (outcome_of None) ≡ codes "false.\n"
 unfolding text_as is_reserved encode
-false_line = refl
+false_line f = refl
 
 -- the line of a verdict, by its two numbers
 pub verdict_line : (budget depth : ℕ)
@@ -45,10 +46,10 @@ verdict_line budget depth =
     let first = text_of (integer (pos budget)) in
     let second = text_of (integer (pos depth)) in
     let more : encode_utf8_all (more_items_text forms.Canonical (item (integer (pos budget)) (item (integer (pos depth)) no_items))) ≡ comma ∷ (first ++ (comma ∷ second)) =
-    more_items_bytes forms.Canonical (integer (pos budget)) (integer (pos depth) ∷ []) ∙ ap (λ (l : List ℕ). comma ∷ (first ++ l)) (last_item (integer (pos depth))) in
+    more_items_bytes forms.Canonical (integer (pos budget)) (integer (pos depth) ∷ []) ∙ ap (λ (l : List ℕ). comma ∷ (first ++ l)) (last_item forms.Canonical (integer (pos depth))) in
     let all = item ok_term (item (integer (pos budget)) (item (integer (pos depth)) no_items)) in
     let items : encode_utf8_all (items_text forms.Canonical all) ≡ codes "ok" ++ (comma ∷ (first ++ (comma ∷ second))) =
-    items_bytes forms.Canonical ok_term (integer (pos budget) ∷ integer (pos depth) ∷ []) ∙ ap (λ (l : List ℕ). l ++ encode_utf8_all (more_items_text forms.Canonical (item (integer (pos budget)) (item (integer (pos depth)) no_items)))) ok_bytes
+    items_bytes forms.Canonical ok_term (integer (pos budget) ∷ integer (pos depth) ∷ []) ∙ ap (λ (l : List ℕ). l ++ encode_utf8_all (more_items_text forms.Canonical (item (integer (pos budget)) (item (integer (pos depth)) no_items)))) (ok_bytes forms.Canonical)
     ∙ ap (λ (l : List ℕ). codes "ok" ++ l) more in
     ap (λ (l : List ℕ). l ++ 46 ∷ 10 ∷ []) (tuple_bytes forms.Canonical all ∙ ap (λ (l : List ℕ). open_brace ∷ (l ++ close_brace ∷ [])) items)
     ∙ ap (λ (l : List ℕ). codes "{ok," ++ l)

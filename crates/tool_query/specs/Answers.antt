@@ -5,17 +5,18 @@ use Rattle.term_core.specs.Datum.{Datum}
 use Rattle.term_core.specs.Datum.Datum.{atom, tuple}
 use Rattle.term_core.specs.Datum.Items.{no_items, item}
 use Rattle.term_text.specs.Text.{Sentences}
-use Rattle.tool_io.specs.Lines.{line}
+use Rattle.term_text.specs.declared.write.Form.{Form}
+use Rattle.tool_io.specs.Lines.{line_in}
 
--- what is written of objects: the answers, or how each comes out
+-- what is written of objects: the answers, or how each comes out, as texts in such a form
 pub data Report : Type 0 where
-  answers : Report
-  outcomes : Report
+  answers : Form → Report
+  outcomes : Form → Report
 
 -- the line of an answer, nothing where there is none
-abbrev pub answer_line : Option Datum → List ℕ
-answer_line None = []
-answer_line (Some d) = line d
+abbrev pub answer_line : Form → Option Datum → List ℕ
+answer_line f None = []
+answer_line f (Some d) = line_in f d
 
 -- the atoms ok and false
 abbrev pub ok_term : Datum
@@ -31,8 +32,8 @@ outcome_of (Some d) = tuple (item ok_term (item d no_items))
 
 -- what is written of an object by its answer
 abbrev pub report_line : Report → Option Datum → List ℕ
-report_line Report.answers answer = answer_line answer
-report_line Report.outcomes answer = line (outcome_of answer)
+report_line (Report.answers f) answer = answer_line f answer
+report_line (Report.outcomes f) answer = line_in f (outcome_of answer)
 
 -- the lines on these objects, in their order, by what is answered on each
 abbrev pub AreLines : Report → (Datum → Option Datum → Type 0) → List Datum → List ℕ → Type 0

@@ -12,13 +12,13 @@ use Rattle.tool_query.specs.Query.{Query, Answers, IsRead, IsQuery, IsNoSpecific
 
 -- what a first term asks: where answers are written a specification or a code file, where outcomes are a specification
 abbrev pub Asks : Report → Datum → Query → Type 0
-Asks answers d q = IsQuery d q
-Asks outcomes d q = (s : Specification) × (q ≡ Query.meant s) × IsRead d s
+Asks (answers f) d q = IsQuery d q
+Asks (outcomes f) d q = (s : Specification) × (q ≡ Query.meant s) × IsRead d s
 
 -- why it asks nothing, if not for want of memory
 abbrev pub AsksNothing : Report → Datum → ToolFault → Type 0
-AsksNothing answers d f = IsNoQuery d f
-AsksNothing outcomes d f = IsNoSpecification d f
+AsksNothing (answers form) d f = IsNoQuery d f
+AsksNothing (outcomes form) d f = IsNoSpecification d f
 
 -- terms are a query and objects
 pub record IsAsked (r : Report) (terms : List Datum) (q : Query) (objects : List Datum) : Type 0

@@ -6,7 +6,7 @@ ghost use Rattle.term_core.specs.Datum.{Datum};
 ghost use Rattle.term_text.specs.Text.{Front};
 ghost use Rattle.mcode.specs.Answer.{answer_of};
 ghost use Rattle.mspec_meaning.specs.Meaning.{Means};
-ghost use Rattle.tool_io.specs.Lines.{line};
+ghost use Rattle.tool_io.specs.Lines.{line_in};
 ghost use Rattle.tool_io.specs.Terms.{IsUnspelled};
 ghost use Rattle.tool_query.specs.Answers.{answer_line, outcome_of, Puts, AnswersText};
 ghost use Rattle.tool_query.specs.Answers.Report.{answers, outcomes};
@@ -16,17 +16,19 @@ use mspec_meaning::evaluate;
 use mspec_syntax::Spec;
 use std::alloc::{AllocError, Allocator};
 use term_core::Term;
-use tool_io::{ToolFault, next_of, put_line};
+use term_text::Form;
+use tool_io::{ToolFault, next_of, put_line_in};
 use verifier::Verified;
 
 /// The lines of what code answers on the terms that are left of a text.
 pub(crate) fn run_lines<A: Allocator + Copy>(
     alloc: A,
+    form: Form,
     code: &Verified<A>,
     text: &str,
     rest: &str,
 ) -> Result<Vec<u8, A>, ToolFault>
-    ensures ok { IfOk result (λ lines. AnswersText answers (λ object answer.
+    ensures ok { IfOk result (λ lines. AnswersText (answers form) (λ object answer.
         answer ≡ answer_of code.now object) (chars rest.now) lines.items) }
     ensures refused { (ds : List Datum) → Front (chars text.now) ds (chars rest.now)
         → IfErr result (IsUnspelled text.now) }
@@ -37,7 +39,7 @@ pub(crate) fn run_lines<A: Allocator + Copy>(
         let Some((object, after)) = next_of(alloc, text, left)? else {
             return Ok(lines);
         };
-        put_run(alloc, code, object, &mut lines)?;
+        put_run(alloc, form, code, object, &mut lines)?;
         left = after;
     }
 }
@@ -45,25 +47,27 @@ pub(crate) fn run_lines<A: Allocator + Copy>(
 /// Puts the line of what code answers on an object at the end, where there is one.
 fn put_run<A: Allocator + Copy>(
     alloc: A,
+    form: Form,
     code: &Verified<A>,
     object: Term<A>,
     lines: &mut Vec<u8, A>,
 ) -> Result<(), AllocError>
-    ensures { OnOk result (Puts answers (λ object answer.
+    ensures { OnOk result (Puts (answers form) (λ object answer.
         answer ≡ answer_of code.now object) object lines.old.items lines.new.items) }
 {
     let (answer, _) = run(alloc, code, &object)?;
-    put_answer(answer.as_ref(), lines)
+    put_answer(form, answer.as_ref(), lines)
 }
 
 /// The lines of how the terms that are left of a text come out.
 pub(crate) fn outcome_lines<A: Allocator + Copy>(
     alloc: A,
+    form: Form,
     specification: &Spec<A>,
     text: &str,
     rest: &str,
 ) -> Result<Vec<u8, A>, ToolFault>
-    ensures ok { IfOk result (λ lines. AnswersText outcomes (Means specification.now)
+    ensures ok { IfOk result (λ lines. AnswersText (outcomes form) (Means specification.now)
         (chars rest.now) lines.items) }
     ensures refused { (ds : List Datum) → Front (chars text.now) ds (chars rest.now)
         → IfErr result (IsUnspelled text.now) }
@@ -74,7 +78,7 @@ pub(crate) fn outcome_lines<A: Allocator + Copy>(
         let Some((object, after)) = next_of(alloc, text, left)? else {
             return Ok(lines);
         };
-        put_evaluated(alloc, specification, object, &mut lines)?;
+        put_evaluated(alloc, form, specification, object, &mut lines)?;
         left = after;
     }
 }
@@ -82,28 +86,30 @@ pub(crate) fn outcome_lines<A: Allocator + Copy>(
 /// Puts the line that says how an object comes out at the end.
 fn put_evaluated<A: Allocator + Copy>(
     alloc: A,
+    form: Form,
     specification: &Spec<A>,
     object: Term<A>,
     lines: &mut Vec<u8, A>,
 ) -> Result<(), AllocError>
-    ensures { OnOk result (Puts outcomes (Means specification.now) object
+    ensures { OnOk result (Puts (outcomes form) (Means specification.now) object
         lines.old.items lines.new.items) }
 {
     let answer = evaluate(alloc, specification, &object)?;
-    put_outcome(answer.as_ref(), lines)
+    put_outcome(form, answer.as_ref(), lines)
 }
 
 /// Puts the line of an answer at the end, where there is one.
 fn put_answer<A: Allocator + Copy>(
+    form: Form,
     answer: Option<&Term<A>>,
     lines: &mut Vec<u8, A>,
 ) -> Result<(), AllocError>
     ensures ok { OnOk result
-        (lines.new.items ≡ lines.old.items ++ answer_line (option_copied answer.entry)) }
+        (lines.new.items ≡ lines.old.items ++ answer_line form (option_copied answer.entry)) }
     ensures err { OnErr result (lines.new.items ≡ lines.old.items) }
 {
     match answer {
-        Some(answer) => put_line(b"", answer, b".\n", lines),
+        Some(answer) => put_line_in(form, b"", answer, b".\n", lines),
         None => Ok(()),
     }
 }
@@ -111,15 +117,16 @@ fn put_answer<A: Allocator + Copy>(
 /// Puts the line that says how an object came out at the end.
 #[tactic(auto, using(crate::proofs::TextLemmas::outcome_line, crate::proofs::TextLemmas::false_line))]
 fn put_outcome<A: Allocator + Copy>(
+    form: Form,
     answer: Option<&Term<A>>,
     lines: &mut Vec<u8, A>,
 ) -> Result<(), AllocError>
     ensures ok { OnOk result
-        (lines.new.items ≡ lines.old.items ++ line (outcome_of (option_copied answer.entry))) }
+        (lines.new.items ≡ lines.old.items ++ line_in form (outcome_of (option_copied answer.entry))) }
     ensures err { OnErr result (lines.new.items ≡ lines.old.items) }
 {
     match answer {
-        Some(answer) => put_line(b"{ok,", answer, b"}.\n", lines),
+        Some(answer) => put_line_in(form, b"{ok,", answer, b"}.\n", lines),
         None => lines.extend_from_slice(b"false.\n"),
     }
 }

@@ -20,5 +20,5 @@ mod run;
 
 pub use file::{only, tool_compile, tool_verify};
 pub use laws::output_is_one;
-pub use query::{load, specification_of};
+pub use query::{file_of, load, specification_of};
 pub use run::{tool_run, tool_test};

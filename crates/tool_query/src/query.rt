@@ -44,7 +44,7 @@ pub fn load<A: Allocator + Copy>(alloc: A, bytes: &[u8]) -> Result<Verified<A>, 
 }
 
 /// The file of a specification's code.
-pub(crate) fn file_of<A: Allocator + Copy>(
+pub fn file_of<A: Allocator + Copy>(
     alloc: A,
     specification: &Spec<A>,
 ) -> Result<Vec<u8, A>, AllocError>

@@ -12,25 +12,27 @@ use crate::query::{code_of_query, specification_of};
 use std::alloc::Allocator;
 use std::io::{Read, Write};
 use term_core::Term;
+use term_text::Form;
 use tool_io::{ToolFault, first_of, next_of, read_whole, text_of, write_lines};
 
 /// Reads a specification or a code file, which is a binary, and objects, to the reader's end, and writes each answer:
-/// its canonical text, a dot and a line feed, in the order of the objects. A specification is compiled, and its code
+/// its text in such a form, a dot and a line feed, in the order of the objects. A specification is compiled, and its code
 /// goes through its file. An input that is refused writes nothing; where memory runs out while the objects are
 /// answered, the lines of a beginning of the objects are written.
 pub fn tool_run<A: Allocator + Copy, R: Read, W: Write>(
     alloc: A,
+    form: Form,
     reader: &mut R,
     writer: &mut W,
 ) -> Result<(), ToolFault>
     ensures ok { OnOk result (OfTerms (R.remaining reader.old) (λ terms.
-        WritesAnswers answers terms (W.contents writer.old) (W.contents writer.new))) }
+        WritesAnswers (answers form) terms (W.contents writer.old) (W.contents writer.new))) }
     ensures refused { IfErr result (λ fault. Stops (R.remaining reader.old)
         (W.contents writer.old) (W.contents writer.new) fault (λ terms.
-        StopsAnswers answers terms (W.contents writer.old) (W.contents writer.new) fault)) }
+        StopsAnswers (answers form) terms (W.contents writer.old) (W.contents writer.new) fault)) }
 {
     let input = read_whole(alloc, reader)?;
-    run_input(alloc, input.as_slice(), writer)
+    run_input(alloc, form, input.as_slice(), writer)
 }
 
 /// Reads a specification and objects, to the reader's end, and writes a line for each object, by the plain evaluator:
@@ -38,37 +40,39 @@ pub fn tool_run<A: Allocator + Copy, R: Read, W: Write>(
 /// does.
 pub fn tool_test<A: Allocator + Copy, R: Read, W: Write>(
     alloc: A,
+    form: Form,
     reader: &mut R,
     writer: &mut W,
 ) -> Result<(), ToolFault>
     ensures ok { OnOk result (OfTerms (R.remaining reader.old) (λ terms.
-        WritesAnswers outcomes terms (W.contents writer.old) (W.contents writer.new))) }
+        WritesAnswers (outcomes form) terms (W.contents writer.old) (W.contents writer.new))) }
     ensures refused { IfErr result (λ fault. Stops (R.remaining reader.old)
         (W.contents writer.old) (W.contents writer.new) fault (λ terms.
-        StopsAnswers outcomes terms (W.contents writer.old) (W.contents writer.new) fault)) }
+        StopsAnswers (outcomes form) terms (W.contents writer.old) (W.contents writer.new) fault)) }
 {
     let input = read_whole(alloc, reader)?;
-    test_input(alloc, input.as_slice(), writer)
+    test_input(alloc, form, input.as_slice(), writer)
 }
 
 /// Writes what the first term of an input answers on the others. What is wrong in the text comes before what is wrong
 /// with the first term, and no line is written before the text has ended.
 fn run_input<A: Allocator + Copy, W: Write>(
     alloc: A,
+    form: Form,
     input: &[u8],
     writer: &mut W,
 ) -> Result<(), ToolFault>
     ensures ok { OnOk result (OfItsTerms input.now (λ terms.
-        WritesAnswers answers terms (W.contents writer.old) (W.contents writer.new))) }
+        WritesAnswers (answers form) terms (W.contents writer.old) (W.contents writer.new))) }
     ensures refused { IfErr result (λ fault. StopsAt input.now
         (W.contents writer.old) (W.contents writer.new) fault (λ terms.
-        StopsAnswers answers terms (W.contents writer.old) (W.contents writer.new) fault)) }
+        StopsAnswers (answers form) terms (W.contents writer.old) (W.contents writer.new) fault)) }
 {
     let text = text_of(input)?;
     let (first, objects) = first_of(alloc, text)?;
     match code_of_query(alloc, &first) {
         Ok(code) => {
-            let mut lines = run_lines(alloc, &code, text, objects)?;
+            let mut lines = run_lines(alloc, form, &code, text, objects)?;
             write_lines(writer, &mut lines)
         }
         Err(fault) => {
@@ -81,20 +85,21 @@ fn run_input<A: Allocator + Copy, W: Write>(
 /// Writes how the terms of an input behind the first come out by it, and ends early as `run_input` does.
 fn test_input<A: Allocator + Copy, W: Write>(
     alloc: A,
+    form: Form,
     input: &[u8],
     writer: &mut W,
 ) -> Result<(), ToolFault>
     ensures ok { OnOk result (OfItsTerms input.now (λ terms.
-        WritesAnswers outcomes terms (W.contents writer.old) (W.contents writer.new))) }
+        WritesAnswers (outcomes form) terms (W.contents writer.old) (W.contents writer.new))) }
     ensures refused { IfErr result (λ fault. StopsAt input.now
         (W.contents writer.old) (W.contents writer.new) fault (λ terms.
-        StopsAnswers outcomes terms (W.contents writer.old) (W.contents writer.new) fault)) }
+        StopsAnswers (outcomes form) terms (W.contents writer.old) (W.contents writer.new) fault)) }
 {
     let text = text_of(input)?;
     let (first, objects) = first_of(alloc, text)?;
     match specification_of(alloc, &first) {
         Ok(specification) => {
-            let mut lines = outcome_lines(alloc, &specification, text, objects)?;
+            let mut lines = outcome_lines(alloc, form, &specification, text, objects)?;
             write_lines(writer, &mut lines)
         }
         Err(fault) => {

@@ -7,22 +7,13 @@ use Rattle.term_core.specs.Datum.{Datum}
 use Rattle.tool_io.specs.Lines.{line, Passes, EndsBy}
 use Rattle.tool_io.specs.declared.fault.ToolFault.{ToolFault}
 use Rattle.tool_io.specs.declared.fault.ToolFault.TheVariants as fault
+use Rattle.tool_io.proofs.LineLemmas.{appends_none, appends_join}
 use Rattle.tool_scan.specs.Answers.{StopsAnswers}
 
 -- the lines of answers
 lines_more : (ds : List Datum) (d : Datum) → flat_map line (ds ++ d ∷ []) ≡ flat_map line ds ++ line d
 lines_more [] d = append-nil (line d)
 lines_more (e ∷ ds) d = ap (λ l. line e ++ l) (lines_more ds d) ∙ sym (append_assoc (line e) (flat_map line ds) (line d))
-
-appends_join : (a b c : Option (List ℕ)) (x y : List ℕ) → Appends a b x → Appends b c y → Appends a c (x ++ y)
-appends_join None b c x y p q = tt
-appends_join (Some u) None c x y p q = absurd p
-appends_join (Some u) (Some v) None x y p q = absurd q
-appends_join (Some u) (Some v) (Some w) x y p q = rw (q, p) (append_assoc u x y)
-
-appends_none : (a : Option (List ℕ)) → Appends a a []
-appends_none None = tt
-appends_none (Some xs) = sym (append-nil xs)
 
 -- what was written, and what is gathered behind it, are the lines of these answers
 pub record IsGathered (front : List Datum) (old now : Option (List ℕ)) (lines : List ℕ) : Type 0 where

@@ -11,7 +11,8 @@ use Rattle.tool_script.specs.Script.{ScriptState, beginning}
 use Rattle.tool_script.specs.Replied.{IsReply, AreReplies}
 use Rattle.tool_script.specs.Shell.{Replies}
 use Rattle.tool_script.specs.Run.{WritesReplies, StopsReplies}
-use Rattle.tool_script.proofs.PassLemmas.{replied_more, appends_join, appends_none}
+use Rattle.tool_io.proofs.LineLemmas.{appends_join, appends_none}
+use Rattle.tool_script.proofs.PassLemmas.{replied_more}
 
 are_replies : (st : ScriptState) (ds rs : List Datum) (a : ScriptState) → Replies st ds rs a → AreReplies st ds rs
 are_replies st [] [] a h = tt

@@ -13,6 +13,7 @@ mod SelectLemmas
 mod LineLemmas
 mod PassLemmas
 mod ShellLemmas
+mod EngineLemmas
 mod RefusalLemmas
 mod GatherLemmas
 mod WorkedRows

@@ -4,6 +4,7 @@ use Rattle.std.proofs.lemmas.List.{append-nil}
 use Rattle.std.specs.Io.KnownBytes.{Appends, Consumes}
 use Rattle.term_core.specs.Datum.{Datum}
 use Rattle.tool_io.specs.Lines.{Passes}
+use Rattle.tool_io.proofs.LineLemmas.{appends_none, appends_join}
 use Rattle.tool_script.specs.Script.{ScriptState}
 use Rattle.tool_script.specs.Replied.{IsReply}
 use Rattle.tool_script.specs.Shell.{Replies}
@@ -13,16 +14,6 @@ replied_more st [] [] a b d r before here = (b, subst (λ (s : ScriptState). IsR
 replied_more st [] (e ∷ rs) a b d r before here = absurd before
 replied_more st (e ∷ ds) [] a b d r before here = absurd before
 replied_more st (e ∷ ds) (q ∷ rs) a b d r (mid, first, rest) here = (mid, first, replied_more mid ds rs a b d r rest here)
-
-pub appends_join : (a b c : Option (List ℕ)) (x y : List ℕ) → Appends a b x → Appends b c y → Appends a c (x ++ y)
-appends_join None b c x y p q = tt
-appends_join (Some u) None c x y p q = absurd p
-appends_join (Some u) (Some v) None x y p q = absurd q
-appends_join (Some u) (Some v) (Some w) x y p q = rw (q, p) (append_assoc u x y)
-
-pub appends_none : (a : Option (List ℕ)) → Appends a a []
-appends_none None = tt
-appends_none (Some xs) = sym (append-nil xs)
 
 pub consumes_join : (a b c : Option (List ℕ)) (x y : List ℕ) → Consumes a b x → Consumes b c y → Consumes a c (x ++ y)
 consumes_join None b c x y p q = tt

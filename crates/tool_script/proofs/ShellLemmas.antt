@@ -33,7 +33,8 @@ use Rattle.tool_script.specs.Shell.Looked.{spelled, cut_short, refused}
 use Rattle.tool_script.specs.Shell.Goes.{ended, passed, goes_on, looked_at, given_up}
 use Rattle.tool_script.specs.Shells.{AreAnswered, StopsTerms, IsRefused, IsLookedAt, StopsText, IsLookedAtBy, StopsLine, LeadsOn, LooksOn, IsLineAnswered, MayFollow, MayStandBehind, IsAllAt, Stands, HoldsFirst, StopsHolding, IsToldBy}
 use Rattle.tool_script.proofs.LineLemmas.{slice_end}
-use Rattle.tool_script.proofs.PassLemmas.{replied_more, appends_none, consumes_join, passes_none, passes_more, passes_on, passes_put, passes_written}
+use Rattle.tool_io.proofs.LineLemmas.{appends_none}
+use Rattle.tool_script.proofs.PassLemmas.{replied_more, consumes_join, passes_none, passes_more, passes_on, passes_put, passes_written}
 
 -- ---- lines
 

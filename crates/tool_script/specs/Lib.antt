@@ -18,5 +18,6 @@ pub mod Input
 pub mod Line
 pub mod Shell
 pub mod Shells
+pub mod Engine
 pub mod Laws
 pub mod Prompt

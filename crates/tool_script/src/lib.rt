@@ -15,6 +15,7 @@
 //! - `reply`: replies and their lines, `specs/Replies.antt`; `run`: from a reader to a writer, too, `specs/Input.antt`.
 //! - `shell`: replies while commands come, `specs/Shell.antt`, in memory `specs/Shells.antt`; `line`: the lines of its
 //!   input, `specs/Line.antt`.
+//! - `engine`: a script that goes on from text to text, `specs/Engine.antt`.
 //! - `prompt`: a shell for a person, `specs/Prompt.antt`.
 //! - `laws`: replies and what a shell writes are one, and a shell answers a script as `run_script` does,
 //!   `specs/Laws.antt`.
@@ -22,6 +23,7 @@
 
 mod command;
 mod command_laws;
+mod engine;
 mod laws;
 mod line;
 mod open;
@@ -35,6 +37,7 @@ mod walk;
 
 pub use command::{Ask, Command, Selection, read_command};
 pub use command_laws::terms_tell_commands;
+pub use engine::{Engine, Halt};
 pub use laws::{a_script_is_a_shell, lines_are_a_script, replies_are_one, shell_output_is_one};
 pub use prompt::run_prompt;
 pub use reply::{CommandReply, put_reply};

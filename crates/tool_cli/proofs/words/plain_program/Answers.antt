@@ -6,7 +6,7 @@ use Rattle.tool_cli.proofs.words.plain_program.Goals as goal
 
 pub returns : goal.returns
 returns c =
-    MatchResult-weaker c.with_plain-5.result c.with_plain-5.ensures
+    MatchResult-weaker c.with_plain-3.result c.with_plain-3.ensures
     (λ command h p.
     let one = c.in_ok-program.ensures p ∙ ap (λ a. with_subcommand a (command_shape p to_run)) c.tool.ensures in
     let two = c.in_ok-program-2.ensures p ∙ ap (λ a. with_subcommand a (command_shape p to_test)) one in

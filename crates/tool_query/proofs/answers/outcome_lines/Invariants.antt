@@ -1,4 +1,4 @@
-use Rattle.std.proofs.Common.{◌≡◌, length}
+use Rattle.std.proofs.Common.{length}
 use Rattle.std.specs.Str.{chars}
 use denote.Text.{Utf8}
 use denote.Shadow.{shadow}
@@ -8,7 +8,7 @@ use Rattle.tool_query.proofs.AnswerLemmas.{Answered}
 use Rattle.tool_query.proofs.answers.outcome_lines.Given as goal
 
 abbrev pub invariant-loop-lines : goal.invariant-loop-lines
-invariant-loop-lines g l = shadow (Utf8 l.left) × Answered outcomes (Means l.specification) (chars l.fn.rest) (chars l.left) l.lines.items
+invariant-loop-lines g l = shadow (Utf8 l.left) × Answered (outcomes l.form) (Means l.specification) (chars l.fn.rest) (chars l.left) l.lines.items
 
 abbrev pub decreases-loop-lines : goal.decreases-loop-lines
 decreases-loop-lines g l = length (chars l.left)

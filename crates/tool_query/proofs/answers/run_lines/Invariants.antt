@@ -8,7 +8,7 @@ use Rattle.tool_query.proofs.AnswerLemmas.{Answered}
 use Rattle.tool_query.proofs.answers.run_lines.Given as goal
 
 abbrev pub invariant-loop-lines : goal.invariant-loop-lines
-invariant-loop-lines g l = shadow (Utf8 l.left) × Answered answers (λ object answer. answer ≡ answer_of l.code object) (chars l.fn.rest) (chars l.left) l.lines.items
+invariant-loop-lines g l = shadow (Utf8 l.left) × Answered (answers l.form) (λ object answer. answer ≡ answer_of l.code object) (chars l.fn.rest) (chars l.left) l.lines.items
 
 abbrev pub decreases-loop-lines : goal.decreases-loop-lines
 decreases-loop-lines g l = length (chars l.left)

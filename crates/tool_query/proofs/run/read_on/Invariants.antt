@@ -1,4 +1,4 @@
-use Rattle.std.proofs.Common.{◌≡◌, List, length}
+use Rattle.std.proofs.Common.{List, length}
 use Rattle.std.specs.Str.{chars}
 use denote.Text.{Utf8}
 use denote.Shadow.{shadow}

@@ -1,5 +1,5 @@
 use Rattle.std.proofs.Common.{◌≡◌, [], ◌∷◌, refl, sym, subst, rules}
-use Rattle.std.specs.Str.{IsUtf8, chars}
+use Rattle.std.specs.Str.{IsUtf8}
 use Rattle.std.proofs.lemmas.Result.{err_from_is_err_and, on_ok_weaker, MatchResult-weaker}
 use Rattle.mcode.specs.Answer.{answer_of}
 use Rattle.tool_query.specs.Answers.Report.{answers}
@@ -26,17 +26,17 @@ returns-in_err-lines-in-Ok-clause-refused g c =
 pub returns-in-Ok-clause-ok : goal.returns-in-Ok-clause-ok
 returns-in-Ok-clause-ok g c =
     let asked = c.in-Ok.ensures.ok in
-    let a = answers_as answers (λ object answer. answer ≡ answer_of c.in-Ok.code object) (Answers asked.0) (λ d a is. subst (Answers asked.0 d) (sym is) (asked.2 d)) _ _ c.in_ok-lines-in-Ok.ensures.ok in
+    let a = answers_as (answers c.args.form) (λ object answer. answer ≡ answer_of c.in-Ok.code object) (Answers asked.0) (λ d a is. subst (Answers asked.0 d) (sym is) (asked.2 d)) _ _ c.in_ok-lines-in-Ok.ensures.ok in
     let utf8 : IsUtf8 c.in_ok-text.text.now = search rules in
-    on_ok_weaker c.write_lines.result (λ gained. report_written answers c.args.input.now c.in_ok-text.text.now _ _ c.in_ok-first.first asked.0 _ _ c.in_ok-text.ensures.ok utf8 c.in_ok-first.ensures.ok asked.1 a gained) c.write_lines.ensures.ok
+    on_ok_weaker c.write_lines.result (λ gained. report_written (answers c.args.form) c.args.input.now c.in_ok-text.text.now _ _ c.in_ok-first.first asked.0 _ _ c.in_ok-text.ensures.ok utf8 c.in_ok-first.ensures.ok asked.1 a gained) c.write_lines.ensures.ok
 
 pub returns-in-Ok-clause-refused : goal.returns-in-Ok-clause-refused
 returns-in-Ok-clause-refused g c =
     let asked = c.in-Ok.ensures.ok in
-    let a = answers_as answers (λ object answer. answer ≡ answer_of c.in-Ok.code object) (Answers asked.0) (λ d a is. subst (Answers asked.0 d) (sym is) (asked.2 d)) _ _ c.in_ok-lines-in-Ok.ensures.ok in
+    let a = answers_as (answers c.args.form) (λ object answer. answer ≡ answer_of c.in-Ok.code object) (Answers asked.0) (λ d a is. subst (Answers asked.0 d) (sym is) (asked.2 d)) _ _ c.in_ok-lines-in-Ok.ensures.ok in
     let utf8 : IsUtf8 c.in_ok-text.text.now = search rules in
     MatchResult-weaker c.write_lines.result c.write_lines.ensures.failed (λ x p. p)
-    (λ f failed. report_failed answers c.args.input.now c.in_ok-text.text.now _ _ c.in_ok-first.first _ _ _ f c.in_ok-text.ensures.ok utf8 c.in_ok-first.ensures.ok a failed)
+    (λ f failed. report_failed (answers c.args.form) c.args.input.now c.in_ok-text.text.now _ _ c.in_ok-first.first _ _ _ f c.in_ok-text.ensures.ok utf8 c.in_ok-first.ensures.ok a failed)
 
 pub returns-in_err-read_on-in-Err-clause-refused : goal.returns-in_err-read_on-in-Err-clause-refused
 returns-in_err-read_on-in-Err-clause-refused g c =
@@ -47,7 +47,7 @@ pub returns-clause-refused : goal.returns-clause-refused
 returns-clause-refused g c =
     let utf8 : IsUtf8 c.in_ok-text.text.now = search rules in
     let rest = c.in_ok-read_on-in-Err.ensures.ok in
-    report_nothing answers c.args.input.now c.in_ok-text.text.now _ c.in_ok-first.first rest.0 _ _ c.in_ok-text.ensures.ok utf8 c.in_ok-first.ensures.ok rest.1 c.in-Err.ensures.refused
+    report_nothing (answers c.args.form) c.args.input.now c.in_ok-text.text.now _ c.in_ok-first.first rest.0 _ _ c.in_ok-text.ensures.ok utf8 c.in_ok-first.ensures.ok rest.1 c.in-Err.ensures.refused
 
 pub run_lines-requires-text-text : goal.run_lines-requires-text-text
 run_lines-requires-text-text g c = search rules

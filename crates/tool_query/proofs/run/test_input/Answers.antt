@@ -1,5 +1,5 @@
 use Rattle.std.proofs.Common.{[], ◌∷◌, refl, rules}
-use Rattle.std.specs.Str.{IsUtf8, chars}
+use Rattle.std.specs.Str.{IsUtf8}
 use Rattle.std.proofs.lemmas.Result.{err_from_is_err_and, on_ok_weaker, MatchResult-weaker}
 use Rattle.tool_query.specs.Answers.Report.{outcomes}
 use Rattle.tool_query.specs.Query.{Query}
@@ -26,7 +26,7 @@ returns-in-Ok-clause-ok g c =
     let s = c.in-Ok.specification in
     let a = c.in_ok-lines-in-Ok.ensures.ok in
     let utf8 : IsUtf8 c.in_ok-text.text.now = search rules in
-    on_ok_weaker c.write_lines.result (λ gained. report_written outcomes c.args.input.now c.in_ok-text.text.now _ _ c.in_ok-first.first (Query.meant s) _ _ c.in_ok-text.ensures.ok utf8 c.in_ok-first.ensures.ok (s, refl, c.in-Ok.ensures.ok) a gained) c.write_lines.ensures.ok
+    on_ok_weaker c.write_lines.result (λ gained. report_written (outcomes c.args.form) c.args.input.now c.in_ok-text.text.now _ _ c.in_ok-first.first (Query.meant s) _ _ c.in_ok-text.ensures.ok utf8 c.in_ok-first.ensures.ok (s, refl, c.in-Ok.ensures.ok) a gained) c.write_lines.ensures.ok
 
 pub returns-in-Ok-clause-refused : goal.returns-in-Ok-clause-refused
 returns-in-Ok-clause-refused g c =
@@ -34,7 +34,7 @@ returns-in-Ok-clause-refused g c =
     let a = c.in_ok-lines-in-Ok.ensures.ok in
     let utf8 : IsUtf8 c.in_ok-text.text.now = search rules in
     MatchResult-weaker c.write_lines.result c.write_lines.ensures.failed (λ x p. p)
-    (λ f failed. report_failed outcomes c.args.input.now c.in_ok-text.text.now _ _ c.in_ok-first.first _ _ _ f c.in_ok-text.ensures.ok utf8 c.in_ok-first.ensures.ok a failed)
+    (λ f failed. report_failed (outcomes c.args.form) c.args.input.now c.in_ok-text.text.now _ _ c.in_ok-first.first _ _ _ f c.in_ok-text.ensures.ok utf8 c.in_ok-first.ensures.ok a failed)
 
 pub returns-in_err-read_on-in-Err-clause-refused : goal.returns-in_err-read_on-in-Err-clause-refused
 returns-in_err-read_on-in-Err-clause-refused g c =
@@ -45,7 +45,7 @@ pub returns-clause-refused : goal.returns-clause-refused
 returns-clause-refused g c =
     let utf8 : IsUtf8 c.in_ok-text.text.now = search rules in
     let rest = c.in_ok-read_on-in-Err.ensures.ok in
-    report_nothing outcomes c.args.input.now c.in_ok-text.text.now _ c.in_ok-first.first rest.0 _ _ c.in_ok-text.ensures.ok utf8 c.in_ok-first.ensures.ok rest.1 c.in-Err.ensures.refused
+    report_nothing (outcomes c.args.form) c.args.input.now c.in_ok-text.text.now _ c.in_ok-first.first rest.0 _ _ c.in_ok-text.ensures.ok utf8 c.in_ok-first.ensures.ok rest.1 c.in-Err.ensures.refused
 
 pub outcome_lines-requires-text-text : goal.outcome_lines-requires-text-text
 outcome_lines-requires-text-text g c = search rules

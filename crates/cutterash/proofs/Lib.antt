@@ -1,0 +1,4 @@
+mod Values
+mod TextLemmas
+mod ReplyLemmas
+mod NoKept

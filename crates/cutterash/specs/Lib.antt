@@ -1,0 +1,4 @@
+pub mod Held
+pub mod Reply
+pub mod Calls
+pub mod Tables

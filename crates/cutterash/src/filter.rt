@@ -1,0 +1,71 @@
+//! The handle of a filter, which crosses to C.
+ghost use Rattle.std.specs.Prelude.{◌≡◌, true, false};
+ghost use Rattle.std.specs.Coded.{codes};
+ghost use Rattle.term_core.specs.DatumCode.{datum_code};
+ghost use Rattle.mcode.specs.Program.{Program};
+ghost use Rattle.cutterash.specs.Held.{held};
+
+use crate::loaded::Loaded;
+use crate::loose::Loose;
+use std::alloc::Global;
+use std::marker::Model;
+use std::ptr;
+
+/// A filter: open, and then it owns a box of verified code, or closed. One whose bytes are all 0 is closed. Who has it
+/// may neither copy it nor write into it, and passes it to one call at a time, all in one thread.
+#[repr(C)]
+#[derive(Drop)]
+pub struct Filter {
+    /// The box, where the filter is open.
+    pub(crate) at: *mut u8,
+    /// Whether it is open.
+    pub(crate) is_open: bool,
+    /// The code of an open filter.
+    pub(crate) ghost code: { Program } by { Prim.hlevel (codes, datum_code) },
+}
+
+impl Model for Filter {
+    ghost also_owns = { λ f. held f.is_open f.at f.code };
+}
+
+impl Filter {
+    /// A closed filter.
+    pub(crate) fn closed() -> Filter
+        ensures { result.is_open ≡ false }
+    {
+        Filter {
+            at: ptr::null_mut(),
+            is_open: false,
+        }
+    }
+
+    /// An open filter.
+    pub(crate) fn of(loose: Loose<Loaded, Global>) -> Filter
+        ensures { (result.is_open ≡ true) × (result.code ≡ loose.value) }
+    {
+        let Loose { at, alloc: _ } = loose;
+        Filter {
+            at: at as *mut u8,
+            is_open: true,
+        }
+    }
+
+    /// Whether it is open, and the filter.
+    pub(crate) fn told(self) -> (bool, Filter)
+        ensures { (result.0 ≡ self.is_open) × (result.1 ≡ self) }
+    {
+        let is_open = self.is_open;
+        (is_open, self)
+    }
+
+    /// What an open filter owns.
+    pub(crate) fn into_loose(self, alloc: Global) -> Loose<Loaded, Global>
+        requires { self.is_open ≡ true }
+        ensures { result.value ≡ self.code }
+    {
+        Loose {
+            at: self.at as *mut Loaded,
+            alloc,
+        }
+    }
+}

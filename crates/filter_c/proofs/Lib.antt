@@ -1,3 +1,0 @@
-mod Values
-mod TextLemmas
-mod ReplyLemmas

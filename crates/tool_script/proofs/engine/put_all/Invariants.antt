@@ -1,0 +1,7 @@
+-- The replies to the terms so far are put.
+use Rattle.std.proofs.Common.{take}
+use Rattle.tool_script.specs.Engine.{ArePut}
+use Rattle.tool_script.proofs.engine.put_all.Given as goal
+
+abbrev pub invariant-loop-term : goal.invariant-loop-term
+invariant-loop-term g l = ArePut l.fn.script l.script (take l.term-index l.terms) l.fn.lines.items l.lines.items
