@@ -278,6 +278,26 @@ fn answer_line<S: Part<A> + Drop, O: Part<A> + Drop, A: Allocator + Copy>(
     }
 }
 
+/// As `answer_line`; where the input ends there, the line of its prompt is ended first.
+fn answer_taken<S: Part<A> + Drop, O: Part<A> + Drop, A: Allocator + Copy>(
+    alloc: A,
+    script: &mut Script<S, O, A>,
+    text: &[u8],
+    start: usize,
+    progress: Progress,
+    lines: &mut Vec<u8, A>,
+) -> Result<bool, AllocError>
+    requires unordered { ServesUnordered S.serves }
+    requires ordered { IsTrue (O.serves OrderedSet) }
+    requires within { start ≤ length text.now }
+{
+    match progress {
+        Progress::More => {}
+        Progress::End => lines.extend_from_slice(b"\n")?,
+    }
+    answer_line(alloc, script, text, start, lines)
+}
+
 /// Takes the next line of the input, and answers it.
 fn answer_next<S: Part<A> + Drop, O: Part<A> + Drop, A: Allocator + Copy, B: BufRead>(
     alloc: A,
@@ -292,7 +312,7 @@ fn answer_next<S: Part<A> + Drop, O: Part<A> + Drop, A: Allocator + Copy, B: Buf
 {
     let start = begun.len();
     let progress = take_line(input, begun)?;
-    match answer_line(alloc, script, begun.as_slice(), start, lines) {
+    match answer_taken(alloc, script, begun.as_slice(), start, progress, lines) {
         Ok(is_kept) => {
             keep(begun, is_kept);
             Ok(progress)
@@ -317,7 +337,7 @@ fn ask<A: Allocator, W: Write>(
     }
 }
 
-/// Puts what the end of the input comes to at the end, behind the line of the last prompt.
+/// Puts what it comes to that the end of the input gives up at the end, if something is begun.
 fn give_up<S: Part<A> + Drop, O: Part<A> + Drop, A: Allocator + Copy>(
     alloc: A,
     script: &mut Script<S, O, A>,
@@ -327,7 +347,6 @@ fn give_up<S: Part<A> + Drop, O: Part<A> + Drop, A: Allocator + Copy>(
     requires unordered { ServesUnordered S.serves }
     requires ordered { IsTrue (O.serves OrderedSet) }
 {
-    lines.extend_from_slice(b"\n")?;
     if begun.is_empty() {
         return Ok(false);
     }
