@@ -154,33 +154,48 @@ const fn middle_of(home: Home, middle: Middle) -> Trial {
 
 #[test]
 fn a_table_that_is_not_closed_leaks_nothing(rt: HostRuntime) {
-    let trials = [
-        middle_of(Home::Gates, Middle::Fix),
-        middle_of(Home::Gates, Middle::Reply),
-        middle_of(Home::Alone, Middle::Fix),
-        middle_of(Home::Alone, Middle::Reply),
-    ];
-    assert!(rt; first_wrong(&rt, rt.alloc(), &trials) == None);
+    assert!(rt;
+        first_wrong(
+            &rt,
+            rt.alloc(),
+            &[
+                middle_of(Home::Gates, Middle::Fix),
+                middle_of(Home::Gates, Middle::Reply),
+                middle_of(Home::Alone, Middle::Fix),
+                middle_of(Home::Alone, Middle::Reply),
+            ]
+        ) == None
+    );
 }
 
 #[test]
 fn a_walk_that_is_not_at_its_end_leaks_nothing(rt: HostRuntime) {
-    let trials = [
-        middle_of(Home::Gates, Middle::OnePiece),
-        middle_of(Home::Gates, Middle::TwoPieces),
-        middle_of(Home::Alone, Middle::OnePiece),
-        middle_of(Home::Alone, Middle::TwoPieces),
-    ];
-    assert!(rt; first_wrong(&rt, rt.alloc(), &trials) == None);
+    assert!(rt;
+        first_wrong(
+            &rt,
+            rt.alloc(),
+            &[
+                middle_of(Home::Gates, Middle::OnePiece),
+                middle_of(Home::Gates, Middle::TwoPieces),
+                middle_of(Home::Alone, Middle::OnePiece),
+                middle_of(Home::Alone, Middle::TwoPieces),
+            ]
+        ) == None
+    );
 }
 
 #[test]
 fn a_closed_table_whose_parts_are_not_all_out_leaks_nothing(rt: HostRuntime) {
-    let trials = [
-        middle_of(Home::Closed(0), Middle::Fix),
-        middle_of(Home::Closed(1), Middle::Fix),
-    ];
-    assert!(rt; first_wrong(&rt, rt.alloc(), &trials) == None);
+    assert!(rt;
+        first_wrong(
+            &rt,
+            rt.alloc(),
+            &[
+                middle_of(Home::Closed(0), Middle::Fix),
+                middle_of(Home::Closed(1), Middle::Fix),
+            ]
+        ) == None
+    );
 }
 
 #[test]

@@ -319,6 +319,15 @@ fn is_same<'h, T: Turns<&'h Failing<Global>>>(
     is_out && is_as_held
 }
 
+/// What comes of an object where this is answered.
+fn came_of(answered: Option<bool>, answer: bool) -> Came {
+    if answered == Some(answer) {
+        Came::Right
+    } else {
+        Came::Wrong
+    }
+}
+
 /// What comes of an object that is refused, unless each request is refused: it is asked for again.
 fn asked_again<'h, T: Turns<&'h Failing<Global>>>(
     heap: &'h Failing<Global>,
@@ -333,10 +342,10 @@ fn asked_again<'h, T: Turns<&'h Failing<Global>>>(
 {
     match heap.plan() {
         Plan::From(_) => Came::Kept,
-        Plan::Once(_) | Plan::Never => match put_in(turns, call, object) {
-            Ok(answered) if answered == answer => Came::Right,
-            Ok(_) | Err(_) => Came::Wrong,
-        },
+        Plan::Once(_) | Plan::Never => {
+            let answered = put_in(turns, call, object).ok();
+            came_of(answered, answer)
+        }
     }
 }
 
@@ -363,13 +372,7 @@ fn put_at<'h, T: Turns<&'h Failing<Global>>>(
     };
     let was_refused = heap.was_refused();
     match put_in(turns, held.call, copy) {
-        Ok(answered) => {
-            if answered == held.answer(key) {
-                Came::Right
-            } else {
-                Came::Wrong
-            }
-        }
+        Ok(answered) => came_of(Some(answered), held.answer(key)),
         Err(refused) => {
             let is_refused = refused.fault == Fault::Memory && !was_refused && heap.was_refused();
             let is_back = refused.value == *object
