@@ -9,7 +9,7 @@
 //! - `filter`, `table`: the handles that cross, and what they own, `specs/Held.antt`; `loaded`, `kept`: what an open
 //!   one keeps; `loose`: a box as its pointer. The functions that make a handle of a box and a box of a handle are
 //!   proved by hand.
-//! - `tables`: the exports for tables; those for filters stand here.
+//! - `table_calls`: the exports for tables; those for filters stand here.
 //! - `text`: what calls do with texts; `reply`: what they reply.
 #![tactic(auto)]
 
@@ -23,7 +23,7 @@ mod loaded;
 mod loose;
 mod reply;
 mod table;
-mod tables;
+mod table_calls;
 mod text;
 
 use filter::Filter;

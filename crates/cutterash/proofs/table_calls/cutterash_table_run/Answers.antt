@@ -1,7 +1,7 @@
 use Rattle.std.proofs.Common.{◌≡◌, ◌∙◌, sym, subst}
 use Rattle.cutterash.specs.declared.kept.Kept.{Kept}
 use Rattle.cutterash.specs.Tables.{Obeys}
-use Rattle.cutterash.proofs.tables.cutterash_table_run.Goals as goal
+use Rattle.cutterash.proofs.table_calls.cutterash_table_run.Goals as goal
 
 pub returns-clause-open : goal.returns-clause-open
 returns-clause-open c = λ opened.
