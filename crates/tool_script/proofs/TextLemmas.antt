@@ -60,7 +60,7 @@ error_line n =
     let d = integer (pos n) in
     let name = atom (codes "error") in
     let last : encode_utf8_all (more_items_text forms.Canonical (item d no_items)) ≡ comma ∷ text_of d =
-    more_items_bytes forms.Canonical d [] ∙ ap (λ (l : List ℕ). comma ∷ (text_of d ++ l)) no_more_items forms.Canonical ∙ ap (λ (l : List ℕ). comma ∷ l) (append-nil (text_of d)) in
+    more_items_bytes forms.Canonical d [] ∙ ap (λ (l : List ℕ). comma ∷ (text_of d ++ l)) (no_more_items forms.Canonical) ∙ ap (λ (l : List ℕ). comma ∷ l) (append-nil (text_of d)) in
     let items : encode_utf8_all (items_text forms.Canonical (item name (item d no_items))) ≡ codes "error" ++ (comma ∷ text_of d) =
     items_bytes forms.Canonical name (d ∷ []) ∙ ap (λ (l : List ℕ). l ++ encode_utf8_all (more_items_text forms.Canonical (item d no_items))) error_bytes ∙ ap (λ (l : List ℕ). codes "error" ++ l) last in
     ap (λ (l : List ℕ). l ++ 46 ∷ 10 ∷ []) (tuple_bytes forms.Canonical (item name (item d no_items)) ∙ ap (λ (l : List ℕ). open_brace ∷ (l ++ close_brace ∷ [])) items)
