@@ -208,6 +208,7 @@ static bool answers(struct cutterash_reply reply, const char *lines, const uint8
 /* Tables that are closed, no text and no room, texts that are refused, replies that have no room. */
 static void try_table(void) {
     struct cutterash_table table = {0};
+    long held = in_use;
     uint8_t room[256], before[256];
     memset(room, 0x5a, sizeof room);
     memcpy(before, room, sizeof room);
@@ -250,6 +251,7 @@ static void try_table(void) {
     cutterash_table_close(&table);
     cutterash_table_close(&table);
     HOLDS(is(obey(&table, "", room, sizeof room), CUTTERASH_CLOSED, 0, 0, 0, 0, 0));
+    HOLDS(in_use == held);
 }
 
 /* What is asked where requests for memory are refused in turn, and its replies. */
