@@ -342,8 +342,8 @@ pub is_shell_ended : (r : Request) (known out out' err err' : Option (List ℕ))
     → HasOutcome r known out out' outcome → EndsTelling [] outcome err err' failed status → EndsExplained r known out out' err err' failed status
 is_shell_ended request.Shell known out out' err err' failed status outcome is written ended = ends_shell known out out' err err' failed status outcome written ended
 is_shell_ended request.Prompt known out out' err err' failed status outcome is written ended = ends_prompt known out out' err err' failed status outcome written ended
-is_shell_ended request.Run known out out' err err' failed status outcome is written ended = absurd is
-is_shell_ended request.Test known out out' err err' failed status outcome is written ended = absurd is
+is_shell_ended (request.Run form) known out out' err err' failed status outcome is written ended = absurd is
+is_shell_ended (request.Test form) known out out' err err' failed status outcome is written ended = absurd is
 is_shell_ended request.Compile known out out' err err' failed status outcome is written ended = absurd is
 is_shell_ended request.Verify known out out' err err' failed status outcome is written ended = absurd is
 is_shell_ended request.Script known out out' err err' failed status outcome is written ended = absurd is
