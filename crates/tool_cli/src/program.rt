@@ -1,5 +1,5 @@
 //! The program from its words to its status: what it reads, and what it writes on which of two streams.
-ghost use Rattle.std.specs.Prelude.{◌≡◌, ◌⊎◌, [], IfErr, MatchBool, OnOk, map};
+ghost use Rattle.std.specs.Prelude.{◌≡◌, ◌≢◌, ◌⊎◌, [], IfErr, MatchBool, OnOk, map};
 ghost use Rattle.std.specs.Io.KnownBytes.{Appends, Keeps};
 ghost use Rattle.clap.specs.Words.{kind_of};
 ghost use Rattle.std.specs.IoError.{error_kind};
@@ -142,9 +142,13 @@ pub fn run_explained<
 
 /// Whether a command takes its input line by line.
 fn is_shell(request: Request) -> bool
-    ensures { MatchBool result (IsShell request) (¬ IsShell request) }
+    ensures { MatchBool result (IsShell request) ((request ≢ Request.Shell) × (request ≢ Request.Prompt)) }
 {
-    matches!(request, Request::Shell | Request::Prompt)
+    match request {
+        Request::Shell => true,
+        Request::Prompt => true,
+        _ => false,
+    }
 }
 
 /// Runs one command, and answers the status that the program ends with. Parts of the table of a scan are of the sort
