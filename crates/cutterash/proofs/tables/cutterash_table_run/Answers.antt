@@ -9,5 +9,5 @@ returns-clause-open c = λ opened.
     let now : c.obeyed-reply.new.kept ≡ c.of-2.result.kept = sym (c.of-2.ensures.1 ∙ c.of.ensures) in (
       c.of-2.ensures.0,
       subst (λ (k : Kept). Obeys k c.of-2.result.kept c.args.text.now c.args.room.now c.obeyed-reply.new.room c.obeyed-reply.result) was
-      (subst (λ (k : Kept). Obeys c.deref_mut.result.now k c.args.text.now c.args.room.now c.obeyed-reply.new.room c.obeyed-reply.result) now c.obeyed-reply.ensures),
+          (subst (λ (k : Kept). Obeys c.deref_mut.result.now k c.args.text.now c.args.room.now c.obeyed-reply.new.room c.obeyed-reply.result) now c.obeyed-reply.ensures),
     )
