@@ -10,9 +10,8 @@
 //!   session that waits for a part until it is put back.
 //! - `walking`: a walk whose table another session empties meanwhile, and a visit out of place.
 //! - `leaving`: dead rows while sessions fix, and when the last of them leaves.
-//! - With each request for memory refused in turn: `trials`, what a session does at a table that is opened for it, and
-//!   what becomes of the table; `refusals`, openings, an insert, and calls that take none; `putting`, objects put in one
-//!   after the other; `leaks`, what is let go in the middle of its life; `selecting`, a whole walk.
+//! - `refusals`: memory refused in turn, and calls that take none. `selecting`: the same of a whole walk. `putting`: the
+//!   same of objects put in one after the other. `leaks`: what is let go in the middle of its life.
 #![tactic(auto)]
 
 #[cfg(test)]
@@ -33,8 +32,6 @@ mod refusals;
 mod selecting;
 #[cfg(test)]
 mod steps;
-#[cfg(test)]
-mod trials;
 #[cfg(test)]
 mod waiting;
 #[cfg(test)]

@@ -23,21 +23,6 @@ pub(crate) fn last_two<A: Allocator, P: Part<A> + Drop>(
     Some((first, second))
 }
 
-/// A table, and the last two of its sessions; the rest are let go.
-pub(crate) fn opened<A: Allocator + Copy, P: Part<A> + Drop>(
-    heap: A,
-    options: Options,
-) -> Option<(Table<P, A>, Session<P, A>, Session<P, A>)>
-    ensures { IfSome result (λ made. IsOpened made.0.options made.0.gates.items made.1.number made.1.passes.items
-        × IsOpened made.0.options made.0.gates.items made.2.number made.2.passes.items) }
-{
-    let Ok((table, sessions)) = Table::<P, A>::open(heap, options) else {
-        return None;
-    };
-    let (first, second) = last_two(&table, sessions)?;
-    Some((table, first, second))
-}
-
 /// A session puts an object into each of two parts and fixes them.
 pub(crate) fn put_and_fixed<R: Wait, A: Allocator + Copy, P: Part<A> + Drop>(
     rt: &R,

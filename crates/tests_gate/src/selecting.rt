@@ -1,7 +1,7 @@
 //! A whole walk at a table whose parts have gates, with each request for memory refused in turn.
 ghost use Rattle.tables.specs.Sessions.{IsOpened};
 
-use crate::pairs::{opened, put_and_fixed};
+use crate::pairs::{last_two, put_and_fixed};
 use kit_alloc::{Failing, sweep};
 use kit_rows::term_of;
 use mspec_reader::read_spec;
@@ -87,9 +87,12 @@ fn walked<R: Wait, A: Allocator + Copy, P: Part<A> + Drop>(
 
 /// The same at a table that is opened.
 fn walked_at<R: Wait>(rt: &R, heap: &Failing<Global>) -> Option<(usize, bool, bool)> {
-    let (table, session, _other) = opened::<&Failing<Global>, HashPart<&Failing<Global>>>(
+    let Ok((table, sessions)) = Table::<HashPart<&Failing<Global>>, &Failing<Global>>::open(
         heap, OPTIONS,
-    )?;
+    ) else {
+        return None;
+    };
+    let (session, _other) = last_two(&table, sessions)?;
     let session = put_and_fixed(rt, heap, &table, session)?;
     let query = keys_query(heap)?;
     walked(rt, heap, &table, session, &query)

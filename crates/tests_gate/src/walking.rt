@@ -3,7 +3,7 @@ ghost use Rattle.std.specs.Prelude.{◌≡◌, ◌<◌, IfSome};
 ghost use Rattle.tables.specs.Sessions.{IsOpened};
 
 use crate::objects::object;
-use crate::pairs::opened;
+use crate::pairs::last_two;
 use kit_rows::{number, term_of};
 use mspec_reader::read_spec;
 use part_core::{Cursor, Fault, Look, Part, PartOp, Scope, TableKind};
@@ -183,7 +183,10 @@ fn outlasting<R: Threads + Wait + Sync, P: Part<Global> + Drop + Send>(
     rt: &R,
     alloc: Global,
 ) -> Option<u32> {
-    let (table, mut walker, writer) = opened::<Global, P>(alloc, OPTIONS)?;
+    let Ok((table, sessions)) = Table::<P>::open(alloc, OPTIONS) else {
+        return None;
+    };
+    let (mut walker, writer) = last_two(&table, sessions)?;
     let walk = begun_at(rt, alloc, &table, &mut walker)?;
     deleted_on_a_thread(rt, &table, writer);
     gone_on_at(rt, alloc, &table, &mut walker, walk)
@@ -212,7 +215,10 @@ fn is_refused<'q, T: Turns<Global>>(turns: &mut T, query: &'q Query, scope: Scop
 fn is_refused_at<R: Wait, P: Part<Global> + Drop>(rt: &R, alloc: Global) -> Option<bool> {
     let query = keys_query(alloc)?;
     let cursor = Cursor::Class { base: 8, class: 8 };
-    let (table, mut session, _other) = opened::<Global, P>(alloc, OPTIONS)?;
+    let Ok((table, sessions)) = Table::<P>::open(alloc, OPTIONS) else {
+        return None;
+    };
+    let (mut session, _other) = last_two(&table, sessions)?;
     let mut at = table.at(rt, &mut session);
     Some(is_refused(&mut at, &query, Scope::After(&cursor)))
 }

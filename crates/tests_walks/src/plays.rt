@@ -6,7 +6,7 @@ use kit_rows::term_of;
 use mspec_reader::read_spec;
 use part_core::{Part, TableKind};
 use std::alloc::Allocator;
-use tables::{LocalAt, LocalTable, Options, Turns, fix_at};
+use tables::{LocalTable, Options, Turns, fix_at};
 use term_core::Term;
 use term_text::read_terms;
 use walks::Query;
@@ -20,27 +20,6 @@ pub(crate) struct Play {
     pub(crate) specification: &'static str,
     /// The session fixes the parts below this number before it asks.
     pub(crate) fixed: u8,
-}
-
-/// A session of a table on one thread, which another session of the table may stand in for.
-pub(crate) trait Numbered<A: Allocator>: Turns<A> {
-    /// Goes on as the session of a number, and says whether the table has one.
-    fn goes_on_as(&mut self, number: u8) -> bool
-        requires { Self.is_ready self.old }
-        ensures { Self.is_ready self.new };
-}
-
-impl<'t, A: Allocator, P: Part<A> + Drop> Numbered<A> for LocalAt<'t, P, A> {
-    fn goes_on_as(&mut self, number: u8) -> bool
-        requires { self.old.number < self.old.table.now.options.sessions }
-        ensures { self.new.number < self.new.table.now.options.sessions }
-    {
-        if number < self.table.options.sessions {
-            self.number = number;
-            return true;
-        }
-        false
-    }
 }
 
 /// An empty table of two sessions.

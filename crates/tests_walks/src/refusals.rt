@@ -2,23 +2,35 @@
 //! fixes of the session are as they were, and asked again a walk gives what it gives undisturbed.
 ghost use Rattle.std.specs.Prelude.{◌≡◌};
 
-use crate::plays::{Play, fixes_below, prepared, query_of};
-use crate::trials::{Act, Trial, first_wrong};
+use crate::plays::{Play, fixes_below, opened, prepared, query_of};
 use crate::watch::Watch;
-use kit_alloc::Failing;
+use kit_alloc::{Failing, sweep, sweep_onward};
 use kit_rows::{digits, listed};
-use part_core::TableKind;
+use part_core::{Part, TableKind};
+use part_hash::HashPart;
+use part_order::OrderPart;
 use std::alloc::{Allocator, Global};
 use tables::Turns;
 use walks::{Query, select, select_count};
 
+/// The most requests of a walk and its table.
+const MOST_REQUESTS: u64 = 20_000;
+
 /// A whole walk.
 #[derive(Clone, Copy)]
-pub(crate) enum Call {
+enum Call {
     /// All answers.
     Select,
     /// How many objects answer true.
     Count,
+}
+
+/// What is asked of which table, and what comes of it.
+#[derive(Clone, Copy)]
+struct Case {
+    play: Play,
+    call: Call,
+    wanted: &'static str,
 }
 
 /// Keys of three classes, two of them in one, in two parts.
@@ -32,8 +44,8 @@ const NAMED: &str =
     "[{{32,'$1'},[],['$1']},{{5,'$1'},[],['$1']},{{0,'$1'},[],['$1']},{{32,'_'},[],[again]}].";
 
 /// The session fixes one of two parts, both, and that of an ordered set, or none.
-const TRIALS: [Trial; 5] = [
-    Trial {
+const CASES: [Case; 5] = [
+    Case {
         play: Play {
             kind: TableKind::Set,
             parts: 2,
@@ -41,10 +53,10 @@ const TRIALS: [Trial; 5] = [
             specification: SECOND,
             fixed: 1,
         },
-        act: Act::Ask(Call::Select),
+        call: Call::Select,
         wanted: "[a,c,d,f,b,e]",
     },
-    Trial {
+    Case {
         play: Play {
             kind: TableKind::Set,
             parts: 2,
@@ -52,10 +64,10 @@ const TRIALS: [Trial; 5] = [
             specification: LARGE,
             fixed: 1,
         },
-        act: Act::Ask(Call::Count),
+        call: Call::Count,
         wanted: "3",
     },
-    Trial {
+    Case {
         play: Play {
             kind: TableKind::Set,
             parts: 2,
@@ -63,10 +75,10 @@ const TRIALS: [Trial; 5] = [
             specification: NAMED,
             fixed: 2,
         },
-        act: Act::Ask(Call::Select),
+        call: Call::Select,
         wanted: "[d,a]",
     },
-    Trial {
+    Case {
         play: Play {
             kind: TableKind::OrderedSet,
             parts: 1,
@@ -74,10 +86,10 @@ const TRIALS: [Trial; 5] = [
             specification: SECOND,
             fixed: 0,
         },
-        act: Act::Ask(Call::Select),
+        call: Call::Select,
         wanted: "[a,b,e,c,d,f]",
     },
-    Trial {
+    Case {
         play: Play {
             kind: TableKind::OrderedSet,
             parts: 1,
@@ -85,7 +97,7 @@ const TRIALS: [Trial; 5] = [
             specification: LARGE,
             fixed: 1,
         },
-        act: Act::Ask(Call::Count),
+        call: Call::Count,
         wanted: "3",
     },
 ];
@@ -134,44 +146,87 @@ fn asked_and_released<A: Allocator + Copy, T: Turns<A>>(
     watch: &mut Watch<'_>,
     session: &mut T,
     query: &Query<A>,
-    call: Call,
-    fixed: u8,
+    case: Case,
 ) -> Option<Vec<u8>>
     requires { T.is_ready session.old }
     ensures ready { T.is_ready session.new }
     ensures same { T.home session.new ≡ T.home session.old }
 {
-    let came = asked(alloc, heap, watch, session, query, call);
-    watch.sees(fixes_below(session, fixed));
+    let came = asked(alloc, heap, watch, session, query, case.call);
+    watch.sees(fixes_below(session, case.play.fixed));
     came
 }
 
-/// Whether what comes of a call is right; none where there is no memory for the query and the objects.
-pub(crate) fn is_asked_by<A: Allocator + Copy, T: Turns<A>>(
+/// Whether what comes of a case is right; none where there is no memory for the query and the objects.
+fn is_right_by<A: Allocator + Copy, T: Turns<A>>(
     alloc: Global,
     heap: A,
     counts: &Failing<Global>,
     session: &mut T,
-    trial: Trial,
-    call: Call,
+    case: Case,
 ) -> Option<bool>
     requires { T.is_ready session.old }
 {
-    let fixed = trial.play.fixed;
-    prepared(heap, session, trial.play)?;
-    let query = query_of(heap, trial.play.specification)?;
+    let query = query_of(heap, case.play.specification)?;
+    prepared(heap, session, case.play)?;
     let mut watch = Watch::new(counts);
-    if let Some(came) = asked_and_released(alloc, heap, &mut watch, session, &query, call, fixed) {
-        return Some(watch.is_right() && came.as_slice() == trial.wanted.as_bytes());
+    if let Some(came) = asked_and_released(alloc, heap, &mut watch, session, &query, case) {
+        return Some(watch.is_right() && came.as_slice() == case.wanted.as_bytes());
     }
-    match asked_and_released(alloc, heap, &mut watch, session, &query, call, fixed) {
-        Some(came) => Some(watch.is_right() && came.as_slice() == trial.wanted.as_bytes()),
+    match asked_and_released(alloc, heap, &mut watch, session, &query, case) {
+        Some(came) => Some(watch.is_right() && came.as_slice() == case.wanted.as_bytes()),
         None => Some(watch.stops()),
     }
 }
 
+/// The same, none where there is no memory for the table.
+fn is_right_at<P: Part<A> + Drop, A: Allocator + Copy>(
+    alloc: Global,
+    heap: A,
+    counts: &Failing<Global>,
+    case: Case,
+) -> Option<bool> {
+    let mut table = opened::<P, A>(heap, case.play)?;
+    let mut session = table.at(0);
+    is_right_by(alloc, heap, counts, &mut session, case)
+}
+
+/// Whether what comes of a case is right, by an allocator that may refuse, and no block is left.
+fn is_right(alloc: Global, heap: &Failing<Global>, case: Case) -> bool {
+    let is_right = if case.play.kind.is_ordered() {
+        is_right_at::<OrderPart<&Failing<Global>>, &Failing<Global>>(alloc, heap, heap, case)
+    } else {
+        is_right_at::<HashPart<&Failing<Global>>, &Failing<Global>>(alloc, heap, heap, case)
+    };
+    match is_right {
+        Some(is_right) => is_right && heap.blocks() == 0,
+        None => heap.was_refused() && heap.blocks() == 0,
+    }
+}
+
+/// Whether it is right with each request refused in turn.
+fn holds(alloc: Global, case: Case) -> bool {
+    let alone = sweep(alloc, MOST_REQUESTS, |heap: &Failing<Global>| {
+        is_right(alloc, heap, case)
+    });
+    let onward = sweep_onward(alloc, MOST_REQUESTS, |heap: &Failing<Global>| {
+        is_right(alloc, heap, case)
+    });
+    alone.is_complete() && onward.is_complete()
+}
+
+/// The first of these cases that doesn't hold.
+fn first_wrong(alloc: Global, cases: &[Case]) -> Option<usize> {
+    for (place, case) in cases.iter().enumerate() {
+        if !holds(alloc, *case) {
+            return Some(place);
+        }
+    }
+    None
+}
+
 #[test]
 fn walks_asked_again_answer_as_undisturbed(rt: HostRuntime) {
-    let wrong = first_wrong(rt.alloc(), &TRIALS);
+    let wrong = first_wrong(rt.alloc(), &CASES);
     assert!(rt; wrong == None, "{wrong:?}");
 }
