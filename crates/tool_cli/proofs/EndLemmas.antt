@@ -70,9 +70,9 @@ has_answers known old new (Ok x) ok stopped = ok
 has_answers known old new (Err f) ok stopped = stopped
 
 -- of one for a person there is one
-pub has_prompted : (known old new : Option (List ℕ)) (outcome : Result (Unit {0}) ToolFault) → IfErr outcome IsStreamFault → HasOutcome request.Prompt known old new outcome
-has_prompted known old new (Ok x) stopped = tt
-has_prompted known old new (Err f) stopped = stopped
+pub has_prompted : (r : Request) (known old new : Option (List ℕ)) (outcome : Result (Unit {0}) ToolFault) → r ≡ request.Prompt → IfErr outcome IsStreamFault → HasOutcome r known old new outcome
+has_prompted r known old new (Ok x) is stopped = rw is tt
+has_prompted r known old new (Err f) is stopped = rw is stopped
 
 -- and those of a scan
 pub has_scanned : (o : ScanOptions) (known old new : Option (List ℕ)) (outcome : Result (Unit {0}) ToolFault) → OnOk outcome (AreAllowed o × OfTerms known (λ terms. Writes (request.Scan o) terms old new))

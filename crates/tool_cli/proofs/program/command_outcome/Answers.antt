@@ -21,7 +21,7 @@ pub returns-in-Shell : goal.returns-in-Shell
 returns-in-Shell g c = rw c.in-Shell.is (has_answers _ _ _ c.run_shell.result c.run_shell.ensures.ok c.run_shell.ensures.stopped)
 
 pub returns-in-Prompt : goal.returns-in-Prompt
-returns-in-Prompt g c = rw c.in-Prompt.is (has_prompted _ _ _ c.run_prompt.result c.run_prompt.ensures)
+returns-in-Prompt g c = has_prompted c.args.request _ _ _ c.run_prompt.result c.in-Prompt.is c.run_prompt.ensures
 
 pub returns-in-Scan : goal.returns-in-Scan
 returns-in-Scan g c = rw c.in-Scan.is (has_scanned c.in-Scan.options _ _ _ c.tool_scan.result c.tool_scan.ensures.ok c.tool_scan.ensures.refused)

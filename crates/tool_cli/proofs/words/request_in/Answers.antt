@@ -15,17 +15,11 @@ returns-in-test c = λ which r named is.
     let read = request_named which to_test r (rows_of (found_of c.args.matches.now)) c.args.name.now named c.in-test.is is in
     ap request.Test (c.form_in.ensures read.0 read.2) ∙ sym read.1
 
-pub form_in-2-requires : goal.form_in-2-requires
-form_in-2-requires c =
-    let other : IsNoOther c.args.name.now = search rules in
-    let read = run_left c.requires.0 c.requires.1 (rows_of (found_of c.args.matches.now)) c.args.name.now c.requires.2 other c.requires.3 in
-    (read.0, read.2)
-
 pub returns-in_default : goal.returns-in_default
 returns-in_default c = λ which r named is.
     let other : IsNoOther c.args.name.now = search rules in
     let read = run_left which r (rows_of (found_of c.args.matches.now)) c.args.name.now named other is in
-    ap request.Run (c.form_in-2.ensures read.0 read.2) ∙ sym read.1
+    ap request.Run (c.form_in-in_default.ensures read.0 read.2) ∙ sym read.1
 
 pub scan_options-requires : goal.scan_options-requires
 scan_options-requires c =
