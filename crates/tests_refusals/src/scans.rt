@@ -95,7 +95,7 @@ fn each_request_refused_in_turn(rt: HostRuntime) {
     for workers in [1, 2, 3] {
         let (outcome, lines) = swept(&rt, rt.alloc(), ScanKind::Set, workers);
         assert!(rt;
-            outcome.is_complete() && (workers > 1 || lines == 3),
+            outcome.is_complete() && (workers > 1 || lines == 2),
             "{outcome:?} {lines}"
         );
         let onward = swept_onward(&rt, rt.alloc(), ScanKind::Set, workers);
