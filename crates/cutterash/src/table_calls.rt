@@ -76,8 +76,8 @@ fn obeyed(alloc: Global, kept: &mut Kept, text: &[u8], room: &mut [u8]) -> Reply
     }
 }
 
-/// Answers the lines that the table keeps, those of the replies of its last run, as often as it is asked. Status 0, 4 or
-/// 5; where they have no room, the reply has their length.
+/// Answers the lines that the table keeps, those of the replies of its last run, as often as it is asked. Status 0, 4
+/// or 5; where they have no room, the reply has their length.
 #[unsafe(no_mangle)]
 pub extern "C" fn cutterash_table_replies(
     alloc: Global,

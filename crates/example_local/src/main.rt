@@ -1,5 +1,6 @@
-//! A table and a filter as libraries, on one thread: objects are put into a table, of which a specification selects; and
-//! the same specification, as the code file that a sender who isn't trusted might give, runs on each object by itself.
+//! Tables and a filter as libraries, on one thread: objects are put into a set and into an ordered set, of which a
+//! specification selects; and the same specification, as the code file that a sender who isn't trusted might give, runs on
+//! each object by itself.
 #![tactic(auto)]
 
 ghost use Rattle.std.specs.Prelude.{◌≡◌};
@@ -10,8 +11,9 @@ use compiler::compile;
 use machine::run;
 use mspec_reader::read_spec;
 use mspec_syntax::Spec;
-use part_core::TableKind;
+use part_core::{Part, TableKind};
 use part_hash::HashPart;
+use part_order::OrderPart;
 use std::alloc::Global;
 use std::io::Write;
 use std::process::ExitCode;
@@ -27,14 +29,19 @@ const OBJECTS: &[u8] = b"{1,ada,1815}. {2,alan,1912}. {3,alonzo,1903}. {4,grace,
 /// The names of those whose year is above 1904.
 const SPECIFICATION: &[u8] = b"[{{'_','$1','$2'},[{'>','$2',1904}],['$1']}].";
 
-/// A set of one part for one session, with keys at the first place.
-const OPTIONS: Options = Options {
-    name: 1,
-    kind: TableKind::Set,
-    keypos: 1,
-    parts: 1,
-    sessions: 1,
-};
+/// At which place an object has its key.
+const KEYPOS: u16 = 1;
+
+/// A table of one part for one session.
+const fn options_of(kind: TableKind) -> Options {
+    Options {
+        name: 1,
+        kind,
+        keypos: KEYPOS,
+        parts: 1,
+        sessions: 1,
+    }
+}
 
 /// The specification.
 fn specification(alloc: Global) -> Option<Spec> {
@@ -55,9 +62,14 @@ fn put_all<T: Turns<Global>>(session: &mut T, objects: &[Term]) -> Option<()>
 }
 
 /// What a specification answers on the objects of a table.
-fn selected(alloc: Global, specification: &Spec, objects: &[Term]) -> Option<Vec<Term>> {
-    let query = Query::from_spec(alloc, specification, OPTIONS.keypos).ok()?;
-    let mut table = LocalTable::<HashPart<Global>>::open(alloc, OPTIONS).ok()?;
+fn selected<P: Part<Global> + Drop>(
+    alloc: Global,
+    kind: TableKind,
+    specification: &Spec,
+    objects: &[Term],
+) -> Option<Vec<Term>> {
+    let query = Query::from_spec(alloc, specification, KEYPOS).ok()?;
+    let mut table = LocalTable::<P>::open(alloc, options_of(kind)).ok()?;
     let mut session = table.at(0);
     put_all(&mut session, objects)?;
     select(alloc, &mut session, &query).ok()
@@ -101,10 +113,18 @@ fn lines(alloc: Global) -> Option<Vec<u8>> {
     let objects = read_terms(alloc, OBJECTS).ok()?;
     let specification = specification(alloc)?;
     let mut lines = Vec::new(alloc);
-    let answers = selected(alloc, &specification, objects.as_slice())?;
-    put_lines(b"of the table: ", answers.as_slice(), &mut lines)?;
+    let objects = objects.as_slice();
+    let answers = selected::<HashPart<Global>>(alloc, TableKind::Set, &specification, objects)?;
+    put_lines(b"of a set: ", answers.as_slice(), &mut lines)?;
+    let answers = selected::<OrderPart<Global>>(
+        alloc,
+        TableKind::OrderedSet,
+        &specification,
+        objects,
+    )?;
+    put_lines(b"of an ordered set: ", answers.as_slice(), &mut lines)?;
     let code = received(alloc, sent(alloc, &specification)?.as_slice())?;
-    let answers = filtered(alloc, &code, objects.as_slice())?;
+    let answers = filtered(alloc, &code, objects)?;
     put_lines(b"by the filter: ", answers.as_slice(), &mut lines)?;
     Some(lines)
 }

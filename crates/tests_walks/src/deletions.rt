@@ -3,20 +3,16 @@
 //! again it deletes the rest.
 ghost use Rattle.std.specs.Prelude.{◌≡◌};
 
-use crate::plays::{Play, fixes_below, opened, prepared, query_of};
+use crate::plays::{Play, fixes_below, query_of};
+use crate::trials::{Act, Trial, first_wrong};
 use crate::watch::Watch;
-use kit_alloc::{Failing, sweep, sweep_onward};
+use kit_alloc::Failing;
 use kit_rows::{digits, fields};
-use part_core::{Part, TableKind};
-use part_hash::HashPart;
-use part_order::OrderPart;
+use part_core::TableKind;
 use std::alloc::{Allocator, Global};
 use tables::{Turns, member};
 use term_core::Term;
 use walks::{Query, select_delete};
-
-/// The most requests of a deletion and its table.
-const MOST_REQUESTS: u64 = 20_000;
 
 /// The objects of two parts: four in one class, and one in each of two.
 const OBJECTS: &str = "{0,a}. {16,b}. {32,c}. {48,d}. {1,e}. {3,f}.";
@@ -26,18 +22,9 @@ const ALL: &str = "[{{'$1','_'},[{'=<',{{0}},{{'$1'}}}],[true]}].";
 const NAMED: &str = "[{{32,'$1'},[{'=<',{{0}},{{'$1'}}}],[true]},{{5,'_'},[],[true]},
     {{1,'$1'},[{'=<',{{0}},{{'$1'}}}],[true]},{{0,'$1'},[{'=<',{{0}},{{'$1'}}}],[true]}].";
 
-/// A deletion, what refused ones leave, and what one leaves in the end: how many objects they say are gone, and of each
-/// object whether it is left or gone, as `+` or `-`.
-#[derive(Clone, Copy)]
-struct Case {
-    play: Play,
-    stages: &'static str,
-    end: &'static str,
-}
-
 /// The session fixes one of two parts, or none.
-const CASES: [Case; 3] = [
-    Case {
+const TRIALS: [Trial; 3] = [
+    Trial {
         play: Play {
             kind: TableKind::Set,
             parts: 2,
@@ -45,10 +32,10 @@ const CASES: [Case; 3] = [
             specification: ALL,
             fixed: 1,
         },
-        stages: "0++++++ 4----++ 5-----+ ",
-        end: "6------ ",
+        act: Act::Delete("0++++++ 4----++ 5-----+ "),
+        wanted: "6------ ",
     },
-    Case {
+    Trial {
         play: Play {
             kind: TableKind::Set,
             parts: 2,
@@ -56,10 +43,10 @@ const CASES: [Case; 3] = [
             specification: NAMED,
             fixed: 0,
         },
-        stages: "0++++++ 1++-+++ 2++-+-+ ",
-        end: "3-+-+-+ ",
+        act: Act::Delete("0++++++ 1++-+++ 2++-+-+ "),
+        wanted: "3-+-+-+ ",
     },
-    Case {
+    Trial {
         play: Play {
             kind: TableKind::OrderedSet,
             parts: 1,
@@ -67,8 +54,8 @@ const CASES: [Case; 3] = [
             specification: ALL,
             fixed: 0,
         },
-        stages: "0++++++ ",
-        end: "6------ ",
+        act: Act::Delete("0++++++ "),
+        wanted: "6------ ",
     },
 ];
 
@@ -169,16 +156,16 @@ fn is_deleted<A: Allocator, T: Turns<A>>(
     session: &mut T,
     query: &Query<A>,
     objects: &[Term<A>],
-    case: Case,
+    trial: Trial,
     stages: &mut Vec<u8>,
 ) -> Option<bool>
     requires { T.is_ready session.old }
 {
-    let fixed = case.play.fixed;
+    let fixed = trial.play.fixed;
     let (count, is_refused) = deleted(watch, session, query);
     let first = stage(alloc, watch, session, objects, fixed, count)?;
     if !is_refused {
-        return Some(watch.is_right() && first.as_slice() == case.end.as_bytes());
+        return Some(watch.is_right() && first.as_slice() == trial.wanted.as_bytes());
     }
     put_stage(first.as_slice(), stages)?;
     let (more, is_refused) = deleted(watch, session, query);
@@ -193,92 +180,32 @@ fn is_deleted<A: Allocator, T: Turns<A>>(
     if is_refused {
         return Some(watch.stops() && second.as_slice() == first.as_slice());
     }
-    Some(watch.is_right() && second.as_slice() == case.end.as_bytes())
+    Some(watch.is_right() && second.as_slice() == trial.wanted.as_bytes())
 }
 
-/// The same, with the table's objects put in before; none where there is no memory for them and the query.
-fn is_deleted_by<A: Allocator + Copy, T: Turns<A>>(
+/// The same by its own query; none where there is no memory for it.
+pub(crate) fn is_deleted_by<A: Allocator + Copy, T: Turns<A>>(
     alloc: Global,
     heap: A,
     counts: &Failing<Global>,
     session: &mut T,
-    case: Case,
+    objects: &[Term<A>],
+    trial: Trial,
     stages: &mut Vec<u8>,
 ) -> Option<bool>
     requires { T.is_ready session.old }
 {
-    let query = query_of(heap, case.play.specification)?;
-    let objects = prepared(heap, session, case.play)?;
-    let mut watch = Watch::new(counts);
-    is_deleted(
-        alloc,
-        &mut watch,
-        session,
-        &query,
-        objects.as_slice(),
-        case,
-        stages,
-    )
-}
-
-/// The same, none where there is no memory for the table.
-fn is_deleted_at<P: Part<A> + Drop, A: Allocator + Copy>(
-    alloc: Global,
-    heap: A,
-    counts: &Failing<Global>,
-    case: Case,
-    stages: &mut Vec<u8>,
-) -> Option<bool> {
-    let mut table = opened::<P, A>(heap, case.play)?;
-    let mut session = table.at(0);
-    is_deleted_by(alloc, heap, counts, &mut session, case, stages)
-}
-
-/// Whether a deletion is right, by an allocator that may refuse, and no block is left.
-fn is_right(alloc: Global, heap: &Failing<Global>, case: Case, stages: &mut Vec<u8>) -> bool {
-    let is_right = if case.play.kind.is_ordered() {
-        is_deleted_at::<OrderPart<&Failing<Global>>, &Failing<Global>>(
-            alloc, heap, heap, case, stages,
-        )
-    } else {
-        is_deleted_at::<HashPart<&Failing<Global>>, &Failing<Global>>(
-            alloc, heap, heap, case, stages,
-        )
-    };
-    match is_right {
-        Some(is_right) => is_right && heap.blocks() == 0,
-        None => heap.was_refused() && heap.blocks() == 0,
-    }
-}
-
-/// Whether it is right with each request refused in turn, and the stages are these.
-fn holds(alloc: Global, case: Case) -> bool {
-    let mut stages = Vec::new(alloc);
-    let alone = sweep(alloc, MOST_REQUESTS, |heap: &Failing<Global>| {
-        is_right(alloc, heap, case, &mut stages)
-    });
-    let mut stages_onward = Vec::new(alloc);
-    let onward = sweep_onward(alloc, MOST_REQUESTS, |heap: &Failing<Global>| {
-        is_right(alloc, heap, case, &mut stages_onward)
-    });
-    alone.is_complete()
-        && onward.is_complete()
-        && stages.as_slice() == case.stages.as_bytes()
-        && stages_onward.as_slice() == case.stages.as_bytes()
-}
-
-/// The first of these cases that doesn't hold.
-fn first_wrong(alloc: Global, cases: &[Case]) -> Option<usize> {
-    for (place, case) in cases.iter().enumerate() {
-        if !holds(alloc, *case) {
-            return Some(place);
+    match query_of(heap, trial.play.specification) {
+        Some(query) => {
+            let mut watch = Watch::new(counts);
+            is_deleted(alloc, &mut watch, session, &query, objects, trial, stages)
         }
+        None => None,
     }
-    None
 }
 
 #[test]
 fn refused_deletions_say_what_is_gone(rt: HostRuntime) {
-    let wrong = first_wrong(rt.alloc(), &CASES);
+    let wrong = first_wrong(rt.alloc(), &TRIALS);
     assert!(rt; wrong == None, "{wrong:?}");
 }

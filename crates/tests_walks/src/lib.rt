@@ -5,8 +5,8 @@
 //! tests.
 //!
 //! - `watch`: what is seen of calls whose requests are refused; `plays`: a table, its objects, and what is asked of it.
-//! - With each request refused in turn: `refusals`, whole walks; `deletions`, what refused ones say; `writers`, walks
-//!   in pieces, between which another session writes.
+//! - With each request refused in turn (`trials`): `refusals`, whole walks; `deletions`, what refused ones say;
+//!   `writers`, walks in pieces, between which another session writes.
 //! - `lists`: lists of objects.
 //! - `seats`: members of a selection that wait for each other. `members`: what members come to, over tables of both
 //!   sorts; `selections`: the tests of that; `refused_members`: the same with each request refused in turn.
@@ -28,6 +28,8 @@ mod refused_members;
 mod seats;
 #[cfg(test)]
 mod selections;
+#[cfg(test)]
+mod trials;
 #[cfg(test)]
 mod watch;
 #[cfg(test)]

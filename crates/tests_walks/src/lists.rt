@@ -35,11 +35,6 @@ fn code<A: Allocator + Copy>(heap: A) -> Option<Verified<A>> {
     compile(heap, &specification).ok()
 }
 
-/// The objects of a text.
-fn objects<A: Allocator + Copy>(heap: A, text: &str) -> Option<Vec<Term<A>, A>> {
-    read_terms(heap, text.as_bytes()).ok()
-}
-
 /// The number that is answered, 0 where there is no answer.
 fn number<A: Allocator>(answer: &Option<Term<A>>) -> Option<i64> {
     match answer {
@@ -70,9 +65,11 @@ fn is_plain<A: Allocator + Copy>(
     code: &Verified<A>,
     object: &Term<A>,
     answer: &Option<Term<A>>,
-) -> Option<bool> {
-    let (ran, _executed) = run(heap, code, object).ok()?;
-    Some(number(&ran)? == number(answer)?)
+) -> bool {
+    match run(heap, code, object) {
+        Ok((ran, _executed)) => number(&ran) == number(answer),
+        Err(_) => false,
+    }
 }
 
 /// Whether each object has the answer of a run of its own.
@@ -81,36 +78,17 @@ fn are_plain<A: Allocator + Copy>(
     code: &Verified<A>,
     objects: &[Term<A>],
     answers: &[Option<Term<A>>],
-) -> Option<bool> {
+) -> bool {
     for (object, answer) in objects.iter().zip(answers) {
-        if !is_plain(heap, code, object, answer)? {
-            return Some(false);
+        if !is_plain(heap, code, object, answer) {
+            return false;
         }
     }
-    Some(true)
+    true
 }
 
-/// How many answers there are on so many objects, whether they are right, and whether they are those of runs of their
-/// own.
-fn answered<R: Threads + Sync>(rt: &R, alloc: Global, count: usize) -> Option<(usize, bool, bool)> {
-    let text = text_of(alloc, count)?;
-    let code = code(alloc)?;
-    let objects = objects(alloc, text.as_str())?;
-    let answers = run_list(rt, alloc, &code, objects.as_slice()).ok()?;
-    let plain = are_plain(alloc, &code, objects.as_slice(), answers.as_slice())?;
-    Some((answers.len(), are_even(answers.as_slice()), plain))
-}
-
-/// How many requests for memory it takes until the code and the objects are there.
-fn requests(alloc: Global, text: &str) -> Option<u64> {
-    let heap = Failing::counting(alloc);
-    let code = code(&heap)?;
-    let objects = objects(&heap, text)?;
-    let _kept = (code.budget(), objects.len());
-    Some(heap.requests())
-}
-
-/// Whether a list is answered, and its answers are right; none where it is refused.
+/// Whether a list is answered, and its answers are right, and where no request is to be refused those of runs of their
+/// own; none where it is refused.
 fn are_right<'h, R: Threads + Sync>(
     rt: &R,
     heap: &'h Failing<Global>,
@@ -121,7 +99,10 @@ fn are_right<'h, R: Threads + Sync>(
     match run_list(rt, heap, code, objects) {
         Ok(answers) => {
             watch.ended(false);
-            Some(answers.len() == objects.len() && are_even(answers.as_slice()))
+            let answers = answers.as_slice();
+            let are_even = answers.len() == objects.len() && are_even(answers);
+            let is_alike = heap.plan() != Plan::Never || are_plain(heap, code, objects, answers);
+            Some(are_even && is_alike)
         }
         Err(AllocError) => {
             watch.ended(true);
@@ -130,29 +111,74 @@ fn are_right<'h, R: Threads + Sync>(
     }
 }
 
-/// Whether a list is refused, exactly where a request is, and its answers are right, at once or when it is asked for
-/// again; none where they aren't, or there is no memory for the code and the objects.
-fn is_refused<R: Threads + Sync>(rt: &R, heap: &Failing<Global>, text: &str) -> Option<bool> {
-    let code = code(heap)?;
-    let objects = objects(heap, text)?;
+/// What came of a list.
+#[derive(Clone, Copy)]
+struct Came {
+    /// How many requests there were until the code and the objects were there.
+    before: u64,
+    /// How many objects there are.
+    count: usize,
+    /// It was refused at first.
+    is_refused: bool,
+    /// It was refused exactly where a request was, and its answers are right, at once or when it is asked for again.
+    is_right: bool,
+}
+
+/// What comes of a list, asked for again where it is refused.
+fn came_of<'h, R: Threads + Sync>(
+    rt: &R,
+    heap: &'h Failing<Global>,
+    code: &Verified<&'h Failing<Global>>,
+    objects: &[Term<&'h Failing<Global>>],
+) -> Came {
+    let before = heap.requests();
     let mut watch = Watch::new(heap);
-    let first = are_right(rt, heap, &mut watch, &code, objects.as_slice());
+    let first = are_right(rt, heap, &mut watch, code, objects);
     let second = match first {
         Some(_) => first,
-        None => are_right(rt, heap, &mut watch, &code, objects.as_slice()),
+        None => are_right(rt, heap, &mut watch, code, objects),
     };
     let is_right = match second {
         Some(are_right) => are_right && watch.is_right(),
         None => watch.stops(),
     };
-    if is_right { Some(first == None) } else { None }
+    Came {
+        before,
+        count: objects.len(),
+        is_refused: first == None,
+        is_right,
+    }
 }
 
-/// With how many requests for memory so many objects are answered, where each is refused in turn, alone or with all
-/// behind it.
-fn refusals<R: Threads + Sync>(rt: &R, alloc: Global, count: usize, onward: bool) -> Option<u64> {
-    let text = text_of(alloc, count)?;
-    let before = requests(alloc, text.as_str())?;
+/// The same of the objects of a text; none where there is no memory for the code and the objects.
+fn listed<R: Threads + Sync>(rt: &R, heap: &Failing<Global>, text: &str) -> Option<Came> {
+    let code = code(heap)?;
+    let objects = read_terms(heap, text.as_bytes()).ok()?;
+    Some(came_of(rt, heap, &code, objects.as_slice()))
+}
+
+/// The same by a plan of what is refused; none also where a block is left.
+fn planned<R: Threads + Sync>(rt: &R, alloc: Global, plan: Plan, text: &str) -> Option<Came> {
+    let heap = Failing::new(alloc, plan);
+    let came = listed(rt, &heap, text);
+    if heap.blocks() == 0 { came } else { None }
+}
+
+/// Whether so many objects are answered, each at its place.
+fn is_answered<R: Threads + Sync>(rt: &R, alloc: Global, count: usize) -> bool {
+    let Some(text) = text_of(alloc, count) else {
+        return false;
+    };
+    match planned(rt, alloc, Plan::Never, text.as_str()) {
+        Some(came) => came.is_right && !came.is_refused && came.count == count,
+        None => false,
+    }
+}
+
+/// With how many requests for memory the objects of a text are answered, where each is refused in turn, alone or with
+/// all behind it.
+fn refusals<R: Threads + Sync>(rt: &R, alloc: Global, text: &str, onward: bool) -> Option<u64> {
+    let before = planned(rt, alloc, Plan::Never, text)?.before;
     for request in 1..MOST_REQUESTS {
         let first = before.saturating_add(request);
         let plan = if onward {
@@ -160,25 +186,32 @@ fn refusals<R: Threads + Sync>(rt: &R, alloc: Global, count: usize, onward: bool
         } else {
             Plan::Once(first)
         };
-        let heap = Failing::new(alloc, plan);
-        let is_refused = is_refused(rt, &heap, text.as_str())?;
-        if heap.blocks() != 0 {
+        let came = planned(rt, alloc, plan, text)?;
+        if !came.is_right {
             return None;
         }
-        if !is_refused {
+        if !came.is_refused {
             return Some(request - 1);
         }
     }
     None
 }
 
+/// The same of so many objects.
+fn refusals_of<R: Threads + Sync>(
+    rt: &R,
+    alloc: Global,
+    count: usize,
+    onward: bool,
+) -> Option<u64> {
+    let text = text_of(alloc, count)?;
+    refusals(rt, alloc, text.as_str(), onward)
+}
+
 #[test]
 fn answers_each_object_at_its_place(rt: HostRuntime) {
     for count in [0, 1, 3, 1_000, 2_047, 2_048, 2_049, 5_000] {
-        assert!(rt;
-            answered(&rt, rt.alloc(), count) == Some((count, true, true)),
-            "{count}"
-        );
+        assert!(rt; is_answered(&rt, rt.alloc(), count), "{count}");
     }
 }
 
@@ -186,9 +219,9 @@ fn answers_each_object_at_its_place(rt: HostRuntime) {
 fn is_refused_where_memory_is(rt: HostRuntime) {
     for onward in [false, true] {
         // The answers of few objects are one run.
-        assert!(rt; refusals(&rt, rt.alloc(), 3, onward) == Some(1));
+        assert!(rt; refusals_of(&rt, rt.alloc(), 3, onward) == Some(1));
         // Those of many are several, which are put together.
-        let many = refusals(&rt, rt.alloc(), 5_000, onward);
+        let many = refusals_of(&rt, rt.alloc(), 5_000, onward);
         assert!(rt; many.is_some_and(|requests| requests > 3));
     }
 }

@@ -9,7 +9,7 @@ use kit_members::opened;
 use kit_rows::{digits, listed, numbered, word};
 use parallel_select::{count_parts, delete_parts, select_parts};
 use part_core::{Part, TableKind};
-use std::alloc::Global;
+use std::alloc::{Allocator, Global};
 use std::sync::Wait;
 use std::sync::atomic::AtomicBool;
 use std::thread::Threads;
@@ -29,15 +29,15 @@ pub(crate) enum Call {
     Delete,
 }
 
-/// What a set of two parts is opened with.
-pub(crate) fn options(sessions: u8) -> Options
+/// What a set is opened with.
+pub(crate) fn options(parts: u8, sessions: u8) -> Options
     ensures { result.sessions ≡ sessions }
 {
     Options {
         name: 1,
         kind: TableKind::Set,
         keypos: 1,
-        parts: 2,
+        parts,
         sessions,
     }
 }
@@ -147,11 +147,11 @@ fn called_at<R: Threads + Wait + Sync, P: Part<Global> + Drop + Send>(
 }
 
 /// Sessions of a table, and one more behind them.
-fn put_back<P: Part<Global> + Drop>(
-    _table: &Table<P>,
-    mut sessions: Vec<Session<P>>,
-    last: Session<P>,
-) -> Option<Vec<Session<P>>>
+fn put_back<A: Allocator, P: Part<A> + Drop>(
+    _table: &Table<P, A>,
+    mut sessions: Vec<Session<P, A>, A>,
+    last: Session<P, A>,
+) -> Option<Vec<Session<P, A>, A>>
     requires { All (λ s. IsOpened _table.now.options _table.now.gates.items s.number s.passes.items) sessions.items
         × IsOpened _table.now.options _table.now.gates.items last.number last.passes.items }
     ensures { IfSome result (λ all. All (λ s. IsOpened _table.now.options _table.now.gates.items s.number s.passes.items) all.items) }
@@ -160,16 +160,16 @@ fn put_back<P: Part<Global> + Drop>(
     Some(sessions)
 }
 
-/// A table with objects and its sessions, so many of them.
-fn set_with_objects<R: Wait, P: Part<Global> + Drop>(
+/// A table with objects and all its sessions; none for want of memory.
+pub(crate) fn set_with_objects<R: Wait, A: Allocator + Copy, P: Part<A> + Drop>(
     rt: &R,
-    alloc: Global,
-    members: u8,
-    objects: &[Term],
-) -> Option<(Table<P>, Vec<Session<P>>)>
+    heap: A,
+    options: Options,
+    objects: &[Term<A>],
+) -> Option<(Table<P, A>, Vec<Session<P, A>, A>)>
     ensures { IfSome result (λ made. All (λ s. IsOpened made.0.options made.0.gates.items s.number s.passes.items) made.1.items) }
 {
-    let (table, sessions, last) = opened::<R, Global, P>(rt, alloc, options(members), objects)?;
+    let (table, sessions, last) = opened::<R, A, P>(rt, heap, options, objects)?;
     let all = put_back(&table, sessions, last)?;
     Some((table, all))
 }
@@ -186,7 +186,13 @@ pub(crate) fn asked<P: Part<Global> + Drop + Send, R: Threads + Wait + Sync>(
     call: Call,
 ) -> Option<Vec<u8>> {
     let objects = read_terms(alloc, objects.as_bytes()).ok()?;
-    let (table, mut sessions) = set_with_objects::<R, P>(rt, alloc, members, objects.as_slice())?;
+    let options = options(2, members);
+    let (table, mut sessions) = set_with_objects::<R, Global, P>(
+        rt,
+        alloc,
+        options,
+        objects.as_slice(),
+    )?;
     called_at(
         rt,
         alloc,
@@ -206,7 +212,13 @@ pub(crate) fn deleted_and_counted<P: Part<Global> + Drop + Send, R: Threads + Wa
     query: &Query,
 ) -> Option<(Vec<u8>, Vec<u8>)> {
     let objects = read_terms(alloc, objects.as_bytes()).ok()?;
-    let (table, mut sessions) = set_with_objects::<R, P>(rt, alloc, 3, objects.as_slice())?;
+    let options = options(2, 3);
+    let (table, mut sessions) = set_with_objects::<R, Global, P>(
+        rt,
+        alloc,
+        options,
+        objects.as_slice(),
+    )?;
     let (one, others) = sessions.split_first_mut()?;
     let deleted = called_at(rt, alloc, &table, others, None, query, Call::Delete)?;
     let counted = called_at(
@@ -286,7 +298,7 @@ pub(crate) fn asked_alone<P: Part<Global> + Drop + Send, R: Threads + Wait + Syn
     query: &Query,
     call: Call,
 ) -> Option<Vec<u8>> {
-    let options = options(1);
+    let options = options(2, 1);
     let mut tables = local_tables::<P>(alloc, options, members)?;
     let flag = AtomicBool::new(false);
     let mut seats = Vec::new(alloc);

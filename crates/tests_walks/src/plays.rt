@@ -1,14 +1,12 @@
 //! Tables on one thread, their objects, and what a session asks of them.
 ghost use Rattle.std.specs.Prelude.{◌≡◌, ◌<◌, IfSome};
 
-use kit_members::put_all;
 use kit_rows::term_of;
 use mspec_reader::read_spec;
 use part_core::{Part, TableKind};
 use std::alloc::Allocator;
-use tables::{LocalTable, Options, Turns, fix_at};
+use tables::{LocalAt, LocalTable, Options, Turns, fix_at};
 use term_core::Term;
-use term_text::read_terms;
 use walks::Query;
 
 /// A table, its objects, and what is asked of it.
@@ -20,6 +18,27 @@ pub(crate) struct Play {
     pub(crate) specification: &'static str,
     /// The session fixes the parts below this number before it asks.
     pub(crate) fixed: u8,
+}
+
+/// A session of a table on one thread, which another session of the table may stand in for.
+pub(crate) trait Numbered<A: Allocator>: Turns<A> {
+    /// Goes on as the session of a number, and says whether the table has one.
+    fn goes_on_as(&mut self, number: u8) -> bool
+        requires { Self.is_ready self.old }
+        ensures { Self.is_ready self.new };
+}
+
+impl<'t, A: Allocator, P: Part<A> + Drop> Numbered<A> for LocalAt<'t, P, A> {
+    fn goes_on_as(&mut self, number: u8) -> bool
+        requires { self.old.number < self.old.table.now.options.sessions }
+        ensures { self.new.number < self.new.table.now.options.sessions }
+    {
+        if number < self.table.options.sessions {
+            self.number = number;
+            return true;
+        }
+        false
+    }
 }
 
 /// An empty table of two sessions.
@@ -39,14 +58,24 @@ pub(crate) fn opened<P: Part<A> + Drop, A: Allocator + Copy>(
     LocalTable::open(heap, options).ok()
 }
 
+/// The query of a term.
+fn query_of_term<A: Allocator + Copy>(heap: A, term: &Term<A>) -> Option<Query<A>> {
+    match read_spec(heap, term) {
+        Ok(specification) => Query::from_spec(heap, &specification, 1).ok(),
+        Err(_) => None,
+    }
+}
+
 /// The query of a specification.
 pub(crate) fn query_of<A: Allocator + Copy>(heap: A, specification: &str) -> Option<Query<A>> {
-    let term = term_of(heap, specification.as_bytes())?;
-    Query::from_spec(heap, &read_spec(heap, &term).ok()?, 1).ok()
+    match term_of(heap, specification.as_bytes()) {
+        Some(term) => query_of_term(heap, &term),
+        None => None,
+    }
 }
 
 /// Fixes the parts below a number.
-fn fix_below<A: Allocator, T: Turns<A>>(session: &mut T, fixed: u8)
+pub(crate) fn fix_below<A: Allocator, T: Turns<A>>(session: &mut T, fixed: u8)
     requires { T.is_ready session.old }
     ensures ready { T.is_ready session.new }
     ensures same { T.home session.new ≡ T.home session.old }
@@ -70,20 +99,4 @@ pub(crate) fn fixes_below<A: Allocator, T: Turns<A>>(session: &T, fixed: u8) -> 
         }
     }
     true
-}
-
-/// The objects of a play, once the session has put them in and fixes its parts.
-pub(crate) fn prepared<A: Allocator + Copy, T: Turns<A>>(
-    heap: A,
-    session: &mut T,
-    play: Play,
-) -> Option<Vec<Term<A>, A>>
-    requires { T.is_ready session.old }
-    ensures ready { T.is_ready session.new }
-    ensures same { T.home session.new ≡ T.home session.old }
-{
-    let objects = read_terms(heap, play.objects.as_bytes()).ok()?;
-    put_all(session, objects.as_slice())?;
-    fix_below(session, play.fixed);
-    Some(objects)
 }

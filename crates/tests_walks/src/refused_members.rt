@@ -1,25 +1,25 @@
 //! Selections by members with each request for memory refused in turn, alone and with all behind it, at hashed parts
 //! behind gates: no member keeps a fix, what a refused deletion says is gone is gone, and asked again a call gives what
 //! it gives undisturbed.
-ghost use Rattle.std.specs.Prelude.{◌≡◌, All, IfSome, map};
+ghost use Rattle.std.specs.Prelude.{◌≡◌, All, map};
 ghost use Rattle.tables.specs.Sessions.{IsOpened};
 ghost use Rattle.parallel_select.specs.Workers.{AreOfOneTable};
 
 use crate::deletions::{gone_of, marks};
-use crate::members::Call;
+use crate::members::{Call, options, set_with_objects};
 use crate::plays::{fixes_below, query_of};
 use crate::watch::Watch;
 use kit_alloc::{Failing, sweep, sweep_onward};
-use kit_members::{members_of, put_all};
+use kit_members::members_of;
 use kit_rows::listed;
 use parallel_select::{SelectFault, count_parts, delete_parts, select_parts};
-use part_core::{Part, TableKind};
+use part_core::Part;
 use part_hash::HashPart;
 use std::alloc::{Allocator, Global};
 use std::sync::Wait;
 use std::test::*;
 use std::thread::Threads;
-use tables::{Options, Session, Table, Turns};
+use tables::{Session, Table, Turns};
 use term_core::Term;
 use term_text::read_terms;
 use walks::Query;
@@ -41,54 +41,46 @@ const ALL: &str = "[{{'$1'},[{'=<',{{0}},{{'$1'}}}],[true]}].";
 const MOST_REQUESTS: u64 = 20_000;
 
 /// What came of a call.
-#[derive(Drop)]
-enum Came {
-    /// The text of its answers.
-    Answers(Vec<u8>),
-    /// How many objects it counted.
-    Counted(u64),
-    /// How many objects it deleted.
-    Deleted(u64),
-    /// It was refused for want of memory, and says that it deleted so many.
-    Refused(u64),
+#[derive(Clone, Copy)]
+struct Came {
+    /// It was refused for want of memory.
+    is_refused: bool,
+    /// How many objects it says are gone.
+    gone: u64,
+    /// It told of all objects, those among them that were gone before.
+    is_whole: bool,
 }
 
-impl Came {
-    /// How many objects it says are gone.
-    fn gone(&self) -> u64 {
-        match self {
-            Came::Answers(_) => 0,
-            Came::Counted(_) => 0,
-            Came::Deleted(count) => *count,
-            Came::Refused(count) => *count,
-        }
-    }
-
-    /// Whether it was refused.
-    fn is_refused(&self) -> bool {
-        matches!(self, Came::Refused(_))
-    }
-
-    /// Whether these are all objects, those among them that were gone before.
-    fn is_whole(&self, before: u64) -> bool {
-        match self {
-            Came::Answers(text) => text.as_slice() == ANSWERS.as_bytes(),
-            Came::Counted(count) => *count == COUNT,
-            Came::Deleted(count) => count.saturating_add(before) == COUNT,
-            Came::Refused(_) => false,
-        }
-    }
+/// What came of a call that was answered.
+fn answered(gone: u64, is_whole: bool) -> Option<Came> {
+    Some(Came {
+        is_refused: false,
+        gone,
+        is_whole,
+    })
 }
 
 /// That a call was refused for want of memory; none where it was for another reason.
 fn refused(gone: u64, fault: SelectFault) -> Option<Came> {
     match fault {
-        SelectFault::Memory => Some(Came::Refused(gone)),
+        SelectFault::Memory => Some(Came {
+            is_refused: true,
+            gone,
+            is_whole: false,
+        }),
         SelectFault::BadOptions => None,
     }
 }
 
-/// What comes of a call.
+/// Whether these are the answers.
+fn are_answers<A: Allocator>(alloc: Global, answers: &[Term<A>]) -> bool {
+    match listed(alloc, answers) {
+        Some(text) => text.as_slice() == ANSWERS.as_bytes(),
+        None => false,
+    }
+}
+
+/// What comes of a call, so many objects being gone before.
 fn called<R: Threads + Wait + Sync, A: Allocator + Copy + Send + Sync, T: Turns<A> + Send>(
     rt: &R,
     alloc: Global,
@@ -96,6 +88,7 @@ fn called<R: Threads + Wait + Sync, A: Allocator + Copy + Send + Sync, T: Turns<
     members: &mut [T],
     query: &Query<A>,
     call: Call,
+    before: u64,
 ) -> Option<Came>
     requires ready { All T.is_ready members.old }
     requires table { AreOfOneTable (map T.home members.old) }
@@ -104,15 +97,15 @@ fn called<R: Threads + Wait + Sync, A: Allocator + Copy + Send + Sync, T: Turns<
 {
     match call {
         Call::Select => match select_parts(rt, heap, members, query) {
-            Ok(answers) => Some(Came::Answers(listed(alloc, answers.as_slice())?)),
+            Ok(answers) => answered(0, are_answers(alloc, answers.as_slice())),
             Err(fault) => refused(0, fault),
         },
         Call::Count => match count_parts(rt, members, query) {
-            Ok(count) => Some(Came::Counted(count)),
+            Ok(count) => answered(0, count == COUNT),
             Err(fault) => refused(0, fault),
         },
         Call::Delete => match delete_parts(rt, members, query) {
-            Ok(count) => Some(Came::Deleted(count)),
+            Ok(count) => answered(count, count.saturating_add(before) == COUNT),
             Err(stopped) => refused(stopped.value, stopped.fault),
         },
     }
@@ -169,11 +162,11 @@ fn called_and_released<
     ensures ready { All T.is_ready members.new }
     ensures same { map T.home members.new ≡ map T.home members.old }
 {
-    let came = called(rt, alloc, heap, members, query, call)?;
-    watch.ended(came.is_refused());
+    let came = called(rt, alloc, heap, members, query, call, before)?;
+    watch.ended(came.is_refused);
     watch.sees(fix_nothing::<A, T>(members));
     let gone = gone(alloc, members, objects)?;
-    watch.sees(came.gone().saturating_add(before) == gone);
+    watch.sees(came.gone.saturating_add(before) == gone);
     Some(came)
 }
 
@@ -192,52 +185,45 @@ fn is_right_again<R: Threads + Wait + Sync, A: Allocator + Copy + Send + Sync, T
     requires table { AreOfOneTable (map T.home members.old) }
 {
     let first = called_and_released(rt, alloc, heap, watch, members, query, objects, call, 0)?;
-    if !first.is_refused() {
-        return Some(watch.is_right() && first.is_whole(0));
+    if !first.is_refused {
+        return Some(watch.is_right() && first.is_whole);
     }
-    let before = first.gone();
+    let before = first.gone;
     let second = called_and_released(
         rt, alloc, heap, watch, members, query, objects, call, before,
     )?;
-    if second.is_refused() {
+    if second.is_refused {
         return Some(watch.stops());
     }
-    Some(watch.is_right() && second.is_whole(before))
+    Some(watch.is_right() && second.is_whole)
 }
 
-/// The first member puts the objects in; none where there is no memory for them.
-fn filled<A: Allocator + Copy, T: Turns<A>>(members: &mut [T], objects: &[Term<A>]) -> Option<()>
-    requires ready { All T.is_ready members.old }
-    ensures ready { All T.is_ready members.new }
-    ensures same { map T.home members.new ≡ map T.home members.old }
-{
-    if members.is_empty() {
-        return None;
+/// The specification of a call.
+fn specification_of(call: Call) -> &'static str {
+    match call {
+        Call::Select => KEY,
+        Call::Count => ALL,
+        Call::Delete => ALL,
     }
-    put_all(&mut members[0], objects)
 }
 
-/// Whether a call is right at the objects, which the first member puts in before; none where there is no memory for
-/// them.
+/// Whether a call is right at these objects, which were put in before; none where there is no memory for the query.
 fn is_right_by<R: Threads + Wait + Sync, A: Allocator + Copy + Send + Sync, T: Turns<A> + Send>(
     rt: &R,
     alloc: Global,
     heap: A,
     counts: &Failing<Global>,
     members: &mut [T],
-    query: &Query<A>,
     objects: &[Term<A>],
     call: Call,
 ) -> Option<bool>
     requires ready { All T.is_ready members.old }
     requires table { AreOfOneTable (map T.home members.old) }
 {
-    filled(members, objects)?;
+    let query = query_of(heap, specification_of(call))?;
     let mut watch = Watch::new(counts);
-    match is_right_again(rt, alloc, heap, &mut watch, members, query, objects, call) {
-        Some(is_right) => Some(is_right),
-        None => Some(false),
-    }
+    let is_right = is_right_again(rt, alloc, heap, &mut watch, members, &query, objects, call);
+    Some(is_right == Some(true))
 }
 
 /// The same by sessions of a table.
@@ -252,7 +238,6 @@ fn is_right_in<
     counts: &Failing<Global>,
     table: &Table<P, A>,
     sessions: &mut [Session<P, A>],
-    query: &Query<A>,
     objects: &[Term<A>],
     call: Call,
 ) -> Option<bool>
@@ -265,43 +250,9 @@ fn is_right_in<
         heap,
         counts,
         members.as_mut_slice(),
-        query,
         objects,
         call,
     )
-}
-
-/// What the set is opened with.
-fn options(sessions: u8) -> Options {
-    Options {
-        name: 1,
-        kind: TableKind::Set,
-        keypos: 1,
-        parts: PARTS,
-        sessions,
-    }
-}
-
-/// The specification of a call.
-fn specification_of(call: Call) -> &'static str {
-    match call {
-        Call::Select => KEY,
-        Call::Count => ALL,
-        Call::Delete => ALL,
-    }
-}
-
-/// The set without objects, and sessions for so many members.
-fn opened<A: Allocator + Copy, P: Part<A> + Drop>(
-    heap: A,
-    members: u8,
-) -> Option<(Table<P, A>, Vec<Session<P, A>, A>)>
-    ensures { IfSome result (λ made. All (λ s. IsOpened made.0.options made.0.gates.items s.number s.passes.items) made.1.items) }
-{
-    let Ok((table, sessions)) = Table::<P, A>::open(heap, options(members)) else {
-        return None;
-    };
-    Some((table, sessions))
 }
 
 /// Whether a call by so many members is right; none where there is no memory for the table, its objects and the query.
@@ -317,9 +268,9 @@ fn is_right_at<
     members: u8,
     call: Call,
 ) -> Option<bool> {
-    let query = query_of(heap, specification_of(call))?;
     let objects = read_terms(heap, OBJECTS).ok()?;
-    let (table, mut sessions) = opened::<A, P>(heap, members)?;
+    let options = options(PARTS, members);
+    let (table, mut sessions) = set_with_objects::<R, A, P>(rt, heap, options, objects.as_slice())?;
     is_right_in(
         rt,
         alloc,
@@ -327,7 +278,6 @@ fn is_right_at<
         counts,
         &table,
         sessions.as_mut_slice(),
-        &query,
         objects.as_slice(),
         call,
     )

@@ -2,34 +2,20 @@
 //! and with all behind it: asked again, on what was handed back, calls give the pieces of a walk that isn't disturbed.
 ghost use Rattle.std.specs.Prelude.{◌≡◌};
 
-use crate::plays::{Play, fixes_below, opened, prepared, query_of};
+use crate::plays::{Numbered, Play, fixes_below, query_of};
+use crate::trials::{Act, Trial, first_wrong};
 use crate::watch::Watch;
-use kit_alloc::{Failing, sweep, sweep_onward};
+use kit_alloc::Failing;
 use kit_rows::{fields, listed};
-use part_core::{Part, TableKind};
-use part_hash::HashPart;
-use part_order::OrderPart;
+use part_core::TableKind;
 use std::alloc::{Allocator, Global};
-use tables::{LocalTable, Turns, delete, insert};
+use tables::{Turns, delete, insert};
 use term_core::Term;
 use term_text::read_terms;
 use walks::{Continuation, Query, Step, select_limit, select_more};
 
-/// The most requests of a walk and its table.
-const MOST_REQUESTS: u64 = 20_000;
-
 /// The most pieces of a walk.
 const MOST_PIECES: usize = 100;
-
-/// A walk of session 0 in pieces of at most so many answers, what session 1 writes behind each piece, and the pieces.
-#[derive(Clone, Copy)]
-struct Row {
-    play: Play,
-    limit: u64,
-    /// Objects are put in, and what is no tuple is a key that is deleted.
-    writes: &'static str,
-    wanted: &'static str,
-}
 
 /// Each object's key.
 const KEY: &str = "[{{'$1'},[],['$1']}].";
@@ -47,10 +33,11 @@ const FULL: &str =
     "{0}. {1}. {2}. {3}. {4}. {5}. {6}. {7}. {8}. {9}. {10}. {11}. {12}. {13}. {14}. {15}.
     {16}. {17}. {18}. {19}. {20}. {21}. {22}. {23}. {24}. {25}. {26}. {27}. {28}. {29}. {30}. {31}.";
 
-/// The parts are fixed in the first four rows, and in the others not.
-const ROWS: [Row; 8] = [
+/// Walks of session 0, and what session 1 writes behind each piece. The parts are fixed in the first four, and in the
+/// others not.
+const TRIALS: [Trial; 8] = [
     // An object behind the walk is deleted, one is put where it has been, and one before it.
-    Row {
+    Trial {
         play: Play {
             kind: TableKind::Set,
             parts: 1,
@@ -58,12 +45,11 @@ const ROWS: [Row; 8] = [
             specification: KEY,
             fixed: 1,
         },
-        limit: 2,
-        writes: "3. {9}. {6}.",
+        act: Act::Walk(2, "3. {9}. {6}."),
         wanted: "[1,2]\n[4,5]\n[6]\n",
     },
     // What was found with others of its class is answered, though it is deleted meanwhile.
-    Row {
+    Trial {
         play: Play {
             kind: TableKind::Set,
             parts: 1,
@@ -71,12 +57,11 @@ const ROWS: [Row; 8] = [
             specification: KEY,
             fixed: 1,
         },
-        limit: 2,
-        writes: "17.",
+        act: Act::Walk(2, "17."),
         wanted: "[1,9]\n[17]\n",
     },
     // The slots double between two pieces.
-    Row {
+    Trial {
         play: Play {
             kind: TableKind::Set,
             parts: 1,
@@ -84,12 +69,11 @@ const ROWS: [Row; 8] = [
             specification: KEY,
             fixed: 1,
         },
-        limit: 4,
-        writes: "{32}.",
+        act: Act::Walk(4, "{32}."),
         wanted: "[0,8,16,24]\n[1,9,17,25]\n[2,10,18,26]\n[3,11,19,27]\n[4,12,20,28]\n[5,13,21,29]\n[6,14,22,30]\n[7,15,23,31]\n",
     },
     // They double, and a key that the walk comes to is deleted and put in again at its place.
-    Row {
+    Trial {
         play: Play {
             kind: TableKind::Bag,
             parts: 1,
@@ -97,11 +81,10 @@ const ROWS: [Row; 8] = [
             specification: MADE,
             fixed: 1,
         },
-        limit: 2,
-        writes: "15. {32}. {40}. {48}. {15}. {7}.",
+        act: Act::Walk(2, "15. {32}. {40}. {48}. {15}. {7}."),
         wanted: "[{0},{8}]\n[{16},{24}]\n[{1},{9}]\n[{17},{25}]\n[{2},{10}]\n[{18},{26}]\n[{3},{11}]\n[{19},{27}]\n[{4},{12}]\n[{20},{28}]\n[{5},{13}]\n[{21},{29}]\n[{6},{14}]\n[{22},{30}]\n[{7},{15}]\n[{23},{31}]\n",
     },
-    Row {
+    Trial {
         play: Play {
             kind: TableKind::Set,
             parts: 2,
@@ -109,11 +92,10 @@ const ROWS: [Row; 8] = [
             specification: SECOND,
             fixed: 0,
         },
-        limit: 2,
-        writes: "",
+        act: Act::Walk(2, ""),
         wanted: "[a,c]\n[d,f]\n[b,e]\n",
     },
-    Row {
+    Trial {
         play: Play {
             kind: TableKind::Set,
             parts: 2,
@@ -121,11 +103,10 @@ const ROWS: [Row; 8] = [
             specification: NAMED,
             fixed: 0,
         },
-        limit: 1,
-        writes: "",
+        act: Act::Walk(1, ""),
         wanted: "[d]\n[a]\n",
     },
-    Row {
+    Trial {
         play: Play {
             kind: TableKind::OrderedSet,
             parts: 1,
@@ -133,11 +114,10 @@ const ROWS: [Row; 8] = [
             specification: SECOND,
             fixed: 0,
         },
-        limit: 4,
-        writes: "",
+        act: Act::Walk(4, ""),
         wanted: "[a,b,e,c]\n[d,f]\n",
     },
-    Row {
+    Trial {
         play: Play {
             kind: TableKind::OrderedSet,
             parts: 1,
@@ -145,8 +125,7 @@ const ROWS: [Row; 8] = [
             specification: NAMED,
             fixed: 0,
         },
-        limit: 1,
-        writes: "48. {48,f}.",
+        act: Act::Walk(1, "48. {48,f}."),
         wanted: "[a]\n[d]\n",
     },
 ];
@@ -157,21 +136,21 @@ fn begun<A: Allocator + Copy, T: Turns<A>>(
     watch: &mut Watch<'_>,
     session: &mut T,
     query: Query<A>,
-    row: Row,
+    limit: u64,
+    fixed: u8,
 ) -> Option<Step<A>>
     requires { T.is_ready session.old }
-    ensures ready { T.is_ready session.new }
-    ensures same { T.home session.new ≡ T.home session.old }
+    ensures { T.is_ready session.new }
 {
-    match select_limit(heap, session, query, row.limit) {
+    match select_limit(heap, session, query, limit) {
         Ok(step) => {
             watch.ended(false);
             Some(step)
         }
         Err(refused) => {
             watch.ended(true);
-            watch.sees(fixes_below(session, row.play.fixed));
-            let again = select_limit(heap, session, refused.value, row.limit);
+            watch.sees(fixes_below(session, fixed));
+            let again = select_limit(heap, session, refused.value, limit);
             watch.ended(again.is_err());
             again.ok()
         }
@@ -184,13 +163,12 @@ fn gone_on<A: Allocator + Copy, T: Turns<A>>(
     watch: &mut Watch<'_>,
     session: &mut T,
     walk: Continuation<A>,
-    row: Row,
+    fixed: u8,
 ) -> Option<Step<A>>
     requires { T.is_ready session.old }
-    ensures ready { T.is_ready session.new }
-    ensures same { T.home session.new ≡ T.home session.old }
+    ensures { T.is_ready session.new }
 {
-    watch.sees(fixes_below(session, row.play.fixed));
+    watch.sees(fixes_below(session, fixed));
     match select_more(heap, session, walk) {
         Ok(step) => {
             watch.ended(false);
@@ -198,7 +176,7 @@ fn gone_on<A: Allocator + Copy, T: Turns<A>>(
         }
         Err(refused) => {
             watch.ended(true);
-            watch.sees(fixes_below(session, row.play.fixed));
+            watch.sees(fixes_below(session, fixed));
             let again = select_more(heap, session, refused.value);
             watch.ended(again.is_err());
             again.ok()
@@ -250,47 +228,19 @@ fn written<A: Allocator + Copy, T: Turns<A>>(
     Some(())
 }
 
-/// Session 1 writes.
-fn written_at<P: Part<A> + Drop, A: Allocator + Copy>(
+/// Session 1 writes, and session 0 goes on; whether all was put in.
+fn is_written<A: Allocator + Copy, T: Numbered<A>>(
     watch: &mut Watch<'_>,
-    table: &mut LocalTable<P, A>,
+    session: &mut T,
     writes: &[Term<A>],
-) -> Option<()> {
-    if table.options.sessions <= 1 {
-        return None;
-    }
-    let mut session = table.at(1);
-    written(watch, &mut session, writes)
-}
-
-/// Session 0 begins a walk.
-fn begun_at<P: Part<A> + Drop, A: Allocator + Copy>(
-    heap: A,
-    watch: &mut Watch<'_>,
-    table: &mut LocalTable<P, A>,
-    query: Query<A>,
-    row: Row,
-) -> Option<Step<A>> {
-    if table.options.sessions == 0 {
-        return None;
-    }
-    let mut session = table.at(0);
-    begun(heap, watch, &mut session, query, row)
-}
-
-/// It carries the walk on.
-fn gone_on_at<P: Part<A> + Drop, A: Allocator + Copy>(
-    heap: A,
-    watch: &mut Watch<'_>,
-    table: &mut LocalTable<P, A>,
-    walk: Continuation<A>,
-    row: Row,
-) -> Option<Step<A>> {
-    if table.options.sessions == 0 {
-        return None;
-    }
-    let mut session = table.at(0);
-    gone_on(heap, watch, &mut session, walk, row)
+) -> bool
+    requires { T.is_ready session.old }
+    ensures { T.is_ready session.new }
+{
+    let is_other = session.goes_on_as(1);
+    let is_written = written(watch, session, writes).is_some();
+    let is_first = session.goes_on_as(0);
+    is_other && is_written && is_first
 }
 
 /// Puts the line of a piece at the end.
@@ -301,98 +251,114 @@ fn put_piece<A: Allocator>(alloc: Global, piece: &[Term<A>], lines: &mut Vec<u8>
     lines.push(b'\n').ok()
 }
 
-/// Puts the pieces of a walk at the end, each on a line, with what is written between them; none where a call is
-/// refused again.
-fn walked<P: Part<A> + Drop, A: Allocator + Copy>(
+/// Puts the line of a piece at the end, writes behind it, and carries the walk on; none where a call is refused again.
+fn next_behind<A: Allocator + Copy, T: Numbered<A>>(
     alloc: Global,
     heap: A,
     watch: &mut Watch<'_>,
-    table: &mut LocalTable<P, A>,
-    query: Query<A>,
+    session: &mut T,
+    piece: &[Term<A>],
+    walk: Continuation<A>,
     writes: &[Term<A>],
-    row: Row,
+    fixed: u8,
     lines: &mut Vec<u8>,
-) -> Option<()> {
-    let mut step = begun_at(heap, watch, table, query, row)?;
-    for _piece in 0..MOST_PIECES {
-        match step {
-            Step::Piece(piece, walk) => {
-                put_piece(alloc, piece.as_slice(), lines)?;
-                written_at(watch, table, writes)?;
-                step = gone_on_at(heap, watch, table, walk, row)?;
-            }
-            Step::End(_query) => return Some(()),
-        }
+) -> Option<Step<A>>
+    requires { T.is_ready session.old }
+    ensures { T.is_ready session.new }
+{
+    let is_put = put_piece(alloc, piece, lines).is_some();
+    let is_written = is_written(watch, session, writes);
+    if is_put && is_written {
+        gone_on(heap, watch, session, walk, fixed)
+    } else {
+        None
     }
-    None
 }
 
-/// Whether the pieces of a row are right; none where there is no memory for the table, its objects and the query.
-fn is_right_at<P: Part<A> + Drop, A: Allocator + Copy>(
+/// What comes behind a step; a walk that is at its end stays there.
+fn next<A: Allocator + Copy, T: Numbered<A>>(
+    alloc: Global,
+    heap: A,
+    watch: &mut Watch<'_>,
+    session: &mut T,
+    step: Option<Step<A>>,
+    writes: &[Term<A>],
+    fixed: u8,
+    lines: &mut Vec<u8>,
+) -> Option<Step<A>>
+    requires { T.is_ready session.old }
+    ensures { T.is_ready session.new }
+{
+    match step {
+        Some(Step::Piece(piece, walk)) => {
+            let piece = piece.as_slice();
+            next_behind(
+                alloc, heap, watch, session, piece, walk, writes, fixed, lines,
+            )
+        }
+        Some(Step::End(query)) => Some(Step::End(query)),
+        None => None,
+    }
+}
+
+/// Whether a walk comes to its end, each piece put on a line, with what is written between them; else a call is refused
+/// again.
+fn is_walked<A: Allocator + Copy, T: Numbered<A>>(
+    alloc: Global,
+    heap: A,
+    watch: &mut Watch<'_>,
+    session: &mut T,
+    first: Option<Step<A>>,
+    writes: &[Term<A>],
+    fixed: u8,
+    lines: &mut Vec<u8>,
+) -> bool
+    requires { T.is_ready session.old }
+{
+    let mut step = first;
+    for _piece in 0..MOST_PIECES {
+        step = next(alloc, heap, watch, session, step, writes, fixed, lines);
+    }
+    matches!(step, Some(Step::End(_)))
+}
+
+/// Whether the pieces of a walk are right; none where there is no memory for the query and what is written.
+pub(crate) fn is_walked_by<A: Allocator + Copy, T: Numbered<A>>(
     alloc: Global,
     heap: A,
     counts: &Failing<Global>,
-    row: Row,
-) -> Option<bool> {
-    let query = query_of(heap, row.play.specification)?;
-    let writes = read_terms(heap, row.writes.as_bytes()).ok()?;
-    let mut table = opened::<P, A>(heap, row.play)?;
-    let mut session = table.at(0);
-    prepared(heap, &mut session, row.play)?;
+    session: &mut T,
+    trial: Trial,
+    limit: u64,
+    writes: &str,
+) -> Option<bool>
+    requires { T.is_ready session.old }
+{
+    let fixed = trial.play.fixed;
+    let writes = read_terms(heap, writes.as_bytes()).ok()?;
+    let query = query_of(heap, trial.play.specification)?;
     let mut watch = Watch::new(counts);
+    let first = begun(heap, &mut watch, session, query, limit, fixed);
     let mut lines = Vec::new(alloc);
-    let walked = walked(
+    let is_over = is_walked(
         alloc,
         heap,
         &mut watch,
-        &mut table,
-        query,
+        session,
+        first,
         writes.as_slice(),
-        row,
+        fixed,
         &mut lines,
     );
-    match walked {
-        Some(()) => Some(watch.is_right() && lines.as_slice() == row.wanted.as_bytes()),
-        None => Some(watch.stops() && row.wanted.as_bytes().starts_with(lines.as_slice())),
-    }
-}
-
-/// Whether the pieces of a row are right, by an allocator that may refuse, and no block is left.
-fn is_right(alloc: Global, heap: &Failing<Global>, row: Row) -> bool {
-    let is_right = if row.play.kind.is_ordered() {
-        is_right_at::<OrderPart<&Failing<Global>>, &Failing<Global>>(alloc, heap, heap, row)
+    if is_over {
+        Some(watch.is_right() && lines.as_slice() == trial.wanted.as_bytes())
     } else {
-        is_right_at::<HashPart<&Failing<Global>>, &Failing<Global>>(alloc, heap, heap, row)
-    };
-    match is_right {
-        Some(is_right) => is_right && heap.blocks() == 0,
-        None => heap.was_refused() && heap.blocks() == 0,
+        Some(watch.stops() && trial.wanted.as_bytes().starts_with(lines.as_slice()))
     }
-}
-
-/// Whether it is so with each request refused in turn.
-fn holds(alloc: Global, row: Row) -> bool {
-    let alone = sweep(alloc, MOST_REQUESTS, |heap: &Failing<Global>| {
-        is_right(alloc, heap, row)
-    });
-    let onward = sweep_onward(alloc, MOST_REQUESTS, |heap: &Failing<Global>| {
-        is_right(alloc, heap, row)
-    });
-    alone.is_complete() && onward.is_complete()
-}
-
-/// The first of these rows that doesn't hold.
-fn first_wrong(alloc: Global, rows: &[Row]) -> Option<usize> {
-    for (place, row) in rows.iter().enumerate() {
-        if !holds(alloc, *row) {
-            return Some(place);
-        }
-    }
-    None
 }
 
 #[test]
 fn pieces_are_the_same_between_writers(rt: HostRuntime) {
-    let wrong = first_wrong(rt.alloc(), &ROWS);
+    let wrong = first_wrong(rt.alloc(), &TRIALS);
     assert!(rt; wrong == None, "{wrong:?}");
 }

@@ -16,8 +16,8 @@ use term_text::Form;
 use tool_io::{ToolFault, first_of, next_of, read_whole, text_of, write_lines};
 
 /// Reads a specification or a code file, which is a binary, and objects, to the reader's end, and writes each answer:
-/// its text in such a form, a dot and a line feed, in the order of the objects. A specification is compiled, and its code
-/// goes through its file. An input that is refused writes nothing; where memory runs out while the objects are
+/// its text in such a form, a dot and a line feed, in the order of the objects. A specification is compiled, and its
+/// code goes through its file. An input that is refused writes nothing; where memory runs out while the objects are
 /// answered, the lines of a beginning of the objects are written.
 pub fn tool_run<A: Allocator + Copy, R: Read, W: Write>(
     alloc: A,

@@ -164,11 +164,11 @@ pub(crate) fn step<A: Allocator>(
 {
     begin(body, pc, walk.falls, &mut walk.shape)?;
     let instr = instr_at(body, pc);
-    check(body, counts, behind, pc, instr, &walk.shape)?;
+    let needed = check(body, counts, behind, pc, instr, &walk.shape)?;
     walk.inner = deeper(walk.inner, inner_depth(body, behind, instr, &walk.shape));
     let before = walk.shape.depth();
     note(&mut walk.depths, before)?;
-    leave(body, counts, pc, instr, &mut walk.shape)?;
+    leave(body, pc, instr, &mut walk.shape, needed)?;
     walk.own = greatest(walk.own, before, walk.shape.depth());
     walk.falls = instr.goes_on();
     Ok(())

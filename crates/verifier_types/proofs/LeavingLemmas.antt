@@ -1,5 +1,5 @@
 -- What an instruction leaves.
-use Rattle.std.specs.Prelude.{ℕ, ◌≡◌, ◌+◌, ◌<◌, ◌≤◌, ◌++◌, IsTrue, Bool, Option, List, [], ◌∷◌, length, drop, slice_get}
+use Rattle.std.specs.Prelude.{ℕ, ◌≡◌, ◌≢◌, ◌+◌, ◌<◌, ◌≤◌, ◌++◌, IsTrue, Bool, Option, List, [], ◌∷◌, length, drop, slice_get}
 use Rattle.std.proofs.Common.{arith, refl, ap, ap₂, ◌∙◌}
 use Rattle.std.proofs.lemmas.Bool.{ltb-true}
 use Rattle.std.proofs.lemmas.List.{length-append}
@@ -32,6 +32,11 @@ pushed_for-top : (p : Program) (i : Instr) (ks : List Kind) → pushed_for p i (
 pushed_for-top p instr.Dup [] = refl
 pushed_for-top p instr.Dup (k ∷ ks) = refl
 pushed_for-top p i ks = refl
+
+-- but for DUP they don't depend on it
+pub pushed_alike : (p : Program) (i : Instr) (top other : Option Kind) → i ≢ instr.Dup → pushed_for p i top ≡ pushed_for p i other
+pushed_alike p instr.Dup top other no_dup = absurd (no_dup refl)
+pushed_alike p i top other no_dup = refl
 
 pub left_is : (p : Program) (i : Instr) (s t u v : Shape) (n : ℕ) (top : Option Kind) (ks : List Kind) → n ≡ needs p i → top ≡ slice_get s.kinds 0 → ks ≡ pushed_for p i top → t ≡ record { kinds = drop n s.kinds; bound = s.bound } → u ≡ record { kinds = ks ++ t.kinds; bound = t.bound } → v ≡ record { kinds = u.kinds; bound = left_bound i u.bound } → v ≡ left_shape p i s
 left_is p i s t u v n top ks count first pushed popped more bound =

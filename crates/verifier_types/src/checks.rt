@@ -1,5 +1,5 @@
 //! The checks of one instruction, in their order.
-ghost use Rattle.std.specs.Prelude.{ℕ, ◌≡◌, ◌≤◌, ◌↔◌, IsTrue, IfSome, OnOk, IfErr, All, List, length};
+ghost use Rattle.std.specs.Prelude.{ℕ, ◌≡◌, ◌≤◌, ◌↔◌, IsTrue, IfSome, IfOk, OnOk, IfErr, All, List, length};
 ghost use Rattle.mcode.specs.Program.{IsProgram};
 ghost use Rattle.verifier_types.specs.Shape as shapes;
 ghost use Rattle.verifier_types.specs.Effect.{needs, jump_shape};
@@ -41,25 +41,25 @@ fn check_target<A: Allocator>(body: &Body<'_, A>, pc: u16, instr: Instr) -> Resu
 }
 
 /// How many places an instruction takes from the top where it jumps.
-fn jump_pops<A: Allocator>(body: &Body<'_, A>, counts: &[Option<usize>], instr: Instr) -> usize
-    requires { AreCounts body.now counts.now }
+fn jump_pops<A: Allocator>(body: &Body<'_, A>, instr: Instr, needed: usize) -> usize
+    requires { needed ≡ needs body.now instr }
     ensures within { result ≤ needs body.now instr }
     ensures shape { (s : shapes.Shape) → popped_shape s result ≡ jump_shape body.now instr s }
 {
     if top_stays(instr) {
         return 0;
     }
-    needed(body, counts, instr)
+    needed
 }
 
 /// Whether the state with which an instruction jumps is at or below the frame where it jumps.
 fn is_jump_fit<A: Allocator>(
     body: &Body<'_, A>,
-    counts: &[Option<usize>],
     instr: Instr,
     shape: &Shape<A>,
+    needed: usize,
 ) -> bool
-    requires counts { AreCounts body.now counts.now }
+    requires needed { needed ≡ needs body.now instr }
     requires frames { All (IsFrameFit body.now) body.now.frames }
     requires operands { needs body.now instr ≤ length shape.now.kinds }
     ensures { IsTrue result ↔ IsJumpFit body.now instr shape.now }
@@ -70,7 +70,7 @@ fn is_jump_fit<A: Allocator>(
     let Some(frame) = body.frame_at(target) else {
         return true;
     };
-    shape.is_cut_below(jump_pops(body, counts, instr), frame)
+    shape.is_cut_below(jump_pops(body, instr, needed), frame)
 }
 
 /// Whether an instruction finds what it names.
@@ -96,36 +96,39 @@ fn check_naming<A: Allocator>(
     }
 }
 
-/// Whether an instruction finds the operands that it needs.
+/// Whether an instruction finds the operands that it needs, and how many these are.
 fn check_operands<A: Allocator>(
     body: &Body<'_, A>,
     counts: &[Option<usize>],
     pc: u16,
     instr: Instr,
     shape: &Shape<A>,
-) -> Result<(), Fault>
+) -> Result<usize, Fault>
     requires { AreCounts body.now counts.now }
     ensures fit { OnOk result (AreKindsFit body.now pc instr shape.now) }
+    ensures needed { IfOk result (λ needed. needed ≡ needs body.now instr) }
     ensures fault { IfErr result (λ fault. (ds : List ℕ)
         → IsFaultIn body.now ds pc instr shape.now fault) }
 {
     if let Err(fault) = check_naming(body, counts, pc, instr) {
         return Err(fault);
     }
-    if usize::from(shape.depth()) < needed(body, counts, instr) {
+    let needed = needed(body, counts, instr);
+    if usize::from(shape.depth()) < needed {
         return Err(Fault::Underflow(pc));
     }
     if !are_kinds_fit(instr, shape) {
         return Err(Fault::Kind(pc));
     }
     if are_passed(body, instr, shape) {
-        Ok(())
+        Ok(needed)
     } else {
         Err(Fault::Kind(pc))
     }
 }
 
-/// Whether an instruction finds its slot, and neither it nor its routine needs too deep a stack.
+/// Whether an instruction finds its slot, and neither it nor its routine needs too deep a stack; and how many operands it
+/// needs.
 fn check_depth<A: Allocator>(
     body: &Body<'_, A>,
     counts: &[Option<usize>],
@@ -133,30 +136,32 @@ fn check_depth<A: Allocator>(
     pc: u16,
     instr: Instr,
     shape: &Shape<A>,
-) -> Result<(), Fault>
+) -> Result<usize, Fault>
     requires { AreCounts body.now counts.now }
     ensures fit { OnOk result (IsDepthFit body.now depths.now pc instr shape.now) }
+    ensures needed { IfOk result (λ needed. needed ≡ needs body.now instr) }
     ensures fault { IfErr result (λ fault. IsFaultIn body.now depths.now pc instr shape.now fault) }
 {
-    if let Err(fault) = check_operands(body, counts, pc, instr, shape) {
-        return Err(fault);
-    }
+    let needed = match check_operands(body, counts, pc, instr, shape) {
+        Ok(needed) => needed,
+        Err(fault) => return Err(fault),
+    };
     if !is_slot_fit(body, instr, shape) {
         return Err(Fault::Unbound(pc));
     }
-    if left_depth(body, counts, instr, shape) > usize::from(MAX_DEPTH) {
+    if left_depth(body, instr, shape, needed) > usize::from(MAX_DEPTH) {
         return Err(Fault::Depth(pc));
     }
     if inner_depth(body, depths, instr, shape) > usize::from(MAX_DEPTH) {
         return Err(Fault::Depth(pc));
     }
-    Ok(())
+    Ok(needed)
 }
 
 /// Whether an instruction is typed in a state, where these are the depths of all bodies behind its own. Its target is
 /// looked at first, then whether it may stand in its body, its constant, the number of its operands, their kinds, its
 /// slot, the depth that it or its routine needs, the state with which it jumps, and that it isn't the last where it goes
-/// on; the first of these that fails is the fault.
+/// on; the first of these that fails is the fault. Else how many operands it needs is answered.
 pub fn check<A: Allocator>(
     body: &Body<'_, A>,
     counts: &[Option<usize>],
@@ -164,19 +169,20 @@ pub fn check<A: Allocator>(
     pc: u16,
     instr: Instr,
     shape: &Shape<A>,
-) -> Result<(), Fault>
+) -> Result<usize, Fault>
     requires counts { AreCounts body.now counts.now }
     requires frames { All (IsFrameFit body.now) body.now.frames }
     ensures fit { OnOk result (IsTypedAt body.now pc instr shape.now) }
     ensures inner { OnOk result (inner_depth body.now depths.now instr shape.now ≤ most_places) }
+    ensures needed { IfOk result (λ needed. needed ≡ needs body.now instr) }
     ensures fault { IfErr result (λ fault. IsFaultIn body.now depths.now pc instr shape.now fault) }
 {
-    check_depth(body, counts, depths, pc, instr, shape)?;
-    if !is_jump_fit(body, counts, instr, shape) {
+    let needed = check_depth(body, counts, depths, pc, instr, shape)?;
+    if !is_jump_fit(body, instr, shape, needed) {
         return Err(Fault::Frame(pc));
     }
     if instr.goes_on() && usize::from(pc) + 1 >= body.instructions().len() {
         return Err(Fault::FallsOff(pc));
     }
-    Ok(())
+    Ok(needed)
 }

@@ -1,5 +1,5 @@
 //! What an instruction needs, and how deep a stack it leaves.
-ghost use Rattle.std.specs.Prelude.{◌≡◌, ◌<◌, ◌≤◌, ◌↔◌, IsTrue, IsSome, OnOk, length, reverse, slice_get, slice_index};
+ghost use Rattle.std.specs.Prelude.{◌≡◌, ◌<◌, ◌≤◌, ◌↔◌, IsTrue, IsSome, OnOk, List, true, false, length, reverse, slice_get, slice_index};
 ghost use Rattle.std.specs.Option.{option_map_or};
 ghost use Rattle.prims_table.specs.Gives.{gives_of};
 ghost use Rattle.mcode.specs.Kind.{kind_of as exact_kind};
@@ -7,6 +7,7 @@ ghost use Rattle.verifier_types.specs.Effect.{needs, arguments_of, result_of, Is
 ghost use Rattle.verifier_types.specs.Fit.{IsPlaced};
 ghost use Rattle.verifier_types.specs.Inner.{inner_depth as depth_inside};
 ghost use Rattle.mcode.specs.Program.{routine_at, most_arguments};
+ghost use Rattle.mcode.specs.declared.kind.Kind.{Kind as KindValue};
 ghost use Rattle.verifier_types.specs.Needed.{AreCounts, tops_fit as tops_are_fit, pushed_count as count_pushed};
 
 use crate::keys::key_count;
@@ -117,10 +118,30 @@ fn tops_fit(instr: Instr, top: Option<Kind>, second: Option<Kind>) -> bool
     }
 }
 
+/// Whether an instruction needs operands of some kind, or so many of them.
+fn asks_kinds(instr: Instr) -> bool
+    ensures { result ≡ false → (ks : List KindValue) → kinds_fit instr ks ≡ true }
+{
+    matches!(
+        instr,
+        Instr::Field { .. }
+            | Instr::Head
+            | Instr::Tail
+            | Instr::Value { .. }
+            | Instr::Branch { .. }
+            | Instr::Arith { .. }
+            | Instr::Call { .. }
+    )
+}
+
 /// Whether the operands are of the kinds that an instruction needs.
 pub fn are_kinds_fit<A: Allocator>(instr: Instr, shape: &Shape<A>) -> bool
     ensures { result ≡ kinds_fit instr shape.now.kinds }
 {
+    // Most instructions take any kinds, and then no place is looked up.
+    if !asks_kinds(instr) {
+        return true;
+    }
     tops_fit(instr, shape.kind(0), shape.kind(1))
 }
 
@@ -193,15 +214,15 @@ fn pushed_count(instr: Instr) -> usize
 /// How many places an instruction leaves where it goes on.
 pub fn left_depth<A: Allocator>(
     body: &Body<'_, A>,
-    counts: &[Option<usize>],
     instr: Instr,
     shape: &Shape<A>,
+    needed: usize,
 ) -> usize
-    requires counts { AreCounts body.now counts.now }
+    requires needed { needed ≡ needs body.now instr }
     requires operands { needs body.now instr ≤ length shape.now.kinds }
     ensures { result ≡ length (left_shape body.now instr shape.now).kinds }
 {
-    usize::from(shape.depth()) - needed(body, counts, instr) + pushed_count(instr)
+    usize::from(shape.depth()) - needed + pushed_count(instr)
 }
 
 /// The depth of a body's operand stack, 0 where the body isn't there.

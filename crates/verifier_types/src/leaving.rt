@@ -2,14 +2,14 @@
 ghost use Rattle.std.specs.Prelude.{◌≡◌, ◌+◌, ◌<◌, ◌≤◌, ◌++◌, OnOk, length, slice_get};
 ghost use Rattle.std.specs.Option.{option_map_or};
 ghost use Rattle.mcode.specs.Kind.{kind_of as exact_kind};
+ghost use Rattle.mcode.specs.Program.{Program};
 ghost use Rattle.mcode.specs.declared.kind.Kind.TheVariants as kind;
-ghost use Rattle.verifier_types.specs.Effect.{given_kind as kind_given, left_bound, left_shape};
+ghost use Rattle.verifier_types.specs.Effect.{needs, given_kind as kind_given, left_bound, left_shape};
 ghost use Rattle.verifier_types.specs.Leaving.{boolean_kind, pushed_for, pushed_list, IsBindable};
 ghost use Rattle.term_core.specs.declared.TheConstants.{MAX_TUPLE};
-ghost use Rattle.verifier_types.specs.Needed.{AreCounts};
 ghost use Rattle.verifier_types.specs.Fit.{IsTypedAt};
 
-use crate::effect::{needed, result_kind};
+use crate::effect::result_kind;
 use crate::shape::Shape;
 use mcode::{Body, Instr, Kind};
 use prims_table::Gives;
@@ -136,21 +136,31 @@ fn bind<A: Allocator>(shape: &mut Shape<A>, instr: Instr)
     }
 }
 
-/// Turns the state in which an instruction began into the one that it leaves.
+/// The kind at the top, where what an instruction pushes goes by it.
+fn repeated_kind<A: Allocator>(instr: Instr, shape: &Shape<A>) -> Option<Kind>
+    ensures { (p : Program) → pushed_for p instr result ≡ pushed_for p instr (slice_get shape.now.kinds 0) }
+{
+    match instr {
+        Instr::Dup => shape.kind(0),
+        _ => None,
+    }
+}
+
+/// Turns the state in which an instruction that needs so many operands began into the one that it leaves.
 pub fn leave<A: Allocator>(
     body: &Body<'_, A>,
-    counts: &[Option<usize>],
     pc: u16,
     instr: Instr,
     shape: &mut Shape<A>,
+    needed: usize,
 ) -> Result<(), AllocError>
-    requires counts { AreCounts body.now counts.now }
+    requires needed { needed ≡ needs body.now instr }
     requires slots { length shape.old.bound ≡ body.now.slots }
     requires typed { IsTypedAt body.now pc instr shape.old }
     ensures { OnOk result (shape.new ≡ left_shape body.now instr shape.old) }
 {
-    let top = shape.kind(0);
-    shape.pop(needed(body, counts, instr));
+    let top = repeated_kind(instr, shape);
+    shape.pop(needed);
     push(shape, kinds_pushed(body, instr, top))?;
     bind(shape, instr);
     Ok(())

@@ -1,7 +1,10 @@
-use Rattle.std.proofs.Common.{ap₂, ◌∙◌}
+use Rattle.std.proofs.Common.{sym, ap₂, ◌∙◌}
 use Rattle.verifier_types.specs.Needed.{tops_fit}
 use Rattle.verifier_types.proofs.KeyLemmas.{tops_fit-kinds}
 use Rattle.verifier_types.proofs.effect.are_kinds_fit.Goals as goal
+
+pub returns-then-not-asks_kinds : goal.returns-then-not-asks_kinds
+returns-then-not-asks_kinds g c = sym (c.asks_kinds.ensures c.if-not-asks_kinds.true c.args.shape.now.kinds)
 
 pub returns : goal.returns
 returns g c =
