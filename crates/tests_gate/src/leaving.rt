@@ -1,10 +1,10 @@
 //! Fixes at a table whose parts have gates: a dead row stays as long as some session fixes the table, and goes with the
 //! last fix, also where its session leaves without releasing it.
-ghost use Rattle.std.specs.Prelude.{◌≡◌, IfSome};
+ghost use Rattle.std.specs.Prelude.{◌≡◌};
 ghost use Rattle.tables.specs.Sessions.{IsOpened};
 
 use crate::objects::object;
-use crate::pairs::last_two;
+use crate::pairs::opened;
 use crate::refusals::most_fixes;
 use part_core::{Part, TableKind};
 use part_hash::HashPart;
@@ -133,18 +133,6 @@ fn stepped<R: Wait, P: Part<Global> + Drop>(
     (session, refused)
 }
 
-/// A table and its two sessions.
-fn opened<P: Part<Global> + Drop>(alloc: Global) -> Option<(Table<P>, Session<P>, Session<P>)>
-    ensures { IfSome result (λ made. IsOpened made.0.options made.0.gates.items made.1.number made.1.passes.items
-        × IsOpened made.0.options made.0.gates.items made.2.number made.2.passes.items) }
-{
-    let Ok((table, sessions)) = Table::<P>::open(alloc, OPTIONS) else {
-        return None;
-    };
-    let (first, second) = last_two(&table, sessions)?;
-    Some((table, first, second))
-}
-
 /// Both sessions fix, the first deletes a key and releases its fix: what it is answered behind the dead row, and again
 /// when the second has left with its fix.
 fn answers_behind_a_dead_row<R: Wait, P: Part<Global> + Drop>(
@@ -152,7 +140,7 @@ fn answers_behind_a_dead_row<R: Wait, P: Part<Global> + Drop>(
     alloc: Global,
     key: &Term,
 ) -> Option<[u8; 2]> {
-    let (table, first, second) = opened::<P>(alloc)?;
+    let (table, first, second) = opened::<Global, P>(alloc, OPTIONS)?;
     let (first, _) = stepped(rt, alloc, &table, first, Step::Put, key);
     let (first, _) = stepped(rt, alloc, &table, first, Step::Fix, key);
     let (second, _) = stepped(rt, alloc, &table, second, Step::Fix, key);
@@ -172,7 +160,7 @@ fn answers_of_the_most_fixes<R: Wait, P: Part<Global> + Drop>(
     alloc: Global,
     key: &Term,
 ) -> Option<[u8; 3]> {
-    let (table, first, second) = opened::<P>(alloc)?;
+    let (table, first, second) = opened::<Global, P>(alloc, OPTIONS)?;
     let (first, _) = stepped(rt, alloc, &table, first, Step::Put, key);
     let (second, limit) = stepped(rt, alloc, &table, second, Step::FixMost, key);
     let (second, _) = stepped(rt, alloc, &table, second, Step::Delete, key);

@@ -3,15 +3,16 @@
 //! It has no code of its own. What a test here calls is proved in its own crate once, and not a second time with its
 //! tests. `judge_sessions` makes random calls on threads.
 //!
-//! - `objects`: what is put in. `pairs`: two sessions of a table.
+//! - `objects`: what is put in, and queries. `pairs`: two sessions of a table.
 //! - `closing`: a gate by itself.
 //! - `steps`: what sessions do, one on a thread behind the other and side by side.
 //! - `watching`: parts that look for each other, so that their turns must be made at the same time. `waiting`: a
 //!   session that waits for a part until it is put back.
 //! - `walking`: a walk whose table another session empties meanwhile, and a visit out of place.
 //! - `leaving`: dead rows while sessions fix, and when the last of them leaves.
-//! - `refusals`: memory refused in turn, and calls that take none. `selecting`: the same of a whole walk. `putting`: the
-//!   same of objects put in one after the other. `leaks`: what is let go in the middle of its life.
+//! - With each request for memory refused in turn: `trials`, what a session does at a table that is opened for it,
+//!   and what becomes of the table; `refusals`, openings, an insert, and calls that take none; `putting`, objects
+//!   put in one after the other; `leaks`, what is let go in the middle of its life; `selecting`, a whole walk.
 #![tactic(auto)]
 
 #[cfg(test)]
@@ -32,6 +33,8 @@ mod refusals;
 mod selecting;
 #[cfg(test)]
 mod steps;
+#[cfg(test)]
+mod trials;
 #[cfg(test)]
 mod waiting;
 #[cfg(test)]

@@ -1,10 +1,12 @@
-//! The objects that tests put in.
+//! The objects that tests put in, and queries.
 ghost use Rattle.std.specs.Prelude.{◌≡◌};
 
-use kit_rows::put;
+use kit_rows::{put, term_of};
+use mspec_reader::read_spec;
 use std::alloc::Allocator;
 use tables::{Turns, insert};
 use term_core::Term;
+use walks::Query;
 
 /// The object `{Key}`.
 pub(crate) fn object<A: Allocator + Copy>(heap: A, key: i64) -> Option<Term<A>> {
@@ -26,4 +28,20 @@ pub(crate) fn put_both<A: Allocator + Copy, T: Turns<A>>(heap: A, turns: &mut T)
     insert(turns, one).ok()?;
     let two = object(heap, 2)?;
     insert(turns, two).ok()
+}
+
+/// The query of a term.
+fn query_of_term<A: Allocator + Copy>(heap: A, term: &Term<A>) -> Option<Query<A>> {
+    match read_spec(heap, term) {
+        Ok(specification) => Query::from_spec(heap, &specification, 1).ok(),
+        Err(_) => None,
+    }
+}
+
+/// The query of a text.
+pub(crate) fn query_of<A: Allocator + Copy>(heap: A, text: &[u8]) -> Option<Query<A>> {
+    match term_of(heap, text) {
+        Some(term) => query_of_term(heap, &term),
+        None => None,
+    }
 }

@@ -3,11 +3,9 @@ ghost use Rattle.std.specs.Prelude.{◌<◌, IfSome};
 ghost use Rattle.tables.specs.Opened.{AllOpened};
 ghost use Rattle.tables.specs.Sessions.{IsOpened};
 
-use crate::objects::put_both;
 use part_core::Part;
 use std::alloc::Allocator;
-use std::sync::Wait;
-use tables::{LocalTable, Options, Session, Table, fix};
+use tables::{LocalTable, Options, Session, Table};
 
 /// The last two of its sessions, the last behind the other; the rest are let go.
 pub(crate) fn last_two<A: Allocator, P: Part<A> + Drop>(
@@ -23,21 +21,19 @@ pub(crate) fn last_two<A: Allocator, P: Part<A> + Drop>(
     Some((first, second))
 }
 
-/// A session puts an object into each of two parts and fixes them.
-pub(crate) fn put_and_fixed<R: Wait, A: Allocator + Copy, P: Part<A> + Drop>(
-    rt: &R,
+/// A table, and the last two of its sessions; the rest are let go.
+pub(crate) fn opened<A: Allocator + Copy, P: Part<A> + Drop>(
     heap: A,
-    table: &Table<P, A>,
-    session: Session<P, A>,
-) -> Option<Session<P, A>>
-    requires { IsOpened table.now.options table.now.gates.items session.number session.passes.items }
-    ensures { IfSome result (λ s. IsOpened table.now.options table.now.gates.items s.number s.passes.items) }
+    options: Options,
+) -> Option<(Table<P, A>, Session<P, A>, Session<P, A>)>
+    ensures { IfSome result (λ made. IsOpened made.0.options made.0.gates.items made.1.number made.1.passes.items
+        × IsOpened made.0.options made.0.gates.items made.2.number made.2.passes.items) }
 {
-    let mut session = session;
-    let mut at = table.at(rt, &mut session);
-    put_both(heap, &mut at)?;
-    fix(&mut at).ok()?;
-    Some(session)
+    let Ok((table, sessions)) = Table::<P, A>::open(heap, options) else {
+        return None;
+    };
+    let (first, second) = last_two(&table, sessions)?;
+    Some((table, first, second))
 }
 
 /// A table on one thread, without objects.

@@ -3,50 +3,31 @@
 //! in, and the table holds what it held, which is looked at before it is asked again.
 ghost use Rattle.std.specs.Prelude.{◌≡◌, ◌<◌, length};
 
-use crate::objects::object;
-use crate::pairs::{last_two, local_table};
-use kit_alloc::{Failing, Plan, sweep, sweep_onward};
-use kit_rows::{Outcome, canonical, fields, number, put};
-use part_core::{Fault, Part, TableKind};
-use part_hash::HashPart;
-use part_order::OrderPart;
-use part_plain::PlainPart;
+use crate::trials::{Act, Home, Sort, Trial, is_swept};
+use kit_alloc::{Failing, Plan};
+use kit_rows::{canonical, elements, fields, number, term_of};
+use part_core::{Fault, TableKind};
 use std::alloc::{Allocator, Global};
 use std::sync::Wait;
-use tables::{Options, Table, Turns, delete_object, insert, insert_new, lookup, member};
+use tables::{Turns, delete_object, insert, insert_new, lookup, member};
 use term_core::{Refused, Term};
-
-/// How often a sweep runs at most.
-const RUNS: u64 = 2_000;
 
 /// How many keys there are: the 8 slots of a part double where the row behind 32 is made.
 const KEYS: u32 = 36;
 
-/// How many objects are put in: one of each key, and then three more of each of two keys.
-const OBJECTS: u32 = KEYS + 6;
-
-/// Which parts a table has.
-#[derive(Clone, Copy)]
-enum Sort {
-    Plain,
-    Hashed,
-    Ordered,
-}
+/// The objects `{{Key},Mark}`, whose keys take memory: one of each key, and then three more of each of two keys, the
+/// last of which is equal to the first.
+const OBJECTS: &[u8] =
+    b"[{{0},0},{{1},0},{{2},0},{{3},0},{{4},0},{{5},0},{{6},0},{{7},0},{{8},0},{{9},0},{{10},0},
+    {{11},0},{{12},0},{{13},0},{{14},0},{{15},0},{{16},0},{{17},0},{{18},0},{{19},0},{{20},0},
+    {{21},0},{{22},0},{{23},0},{{24},0},{{25},0},{{26},0},{{27},0},{{28},0},{{29},0},{{30},0},
+    {{31},0},{{32},0},{{33},0},{{34},0},{{35},0},{{0},1},{{0},2},{{0},1},{{1},1},{{1},2},{{1},1}].";
 
 /// By which call objects are put in.
 #[derive(Clone, Copy)]
-enum Call {
+pub(crate) enum Call {
     Insert,
     InsertNew,
-}
-
-/// A table, and the call at it.
-#[derive(Clone, Copy)]
-struct Play {
-    sort: Sort,
-    kind: TableKind,
-    has_gates: bool,
-    call: Call,
 }
 
 /// What came of an object that is put in.
@@ -59,108 +40,72 @@ enum Came {
     Wrong,
 }
 
-/// The numbers of the object `{{Key},Mark}`, whose key takes memory.
-#[derive(Clone, Copy, PartialEq, Eq)]
-struct Pair {
-    key: u32,
-    mark: u32,
-}
-
-/// What a table has to hold, each key's objects in the order of time.
-#[derive(Drop)]
-struct Wanted {
+/// What a table of a kind has to hold once so many of the objects were put in by a call.
+#[derive(Clone, Copy)]
+struct Held {
     kind: TableKind,
-    pairs: Vec<Pair>,
+    call: Call,
+    count: u32,
 }
 
-impl Wanted {
-    /// Nothing.
-    fn none(alloc: Global, kind: TableKind) -> Self {
-        Wanted {
-            kind,
-            pairs: Vec::new(alloc),
+impl Held {
+    /// How many objects of a key were put in.
+    fn puts(self, key: u32) -> u32 {
+        if self.count <= key {
+            return 0;
         }
+        let first = KEYS.saturating_add(key.saturating_mul(3));
+        let more = self.count.saturating_sub(first);
+        if more < 3 { more + 1 } else { 4 }
     }
 
     /// Whether a key has an object.
-    fn has_key(&self, key: u32) -> bool {
-        self.pairs.iter().any(|pair| pair.key == key)
+    fn has(self, key: u32) -> bool {
+        self.puts(key) != 0
     }
 
-    /// Whether an object is there.
-    fn has(&self, pair: Pair) -> bool {
-        self.pairs.iter().any(|other| *other == pair)
+    /// The marks of a key's objects, in the order of time.
+    fn marks(self, key: u32) -> &'static str {
+        let puts = match self.call {
+            Call::Insert => self.puts(key),
+            Call::InsertNew => u32::from(self.has(key)),
+        };
+        marks_of(self.kind, puts)
     }
 
-    /// Puts an object in, and says what a call has to answer that does so: whether its key had none, or true. None for
-    /// want of memory.
-    fn put(&mut self, call: Call, pair: Pair) -> Option<bool> {
-        if matches!(call, Call::InsertNew) && self.has_key(pair.key) {
-            return Some(false);
+    /// What a call has to answer that puts one more object of a key in: whether it is put in.
+    fn answer(self, key: u32) -> bool {
+        match self.call {
+            Call::Insert => true,
+            Call::InsertNew => !self.has(key),
         }
-        match self.kind {
-            TableKind::Set | TableKind::OrderedSet => {
-                self.pairs.retain(|other| other.key != pair.key);
-            }
-            TableKind::Bag => {
-                if self.has(pair) {
-                    return Some(true);
-                }
-            }
-            TableKind::DuplicateBag => {}
-        }
-        self.pairs.push(pair).ok()?;
-        Some(true)
     }
 }
 
-/// What tables of one part are opened with.
-fn options(kind: TableKind) -> Options
-    ensures { result.sessions ≡ 2 }
-{
-    Options {
-        name: 1,
-        kind,
-        keypos: 1,
-        parts: 1,
-        sessions: 2,
-    }
-}
-
-/// The numbers of the object at a place. Of the three more of a key the last is equal to the first.
-fn pair_at(place: u32) -> Pair {
-    match place.checked_sub(KEYS) {
-        None => Pair {
-            key: place,
-            mark: 0,
+/// The marks that so many objects of a key leave in a table of a kind: of a set the last is left, and of a bag those
+/// that are equal to none before.
+fn marks_of(kind: TableKind, puts: u32) -> &'static str {
+    match kind {
+        TableKind::Set | TableKind::OrderedSet => match puts {
+            0 => "",
+            1 => "0",
+            3 => "2",
+            _ => "1",
         },
-        Some(later) => Pair {
-            key: later / 3,
-            mark: 1 + later % 3 % 2,
+        TableKind::Bag => match puts {
+            0 => "",
+            1 => "0",
+            2 => "01",
+            _ => "012",
+        },
+        TableKind::DuplicateBag => match puts {
+            0 => "",
+            1 => "0",
+            2 => "01",
+            3 => "012",
+            _ => "0121",
         },
     }
-}
-
-/// The object of two numbers.
-fn object_of<A: Allocator + Copy>(heap: A, pair: Pair) -> Option<Term<A>> {
-    let key = object(heap, i64::from(pair.key))?;
-    let mut elements = Vec::with_capacity(heap, 2).ok()?;
-    if put(&mut elements, key) && put(&mut elements, Term::int(i64::from(pair.mark))) {
-        Term::tuple(heap, elements).ok()
-    } else {
-        None
-    }
-}
-
-/// All objects, in the order in which they are put in.
-fn all_objects<A: Allocator + Copy>(heap: A) -> Option<Vec<Term<A>, A>> {
-    let mut objects = Vec::with_capacity(heap, OBJECTS as usize).ok()?;
-    for place in 0..OBJECTS {
-        if !put(&mut objects, object_of(heap, pair_at(place))?) {
-            return None;
-        }
-    }
-    Some(objects)
 }
 
 /// The number of a key.
@@ -171,76 +116,61 @@ fn number_of<A: Allocator>(key: &Term<A>) -> Option<u32> {
     }
 }
 
-/// The numbers of an object.
-fn pair_of<A: Allocator>(object: &Term<A>) -> Option<Pair> {
+/// The key's number and the mark of an object.
+fn numbers_of<A: Allocator>(object: &Term<A>) -> Option<(u32, u32)> {
     match fields(object)? {
-        [key, mark] => Some(Pair {
-            key: number_of(key)?,
-            mark: number(mark)?,
-        }),
+        [key, mark] => Some((number_of(key)?, number(mark)?)),
         _ => None,
     }
 }
 
-/// Whether the object at a place among some has these numbers.
-fn is_at<A: Allocator>(objects: &[Term<A>], place: usize, pair: Pair) -> bool {
-    match objects.get(place) {
-        Some(object) => pair_of(object) == Some(pair),
-        None => false,
-    }
-}
-
-/// Whether objects are those of a key among others.
-fn are_of_key<A: Allocator>(objects: &[Term<A>], pairs: &[Pair], key: u32) -> bool {
-    let mut place = 0_usize;
-    for pair in pairs {
-        if pair.key == key {
-            if !is_at(objects, place, *pair) {
-                return false;
-            }
-            place = place.saturating_add(1);
+/// Whether objects are those of a key that have these marks.
+fn are_marked<A: Allocator>(objects: &[Term<A>], key: u32, marks: &[u8]) -> bool {
+    for (object, mark) in objects.iter().zip(marks) {
+        let mark = u32::from(*mark).saturating_sub(u32::from(b'0'));
+        if numbers_of(object) != Some((key, mark)) {
+            return false;
         }
     }
-    place == objects.len()
+    objects.len() == marks.len()
 }
 
-/// Whether a look-up gives what is wanted of a key; none for want of memory.
-fn is_found<A: Allocator, T: Turns<A>>(
-    turns: &mut T,
-    key: &Term<A>,
-    wanted: &Wanted,
-) -> Option<bool>
+/// Whether a look-up gives what is held of a key; none for want of memory.
+fn is_found<A: Allocator, T: Turns<A>>(turns: &mut T, key: &Term<A>, held: Held) -> Option<bool>
     requires { T.is_ready turns.old }
     ensures ready { T.is_ready turns.new }
     ensures same { T.home turns.new ≡ T.home turns.old }
 {
-    let found = lookup(turns, key).ok()?;
-    Some(are_of_key(found.as_slice(), wanted.pairs.as_slice(), number_of(key)?))
+    let number = number_of(key)?;
+    match lookup(turns, key) {
+        Ok(found) => Some(are_marked(found.as_slice(), number, held.marks(number).as_bytes())),
+        Err(_) => None,
+    }
 }
 
-/// Whether look-ups of the keys of all objects give what is wanted; none for want of memory.
+/// Whether look-ups of the keys of all objects give what is held; none for want of memory.
 fn are_found<A: Allocator, T: Turns<A>>(
     turns: &mut T,
     objects: &[Term<A>],
-    wanted: &Wanted,
+    held: Held,
 ) -> Option<bool>
     requires { T.is_ready turns.old }
     ensures ready { T.is_ready turns.new }
     ensures same { T.home turns.new ≡ T.home turns.old }
 {
     for object in objects {
-        if !is_found(turns, object.element_at(1)?, wanted)? {
+        if !is_found(turns, object.element_at(1)?, held)? {
             return Some(false);
         }
     }
     Some(true)
 }
 
-/// Whether those keys of all objects have an object of which one is wanted. Takes no memory.
+/// Whether those keys of all objects have an object of which one is held. Takes no memory.
 fn are_members<A: Allocator, T: Turns<A>>(
     turns: &mut T,
     objects: &[Term<A>],
-    wanted: &Wanted,
+    held: Held,
 ) -> Option<bool>
     requires { T.is_ready turns.old }
     ensures ready { T.is_ready turns.new }
@@ -248,7 +178,7 @@ fn are_members<A: Allocator, T: Turns<A>>(
 {
     for object in objects {
         let key = object.element_at(1)?;
-        if member(turns, key) != wanted.has_key(number_of(key)?) {
+        if member(turns, key) != held.has(number_of(key)?) {
             return Some(false);
         }
     }
@@ -267,23 +197,21 @@ fn delete_objects<A: Allocator, T: Turns<A>>(turns: &mut T, objects: &[Term<A>])
     Some(())
 }
 
-/// Whether the keys are there that are wanted, and no object is but those that were put in, which are deleted. Takes no
+/// Whether the keys are there that are held, and no object is but those that were put in, which are deleted. Takes no
 /// memory.
 fn are_all<A: Allocator, T: Turns<A>>(
-    alloc: Global,
     turns: &mut T,
     objects: &[Term<A>],
     before: &[Term<A>],
-    wanted: &Wanted,
+    held: Held,
 ) -> Option<bool>
     requires { T.is_ready turns.old }
     ensures ready { T.is_ready turns.new }
     ensures same { T.home turns.new ≡ T.home turns.old }
 {
-    let are_there = are_members(turns, objects, wanted)?;
+    let are_there = are_members(turns, objects, held)?;
     delete_objects(turns, before)?;
-    let none = Wanted::none(alloc, wanted.kind);
-    let are_gone = are_members(turns, objects, &none)?;
+    let are_gone = are_members(turns, objects, Held { count: 0, ..held })?;
     Some(are_there && are_gone)
 }
 
@@ -306,306 +234,255 @@ fn put_in<A: Allocator, T: Turns<A>>(
     }
 }
 
-/// Whether the table holds what is wanted, where a look-up was refused: it is asked for again, or done without.
-fn is_seen<'h, T: Turns<&'h Failing<Global>>>(
-    alloc: Global,
-    heap: &'h Failing<Global>,
+/// Whether the table holds what is held, of which all came of the objects `before`. Where a look-up is refused, it is
+/// asked for again, or done without.
+fn is_as_held<A: Allocator + Copy, T: Turns<A>>(
+    counts: &Failing<Global>,
     turns: &mut T,
-    objects: &[Term<&'h Failing<Global>>],
-    before: &[Term<&'h Failing<Global>>],
-    wanted: &Wanted,
+    objects: &[Term<A>],
+    before: &[Term<A>],
+    held: Held,
 ) -> bool
     requires { T.is_ready turns.old }
     ensures ready { T.is_ready turns.new }
     ensures same { T.home turns.new ≡ T.home turns.old }
 {
-    match heap.plan() {
-        Plan::Once(_) => are_found(turns, objects, wanted) == Some(true),
-        Plan::From(_) => are_all(alloc, turns, objects, before, wanted) == Some(true),
-        Plan::Never => false,
+    if let Some(is_right) = are_found(turns, objects, held) {
+        return is_right;
     }
-}
-
-/// Whether the table holds what is wanted, of which all came of the objects `before`.
-fn is_as_wanted<'h, T: Turns<&'h Failing<Global>>>(
-    alloc: Global,
-    heap: &'h Failing<Global>,
-    turns: &mut T,
-    objects: &[Term<&'h Failing<Global>>],
-    before: &[Term<&'h Failing<Global>>],
-    wanted: &Wanted,
-) -> bool
-    requires { T.is_ready turns.old }
-    ensures ready { T.is_ready turns.new }
-    ensures same { T.home turns.new ≡ T.home turns.old }
-{
-    match are_found(turns, objects, wanted) {
-        Some(is_right) => is_right,
-        None => heap.was_refused() && is_seen(alloc, heap, turns, objects, before, wanted),
-    }
-}
-
-/// Whether a term's text is that of an object.
-fn is_written<A: Allocator>(alloc: Global, term: &Term<A>, pair: Pair) -> Option<bool> {
-    let text = canonical(alloc, term)?;
-    let key = Outcome::tuple(alloc).number(pair.key as usize).end()?;
-    let out = Outcome::tuple(alloc).text(key.as_slice());
-    let wanted = out.number(pair.mark as usize).end()?;
-    Some(text.as_slice() == wanted.as_slice())
-}
-
-/// Whether an object that is refused for want of memory is handed back as it was handed in.
-fn is_back<A: Allocator>(
-    alloc: Global,
-    refused: &Refused<Term<A>, Fault>,
-    object: &Term<A>,
-    pair: Pair,
-) -> bool {
-    refused.fault == Fault::Memory
-        && refused.value == *object
-        && is_written(alloc, &refused.value, pair) == Some(true)
-}
-
-/// Whether an object is not put in whose key has one: it is let go, or refused for want of memory.
-fn is_kept_out<A: Allocator, T: Turns<A>>(turns: &mut T, object: &Term<A>, wanted: &Wanted) -> bool
-    requires { T.is_ready turns.old }
-    ensures ready { T.is_ready turns.new }
-    ensures same { T.home turns.new ≡ T.home turns.old }
-{
-    let Some(pair) = pair_of(object) else {
-        return false;
+    let is_right = match counts.plan() {
+        Plan::Once(_) => are_found(turns, objects, held),
+        Plan::From(_) => are_all(turns, objects, before, held),
+        Plan::Never => None,
     };
+    counts.was_refused() && is_right == Some(true)
+}
+
+/// Whether an object that is refused for want of memory is handed back.
+fn is_back<A: Allocator>(refused: &Refused<Term<A>, Fault>, object: &Term<A>) -> bool {
+    refused.fault == Fault::Memory && refused.value == *object
+}
+
+/// Whether an object whose key is 1 is not put in where that has one: it is let go, or refused for want of memory.
+fn is_kept_out<A: Allocator, T: Turns<A>>(turns: &mut T, object: &Term<A>, held: Held) -> bool
+    requires { T.is_ready turns.old }
+    ensures ready { T.is_ready turns.new }
+    ensures same { T.home turns.new ≡ T.home turns.old }
+{
+    if !held.has(1) {
+        return true;
+    }
     let Ok(copy) = object.copy() else {
         return false;
     };
-    if !wanted.has_key(pair.key) {
-        return true;
-    }
     match insert_new(turns, copy) {
         Ok(is_put) => !is_put,
-        Err(refused) => refused.fault == Fault::Memory && refused.value == *object,
+        Err(refused) => is_back(&refused, object),
     }
 }
 
-/// What comes of an object that was answered, where this was answered.
-fn came_of(answer: Option<bool>, wanted: &mut Wanted, call: Call, pair: Pair) -> Came {
-    if answer.is_some() && wanted.put(call, pair) == answer {
+/// Whether the table holds what it held where an object is refused, and keeps out one more object whose key has one.
+fn is_same<A: Allocator + Copy, T: Turns<A>>(
+    counts: &Failing<Global>,
+    turns: &mut T,
+    objects: &[Term<A>],
+    before: &[Term<A>],
+    held: Held,
+) -> bool
+    requires { T.is_ready turns.old }
+    ensures ready { T.is_ready turns.new }
+    ensures same { T.home turns.new ≡ T.home turns.old }
+{
+    let Some(last) = objects.last() else {
+        return false;
+    };
+    let is_out = is_kept_out(turns, last, held);
+    let is_as_held = is_as_held(counts, turns, objects, before, held);
+    is_out && is_as_held
+}
+
+/// What comes of an object where this is answered.
+fn came_of(answered: Option<bool>, answer: bool) -> Came {
+    if answered == Some(answer) {
         Came::Right
     } else {
         Came::Wrong
     }
 }
 
-/// Asks for a refused object again, unless each request is refused.
-fn asked_again<'h, T: Turns<&'h Failing<Global>>>(
-    heap: &'h Failing<Global>,
-    turns: &mut T,
-    call: Call,
-    object: Term<&'h Failing<Global>>,
-    wanted: &mut Wanted,
-    pair: Pair,
-) -> Came
-    requires { T.is_ready turns.old }
-    ensures ready { T.is_ready turns.new }
-    ensures same { T.home turns.new ≡ T.home turns.old }
-{
-    match heap.plan() {
-        Plan::From(_) => Came::Kept,
-        Plan::Once(_) | Plan::Never => {
-            let answer = put_in(turns, call, object).ok();
-            came_of(answer, wanted, call, pair)
-        }
+/// Whether this is the text of a term.
+fn is_text<A: Allocator>(alloc: Global, term: &Term<A>, text: &[u8]) -> bool {
+    match canonical(alloc, term) {
+        Some(written) => written.as_slice() == text,
+        None => false,
     }
 }
 
-/// What comes of an object that is refused.
-fn came_refused<'h, T: Turns<&'h Failing<Global>>>(
-    alloc: Global,
-    heap: &'h Failing<Global>,
-    turns: &mut T,
-    objects: &[Term<&'h Failing<Global>>],
-    before: &[Term<&'h Failing<Global>>],
-    call: Call,
-    wanted: &mut Wanted,
-    refused: Refused<Term<&'h Failing<Global>>, Fault>,
-    pair: Pair,
-) -> Came
+/// Whether an object is that of these numbers by its text.
+fn is_written<A: Allocator>(alloc: Global, object: &Term<A>, key: u32, mark: u32) -> bool {
+    match format!(in alloc; "{{{{{key}}},{mark}}}") {
+        Ok(text) => is_text(alloc, object, text.as_bytes()),
+        Err(_) => false,
+    }
+}
+
+/// Puts an object in; none where it is refused.
+fn put_again<A: Allocator, T: Turns<A>>(turns: &mut T, call: Call, object: Term<A>) -> Option<bool>
     requires { T.is_ready turns.old }
     ensures ready { T.is_ready turns.new }
     ensures same { T.home turns.new ≡ T.home turns.old }
 {
-    let Some(last) = objects.last() else {
+    match put_in(turns, call, object) {
+        Ok(is_put) => Some(is_put),
+        Err(_refused) => None,
+    }
+}
+
+/// What came of a refused object of which this is answered when it is asked for again, where all was right so far. What
+/// is answered doesn't count where each request is refused.
+fn came_again(
+    counts: &Failing<Global>,
+    answered: Option<bool>,
+    answer: bool,
+    is_right: bool,
+) -> Came {
+    if !is_right {
         return Came::Wrong;
-    };
-    let is_out = is_kept_out(turns, last, wanted);
-    let is_same = is_as_wanted(alloc, heap, turns, objects, before, wanted);
-    if is_out && is_same {
-        asked_again(heap, turns, call, refused.value, wanted, pair)
-    } else {
-        Came::Wrong
+    }
+    match counts.plan() {
+        Plan::From(_) => Came::Kept,
+        Plan::Once(_) | Plan::Never => came_of(answered, answer),
     }
 }
 
-/// Puts the object at a place in.
-fn put_at<'h, T: Turns<&'h Failing<Global>>>(
+/// Whether the object at a place is refused right: it comes back as it was handed in, and the table holds what it held.
+fn is_refused<A: Allocator + Copy, T: Turns<A>>(
     alloc: Global,
-    heap: &'h Failing<Global>,
+    counts: &Failing<Global>,
     turns: &mut T,
-    objects: &[Term<&'h Failing<Global>>],
+    objects: &[Term<A>],
     place: usize,
-    call: Call,
-    wanted: &mut Wanted,
+    held: Held,
+    refused: &Refused<Term<A>, Fault>,
+    key: u32,
+    mark: u32,
+) -> bool
+    requires ready { T.is_ready turns.old }
+    requires place { place < length objects.now }
+    ensures ready { T.is_ready turns.new }
+    ensures same { T.home turns.new ≡ T.home turns.old }
+{
+    let is_back = is_back(refused, &objects[place]);
+    let is_written = is_written(alloc, &refused.value, key, mark);
+    let is_same = is_same(counts, turns, objects, &objects[..place], held);
+    is_back && is_written && is_same
+}
+
+/// Puts the object at a place in, behind those before it.
+fn put_at<A: Allocator + Copy, T: Turns<A>>(
+    alloc: Global,
+    counts: &Failing<Global>,
+    turns: &mut T,
+    objects: &[Term<A>],
+    place: usize,
+    held: Held,
 ) -> Came
     requires ready { T.is_ready turns.old }
     requires place { place < length objects.now }
     ensures ready { T.is_ready turns.new }
     ensures same { T.home turns.new ≡ T.home turns.old }
 {
-    let object = &objects[place];
-    let before = &objects[..place];
-    let Some(pair) = pair_of(object) else {
+    let Some((key, mark)) = numbers_of(&objects[place]) else {
         return Came::Wrong;
     };
-    let Ok(copy) = object.copy() else {
+    let Ok(copy) = objects[place].copy() else {
         return Came::Wrong;
     };
-    let was_refused = heap.was_refused();
-    match put_in(turns, call, copy) {
-        Ok(answer) => came_of(Some(answer), wanted, call, pair),
+    let was_refused = counts.was_refused();
+    match put_in(turns, held.call, copy) {
+        Ok(answered) => came_of(Some(answered), held.answer(key)),
         Err(refused) => {
-            let is_refused = !was_refused && heap.was_refused();
-            if is_refused && is_back(alloc, &refused, object, pair) {
-                came_refused(
-                    alloc, heap, turns, objects, before, call, wanted, refused, pair,
-                )
-            } else {
-                Came::Wrong
-            }
+            let is_due = !was_refused && counts.was_refused();
+            let is_refused = is_refused(
+                alloc, counts, turns, objects, place, held, &refused, key, mark,
+            );
+            let answered = put_again(turns, held.call, refused.value);
+            came_again(counts, answered, held.answer(key), is_due && is_refused)
         }
     }
 }
 
 /// Puts all objects in, up to one that can't be asked for again. Says whether each came as it has to, and whether all
 /// are there in the end.
-fn are_put<'h, T: Turns<&'h Failing<Global>>>(
+fn are_all_put<A: Allocator + Copy, T: Turns<A>>(
     alloc: Global,
-    heap: &'h Failing<Global>,
+    counts: &Failing<Global>,
     turns: &mut T,
-    objects: &[Term<&'h Failing<Global>>],
-    play: Play,
+    list: &Term<A>,
+    kind: TableKind,
+    call: Call,
 ) -> bool
     requires { T.is_ready turns.old }
     ensures ready { T.is_ready turns.new }
     ensures same { T.home turns.new ≡ T.home turns.old }
 {
-    let mut wanted = Wanted::none(alloc, play.kind);
+    let Some(objects) = elements(list) else {
+        return false;
+    };
+    let mut held = Held {
+        kind,
+        call,
+        count: 0,
+    };
     for place in 0..objects.len() {
-        match put_at(alloc, heap, turns, objects, place, play.call, &mut wanted) {
+        match put_at(alloc, counts, turns, objects, place, held) {
             Came::Right => {}
             Came::Kept => return true,
             Came::Wrong => return false,
         }
+        held.count = held.count.saturating_add(1);
     }
-    is_as_wanted(alloc, heap, turns, objects, objects, &wanted)
+    is_as_held(counts, turns, objects, objects, held)
 }
 
-/// Plays at a table on one thread; none where there is no memory for the objects and the table.
-fn played_alone<'h, P: Part<&'h Failing<Global>> + Drop>(
+/// The same; none where there is no memory for the objects.
+pub(crate) fn are_put<A: Allocator + Copy, T: Turns<A>>(
     alloc: Global,
-    heap: &'h Failing<Global>,
-    play: Play,
-) -> Option<bool> {
-    let objects = all_objects(heap)?;
-    let mut table = local_table::<&Failing<Global>, P>(heap, options(play.kind))?;
-    let mut at = table.at(0);
-    Some(are_put(alloc, heap, &mut at, objects.as_slice(), play))
-}
-
-/// Plays at a table with gates; none where there is no memory for the objects and the table.
-fn played_at<'h, R: Wait, P: Part<&'h Failing<Global>> + Drop>(
-    rt: &R,
-    alloc: Global,
-    heap: &'h Failing<Global>,
-    play: Play,
-) -> Option<bool> {
-    let objects = all_objects(heap)?;
-    let Ok((table, sessions)) = Table::<P, &Failing<Global>>::open(heap, options(play.kind)) else {
-        return None;
-    };
-    let (mut session, _other) = last_two(&table, sessions)?;
-    let mut at = table.at(rt, &mut session);
-    Some(are_put(alloc, heap, &mut at, objects.as_slice(), play))
-}
-
-/// Plays at one of the two.
-fn played<'h, R: Wait, P: Part<&'h Failing<Global>> + Drop>(
-    rt: &R,
-    alloc: Global,
-    heap: &'h Failing<Global>,
-    play: Play,
-) -> Option<bool> {
-    if play.has_gates {
-        played_at::<R, P>(rt, alloc, heap, play)
-    } else {
-        played_alone::<P>(alloc, heap, play)
+    heap: A,
+    counts: &Failing<Global>,
+    turns: &mut T,
+    kind: TableKind,
+    call: Call,
+) -> Option<bool>
+    requires { T.is_ready turns.old }
+    ensures ready { T.is_ready turns.new }
+    ensures same { T.home turns.new ≡ T.home turns.old }
+{
+    match term_of(heap, OBJECTS) {
+        Some(list) => Some(are_all_put(alloc, counts, turns, &list, kind, call)),
+        None => None,
     }
 }
 
-/// Whether a play comes out right, or has no memory for what it begins with, and leaves no block.
-fn is_right<R: Wait>(rt: &R, alloc: Global, heap: &Failing<Global>, play: Play) -> bool {
-    let came = match play.sort {
-        Sort::Plain => played::<R, PlainPart<&Failing<Global>>>(rt, alloc, heap, play),
-        Sort::Hashed => played::<R, HashPart<&Failing<Global>>>(rt, alloc, heap, play),
-        Sort::Ordered => played::<R, OrderPart<&Failing<Global>>>(rt, alloc, heap, play),
-    };
-    let is_right = match came {
-        Some(is_right) => is_right,
-        None => heap.was_refused(),
-    };
-    is_right && heap.blocks() == 0
-}
-
-/// Whether a play comes out right with each request refused in turn, alone and with all behind it.
-fn is_swept<R: Wait>(rt: &R, alloc: Global, play: Play) -> bool {
-    let alone = sweep(alloc, RUNS, |heap: &Failing<Global>| {
-        is_right(rt, alloc, heap, play)
-    });
-    let onward = sweep_onward(alloc, RUNS, |heap: &Failing<Global>| {
-        is_right(rt, alloc, heap, play)
-    });
-    alone.is_complete() && onward.is_complete()
-}
-
-/// Whether both calls come out right at both sorts of tables.
-fn holds<R: Wait>(rt: &R, alloc: Global, sort: Sort, kind: TableKind) -> bool {
-    let play = Play {
+/// Whether both calls come out right at a table.
+fn are_right<R: Wait>(rt: &R, alloc: Global, sort: Sort, kind: TableKind, home: Home) -> bool {
+    let insert = Trial {
         sort,
         kind,
-        has_gates: false,
-        call: Call::Insert,
+        parts: 1,
+        home,
+        act: Act::Put(Call::Insert),
     };
-    let gated = Play {
-        has_gates: true,
-        ..play
+    let insert_new = Trial {
+        act: Act::Put(Call::InsertNew),
+        ..insert
     };
-    is_swept(rt, alloc, play)
-        && is_swept(rt, alloc, gated)
-        && is_swept(
-            rt,
-            alloc,
-            Play {
-                call: Call::InsertNew,
-                ..play
-            },
-        )
-        && is_swept(
-            rt,
-            alloc,
-            Play {
-                call: Call::InsertNew,
-                ..gated
-            },
-        )
+    is_swept(rt, alloc, insert) && is_swept(rt, alloc, insert_new)
+}
+
+/// Whether both do at both sorts of tables.
+fn holds<R: Wait>(rt: &R, alloc: Global, sort: Sort, kind: TableKind) -> bool {
+    are_right(rt, alloc, sort, kind, Home::Alone) && are_right(rt, alloc, sort, kind, Home::Gates)
 }
 
 #[test]

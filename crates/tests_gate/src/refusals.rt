@@ -3,13 +3,11 @@ ghost use Rattle.std.specs.Prelude.{◌≡◌, All, [], IfSome};
 ghost use Rattle.tables.specs.Options.{settings_of};
 
 use crate::objects::{object, put_both};
-use crate::pairs::{last_two, put_and_fixed};
-use gate::Closed;
+use crate::trials::{Act, Home, Sort, Trial, is_swept};
 use kit_alloc::{Failing, sweep, sweep_onward};
 use part_core::{Fault, OpenFault, Part, TableKind};
 use part_hash::HashPart;
 use std::alloc::{Allocator, Global};
-use std::sync::Wait;
 use tables::{Options, Table, Turns, delete, delete_object, fix, insert, member, unfix};
 use term_core::Term;
 
@@ -39,18 +37,25 @@ fn is_opened(heap: &Failing<Global>) -> bool {
     }
 }
 
-/// A part in its opening state.
-fn part<A: Allocator, P: Part<A> + Drop>(heap: A, options: Options) -> Option<P>
-    ensures { IfSome result (λ p. (P.settings p ≡ settings_of options) × P.is_after p []) }
+/// Puts a part in its opening state behind others.
+fn put_part<A: Allocator, P: Part<A> + Drop>(
+    heap: A,
+    options: Options,
+    parts: &mut Vec<P, A>,
+) -> Option<()>
+    requires { All (λ p. (P.settings p ≡ settings_of options) × P.is_after p []) parts.old.items }
+    ensures { All (λ p. (P.settings p ≡ settings_of options) × P.is_after p []) parts.new.items }
 {
-    P::make(
+    match P::make(
         heap,
         options.kind,
         options.keypos,
         options.parts,
         options.sessions,
-    )
-    .ok()
+    ) {
+        Ok(part) => parts.push(part).ok(),
+        Err(_) => None,
+    }
 }
 
 /// Two parts in their opening states.
@@ -58,11 +63,13 @@ fn two_parts<A: Allocator + Copy, P: Part<A> + Drop>(heap: A, options: Options) 
     ensures { IfSome result (λ parts. All (λ p. (P.settings p ≡ settings_of options) × P.is_after p []) parts.items) }
 {
     let mut parts = Vec::new(heap);
-    let first = part(heap, options)?;
-    parts.push(first).ok()?;
-    let second = part(heap, options)?;
-    parts.push(second).ok()?;
-    Some(parts)
+    let first = put_part(heap, options, &mut parts);
+    let second = put_part(heap, options, &mut parts);
+    if first.is_some() && second.is_some() {
+        Some(parts)
+    } else {
+        None
+    }
 }
 
 /// Whether a table over two parts is opened, or refused for want of memory where a request was refused.
@@ -77,46 +84,39 @@ fn is_opened_over(heap: &Failing<Global>) -> bool {
 }
 
 /// Puts `{1}` in, and says whether its key has an object then, or has none where a request was refused.
-fn is_put<'h, T: Turns<&'h Failing<Global>>>(
-    heap: &'h Failing<Global>,
+fn is_put_at<A: Allocator + Copy, T: Turns<A>>(
+    heap: A,
+    counts: &Failing<Global>,
     turns: &mut T,
-    key: &Term<&'h Failing<Global>>,
+    key: &Term<A>,
 ) -> bool
     requires { T.is_ready turns.old }
     ensures ready { T.is_ready turns.new }
     ensures same { T.home turns.new ≡ T.home turns.old }
 {
     let Some(object) = object(heap, 1) else {
-        return heap.was_refused();
+        return counts.was_refused();
     };
     match insert(turns, object) {
-        Ok(()) => !heap.was_refused() && member(turns, key),
+        Ok(()) => !counts.was_refused() && member(turns, key),
         Err(refused) => {
-            refused.fault == Fault::Memory && heap.was_refused() && !member(turns, key)
+            refused.fault == Fault::Memory && counts.was_refused() && !member(turns, key)
         }
     }
 }
 
-/// Opens a table and does so.
-fn is_put_by<'h, R: Wait>(
-    rt: &R,
-    heap: &'h Failing<Global>,
-    key: &Term<&'h Failing<Global>>,
-) -> bool {
-    let Ok((table, sessions)) = Hashed::open(heap, OPTIONS) else {
-        return heap.was_refused();
-    };
-    let Some((mut session, _other)) = last_two(&table, sessions) else {
-        return false;
-    };
-    let mut at = table.at(rt, &mut session);
-    is_put(heap, &mut at, key)
-}
-
 /// The same with the key of the object.
-fn is_put_at<R: Wait>(rt: &R, heap: &Failing<Global>) -> bool {
+pub(crate) fn is_put<A: Allocator + Copy, T: Turns<A>>(
+    heap: A,
+    counts: &Failing<Global>,
+    turns: &mut T,
+) -> Option<bool>
+    requires { T.is_ready turns.old }
+    ensures ready { T.is_ready turns.new }
+    ensures same { T.home turns.new ≡ T.home turns.old }
+{
     let key = Term::int(1);
-    is_put_by(rt, heap, &key)
+    Some(is_put_at(heap, counts, turns, &key))
 }
 
 /// How often a session fixes its table before it is refused, and why.
@@ -158,147 +158,94 @@ fn is_answered<A: Allocator, T: Turns<A>>(turns: &mut T, object: &Term<A>, key: 
         && is_limited
 }
 
-/// Puts both in; then whether calls are answered right that take no memory, and how many requests there were before
-/// them.
-fn answered_at<'h, T: Turns<&'h Failing<Global>>>(
-    heap: &'h Failing<Global>,
+/// The same with the key of the first object and another object that is equal to the second, where each request is
+/// refused from then on, too.
+fn is_spare_with<A: Allocator, T: Turns<A>>(
+    counts: &Failing<Global>,
     turns: &mut T,
-    object: &Term<&'h Failing<Global>>,
-    key: &Term<&'h Failing<Global>>,
-) -> Option<(bool, u64)>
+    object: &Term<A>,
+) -> bool
+    requires { T.is_ready turns.old }
+    ensures ready { T.is_ready turns.new }
+    ensures same { T.home turns.new ≡ T.home turns.old }
+{
+    let key = Term::int(1);
+    is_answered(turns, object, &key) && !counts.was_refused()
+}
+
+/// Puts both in; then whether calls are answered right that take no memory.
+pub(crate) fn is_spare<A: Allocator + Copy, T: Turns<A>>(
+    heap: A,
+    counts: &Failing<Global>,
+    turns: &mut T,
+) -> Option<bool>
     requires { T.is_ready turns.old }
     ensures ready { T.is_ready turns.new }
     ensures same { T.home turns.new ≡ T.home turns.old }
 {
     put_both(heap, turns)?;
-    let before = heap.requests();
-    Some((is_answered(turns, object, key), before))
-}
-
-/// The same in a session of a table that is opened.
-fn is_spare_with<'h, R: Wait>(
-    rt: &R,
-    heap: &'h Failing<Global>,
-    object: &Term<&'h Failing<Global>>,
-    key: &Term<&'h Failing<Global>>,
-) -> Option<(bool, u64)> {
-    let Ok((table, sessions)) = Hashed::open(heap, OPTIONS) else {
-        return None;
-    };
-    let (mut session, _other) = last_two(&table, sessions)?;
-    let mut at = table.at(rt, &mut session);
-    answered_at(heap, &mut at, object, key)
-}
-
-/// The same with the key of the first and another object that is equal to the second.
-fn is_spare<R: Wait>(rt: &R, heap: &Failing<Global>) -> Option<(bool, u64)> {
-    let key = Term::int(1);
-    let two = object(heap, 2)?;
-    is_spare_with(rt, heap, &two, &key)
-}
-
-/// How many parts come out, none where one is lost.
-fn parts_out<A: Allocator, P: Part<A> + Drop>(closed: Closed<P, A>) -> Option<usize> {
-    let mut closed = closed;
-    for parts in 0..3 {
-        match closed.next_part() {
-            Some(Ok(_part)) => {}
-            Some(Err(_)) => return None,
-            None => return Some(parts),
-        }
+    match object(heap, 2) {
+        Some(two) => Some(is_spare_with(counts, turns, &two)),
+        None => None,
     }
-    None
 }
 
-/// Whether two sessions meet, one leaves with its fixes, and both parts come out where the table is closed with the
-/// other; and how many requests there were before that.
-fn is_closed<R: Wait>(rt: &R, heap: &Failing<Global>) -> Option<(bool, u64)> {
-    let Ok((table, sessions)) = Hashed::open(heap, OPTIONS) else {
-        return None;
+/// Puts both in and fixes the table.
+pub(crate) fn is_fixed<A: Allocator + Copy, T: Turns<A>>(heap: A, turns: &mut T) -> Option<bool>
+    requires { T.is_ready turns.old }
+    ensures ready { T.is_ready turns.new }
+    ensures same { T.home turns.new ≡ T.home turns.old }
+{
+    put_both(heap, turns)?;
+    Some(fix(turns).is_ok())
+}
+
+/// Whether a table, or one over parts, is opened, or refused for want of memory where a request was refused, and leaves
+/// no block.
+fn is_clean(heap: &Failing<Global>, over: bool) -> bool {
+    let is_opened = if over {
+        is_opened_over(heap)
+    } else {
+        is_opened(heap)
     };
-    let (first, mut second) = last_two(&table, sessions)?;
-    let mut first = put_and_fixed(rt, heap, &table, first)?;
-    let before = heap.requests();
-    table.meet(&mut first, &mut second);
-    table.leave(rt, first);
-    let are_out = parts_out(table.close(second)) == Some(2);
-    Some((are_out, before))
+    is_opened && heap.blocks() == 0
 }
 
-/// Whether all is right also where each request is refused from those calls on.
-fn is_spared<R: Wait>(rt: &R, alloc: Global) -> Option<bool> {
-    let (is_right, before) = is_spare(rt, &Failing::counting(alloc))?;
-    let refusing = Failing::refusing_from(alloc, before.saturating_add(1));
-    let (is_right_without, _) = is_spare(rt, &refusing)?;
-    Some(is_right && is_right_without && !refusing.was_refused())
+/// Whether it is so with each request refused in turn, alone and with all behind it.
+fn opens(alloc: Global, over: bool) -> bool {
+    let alone = sweep(alloc, RUNS, |heap: &Failing<Global>| {
+        is_clean(heap, over)
+    });
+    let onward = sweep_onward(alloc, RUNS, |heap: &Failing<Global>| {
+        is_clean(heap, over)
+    });
+    alone.is_complete() && onward.is_complete()
 }
 
-/// The same of closing.
-fn is_closed_without<R: Wait>(rt: &R, alloc: Global) -> Option<bool> {
-    let (is_right, before) = is_closed(rt, &Failing::counting(alloc))?;
-    let refusing = Failing::refusing_from(alloc, before.saturating_add(1));
-    let (is_right_without, _) = is_closed(rt, &refusing)?;
-    Some(is_right && is_right_without && !refusing.was_refused())
+/// At a set of two hashed parts.
+const fn at_set(home: Home, act: Act) -> Trial {
+    Trial {
+        sort: Sort::Hashed,
+        kind: TableKind::Set,
+        parts: 2,
+        home,
+        act,
+    }
 }
 
 #[test]
 fn each_request_of_opening_may_be_refused(rt: HostRuntime) {
-    assert!(rt;
-        sweep(
-            rt.alloc(),
-            RUNS,
-            |heap| is_opened(heap) && heap.blocks() == 0
-        )
-        .is_complete()
-    );
-    assert!(rt;
-        sweep_onward(
-            rt.alloc(),
-            RUNS,
-            |heap| is_opened(heap) && heap.blocks() == 0
-        )
-        .is_complete()
-    );
-    assert!(rt;
-        sweep(
-            rt.alloc(),
-            RUNS,
-            |heap| is_opened_over(heap) && heap.blocks() == 0
-        )
-        .is_complete()
-    );
-    assert!(rt;
-        sweep_onward(
-            rt.alloc(),
-            RUNS,
-            |heap| is_opened_over(heap) && heap.blocks() == 0
-        )
-        .is_complete()
-    );
+    assert!(rt; opens(rt.alloc(), false));
+    assert!(rt; opens(rt.alloc(), true));
 }
 
 #[test]
 fn each_request_of_an_insert_may_be_refused(rt: HostRuntime) {
-    assert!(rt;
-        sweep(
-            rt.alloc(),
-            RUNS,
-            |heap| is_put_at(&rt, heap) && heap.blocks() == 0
-        )
-        .is_complete()
-    );
-    assert!(rt;
-        sweep_onward(
-            rt.alloc(),
-            RUNS,
-            |heap| is_put_at(&rt, heap) && heap.blocks() == 0
-        )
-        .is_complete()
-    );
+    assert!(rt; is_swept(&rt, rt.alloc(), at_set(Home::Gates, Act::PutOne)));
 }
 
 #[test]
 fn calls_that_take_no_memory_take_none(rt: HostRuntime) {
-    assert!(rt; is_spared(&rt, rt.alloc()) == Some(true));
-    assert!(rt; is_closed_without(&rt, rt.alloc()) == Some(true));
+    assert!(rt; is_swept(&rt, rt.alloc(), at_set(Home::Gates, Act::Spare)));
+    assert!(rt; is_swept(&rt, rt.alloc(), at_set(Home::Left, Act::Fix)));
 }

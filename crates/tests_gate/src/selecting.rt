@@ -1,29 +1,18 @@
 //! A whole walk at a table whose parts have gates, with each request for memory refused in turn.
 ghost use Rattle.tables.specs.Sessions.{IsOpened};
 
-use crate::pairs::{last_two, put_and_fixed};
-use kit_alloc::{Failing, sweep};
-use kit_rows::term_of;
-use mspec_reader::read_spec;
+use crate::objects::query_of;
+use crate::trials::{Act, Home, Sort, Trial, is_swept};
+use kit_alloc::{Failing, Plan};
 use part_core::{Part, TableKind};
-use part_hash::HashPart;
 use std::alloc::{AllocError, Allocator, Global};
 use std::sync::Wait;
-use tables::{Options, Session, Table, Turns};
+use tables::{Session, Table, Turns};
 use walk_laws::select_at;
 use walks::Query;
 
-/// How often a sweep runs at most.
-const RUNS: u64 = 1_000;
-
-/// A set of two parts and two sessions.
-const OPTIONS: Options = Options {
-    name: 1,
-    kind: TableKind::Set,
-    keypos: 1,
-    parts: 2,
-    sessions: 2,
-};
+/// All keys.
+const KEYS: &[u8] = b"[{{'$1'},[],[{{'$1'}}]}].";
 
 /// Whether a session fixes each part once.
 fn is_fixed_once<A: Allocator, T: Turns<A>>(turns: &T) -> bool
@@ -50,70 +39,74 @@ fn keeps_its_fix<R: Wait, A: Allocator + Copy, P: Part<A> + Drop>(
     is_fixed_once(&at)
 }
 
-/// The query of all keys.
-fn keys_query<A: Allocator + Copy>(heap: A) -> Option<Query<A>> {
-    let term = term_of(heap, b"[{{'$1'},[],[{{'$1'}}]}].")?;
-    Query::from_spec(heap, &read_spec(heap, &term).ok()?, 1).ok()
-}
-
-/// How many answers a walk gives, asked again where it is refused, and whether its session keeps its one fix in between
-/// and afterwards.
+/// How many answers a walk gives, none where it is refused, and whether its session keeps its one fix.
 fn walked<R: Wait, A: Allocator + Copy, P: Part<A> + Drop>(
     rt: &R,
     heap: A,
     table: &Table<P, A>,
     session: Session<P, A>,
     query: &Query<A>,
-) -> Option<(usize, bool, bool)>
+) -> (Session<P, A>, Option<usize>, bool)
     requires { IsOpened table.now.options table.now.gates.items session.number session.passes.items }
+    ensures { IsOpened table.now.options table.now.gates.items result.0.number result.0.passes.items }
 {
     let (session, answers) = select_at(rt, heap, table, session, query);
     let mut session = session;
-    let between = keeps_its_fix(rt, table, &mut session);
-    let answers = match answers {
-        Ok(answers) => answers,
-        Err(AllocError) => {
-            let (again, answers) = select_at(rt, heap, table, session, query);
-            session = again;
-            answers.ok()?
-        }
-    };
-    Some((
-        answers.len(),
-        between,
-        keeps_its_fix(rt, table, &mut session),
-    ))
+    let keeps = keeps_its_fix(rt, table, &mut session);
+    match answers {
+        Ok(answers) => (session, Some(answers.len()), keeps),
+        Err(AllocError) => (session, None, keeps),
+    }
 }
 
-/// The same at a table that is opened.
-fn walked_at<R: Wait>(rt: &R, heap: &Failing<Global>) -> Option<(usize, bool, bool)> {
-    let Ok((table, sessions)) = Table::<HashPart<&Failing<Global>>, &Failing<Global>>::open(
-        heap, OPTIONS,
-    ) else {
-        return None;
+/// Whether a walk answers both objects, asked again where it is refused, and its session keeps its one fix in between
+/// and afterwards. Refused again it may be where each request is refused.
+fn is_walked<R: Wait, A: Allocator + Copy, P: Part<A> + Drop>(
+    rt: &R,
+    heap: A,
+    counts: &Failing<Global>,
+    table: &Table<P, A>,
+    session: Session<P, A>,
+    query: &Query<A>,
+) -> bool
+    requires { IsOpened table.now.options table.now.gates.items session.number session.passes.items }
+{
+    let (session, answers, keeps) = walked(rt, heap, table, session, query);
+    if answers.is_some() {
+        return answers == Some(2) && keeps;
+    }
+    let (_session, again, still_keeps) = walked(rt, heap, table, session, query);
+    let is_right = match again {
+        Some(count) => count == 2,
+        None => matches!(counts.plan(), Plan::From(_)),
     };
-    let (session, _other) = last_two(&table, sessions)?;
-    let session = put_and_fixed(rt, heap, &table, session)?;
-    let query = keys_query(heap)?;
-    walked(rt, heap, &table, session, &query)
+    is_right && keeps && still_keeps && counts.was_refused()
 }
 
-/// Whether a walk answers both objects, also when it is asked again, and leaves the one fix of its session.
-fn is_right<R: Wait>(rt: &R, heap: &Failing<Global>) -> bool {
-    match walked_at(rt, heap) {
-        Some(came) => came == (2, true, true),
-        None => heap.was_refused(),
+/// The same by its own query, or that there is no memory for it.
+pub(crate) fn is_selected<R: Wait, A: Allocator + Copy, P: Part<A> + Drop>(
+    rt: &R,
+    heap: A,
+    counts: &Failing<Global>,
+    table: &Table<P, A>,
+    session: Session<P, A>,
+) -> bool
+    requires { IsOpened table.now.options table.now.gates.items session.number session.passes.items }
+{
+    match query_of(heap, KEYS) {
+        Some(query) => is_walked(rt, heap, counts, table, session, &query),
+        None => counts.was_refused(),
     }
 }
 
 #[test]
 fn each_request_of_a_walk_may_be_refused(rt: HostRuntime) {
-    assert!(rt;
-        sweep(
-            rt.alloc(),
-            RUNS,
-            |heap| is_right(&rt, heap) && heap.blocks() == 0
-        )
-        .is_complete()
-    );
+    let trial = Trial {
+        sort: Sort::Hashed,
+        kind: TableKind::Set,
+        parts: 2,
+        home: Home::Walked,
+        act: Act::Fix,
+    };
+    assert!(rt; is_swept(&rt, rt.alloc(), trial));
 }

@@ -1,9 +1,9 @@
 //! Sessions that find what others put in, one on a thread behind the other, and side by side.
-ghost use Rattle.std.specs.Prelude.{◌≡◌, IfSome};
+ghost use Rattle.std.specs.Prelude.{◌≡◌};
 ghost use Rattle.tables.specs.Sessions.{IsOpened};
 
 use crate::objects::object;
-use crate::pairs::last_two;
+use crate::pairs::opened;
 use gate::Closed;
 use kit_rows::{fields, number};
 use part_core::{Part, TableKind};
@@ -196,27 +196,12 @@ fn left<P: Part<Global> + Drop>(alloc: Global, closed: Closed<P>) -> Option<[usi
     Some([last.len(), first.len(), usize::from(is_over && is_one)])
 }
 
-/// A set of two parts and its last two sessions.
-fn opened<P: Part<Global> + Drop>(
-    alloc: Global,
-    options: Options,
-) -> Option<(Table<P>, Session<P>, Session<P>)>
-    ensures { IfSome result (λ made. IsOpened made.0.options made.0.gates.items made.1.number made.1.passes.items
-        × IsOpened made.0.options made.0.gates.items made.2.number made.2.passes.items) }
-{
-    let Ok((table, sessions)) = Table::<P>::open(alloc, options) else {
-        return None;
-    };
-    let (first, second) = last_two(&table, sessions)?;
-    Some((table, first, second))
-}
-
 /// Session 0 puts 1 and 2 in; session 1 finds 1 and deletes 2; they meet, and the table is closed with session 1.
 fn in_turn<R: Threads + Wait + Sync, P: Part<Global> + Drop + Send>(
     rt: &R,
     alloc: Global,
 ) -> Option<(usize, [usize; 3])> {
-    let (table, first, second) = opened::<P>(alloc, options(2))?;
+    let (table, first, second) = opened::<Global, P>(alloc, options(2))?;
     let (mut first, _) = stepped_on_a_thread(rt, alloc, &table, first, Step::PutTwo);
     let (mut second, found) = stepped_on_a_thread(rt, alloc, &table, second, Step::FindAndDelete);
     table.meet(&mut first, &mut second);
@@ -228,7 +213,7 @@ fn closed_by_another<R: Threads + Wait + Sync, P: Part<Global> + Drop + Send>(
     rt: &R,
     alloc: Global,
 ) -> Option<[usize; 3]> {
-    let (table, first, second) = opened::<P>(alloc, options(3))?;
+    let (table, first, second) = opened::<Global, P>(alloc, options(3))?;
     let (first, _) = stepped_on_a_thread(rt, alloc, &table, first, Step::PutTwo);
     table.leave(rt, first);
     left(alloc, table.close(second))
@@ -243,7 +228,7 @@ fn side_by_side<R: Threads + Wait + Sync, P: Part<Global> + Drop + Send>(
         parts: 1,
         ..options(2)
     };
-    let (table, first, second) = opened::<P>(alloc, one_part)?;
+    let (table, first, second) = opened::<Global, P>(alloc, one_part)?;
     let first = (first, Step::PutMany(0));
     let second = (second, Step::PutMany(1));
     let ((first, _), (second, _)) = both_stepped(rt, alloc, &table, first, second);

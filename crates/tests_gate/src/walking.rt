@@ -2,10 +2,9 @@
 ghost use Rattle.std.specs.Prelude.{◌≡◌, ◌<◌, IfSome};
 ghost use Rattle.tables.specs.Sessions.{IsOpened};
 
-use crate::objects::object;
-use crate::pairs::last_two;
-use kit_rows::{number, term_of};
-use mspec_reader::read_spec;
+use crate::objects::{object, query_of};
+use crate::pairs::opened;
+use kit_rows::number;
 use part_core::{Cursor, Fault, Look, Part, PartOp, Scope, TableKind};
 use part_hash::HashPart;
 use std::alloc::Global;
@@ -96,8 +95,7 @@ fn deleted_on_a_thread<R: Threads + Wait + Sync, P: Part<Global> + Drop + Send>(
 
 /// The query of all keys.
 fn keys_query(alloc: Global) -> Option<Query> {
-    let term = term_of(alloc, b"[{{'$1'},[],['$1']}].")?;
-    Query::from_spec(alloc, &read_spec(alloc, &term).ok()?, 1).ok()
+    query_of(alloc, b"[{{'$1'},[],['$1']}].")
 }
 
 /// Whether a piece is one key, that of this place.
@@ -183,10 +181,7 @@ fn outlasting<R: Threads + Wait + Sync, P: Part<Global> + Drop + Send>(
     rt: &R,
     alloc: Global,
 ) -> Option<u32> {
-    let Ok((table, sessions)) = Table::<P>::open(alloc, OPTIONS) else {
-        return None;
-    };
-    let (mut walker, writer) = last_two(&table, sessions)?;
+    let (table, mut walker, writer) = opened::<Global, P>(alloc, OPTIONS)?;
     let walk = begun_at(rt, alloc, &table, &mut walker)?;
     deleted_on_a_thread(rt, &table, writer);
     gone_on_at(rt, alloc, &table, &mut walker, walk)
@@ -215,10 +210,7 @@ fn is_refused<'q, T: Turns<Global>>(turns: &mut T, query: &'q Query, scope: Scop
 fn is_refused_at<R: Wait, P: Part<Global> + Drop>(rt: &R, alloc: Global) -> Option<bool> {
     let query = keys_query(alloc)?;
     let cursor = Cursor::Class { base: 8, class: 8 };
-    let Ok((table, sessions)) = Table::<P>::open(alloc, OPTIONS) else {
-        return None;
-    };
-    let (mut session, _other) = last_two(&table, sessions)?;
+    let (table, mut session, _other) = opened::<Global, P>(alloc, OPTIONS)?;
     let mut at = table.at(rt, &mut session);
     Some(is_refused(&mut at, &query, Scope::After(&cursor)))
 }

@@ -1,7 +1,7 @@
 //! The texts of refusals, which say in words what their numbers and arguments say: of each enum of refusals each
 //! variant, in the order of `TermFault`, `TextFault`, `SpecFault`, `BuildFault`, `FileFault`, `CodeFault`, `PartFault`,
-//! `OpenFault`, `WalkFault`, `SelectFault`, `Lost` and `ToolFault`. A text stands behind its number, where there is one,
-//! and one of code that is not verified also behind that of the instruction.
+//! `OpenFault`, `WalkFault`, `SelectFault`, `Lost` and `ToolFault`. A text stands behind its number, where there is
+//! one, and one of code that is not verified also behind that of the instruction.
 use code_file::FileFault;
 use gate::Lost;
 use mcode::Fault as BuildFault;

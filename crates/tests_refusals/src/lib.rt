@@ -9,9 +9,8 @@
 //! - `failing`: which requests a plan refuses, what the allocator counts, and how a sweep ends.
 //! - `calls`: calls with each request refused in turn, of `terms` and `text`, terms made, copied, read and written, and
 //!   of `functions`, operands and values.
-//! - `queries`: queries by themselves; `requests`: commands of the program, with the line and the status of a refusal;
-//!   `sweeps`: how many lines each of them writes where memory runs out. `scans`: scans by several sessions, and their
-//!   own refusals.
+//! - `requests`: commands of the program, with the line and the status of a refusal; `sweeps`: how many lines each of
+//!   them writes where memory runs out. `scans`: scans by several sessions, and their own refusals.
 //! - `opening`: options of tables that can't be opened, with memory and without.
 //! - `readers`: what is read of readers that fail, give one byte at a time or are interrupted; `writers`: what is
 //!   written to writers that fail, or hold all back until they are flushed; `streams`: each command over each of them.
@@ -28,8 +27,6 @@ mod fault_texts;
 mod functions;
 #[cfg(test)]
 mod opening;
-#[cfg(test)]
-mod queries;
 #[cfg(test)]
 mod readers;
 #[cfg(test)]

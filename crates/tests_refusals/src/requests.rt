@@ -1,7 +1,6 @@
 //! Commands of the program with each request for memory refused in turn.
-use crate::queries::{MADE, MADE_LINES};
 use crate::sweeps::{Written, lines_in};
-use kit_alloc::{Failing, SweepOutcome, sweep, sweep_onward};
+use kit_alloc::{Failing, sweep, sweep_onward};
 use kit_streams::FILE;
 use part_plain::PlainPart;
 use std::alloc::Global;
@@ -25,26 +24,17 @@ fn ends_a_line(written: &[u8]) -> bool {
 
 /// A command over an input, and what comes of it with ample memory.
 #[derive(Clone, Copy)]
-struct Case<'a> {
+struct Case {
     request: Request,
-    input: &'a str,
-    lines: &'a str,
-    line: &'a str,
+    input: &'static str,
+    lines: &'static str,
+    /// No line is written before the last has been put together; else the last request is one for the last line.
+    at_once: bool,
+    line: &'static str,
     status: u8,
 }
 
-impl<'a> Case<'a> {
-    /// One that ends well.
-    fn answered(request: Request, input: &'a str, lines: &'a str) -> Case<'a> {
-        Case {
-            request,
-            input,
-            lines,
-            line: "",
-            status: 0,
-        }
-    }
-
+impl Case {
     /// Whether it writes and ends so where a request for memory may be refused, or ends for want of it behind no fewer
     /// lines than before.
     fn is_right<H: Threads + Wait + Sync>(
@@ -78,79 +68,136 @@ impl<'a> Case<'a> {
             && tells_no_memory(told.as_slice())
     }
 
-    /// Whether it does with each request refused in turn and all behind it; else how that went.
-    fn tried_onward<H: Threads + Wait + Sync>(
-        self,
-        rt: &H,
-        alloc: Global,
-    ) -> Result<(), (SweepOutcome, usize)> {
-        let mut so_far = Written { lines: 0 };
-        let outcome = sweep_onward(alloc, 4_000, |heap| {
-            self.is_right(rt, alloc, heap, &mut so_far) && heap.blocks() == 0
-        });
-        if outcome.is_complete() {
-            return Ok(());
+    /// How many lines it writes where the last request is refused.
+    fn most(self) -> usize {
+        if self.at_once {
+            return 0;
         }
-        Err((outcome, so_far.lines))
+        lines_in(self.lines.as_bytes()).saturating_sub(1)
     }
 
     /// Whether it does with each request refused in turn, and with the last refused writes so many lines; and with each
-    /// refused and all behind it. Else how that went.
-    fn tried_up_to<H: Threads + Wait + Sync>(
-        self,
-        rt: &H,
-        alloc: Global,
-        most: usize,
-    ) -> Result<(), (SweepOutcome, usize)> {
+    /// refused and all behind it.
+    fn holds<H: Threads + Wait + Sync>(self, rt: &H, alloc: Global) -> bool {
         let mut so_far = Written { lines: 0 };
-        let outcome = sweep(alloc, 4_000, |heap| {
+        let alone = sweep(alloc, 4_000, |heap| {
             self.is_right(rt, alloc, heap, &mut so_far) && heap.blocks() == 0
         });
-        if !outcome.is_complete() || so_far.lines != most {
-            return Err((outcome, so_far.lines));
-        }
-        self.tried_onward(rt, alloc)
-    }
-
-    /// The same where the last refused is that of the last line.
-    fn tried<H: Threads + Wait + Sync>(
-        self,
-        rt: &H,
-        alloc: Global,
-    ) -> Result<(), (SweepOutcome, usize)> {
-        let lines = lines_in(self.lines.as_bytes());
-        self.tried_up_to(rt, alloc, lines.saturating_sub(1))
+        let mut so_far_onward = Written { lines: 0 };
+        let onward = sweep_onward(alloc, 4_000, |heap| {
+            self.is_right(rt, alloc, heap, &mut so_far_onward) && heap.blocks() == 0
+        });
+        alone.is_complete() && so_far.lines == self.most() && onward.is_complete()
     }
 }
 
-#[test]
-fn each_request_refused_in_turn(rt: HostRuntime) {
-    let answered = Case::answered(Request::Run(Form::Canonical), MADE, MADE_LINES).tried_up_to(
-        &rt,
-        rt.alloc(),
-        0,
-    );
-    assert_eq!(rt; answered, Ok(()));
-    let refused = Case {
+/// The first of these cases that doesn't hold.
+fn first_wrong<H: Threads + Wait + Sync>(rt: &H, alloc: Global, cases: &[Case]) -> Option<usize> {
+    for (place, case) in cases.iter().enumerate() {
+        if !case.holds(rt, alloc) {
+            return Some(place);
+        }
+    }
+    None
+}
+
+/// A specification and three objects, of each of which the answer is made.
+const MADE: &str = "[{{'$1'},[],[{{'$1',[]}}]}]. {1}. {[2]}. {\"3\"}.";
+
+/// Its answers.
+const MADE_LINES: &str = "{1,[]}.\n{[2],[]}.\n{[51],[]}.\n";
+
+/// The same for `test`, of whose answers each takes memory.
+const TESTED: &str =
+    "[{{'$1'},[{is_list,'$1'}],[{{{hd,'$1'},['$$'|'$_'],#{k=>'$1'}}}]}]. {1}. {[2]}. {[3]}.";
+
+/// What it says of them.
+const TESTED_LINES: &str =
+    "false.\n{ok,{2,[[[2]]|{[2]}],#{k=>[2]}}}.\n{ok,{3,[[[3]]|{[3]}],#{k=>[3]}}}.\n";
+
+/// Queries: two that are answered, one whose specification is refused, and two whose text has no end, behind objects that
+/// are answered and behind a first term that asks nothing.
+const QUERIES: [Case; 5] = [
+    Case {
+        request: Request::Run(Form::Canonical),
+        input: MADE,
+        lines: MADE_LINES,
+        at_once: true,
+        line: "",
+        status: 0,
+    },
+    Case {
+        request: Request::Test(Form::Canonical),
+        input: TESTED,
+        lines: TESTED_LINES,
+        at_once: true,
+        line: "",
+        status: 0,
+    },
+    Case {
         request: Request::Run(Form::Canonical),
         input: "[{{'$1'},[],['$3']}]. {1}.",
         lines: "",
+        at_once: true,
         line: "error E16 0 3\n",
         status: 2,
-    };
-    assert_eq!(rt; refused.tried(&rt, rt.alloc()), Ok(()));
+    },
+    Case {
+        request: Request::Run(Form::Canonical),
+        input: "[{{'$1'},[],[{{'$1',[]}}]}]. {1}. {[2]}. {\"3\"",
+        lines: "",
+        at_once: true,
+        line: "error E5 45\n",
+        status: 2,
+    },
+    Case {
+        request: Request::Run(Form::Canonical),
+        input: "[{{'$1'},[],['$3']}]. {1}. {[2]}. {\"3\"",
+        lines: "",
+        at_once: true,
+        line: "error E5 38\n",
+        status: 2,
+    },
+];
+
+#[test]
+fn each_request_of_a_query_refused_in_turn(rt: HostRuntime) {
+    let wrong = first_wrong(&rt, rt.alloc(), &QUERIES);
+    assert!(rt; wrong == None, "{wrong:?}");
 }
+
+/// Code files: one is written, one verified, and one run.
+const FILES: [Case; 3] = [
+    Case {
+        request: Request::Compile,
+        input: "[{'_',[],[true]}].",
+        lines: FILE,
+        at_once: false,
+        line: "",
+        status: 0,
+    },
+    Case {
+        request: Request::Verify,
+        input: FILE,
+        lines: "{ok,2,1}.\n",
+        at_once: false,
+        line: "",
+        status: 0,
+    },
+    Case {
+        request: Request::Run(Form::Canonical),
+        input: "<<69,77,83,67,0,1,0,0,0,1,2,0,4,116,114,117,101,0,3,2,0,0,24,25,0,1,0,2,0,0,0,0,0,0>>. a.",
+        lines: "true.\n",
+        at_once: false,
+        line: "",
+        status: 0,
+    },
+];
 
 #[test]
 fn each_request_over_code_files_refused_in_turn(rt: HostRuntime) {
-    let compiled = Case::answered(Request::Compile, "[{'_',[],[true]}].", FILE);
-    assert_eq!(rt; compiled.tried(&rt, rt.alloc()), Ok(()));
-    let verified = Case::answered(Request::Verify, FILE, "{ok,2,1}.\n");
-    assert_eq!(rt; verified.tried(&rt, rt.alloc()), Ok(()));
-    let input =
-        "<<69,77,83,67,0,1,0,0,0,1,2,0,4,116,114,117,101,0,3,2,0,0,24,25,0,1,0,2,0,0,0,0,0,0>>. a.";
-    let ran = Case::answered(Request::Run(Form::Canonical), input, "true.\n");
-    assert_eq!(rt; ran.tried(&rt, rt.alloc()), Ok(()));
+    let wrong = first_wrong(&rt, rt.alloc(), &FILES);
+    assert!(rt; wrong == None, "{wrong:?}");
 }
 
 /// A specification that names a key, with a constant and a call.
@@ -183,22 +230,39 @@ instructions of a run at most 19, stack at most 3
    20  no_answer
 ";
 
-#[test]
-fn each_request_of_an_explanation_refused_in_turn(rt: HostRuntime) {
-    let explained = Case::answered(Request::Explain(1), EXPLAINED, EXPLAINED_LINES);
-    assert_eq!(rt; explained.tried_up_to(&rt, rt.alloc(), 0), Ok(()));
-    let file = Case::answered(
-        Request::Explain(3),
-        FILE,
-        "\
+/// What is said of a file.
+const FILE_LINES: &str = "\
 walk at keypos 3: all objects
 instructions of a run at most 2, stack at most 1
     0  const       true
     1  answer
     2  no_answer
-",
-    );
-    assert_eq!(rt; file.tried_up_to(&rt, rt.alloc(), 0), Ok(()));
+";
+
+/// Explanations of both.
+const EXPLANATIONS: [Case; 2] = [
+    Case {
+        request: Request::Explain(1),
+        input: EXPLAINED,
+        lines: EXPLAINED_LINES,
+        at_once: true,
+        line: "",
+        status: 0,
+    },
+    Case {
+        request: Request::Explain(3),
+        input: FILE,
+        lines: FILE_LINES,
+        at_once: true,
+        line: "",
+        status: 0,
+    },
+];
+
+#[test]
+fn each_request_of_an_explanation_refused_in_turn(rt: HostRuntime) {
+    let wrong = first_wrong(&rt, rt.alloc(), &EXPLANATIONS);
+    assert!(rt; wrong == None, "{wrong:?}");
 }
 
 /// Commands of every kind on a set.
@@ -300,20 +364,62 @@ true.
 [{1,[b]}].
 ";
 
+/// Shells.
+const SHELLS: [Case; 2] = [
+    Case {
+        request: Request::Shell,
+        input: SHELL,
+        lines: SHELL_LINES,
+        at_once: false,
+        line: "",
+        status: 0,
+    },
+    Case {
+        request: Request::Shell,
+        input: BAG_SCRIPT,
+        lines: BAG_LINES,
+        at_once: false,
+        line: "",
+        status: 0,
+    },
+];
+
 #[test]
 fn each_request_of_a_shell_refused_in_turn(rt: HostRuntime) {
-    let replied = Case::answered(Request::Shell, SHELL, SHELL_LINES);
-    assert_eq!(rt; replied.tried(&rt, rt.alloc()), Ok(()));
-    let replied = Case::answered(Request::Shell, BAG_SCRIPT, BAG_LINES);
-    assert_eq!(rt; replied.tried(&rt, rt.alloc()), Ok(()));
+    let wrong = first_wrong(&rt, rt.alloc(), &SHELLS);
+    assert!(rt; wrong == None, "{wrong:?}");
 }
+
+/// Scripts.
+const SCRIPTS: [Case; 3] = [
+    Case {
+        request: Request::Script,
+        input: SET_SCRIPT,
+        lines: SCRIPT_LINES,
+        at_once: false,
+        line: "",
+        status: 0,
+    },
+    Case {
+        request: Request::Script,
+        input: ORDERED_SET_SCRIPT,
+        lines: SCRIPT_LINES,
+        at_once: false,
+        line: "",
+        status: 0,
+    },
+    Case {
+        request: Request::Script,
+        input: BAG_SCRIPT,
+        lines: BAG_LINES,
+        at_once: false,
+        line: "",
+        status: 0,
+    },
+];
 
 #[test]
 fn each_request_of_a_script_refused_in_turn(rt: HostRuntime) {
-    for input in [SET_SCRIPT, ORDERED_SET_SCRIPT] {
-        let replied = Case::answered(Request::Script, input, SCRIPT_LINES);
-        assert_eq!(rt; replied.tried(&rt, rt.alloc()), Ok(()));
-    }
-    let replied = Case::answered(Request::Script, BAG_SCRIPT, BAG_LINES);
-    assert_eq!(rt; replied.tried(&rt, rt.alloc()), Ok(()));
+    let wrong = first_wrong(&rt, rt.alloc(), &SCRIPTS);
+    assert!(rt; wrong == None, "{wrong:?}");
 }

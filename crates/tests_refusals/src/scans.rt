@@ -1,6 +1,6 @@
 //! Scans with each request for memory refused in turn, by one session and by several.
 use crate::sweeps::Written;
-use kit_alloc::{Failing, SweepOutcome, sweep, sweep_onward};
+use kit_alloc::{Failing, sweep, sweep_onward};
 use part_plain::PlainPart;
 use std::alloc::Global;
 use std::sync::Wait;
@@ -60,59 +60,33 @@ fn options_of(kind: ScanKind, workers: u8) -> ScanOptions {
     }
 }
 
-/// How a sweep over the requests of such a scan ends where all behind one are refused, too.
-fn swept_onward<H: Threads + Wait + Sync>(
-    rt: &H,
-    alloc: Global,
-    kind: ScanKind,
-    workers: u8,
-) -> SweepOutcome {
+/// Whether a scan of such a table by so many workers ends so with each request refused in turn, alone and with all
+/// behind it; one worker writes some lines with the last refused alone. How many these are hangs on how their memory
+/// grows.
+fn is_swept<H: Threads + Wait + Sync>(rt: &H, alloc: Global, kind: ScanKind, workers: u8) -> bool {
     let options = options_of(kind, workers);
     let mut so_far = Written { lines: 0 };
-    sweep_onward(alloc, 4_000, |heap| {
-        is_right(rt, alloc, heap, options, &mut so_far) && heap.blocks() == 0
-    })
-}
-
-/// How a sweep over the requests of a scan of such a table by so many workers ends, and how many lines it wrote with the
-/// last refused.
-fn swept<H: Threads + Wait + Sync>(
-    rt: &H,
-    alloc: Global,
-    kind: ScanKind,
-    workers: u8,
-) -> (SweepOutcome, usize) {
-    let options = options_of(kind, workers);
-    let mut so_far = Written { lines: 0 };
-    let outcome = sweep(alloc, 4_000, |heap| {
+    let alone = sweep(alloc, 4_000, |heap| {
         is_right(rt, alloc, heap, options, &mut so_far) && heap.blocks() == 0
     });
-    (outcome, so_far.lines)
+    let mut so_far_onward = Written { lines: 0 };
+    let onward = sweep_onward(alloc, 4_000, |heap| {
+        is_right(rt, alloc, heap, options, &mut so_far_onward) && heap.blocks() == 0
+    });
+    alone.is_complete() && onward.is_complete() && (workers > 1 || 0 < so_far.lines)
 }
 
 #[test]
 fn each_request_refused_in_turn(rt: HostRuntime) {
-    for workers in [1, 2, 3] {
-        let (outcome, lines) = swept(&rt, rt.alloc(), ScanKind::Set, workers);
-        assert!(rt;
-            outcome.is_complete() && (workers > 1 || lines == 2),
-            "{outcome:?} {lines}"
-        );
-        let onward = swept_onward(&rt, rt.alloc(), ScanKind::Set, workers);
-        assert!(rt; onward.is_complete(), "{onward:?}");
-    }
+    assert!(rt; is_swept(&rt, rt.alloc(), ScanKind::Set, 1));
+    assert!(rt; is_swept(&rt, rt.alloc(), ScanKind::Set, 2));
+    assert!(rt; is_swept(&rt, rt.alloc(), ScanKind::Set, 3));
 }
 
 #[test]
 fn each_request_for_a_bag_refused_in_turn(rt: HostRuntime) {
-    let (outcome, _lines) = swept(&rt, rt.alloc(), ScanKind::Bag, 2);
-    assert!(rt; outcome.is_complete(), "{outcome:?}");
-}
-
-#[test]
-fn each_request_for_a_duplicate_bag_refused_in_turn(rt: HostRuntime) {
-    let (outcome, _lines) = swept(&rt, rt.alloc(), ScanKind::DuplicateBag, 2);
-    assert!(rt; outcome.is_complete(), "{outcome:?}");
+    assert!(rt; is_swept(&rt, rt.alloc(), ScanKind::Bag, 2));
+    assert!(rt; is_swept(&rt, rt.alloc(), ScanKind::DuplicateBag, 2));
 }
 
 /// Why a scan of no object with such options is refused, which writes nothing.

@@ -13,36 +13,93 @@ use tool_scan::{ScanKind, ScanOptions};
 /// More calls than a stream gets here.
 const MOST_CALLS: u32 = 10_000;
 
+/// The bytes that a failing reader gives at a call.
+const BYTES_OF_A_CALL: usize = 7;
+
+/// A command, with an input on which it ends well.
+#[derive(Clone, Copy)]
+struct Case {
+    request: Request,
+    input: &'static str,
+}
+
+/// What is tried of a command.
+#[derive(Clone, Copy)]
+enum Trial {
+    /// Its reader fails.
+    Unread,
+    /// Its writer fails.
+    Unwritten,
+    /// Its writer takes nothing.
+    Full,
+    /// Its reader gives a byte at a time, and is interrupted before each or not.
+    Slow(bool),
+}
+
 /// Commands on a table, each with a reply.
 const SCRIPT: &str = "{open,set,1,1,1}. {insert,0,{1,[a]}}. {lookup,0,1}. {close}.";
 
 /// The same for a shell, and a text that is refused.
-const SHELL: (Request, &str) = (
-    Request::Shell,
-    "{open,set,1,1,1}.\n{insert,0,{1,[a]}}.\n{lookup 0,1}.\n{close}.\n",
-);
+const SHELL: &str = "{open,set,1,1,1}.\n{insert,0,{1,[a]}}.\n{lookup 0,1}.\n{close}.\n";
 
 /// What a shell replies.
 const REPLIES: [&str; 4] = ["true.\n", "true.\n", "{error,5,8}.\n", "[{1,[a]}].\n"];
 
-/// A scan by two workers.
-const SCAN: Request = Request::Scan(ScanOptions {
-    kind: ScanKind::Set,
-    keypos: 1,
-    parts: 2,
-    workers: 2,
-});
-
-/// Each command that reads its input whole, with one on which it ends well.
-const CASES: [(Request, &str); 7] = [
-    (Request::Run(Form::Canonical), INPUT),
-    (Request::Test(Form::Canonical), INPUT),
-    (Request::Compile, "[{'_',[],[true]}]."),
-    (Request::Verify, FILE),
-    (Request::Explain(1), FILE),
-    (Request::Script, SCRIPT),
-    (SCAN, INPUT),
+/// Each command that reads, a scan by two workers.
+const CASES: [Case; 8] = [
+    Case {
+        request: Request::Run(Form::Canonical),
+        input: INPUT,
+    },
+    Case {
+        request: Request::Test(Form::Canonical),
+        input: INPUT,
+    },
+    Case {
+        request: Request::Compile,
+        input: "[{'_',[],[true]}].",
+    },
+    Case {
+        request: Request::Verify,
+        input: FILE,
+    },
+    Case {
+        request: Request::Explain(1),
+        input: FILE,
+    },
+    Case {
+        request: Request::Script,
+        input: SCRIPT,
+    },
+    Case {
+        request: Request::Scan(ScanOptions {
+            kind: ScanKind::Set,
+            keypos: 1,
+            parts: 2,
+            workers: 2,
+        }),
+        input: INPUT,
+    },
+    Case {
+        request: Request::Shell,
+        input: SHELL,
+    },
 ];
+
+impl Case {
+    /// How many replies a command has made where its reader fails at this call: a shell those to the lines that were
+    /// read before, and each other none.
+    fn replies_before(self, call: u32) -> usize {
+        match self.request {
+            Request::Shell => {
+                let bytes = self.input.as_bytes();
+                let given = (call.saturating_sub(1) as usize).saturating_mul(BYTES_OF_A_CALL);
+                lines_in(&bytes[..given.min(bytes.len())])
+            }
+            _ => 0,
+        }
+    }
+}
 
 /// The status of a command over these streams, and whether it tells this line.
 fn ended<H: Threads + Wait + Sync, R: Read, W: Write>(
@@ -60,82 +117,7 @@ fn ended<H: Threads + Wait + Sync, R: Read, W: Write>(
     (status, err.writer.as_slice() == line.as_bytes())
 }
 
-/// Whether a command whose reader fails at this call is refused for that, and writes nothing.
-fn is_unread<H: Threads + Wait + Sync>(
-    rt: &H,
-    alloc: Global,
-    (request, input): (Request, &str),
-    call: u32,
-) -> bool {
-    let mut reader = FailingReader {
-        bytes: input.as_bytes(),
-        calls_left: call,
-    };
-    let mut out: Vec<u8> = Vec::new(alloc);
-    let ended = ended(rt, alloc, request, &mut reader, &mut out, "error E70\n");
-    ended == (4, true) && out.as_slice().is_empty()
-}
-
-/// How many calls of its reader a command makes that ends well; 0 where it doesn't.
-fn reads_of<H: Threads + Wait + Sync>(
-    rt: &H,
-    alloc: Global,
-    (request, input): (Request, &str),
-) -> u32 {
-    let mut reader = FailingReader {
-        bytes: input.as_bytes(),
-        calls_left: MOST_CALLS,
-    };
-    let mut out: Vec<u8> = Vec::new(alloc);
-    if ended(rt, alloc, request, &mut reader, &mut out, "") == (0, true) {
-        MOST_CALLS.saturating_sub(reader.calls_left)
-    } else {
-        0
-    }
-}
-
-/// Whether a command is refused at each call of its reader in turn, that which finds the end among them.
-fn is_refused_at_each_read<H: Threads + Wait + Sync>(
-    rt: &H,
-    alloc: Global,
-    case: (Request, &str),
-) -> bool {
-    let reads = reads_of(rt, alloc, case);
-    let mut is_right = 1 < reads;
-    for call in 0..reads {
-        is_right = is_unread(rt, alloc, case, call.saturating_add(1)) && is_right;
-    }
-    is_right
-}
-
-#[test]
-fn each_read_of_each_command_may_fail(rt: HostRuntime) {
-    for case in CASES {
-        assert!(rt; is_refused_at_each_read(&rt, rt.alloc(), case), "{case:?}");
-    }
-}
-
-/// The bytes that a failing reader gives at a call.
-const BYTES_OF_A_CALL: usize = 7;
-
-/// Whether a shell whose reader fails at this call is refused for that, and writes the replies to the lines that were
-/// read before.
-fn is_left_unread<H: Threads + Wait + Sync>(rt: &H, alloc: Global, call: u32) -> bool {
-    let (request, input) = SHELL;
-    let mut reader = FailingReader {
-        bytes: input.as_bytes(),
-        calls_left: call,
-    };
-    let mut out: Vec<u8> = Vec::new(alloc);
-    let ended = ended(rt, alloc, request, &mut reader, &mut out, "error E70\n");
-    let given = (call.saturating_sub(1) as usize)
-        .saturating_mul(BYTES_OF_A_CALL)
-        .min(input.len());
-    let lines = lines_in(&input.as_bytes()[..given]);
-    ended == (4, true) && is_replied(out.as_slice(), lines)
-}
-
-/// Whether these are so many of the replies.
+/// Whether these are so many of a shell's replies.
 fn is_replied(written: &[u8], lines: usize) -> bool {
     let mut rest = written;
     for place in 0..REPLIES.len().min(lines) {
@@ -147,41 +129,70 @@ fn is_replied(written: &[u8], lines: usize) -> bool {
     rest.is_empty()
 }
 
-#[test]
-fn each_read_of_a_shell_may_fail(rt: HostRuntime) {
-    let reads = reads_of(&rt, rt.alloc(), SHELL);
-    assert!(rt; 1 < reads);
-    for call in 0..reads {
-        assert!(rt;
-            is_left_unread(&rt, rt.alloc(), call.saturating_add(1)),
-            "{call}"
-        );
+/// Whether a command whose reader fails at this call is refused for that, and writes what it has replied before.
+fn is_unread<H: Threads + Wait + Sync>(rt: &H, alloc: Global, case: Case, call: u32) -> bool {
+    let mut reader = FailingReader {
+        bytes: case.input.as_bytes(),
+        calls_left: call,
+    };
+    let mut out: Vec<u8> = Vec::new(alloc);
+    let ended = ended(
+        rt,
+        alloc,
+        case.request,
+        &mut reader,
+        &mut out,
+        "error E70\n",
+    );
+    ended == (4, true) && is_replied(out.as_slice(), case.replies_before(call))
+}
+
+/// How many calls of its reader a command makes that ends well; 0 where it doesn't.
+fn reads_of<H: Threads + Wait + Sync>(rt: &H, alloc: Global, case: Case) -> u32 {
+    let mut reader = FailingReader {
+        bytes: case.input.as_bytes(),
+        calls_left: MOST_CALLS,
+    };
+    let mut out: Vec<u8> = Vec::new(alloc);
+    if ended(rt, alloc, case.request, &mut reader, &mut out, "") == (0, true) {
+        MOST_CALLS.saturating_sub(reader.calls_left)
+    } else {
+        0
     }
 }
 
+/// Whether a command is refused at each call of its reader in turn, that which finds the end among them.
+fn is_refused_at_each_read<H: Threads + Wait + Sync>(rt: &H, alloc: Global, case: Case) -> bool {
+    let reads = reads_of(rt, alloc, case);
+    let mut is_right = 1 < reads;
+    for call in 0..reads {
+        is_right = is_unread(rt, alloc, case, call.saturating_add(1)) && is_right;
+    }
+    is_right
+}
+
 /// Whether a command whose writer fails at this call is refused for that.
-fn is_unwritten<H: Threads + Wait + Sync>(
-    rt: &H,
-    alloc: Global,
-    (request, input): (Request, &str),
-    call: u32,
-) -> bool {
-    let mut reader = input.as_bytes();
+fn is_unwritten<H: Threads + Wait + Sync>(rt: &H, alloc: Global, case: Case, call: u32) -> bool {
+    let mut reader = case.input.as_bytes();
     let mut writer = FailingWriter { calls_left: call };
-    ended(rt, alloc, request, &mut reader, &mut writer, "error E71\n") == (4, true)
+    let ended = ended(
+        rt,
+        alloc,
+        case.request,
+        &mut reader,
+        &mut writer,
+        "error E71\n",
+    );
+    ended == (4, true)
 }
 
 /// How many calls of its writer a command makes that ends well; 0 where it doesn't.
-fn writes_of<H: Threads + Wait + Sync>(
-    rt: &H,
-    alloc: Global,
-    (request, input): (Request, &str),
-) -> u32 {
-    let mut reader = input.as_bytes();
+fn writes_of<H: Threads + Wait + Sync>(rt: &H, alloc: Global, case: Case) -> u32 {
+    let mut reader = case.input.as_bytes();
     let mut writer = FailingWriter {
         calls_left: MOST_CALLS,
     };
-    if ended(rt, alloc, request, &mut reader, &mut writer, "") == (0, true) {
+    if ended(rt, alloc, case.request, &mut reader, &mut writer, "") == (0, true) {
         MOST_CALLS.saturating_sub(writer.calls_left)
     } else {
         0
@@ -189,25 +200,13 @@ fn writes_of<H: Threads + Wait + Sync>(
 }
 
 /// Whether a command is refused at each call of its writer in turn.
-fn is_refused_at_each_write<H: Threads + Wait + Sync>(
-    rt: &H,
-    alloc: Global,
-    case: (Request, &str),
-) -> bool {
+fn is_refused_at_each_write<H: Threads + Wait + Sync>(rt: &H, alloc: Global, case: Case) -> bool {
     let writes = writes_of(rt, alloc, case);
     let mut is_right = 1 < writes;
     for call in 0..writes {
         is_right = is_unwritten(rt, alloc, case, call.saturating_add(1)) && is_right;
     }
     is_right
-}
-
-#[test]
-fn each_write_of_each_command_may_fail(rt: HostRuntime) {
-    for case in CASES {
-        assert!(rt; is_refused_at_each_write(&rt, rt.alloc(), case), "{case:?}");
-    }
-    assert!(rt; is_refused_at_each_write(&rt, rt.alloc(), SHELL));
 }
 
 /// A writer that takes nothing.
@@ -228,28 +227,18 @@ impl Write for FullWriter {
 fn is_refused_where_nothing_is_taken<H: Threads + Wait + Sync>(
     rt: &H,
     alloc: Global,
-    (request, input): (Request, &str),
+    case: Case,
 ) -> bool {
-    let mut reader = input.as_bytes();
-    ended(
+    let mut reader = case.input.as_bytes();
+    let ended = ended(
         rt,
         alloc,
-        request,
+        case.request,
         &mut reader,
         &mut FullWriter,
         "error E71\n",
-    ) == (4, true)
-}
-
-#[test]
-fn a_writer_that_takes_nothing_is_refused(rt: HostRuntime) {
-    for case in CASES {
-        assert!(rt;
-            is_refused_where_nothing_is_taken(&rt, rt.alloc(), case),
-            "{case:?}"
-        );
-    }
-    assert!(rt; is_refused_where_nothing_is_taken(&rt, rt.alloc(), SHELL));
+    );
+    ended == (4, true)
 }
 
 /// What a command writes that ends well.
@@ -271,34 +260,77 @@ fn written<H: Threads + Wait + Sync, R: Read>(
 fn is_read_slowly<H: Threads + Wait + Sync>(
     rt: &H,
     alloc: Global,
-    (request, input): (Request, &str),
+    case: Case,
     is_interrupted: bool,
 ) -> bool {
     let mut slow = SlowReader {
         blanks: 0,
-        bytes: input.as_bytes(),
+        bytes: case.input.as_bytes(),
         is_interrupted,
         is_due: false,
     };
-    let mut reader = input.as_bytes();
-    let Some(lines) = written(rt, alloc, request, &mut slow) else {
+    let mut reader = case.input.as_bytes();
+    let Some(lines) = written(rt, alloc, case.request, &mut slow) else {
         return false;
     };
-    match written(rt, alloc, request, &mut reader) {
+    match written(rt, alloc, case.request, &mut reader) {
         Some(wanted) => lines.as_slice() == wanted.as_slice() && !lines.as_slice().is_empty(),
         None => false,
     }
 }
 
+/// Whether a trial of a command comes out right.
+fn is_right<H: Threads + Wait + Sync>(rt: &H, alloc: Global, case: Case, trial: Trial) -> bool {
+    match trial {
+        Trial::Unread => is_refused_at_each_read(rt, alloc, case),
+        Trial::Unwritten => is_refused_at_each_write(rt, alloc, case),
+        Trial::Full => is_refused_where_nothing_is_taken(rt, alloc, case),
+        Trial::Slow(is_interrupted) => is_read_slowly(rt, alloc, case, is_interrupted),
+    }
+}
+
+/// The first of these commands whose trial doesn't come out right.
+fn first_wrong_of<H: Threads + Wait + Sync>(
+    rt: &H,
+    alloc: Global,
+    cases: &[Case],
+    trial: Trial,
+) -> Option<usize> {
+    for (place, case) in cases.iter().enumerate() {
+        if !is_right(rt, alloc, *case, trial) {
+            return Some(place);
+        }
+    }
+    None
+}
+
+/// The first command whose trial doesn't come out right.
+fn first_wrong<H: Threads + Wait + Sync>(rt: &H, alloc: Global, trial: Trial) -> Option<usize> {
+    first_wrong_of(rt, alloc, &CASES, trial)
+}
+
+#[test]
+fn each_read_of_each_command_may_fail(rt: HostRuntime) {
+    let wrong = first_wrong(&rt, rt.alloc(), Trial::Unread);
+    assert!(rt; wrong == None, "{wrong:?}");
+}
+
+#[test]
+fn each_write_of_each_command_may_fail(rt: HostRuntime) {
+    let wrong = first_wrong(&rt, rt.alloc(), Trial::Unwritten);
+    assert!(rt; wrong == None, "{wrong:?}");
+}
+
+#[test]
+fn a_writer_that_takes_nothing_is_refused(rt: HostRuntime) {
+    let wrong = first_wrong(&rt, rt.alloc(), Trial::Full);
+    assert!(rt; wrong == None, "{wrong:?}");
+}
+
 #[test]
 fn each_command_reads_slowly(rt: HostRuntime) {
-    for is_interrupted in [false, true] {
-        for case in CASES {
-            assert!(rt;
-                is_read_slowly(&rt, rt.alloc(), case, is_interrupted),
-                "{case:?}"
-            );
-        }
-        assert!(rt; is_read_slowly(&rt, rt.alloc(), SHELL, is_interrupted));
-    }
+    let wrong = first_wrong(&rt, rt.alloc(), Trial::Slow(false));
+    assert!(rt; wrong == None, "{wrong:?}");
+    let interrupted = first_wrong(&rt, rt.alloc(), Trial::Slow(true));
+    assert!(rt; interrupted == None, "{interrupted:?}");
 }

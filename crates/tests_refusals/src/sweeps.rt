@@ -1,5 +1,5 @@
-//! How many lines are written where a request for memory is refused: no fewer the later it comes, and all but the last
-//! at the last.
+//! How many lines are written where a request for memory is refused: no fewer the later it comes, and at the last all
+//! but the last of a script, and some of a scan.
 
 /// How many lines end in what was written.
 pub(crate) fn lines_in(written: &[u8]) -> usize {

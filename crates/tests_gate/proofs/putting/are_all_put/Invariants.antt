@@ -1,5 +1,5 @@
 use Rattle.std.proofs.Common.{◌≡◌}
-use Rattle.tests_gate.proofs.putting.are_put.Given as goal
+use Rattle.tests_gate.proofs.putting.are_all_put.Given as goal
 
 abbrev pub invariant-loop-place : goal.invariant-loop-place
 invariant-loop-place g l =

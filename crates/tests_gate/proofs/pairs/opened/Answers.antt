@@ -1,5 +1,5 @@
 use Rattle.tables.proofs.OpenedLemmas.{all_opened}
-use Rattle.tests_gate.proofs.putting.played_at.Goals as goal
+use Rattle.tests_gate.proofs.pairs.opened.Goals as goal
 
 pub last_two-requires : goal.last_two-requires
 last_two-requires g c =
