@@ -76,8 +76,8 @@ impl Case {
         lines_in(self.lines.as_bytes()).saturating_sub(1)
     }
 
-    /// Whether it does with each request refused in turn, and with the last refused writes so many lines; and with each
-    /// refused and all behind it.
+    /// Whether it does with each request refused in turn, alone and with all behind it, and with the last refused writes
+    /// so many lines.
     fn holds<H: Threads + Wait + Sync>(self, rt: &H, alloc: Global) -> bool {
         let mut so_far = Written { lines: 0 };
         let alone = sweep(alloc, 4_000, |heap| {
@@ -87,7 +87,10 @@ impl Case {
         let onward = sweep_onward(alloc, 4_000, |heap| {
             self.is_right(rt, alloc, heap, &mut so_far_onward) && heap.blocks() == 0
         });
-        alone.is_complete() && so_far.lines == self.most() && onward.is_complete()
+        alone.is_complete()
+            && so_far.lines == self.most()
+            && onward.is_complete()
+            && so_far_onward.lines == self.most()
     }
 }
 
