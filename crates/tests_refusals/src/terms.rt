@@ -1,6 +1,6 @@
 //! Terms: what takes no memory, and that a limit is told without it.
 use kit_alloc::Failing;
-use std::alloc::Global;
+use std::alloc::{Allocator, Global};
 use term_core::Fault::{self, TooLong};
 use term_core::{ShortRow, Term};
 use term_operand::Operand;
@@ -37,11 +37,20 @@ fn ones(alloc: Global, count: u32) -> Option<Vec<u8>> {
     Some(out)
 }
 
+/// How many requests for memory it takes to read a text.
+fn requests_to_read(alloc: Global, text: &[u8]) -> Option<u64> {
+    let counting = Failing::counting(alloc);
+    if read_terms(&counting, text).is_ok() {
+        Some(counting.requests())
+    } else {
+        None
+    }
+}
+
 /// The fault of the tuple of a text's terms, when each request is refused once they are read.
 fn fault_without_memory(alloc: Global, text: &[u8]) -> Option<Fault> {
-    let counting = Failing::counting(alloc);
-    let _terms = read_terms(&counting, text).ok()?;
-    let failing = Failing::refusing_from(alloc, counting.requests().saturating_add(1));
+    let requests = requests_to_read(alloc, text)?;
+    let failing = Failing::refusing_from(alloc, requests.saturating_add(1));
     match Term::tuple(&failing, read_terms(&failing, text).ok()?) {
         Ok(_) => None,
         Err(refused) => Some(refused.fault),
@@ -61,9 +70,8 @@ fn a_limit_is_told_without_memory(rt: HostRuntime) {
 
 /// Whether the only term of a text is copied, when each request is refused once it is read.
 fn is_copied_without_memory(alloc: Global, text: &[u8]) -> Option<bool> {
-    let counting = Failing::counting(alloc);
-    let _terms = read_terms(&counting, text).ok()?;
-    let failing = Failing::refusing_from(alloc, counting.requests().saturating_add(1));
+    let requests = requests_to_read(alloc, text)?;
+    let failing = Failing::refusing_from(alloc, requests.saturating_add(1));
     let terms = read_terms(&failing, text).ok()?;
     Some(terms.first()?.copy().is_ok())
 }
@@ -78,9 +86,8 @@ fn a_copy_takes_no_memory(rt: HostRuntime) {
 /// Whether what is left behind the first element of the list of a text is made, when each request is refused once it is
 /// read.
 fn is_rest_shared(alloc: Global, text: &[u8]) -> Option<bool> {
-    let counting = Failing::counting(alloc);
-    let _terms = read_terms(&counting, text).ok()?;
-    let failing = Failing::refusing_from(alloc, counting.requests().saturating_add(1));
+    let requests = requests_to_read(alloc, text)?;
+    let failing = Failing::refusing_from(alloc, requests.saturating_add(1));
     let terms = read_terms(&failing, text).ok()?;
     Some(Operand::Rest(terms.first()?, 1).to_term(&failing).is_ok())
 }
@@ -94,37 +101,65 @@ fn a_rest_as_deep_as_its_list_takes_no_memory(rt: HostRuntime) {
     assert!(rt; is_rest_shared(rt.alloc(), b"[1,2,3,4,5].") == Some(false));
 }
 
-/// How many requests for memory were made in all once there was a tuple of one element, one of two as well, of three,
-/// of four, a map of one pair, and a list of four.
-fn requests_of_the_shortest(alloc: Global) -> Option<[u64; 6]> {
+/// Whether a tuple of two elements is made.
+fn is_pair_made<A: Allocator + Copy>(heap: A) -> bool {
+    Term::short_tuple(heap, ShortRow::Two([Term::int(1), Term::int(2)])).is_ok()
+}
+
+/// The same of three.
+fn is_triple_made<A: Allocator + Copy>(heap: A) -> bool {
+    let row = ShortRow::Three([Term::int(1), Term::int(2), Term::int(3)]);
+    Term::short_tuple(heap, row).is_ok()
+}
+
+/// A row of four.
+fn four<A: Allocator>() -> ShortRow<A> {
+    ShortRow::Four([Term::int(1), Term::int(2), Term::int(3), Term::int(4)])
+}
+
+/// The shortest terms that take memory.
+#[derive(Clone, Copy)]
+enum Shortest {
+    TupleOfOne,
+    TupleOfTwo,
+    TupleOfThree,
+    TupleOfFour,
+    MapOfOne,
+    ListOfFour,
+}
+
+/// Whether one of them is made.
+fn is_made<A: Allocator + Copy>(heap: A, shortest: Shortest) -> bool {
+    match shortest {
+        Shortest::TupleOfOne => Term::short_tuple(heap, ShortRow::One([Term::int(1)])).is_ok(),
+        Shortest::TupleOfTwo => is_pair_made(heap),
+        Shortest::TupleOfThree => is_triple_made(heap),
+        Shortest::TupleOfFour => Term::short_tuple(heap, four()).is_ok(),
+        Shortest::MapOfOne => Term::map_of_one(heap, Term::int(1), Term::int(2)).is_ok(),
+        Shortest::ListOfFour => Term::short_list(heap, four()).is_ok(),
+    }
+}
+
+/// How many requests for memory one of them takes.
+fn requests_of(alloc: Global, shortest: Shortest) -> Option<u64> {
     let counting = Failing::counting(alloc);
-    let one = ShortRow::One([Term::int(1)]);
-    let _one = Term::short_tuple(&counting, one).ok()?;
-    let with_one = counting.requests();
-    let two = ShortRow::Two([Term::int(1), Term::int(2)]);
-    let _two = Term::short_tuple(&counting, two).ok()?;
-    let with_two = counting.requests();
-    let three = ShortRow::Three([Term::int(1), Term::int(2), Term::int(3)]);
-    let _three = Term::short_tuple(&counting, three).ok()?;
-    let with_three = counting.requests();
-    let four = ShortRow::Four([Term::int(1), Term::int(2), Term::int(3), Term::int(4)]);
-    let _four = Term::short_tuple(&counting, four).ok()?;
-    let with_four = counting.requests();
-    let _map = Term::map_of_one(&counting, Term::int(1), Term::int(2)).ok()?;
-    let with_map = counting.requests();
-    let elements = ShortRow::Four([Term::int(1), Term::int(2), Term::int(3), Term::int(4)]);
-    let _list = Term::short_list(&counting, elements).ok()?;
-    Some([
-        with_one,
-        with_two,
-        with_three,
-        with_four,
-        with_map,
-        counting.requests(),
-    ])
+    if is_made(&counting, shortest) {
+        Some(counting.requests())
+    } else {
+        None
+    }
 }
 
 #[test]
 fn the_shortest_tuples_lists_and_maps_take_one_block(rt: HostRuntime) {
-    assert!(rt; requests_of_the_shortest(rt.alloc()) == Some([1, 2, 3, 4, 5, 6]));
+    for shortest in [
+        Shortest::TupleOfOne,
+        Shortest::TupleOfTwo,
+        Shortest::TupleOfThree,
+        Shortest::TupleOfFour,
+        Shortest::MapOfOne,
+        Shortest::ListOfFour,
+    ] {
+        assert!(rt; requests_of(rt.alloc(), shortest) == Some(1));
+    }
 }
