@@ -10,52 +10,60 @@ use part_hash::HashPart;
 use part_order::OrderPart;
 use part_plain::PlainPart;
 use std::alloc::Global;
+use std::process::Abort;
 use std::sync::Wait;
 
 /// The key of the only object of a part; none where it has others.
-fn only_key<P: Part<Global>>(alloc: Global, part: &P) -> Option<u32> {
-    match part.objects(alloc).ok()?.as_slice() {
+fn only_key<R: Abort, P: Part<Global>>(rt: &R, alloc: Global, part: &P) -> Option<u32> {
+    let objects = part.objects(alloc).expect(rt, "the objects");
+    match objects.as_slice() {
         [object] => number(fields(object)?.first()?),
         _ => None,
     }
 }
 
-/// The key of the only object of the part that a gate gives out; none where the part is lost.
-fn key_behind<P: Part<Global> + Drop>(alloc: Global, gate: Gate<P>, pass: Pass<P>) -> Option<u32>
+/// The key of the only object of the part that a gate gives out.
+fn key_behind<R: Abort, P: Part<Global> + Drop>(
+    rt: &R,
+    alloc: Global,
+    gate: Gate<P>,
+    pass: Pass<P>,
+) -> Option<u32>
     requires { pass.gate ≡ gate }
 {
-    only_key(alloc, &gate.close(pass).ok()?)
+    let part = gate.close(pass).expect(rt, "a part that is home");
+    only_key(rt, alloc, &part)
 }
 
-/// Whether an object is put in through a gate.
-fn is_put<R: Wait, P: Part<Global> + Drop>(
+/// Puts an object in through a gate.
+fn put<R: Wait + Abort, P: Part<Global> + Drop>(
     rt: &R,
     alloc: Global,
     gate: &Gate<P>,
     pass: &mut Pass<P>,
-) -> bool
+)
     requires { pass.old.gate ≡ gate.now }
+    ensures { pass.new.gate ≡ gate.now }
 {
-    match object(alloc, 7) {
-        Some(object) => gate
-            .turn(rt, pass, &mut PartOp::Insert(Some(object)))
-            .is_ok(),
-        None => false,
-    }
+    let object = object(alloc, 7).expect(rt, "an object");
+    let mut insert = PartOp::Insert(Some(object));
+    let is_put = gate.turn(rt, pass, &mut insert).is_ok();
+    assert!(rt; is_put);
 }
 
 /// A gate, through which its first session puts an object in, is closed with the pass of its second one: the object's
 /// key.
-fn closed<R: Wait, P: Part<Global> + Drop>(rt: &R, alloc: Global, kind: TableKind) -> Option<u32> {
-    let part = P::make(alloc, kind, 1, 1, 2).ok()?;
-    let (gate, mut passes) = Gate::new(alloc, part, 2).ok()?;
-    let second = passes.pop()?;
-    let mut first = passes.pop()?;
-    if is_put(rt, alloc, &gate, &mut first) {
-        key_behind(alloc, gate, second)
-    } else {
-        None
-    }
+fn closed<R: Wait + Abort, P: Part<Global> + Drop>(
+    rt: &R,
+    alloc: Global,
+    kind: TableKind,
+) -> Option<u32> {
+    let part = P::make(alloc, kind, 1, 1, 2).expect(rt, "a part");
+    let (gate, mut passes) = Gate::new(alloc, part, 2).expect(rt, "a gate");
+    let second = passes.pop().expect(rt, "a pass");
+    let mut first = passes.pop().expect(rt, "another pass");
+    put(rt, alloc, &gate, &mut first);
+    key_behind(rt, alloc, gate, second)
 }
 
 #[test]

@@ -5,7 +5,8 @@
 //!
 //! - `objects`: what is put in, and queries. `pairs`: two sessions of a table.
 //! - `closing`: a gate by itself.
-//! - `steps`: what sessions do, one on a thread behind the other and side by side.
+//! - `acts`: what a session does where there is memory; `steps`: what sessions do so, one on a thread behind the other
+//!   and side by side.
 //! - `watching`: parts that look for each other, so that their turns must be made at the same time. `waiting`: a
 //!   session that waits for a part until it is put back.
 //! - `walking`: a walk whose table another session empties meanwhile, and a visit out of place.
@@ -15,6 +16,8 @@
 //!   put in one after the other; `leaks`, what is let go in the middle of its life; `selecting`, a whole walk.
 #![tactic(auto)]
 
+#[cfg(test)]
+mod acts;
 #[cfg(test)]
 mod closing;
 #[cfg(test)]

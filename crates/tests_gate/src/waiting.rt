@@ -1,14 +1,14 @@
 //! A session that waits for a part which another has taken out, and is woken when it is put back.
-ghost use Rattle.std.specs.Prelude.{◌≡◌, IfSome, All, []};
+ghost use Rattle.std.specs.Prelude.{◌≡◌, All, []};
 ghost use Rattle.tables.specs.Options.{settings_of};
 ghost use Rattle.tables.specs.Sessions.{IsOpened};
 
-use crate::pairs::last_two;
-use crate::watching::{Watching, asked, part_that_watches};
+use crate::watching::{Watching, asked, flag, next_part, opened_over, part_that_watches};
 use kit_members::is_raised;
 use part_core::{Part, TableKind};
 use part_plain::PlainPart;
 use std::alloc::Global;
+use std::process::Abort;
 use std::sync::atomic::{AtomicBool, Ordering};
 use std::sync::{Arc, Wait};
 use std::thread::{Threads, join};
@@ -24,18 +24,19 @@ const OPTIONS: Options = Options {
 };
 
 /// One part, which says when it is out, and keeps its session until it is wanted, and for a while.
-fn kept_part<P: Part<Global> + Drop>(
+fn kept_part<R: Abort, P: Part<Global> + Drop>(
+    rt: &R,
     alloc: Global,
     options: Options,
     is_out: &Arc<AtomicBool>,
     is_wanted: &Arc<AtomicBool>,
-) -> Option<Vec<Watching<P>>>
-    ensures { IfSome result (λ parts. All (λ w. (P.settings w.part ≡ settings_of options) × P.is_after w.part []) parts.items) }
+) -> Vec<Watching<P>>
+    ensures { All (λ w. (P.settings w.part ≡ settings_of options) × P.is_after w.part []) result.items }
 {
     let mut parts = Vec::new(alloc);
-    let part = part_that_watches(alloc, options, is_out, is_wanted, true)?;
-    parts.push(part).ok()?;
-    Some(parts)
+    let part = part_that_watches(rt, alloc, options, is_out, is_wanted, true);
+    parts.push(part).ok().expect(rt, "room for a part");
+    parts
 }
 
 /// A session asks for a key; when it has the part out, the other says that it wants it, and asks, too. The other comes
@@ -75,20 +76,17 @@ fn asked_while_out<R: Threads + Wait + Sync, P: Part<Global> + Drop + Send>(
 }
 
 /// Whether a session got a part for which it waited, and the other saw that it was wanted.
-fn is_woken<R: Threads + Wait + Sync, P: Part<Global> + Drop + Send>(
+fn is_woken<R: Threads + Wait + Abort + Sync, P: Part<Global> + Drop + Send>(
     rt: &R,
     alloc: Global,
 ) -> Option<bool> {
-    let is_out = Arc::new(alloc, AtomicBool::new(false)).ok()?;
-    let is_wanted = Arc::new(alloc, AtomicBool::new(false)).ok()?;
-    let parts = kept_part::<P>(alloc, OPTIONS, &is_out, &is_wanted)?;
-    let Ok((table, sessions)) = Table::over(alloc, OPTIONS, parts) else {
-        return None;
-    };
-    let (first, second) = last_two(&table, sessions)?;
+    let is_out = flag(rt, alloc);
+    let is_wanted = flag(rt, alloc);
+    let parts = kept_part::<R, P>(rt, alloc, OPTIONS, &is_out, &is_wanted);
+    let (table, first, second) = opened_over(rt, alloc, OPTIONS, parts);
     let second = asked_while_out(rt, &table, first, second, &is_out, &is_wanted);
     let mut closed = table.close(second);
-    closed.next_part()?.ok()?.has_met
+    next_part(rt, &mut closed).has_met
 }
 
 #[test]

@@ -1,23 +1,27 @@
 //! A walk whose table another session empties meanwhile, on a thread of its own; and a visit out of place.
-ghost use Rattle.std.specs.Prelude.{◌≡◌, ◌<◌, IfSome};
+ghost use Rattle.std.specs.Prelude.{◌≡◌, ◌<◌};
 ghost use Rattle.tables.specs.Sessions.{IsOpened};
 
-use crate::objects::{object, query_of};
+use crate::acts::{Act, Keys, acted};
+use crate::objects::query_of;
 use crate::pairs::opened;
 use kit_rows::number;
 use part_core::{Cursor, Fault, Look, Part, PartOp, Scope, TableKind};
 use part_hash::HashPart;
 use std::alloc::Global;
+use std::process::Abort;
 use std::sync::Wait;
 use std::thread::{Threads, join};
-use tables::{Options, Session, Table, Turns, delete, fix, insert};
+use tables::{Options, Session, Table, Turns};
 use term_core::Term;
 use walks::{Continuation, Query, Step, select_limit, select_more};
 
-/// How many keys there are.
-const KEYS: u32 = 1_000;
-/// How far they are apart, so that all stand in one slot however many slots there are.
-const APART: u32 = 65_536;
+/// Keys that are so far apart that all stand in one slot however many slots there are.
+const KEYS: Keys = Keys {
+    first: 0,
+    apart: 65_536,
+    count: 1_000,
+};
 
 /// What a set of one part is opened with.
 const OPTIONS: Options = Options {
@@ -28,57 +32,10 @@ const OPTIONS: Options = Options {
     sessions: 2,
 };
 
-/// A key.
-fn key(place: u32) -> i64 {
-    i64::from(place.saturating_mul(APART))
-}
-
-/// Puts the object of each key in.
-fn put_all<T: Turns<Global>>(alloc: Global, turns: &mut T) -> Option<()>
-    requires { T.is_ready turns.old }
-    ensures ready { T.is_ready turns.new }
-    ensures same { T.home turns.new ≡ T.home turns.old }
-{
-    for place in 0..KEYS {
-        insert(turns, object(alloc, key(place))?).ok()?;
-    }
-    Some(())
-}
-
-/// Deletes the key of a place.
-fn delete_at<T: Turns<Global>>(turns: &mut T, place: u32)
-    requires { T.is_ready turns.old }
-    ensures ready { T.is_ready turns.new }
-    ensures same { T.home turns.new ≡ T.home turns.old }
-{
-    let key = Term::int(key(place));
-    delete(turns, &key);
-}
-
-/// Deletes all keys.
-fn delete_all<T: Turns<Global>>(turns: &mut T)
-    requires { T.is_ready turns.old }
-    ensures ready { T.is_ready turns.new }
-    ensures same { T.home turns.new ≡ T.home turns.old }
-{
-    for place in 0..KEYS {
-        delete_at(turns, place);
-    }
-}
-
-/// A session deletes all keys and leaves.
-fn deleted_and_left<R: Wait, P: Part<Global> + Drop>(rt: &R, table: &Table<P>, session: Session<P>)
-    requires { IsOpened table.now.options table.now.gates.items session.number session.passes.items }
-{
-    let mut session = session;
-    let mut at = table.at(rt, &mut session);
-    delete_all(&mut at);
-    table.leave(rt, session);
-}
-
-/// It does so on a thread of its own, which is joined.
-fn deleted_on_a_thread<R: Threads + Wait + Sync, P: Part<Global> + Drop + Send>(
+/// A session deletes all keys and leaves, on a thread of its own, which is joined.
+fn deleted_on_a_thread<R: Threads + Wait + Abort + Sync, P: Part<Global> + Drop + Send>(
     rt: &R,
+    alloc: Global,
     table: &Table<P>,
     session: Session<P>,
 )
@@ -88,81 +45,102 @@ fn deleted_on_a_thread<R: Threads + Wait + Sync, P: Part<Global> + Drop + Send>(
         rt,
         ||
             requires { IsOpened table.now.options table.now.gates.items session.number session.passes.items }
-        { deleted_and_left(rt, table, session) },
+        {
+            let session = acted(rt, alloc, table, session, Act::Delete(KEYS), 0);
+            table.leave(rt, session);
+        },
         || {},
     );
 }
 
 /// The query of all keys.
-fn keys_query(alloc: Global) -> Option<Query> {
-    query_of(alloc, b"[{{'$1'},[],['$1']}].")
+fn keys_query<R: Abort>(rt: &R, alloc: Global) -> Query {
+    query_of(alloc, b"[{{'$1'},[],['$1']}].").expect(rt, "a query")
 }
 
 /// Whether a piece is one key, that of this place.
 fn is_piece(piece: &[Term], place: u32) -> bool {
     match piece {
-        [answer] => number(answer) == Some(place.saturating_mul(APART)),
+        [answer] => number(answer) == Some(KEYS.at(place)),
         _ => false,
     }
 }
 
-/// Puts all keys in, fixes the table, and gives out the first piece of a walk.
-fn begun<T: Turns<Global>>(alloc: Global, turns: &mut T) -> Option<Continuation>
-    requires { T.is_ready turns.old }
-    ensures ready { T.is_ready turns.new }
-    ensures same { T.home turns.new ≡ T.home turns.old }
-{
-    put_all(alloc, turns)?;
-    fix(turns).ok()?;
-    match select_limit(alloc, turns, keys_query(alloc)?, 1).ok()? {
+/// The walk behind a piece, which has to be the key of this place; none where the walk is over.
+fn walk_behind<R: Abort>(rt: &R, step: Step, place: u32) -> Option<Continuation> {
+    match step {
         Step::Piece(piece, walk) => {
-            if is_piece(piece.as_slice(), 0) {
-                Some(walk)
-            } else {
-                None
-            }
+            assert!(rt; is_piece(piece.as_slice(), place));
+            Some(walk)
         }
         Step::End(_query) => None,
     }
 }
 
-/// How many further pieces are the keys that follow, one each, before the walk ends.
-fn gone_on<T: Turns<Global>>(alloc: Global, turns: &mut T, walk: Continuation) -> Option<u32>
+/// The walk behind its first piece.
+fn begun<R: Abort, T: Turns<Global>>(rt: &R, alloc: Global, turns: &mut T) -> Continuation
     requires { T.is_ready turns.old }
     ensures ready { T.is_ready turns.new }
     ensures same { T.home turns.new ≡ T.home turns.old }
 {
-    let mut step = select_more(alloc, turns, walk).ok()?;
-    for place in 1..KEYS + 1 {
-        match step {
-            Step::Piece(piece, walk) => {
-                if !is_piece(piece.as_slice(), place) {
-                    return None;
-                }
-                step = select_more(alloc, turns, walk).ok()?;
-            }
-            Step::End(_query) => return Some(place - 1),
+    let query = keys_query(rt, alloc);
+    let step = select_limit(alloc, turns, query, 1).ok();
+    walk_behind(rt, step.expect(rt, "a step"), 0).expect(rt, "a piece")
+}
+
+/// The walk behind its next piece.
+fn next_walk<R: Abort, T: Turns<Global>>(
+    rt: &R,
+    alloc: Global,
+    turns: &mut T,
+    walk: Continuation,
+    place: u32,
+) -> Option<Continuation>
+    requires { T.is_ready turns.old }
+    ensures ready { T.is_ready turns.new }
+    ensures same { T.home turns.new ≡ T.home turns.old }
+{
+    let step = select_more(alloc, turns, walk).ok();
+    walk_behind(rt, step.expect(rt, "a step"), place)
+}
+
+/// How many further pieces are the keys that follow, one each, before the walk ends; none where it doesn't.
+fn gone_on<R: Abort, T: Turns<Global>>(
+    rt: &R,
+    alloc: Global,
+    turns: &mut T,
+    walk: Continuation,
+) -> Option<u32>
+    requires { T.is_ready turns.old }
+    ensures ready { T.is_ready turns.new }
+    ensures same { T.home turns.new ≡ T.home turns.old }
+{
+    let mut walk = walk;
+    for place in 1..KEYS.count + 1 {
+        match next_walk(rt, alloc, turns, walk, place) {
+            Some(next) => walk = next,
+            None => return Some(place - 1),
         }
     }
     None
 }
 
 /// The first piece, at a session of a table.
-fn begun_at<R: Wait, P: Part<Global> + Drop>(
+fn begun_at<R: Wait + Abort, P: Part<Global> + Drop>(
     rt: &R,
     alloc: Global,
     table: &Table<P>,
     session: &mut Session<P>,
-) -> Option<Continuation>
+) -> Continuation
     requires { IsOpened table.now.options table.now.gates.items session.old.number session.old.passes.items }
     ensures { IsOpened table.now.options table.now.gates.items session.new.number session.new.passes.items }
 {
     let mut at = table.at(rt, session);
-    begun(alloc, &mut at)
+    begun(rt, alloc, &mut at)
 }
 
 /// The other pieces, there.
-fn gone_on_at<R: Wait, P: Part<Global> + Drop>(
+fn gone_on_at<R: Wait + Abort, P: Part<Global> + Drop>(
     rt: &R,
     alloc: Global,
     table: &Table<P>,
@@ -173,17 +151,19 @@ fn gone_on_at<R: Wait, P: Part<Global> + Drop>(
     ensures { IsOpened table.now.options table.now.gates.items session.new.number session.new.passes.items }
 {
     let mut at = table.at(rt, session);
-    gone_on(alloc, &mut at, walk)
+    gone_on(rt, alloc, &mut at, walk)
 }
 
-/// How many pieces follow the first where another session deletes all keys meanwhile.
-fn outlasting<R: Threads + Wait + Sync, P: Part<Global> + Drop + Send>(
+/// How many pieces follow the first where another session deletes all keys meanwhile; the walking session fixes.
+fn outlasting<R: Threads + Wait + Abort + Sync, P: Part<Global> + Drop + Send>(
     rt: &R,
     alloc: Global,
 ) -> Option<u32> {
-    let (table, mut walker, writer) = opened::<Global, P>(alloc, OPTIONS)?;
-    let walk = begun_at(rt, alloc, &table, &mut walker)?;
-    deleted_on_a_thread(rt, &table, writer);
+    let (table, walker, writer) = opened::<Global, P>(alloc, OPTIONS).expect(rt, "a table");
+    let walker = acted(rt, alloc, &table, walker, Act::Put(KEYS), 0);
+    let mut walker = acted(rt, alloc, &table, walker, Act::Fix, 0);
+    let walk = begun_at(rt, alloc, &table, &mut walker);
+    deleted_on_a_thread(rt, alloc, &table, writer);
     gone_on_at(rt, alloc, &table, &mut walker, walk)
 }
 
@@ -207,12 +187,12 @@ fn is_refused<'q, T: Turns<Global>>(turns: &mut T, query: &'q Query, scope: Scop
 }
 
 /// Whether a visit of class 8 of 8 is, at a session of a table.
-fn is_refused_at<R: Wait, P: Part<Global> + Drop>(rt: &R, alloc: Global) -> Option<bool> {
-    let query = keys_query(alloc)?;
+fn is_refused_at<R: Wait + Abort, P: Part<Global> + Drop>(rt: &R, alloc: Global) -> bool {
+    let query = keys_query(rt, alloc);
     let cursor = Cursor::Class { base: 8, class: 8 };
-    let (table, mut session, _other) = opened::<Global, P>(alloc, OPTIONS)?;
+    let (table, mut session, _other) = opened::<Global, P>(alloc, OPTIONS).expect(rt, "a table");
     let mut at = table.at(rt, &mut session);
-    Some(is_refused(&mut at, &query, Scope::After(&cursor)))
+    is_refused(&mut at, &query, Scope::After(&cursor))
 }
 
 #[test]
@@ -222,5 +202,5 @@ fn a_walk_outlasts_a_writer_on_a_thread_of_its_own(rt: HostRuntime) {
 
 #[test]
 fn a_visit_of_a_class_that_is_not_there_is_refused(rt: HostRuntime) {
-    assert!(rt; is_refused_at::<_, HashPart<Global>>(&rt, rt.alloc()) == Some(true));
+    assert!(rt; is_refused_at::<_, HashPart<Global>>(&rt, rt.alloc()));
 }

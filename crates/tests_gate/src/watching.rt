@@ -1,15 +1,17 @@
 //! Parts that look for each other: two sessions turn two parts at the same time.
-ghost use Rattle.std.specs.Prelude.{◌≡◌, IfSome, All, []};
+ghost use Rattle.std.specs.Prelude.{◌≡◌, All, []};
 ghost use Rattle.part_core.specs.Acts.{Entry as PastEntry, IsAsked};
 ghost use Rattle.part_core.specs.Legal.{fix_count, state_after};
 ghost use Rattle.tables.specs.Options.{settings_of};
 ghost use Rattle.tables.specs.Sessions.{IsOpened};
 
 use crate::pairs::last_two;
+use gate::Closed;
 use kit_members::is_raised;
 use part_core::{Fault, OpenFault, Part, PartOp, Reply, TableKind};
 use part_plain::PlainPart;
 use std::alloc::{AllocError, Global};
+use std::process::Abort;
 use std::sync::atomic::{AtomicBool, Ordering};
 use std::sync::{Arc, Wait};
 use std::thread::{Threads, join};
@@ -72,15 +74,21 @@ impl<P: Part<Global> + Drop> Part<Global> for Watching<P> {
     }
 }
 
+/// A flag that is not up.
+pub(crate) fn flag<R: Abort>(rt: &R, alloc: Global) -> Arc<AtomicBool> {
+    Arc::new(alloc, AtomicBool::new(false)).expect(rt, "a flag")
+}
+
 /// A part that watches another, in its opening state.
-pub(crate) fn part_that_watches<P: Part<Global> + Drop>(
+pub(crate) fn part_that_watches<R: Abort, P: Part<Global> + Drop>(
+    rt: &R,
     alloc: Global,
     options: Options,
     mine: &Arc<AtomicBool>,
     others: &Arc<AtomicBool>,
     lingers: bool,
-) -> Option<Watching<P>>
-    ensures { IfSome result (λ w. (P.settings w.part ≡ settings_of options) × P.is_after w.part []) }
+) -> Watching<P>
+    ensures { (P.settings result.part ≡ settings_of options) × P.is_after result.part [] }
 {
     let part = P::make(
         alloc,
@@ -88,32 +96,61 @@ pub(crate) fn part_that_watches<P: Part<Global> + Drop>(
         options.keypos,
         options.parts,
         options.sessions,
-    )
-    .ok()?;
-    Some(Watching {
-        part,
-        mine: mine.clone().ok()?,
-        others: others.clone().ok()?,
+    );
+    Watching {
+        part: part.expect(rt, "a part"),
+        mine: mine.clone().expect(rt, "its flag"),
+        others: others.clone().expect(rt, "the other's flag"),
         lingers,
         has_met: None,
-    })
+    }
 }
 
 /// Two parts that watch each other.
-fn watching_parts<P: Part<Global> + Drop>(
+fn watching_parts<R: Abort, P: Part<Global> + Drop>(
+    rt: &R,
     alloc: Global,
     options: Options,
-) -> Option<Vec<Watching<P>>>
-    ensures { IfSome result (λ parts. All (λ w. (P.settings w.part ≡ settings_of options) × P.is_after w.part []) parts.items) }
+) -> Vec<Watching<P>>
+    ensures { All (λ w. (P.settings w.part ≡ settings_of options) × P.is_after w.part []) result.items }
 {
-    let one = Arc::new(alloc, AtomicBool::new(false)).ok()?;
-    let other = Arc::new(alloc, AtomicBool::new(false)).ok()?;
+    let one = flag(rt, alloc);
+    let other = flag(rt, alloc);
     let mut parts = Vec::new(alloc);
-    let first = part_that_watches(alloc, options, &one, &other, false)?;
-    parts.push(first).ok()?;
-    let second = part_that_watches(alloc, options, &other, &one, false)?;
-    parts.push(second).ok()?;
-    Some(parts)
+    let first = part_that_watches(rt, alloc, options, &one, &other, false);
+    parts.push(first).ok().expect(rt, "room for a part");
+    let second = part_that_watches(rt, alloc, options, &other, &one, false);
+    parts.push(second).ok().expect(rt, "room for another");
+    parts
+}
+
+/// A table over such parts, and its last two sessions.
+pub(crate) fn opened_over<R: Abort, P: Part<Global> + Drop>(
+    rt: &R,
+    alloc: Global,
+    options: Options,
+    parts: Vec<Watching<P>>,
+) -> (
+    Table<Watching<P>>,
+    Session<Watching<P>>,
+    Session<Watching<P>>,
+)
+    requires { All (λ w. (P.settings w.part ≡ settings_of options) × P.is_after w.part []) parts.items }
+    ensures first { IsOpened result.0.options result.0.gates.items result.1.number result.1.passes.items }
+    ensures second { IsOpened result.0.options result.0.gates.items result.2.number result.2.passes.items }
+{
+    let (table, sessions) = Table::over(alloc, options, parts).expect(rt, "a table");
+    let (first, second) = last_two(&table, sessions).expect(rt, "two sessions");
+    (table, first, second)
+}
+
+/// The part that comes out next.
+pub(crate) fn next_part<R: Abort, P: Part<Global> + Drop>(
+    rt: &R,
+    closed: &mut Closed<Watching<P>>,
+) -> Watching<P> {
+    let part = closed.next_part().expect(rt, "a part");
+    part.expect(rt, "a part that is home")
 }
 
 /// Asks for a key.
@@ -172,10 +209,10 @@ fn both_asked<R: Threads + Wait + Sync, P: Part<Global> + Drop + Send>(
 }
 
 /// Whether each of two parts met the other, where two sessions turned them.
-fn have_met<R: Threads + Wait + Sync, P: Part<Global> + Drop + Send>(
+fn have_met<R: Threads + Wait + Abort + Sync, P: Part<Global> + Drop + Send>(
     rt: &R,
     alloc: Global,
-) -> Option<[bool; 2]> {
+) -> [Option<bool>; 2] {
     let options = Options {
         name: 1,
         kind: TableKind::Set,
@@ -183,23 +220,20 @@ fn have_met<R: Threads + Wait + Sync, P: Part<Global> + Drop + Send>(
         parts: 2,
         sessions: 2,
     };
-    let parts = watching_parts::<P>(alloc, options)?;
-    let Ok((table, sessions)) = Table::over(alloc, options, parts) else {
-        return None;
-    };
-    let (first, second) = last_two(&table, sessions)?;
+    let parts = watching_parts::<R, P>(rt, alloc, options);
+    let (table, first, second) = opened_over(rt, alloc, options, parts);
     let Table { options, gates } = table;
     let table = Table { options, gates };
     let first = made_anew(first);
     let second = made_anew(second);
     let second = both_asked(rt, &table, first, second);
     let mut closed = table.close(second);
-    let last = closed.next_part()?.ok()?;
-    let first = closed.next_part()?.ok()?;
-    Some([last.has_met?, first.has_met?])
+    let last = next_part(rt, &mut closed);
+    let first = next_part(rt, &mut closed);
+    [last.has_met, first.has_met]
 }
 
 #[test]
 fn two_parts_are_turned_at_the_same_time(rt: HostRuntime) {
-    assert!(rt; have_met::<_, PlainPart<Global>>(&rt, rt.alloc()) == Some([true, true]));
+    assert!(rt; have_met::<_, PlainPart<Global>>(&rt, rt.alloc()) == [Some(true), Some(true)]);
 }

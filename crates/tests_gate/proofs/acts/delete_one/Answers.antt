@@ -1,4 +1,4 @@
-use Rattle.tests_gate.proofs.walking.delete_at.Goals as goal
+use Rattle.tests_gate.proofs.acts.delete_one.Goals as goal
 
 pub delete-requires : goal.delete-requires
 delete-requires g c = c.requires

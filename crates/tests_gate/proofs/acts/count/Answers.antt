@@ -1,4 +1,4 @@
-use Rattle.tests_gate.proofs.steps.count_at.Goals as goal
+use Rattle.tests_gate.proofs.acts.count.Goals as goal
 
 pub lookup-requires : goal.lookup-requires
 lookup-requires g c = c.requires

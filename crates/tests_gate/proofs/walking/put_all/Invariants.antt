@@ -1,6 +1,0 @@
-use Rattle.std.proofs.Common.{◌≡◌}
-use Rattle.tests_gate.proofs.walking.put_all.Given as goal
-
-abbrev pub invariant-loop-place : goal.invariant-loop-place
-invariant-loop-place g l =
-    g.T.Turns.is_ready l.turns × (g.T.Turns.home l.turns ≡ g.T.Turns.home l.initial.turns)
