@@ -22,8 +22,11 @@ const ALL: &str = "[{{'$1','_'},[{'=<',{{0}},{{'$1'}}}],[true]}].";
 const NAMED: &str = "[{{32,'$1'},[{'=<',{{0}},{{'$1'}}}],[true]},{{5,'_'},[],[true]},
     {{1,'$1'},[{'=<',{{0}},{{'$1'}}}],[true]},{{0,'$1'},[{'=<',{{0}},{{'$1'}}}],[true]}].";
 
+/// Each object answers true, by a tuple that is made of its only element.
+const EACH: &str = "[{{'$1'},[{'=<',{{0}},{{'$1'}}}],[true]}].";
+
 /// The session fixes one of two parts, or none.
-const TRIALS: [Trial; 3] = [
+const TRIALS: [Trial; 6] = [
     Trial {
         play: Play {
             kind: TableKind::Set,
@@ -56,6 +59,39 @@ const TRIALS: [Trial; 3] = [
         },
         act: Act::Delete("0++++++ "),
         wanted: "6------ ",
+    },
+    Trial {
+        play: Play {
+            kind: TableKind::Set,
+            parts: 1,
+            objects: "{1}. {2}. {3}. {4}. {5}.",
+            specification: EACH,
+            fixed: 1,
+        },
+        act: Act::Delete("0+++++ 1-++++ 2--+++ 3---++ 4----+ "),
+        wanted: "5----- ",
+    },
+    Trial {
+        play: Play {
+            kind: TableKind::Bag,
+            parts: 1,
+            objects: "{1}. {9}. {17}.",
+            specification: EACH,
+            fixed: 0,
+        },
+        act: Act::Delete("0+++ "),
+        wanted: "3--- ",
+    },
+    Trial {
+        play: Play {
+            kind: TableKind::Set,
+            parts: 2,
+            objects: "{1}. {2}. {3}. {4}.",
+            specification: EACH,
+            fixed: 2,
+        },
+        act: Act::Delete("0++++ 1+-++ 2+-+- 3--+- "),
+        wanted: "4---- ",
     },
 ];
 

@@ -6,10 +6,11 @@ ghost use Rattle.parallel_select.specs.Workers.{AreOfOneTable};
 
 use crate::seats::Seat;
 use kit_members::opened;
-use kit_rows::{digits, listed, numbered, word};
+use kit_rows::{digits, listed, numbered};
 use parallel_select::{count_parts, delete_parts, select_parts};
 use part_core::{Part, TableKind};
 use std::alloc::{Allocator, Global};
+use std::process::Abort;
 use std::sync::Wait;
 use std::sync::atomic::AtomicBool;
 use std::thread::Threads;
@@ -80,14 +81,14 @@ fn was_alone<T>(members: &[Seat<'_, T>]) -> bool {
 }
 
 /// Gives a session of a table a seat behind others.
-fn seat_one<'t, 'f, R: Wait, P: Part<Global> + Drop>(
+fn seat_one<'t, 'f, R: Wait + Abort, P: Part<Global> + Drop>(
     rt: &'t R,
     table: &'t Table<P>,
     session: &'t mut Session<P>,
     flag: &'f AtomicBool,
     waits: bool,
     seats: &mut Vec<Seat<'f, At<'t, P, Global, R>>>,
-) -> Option<()>
+)
     requires opened { IsOpened table.now.options table.now.gates.items session.old.number session.old.passes.items }
     requires seated { All (λ s. (s.turns.table.now ≡ table.now) × IsOpened s.turns.table.now.options s.turns.table.now.gates.items s.turns.session.now.number s.turns.session.now.passes.items) seats.old.items }
     ensures { All (λ s. (s.turns.table.now ≡ table.now) × IsOpened s.turns.table.now.options s.turns.table.now.gates.items s.turns.session.now.number s.turns.session.now.passes.items) seats.new.items }
@@ -98,18 +99,18 @@ fn seat_one<'t, 'f, R: Wait, P: Part<Global> + Drop>(
         waits,
         is_alone: false,
     };
-    seats.push(seat).ok()
+    seats.push(seat).ok().expect(rt, "room for a seat");
 }
 
 /// Gives sessions of a table seats behind others; that of the place `waiter` waits.
-fn seat_all<'t, 'f, R: Wait, P: Part<Global> + Drop>(
+fn seat_all<'t, 'f, R: Wait + Abort, P: Part<Global> + Drop>(
     rt: &'t R,
     table: &'t Table<P>,
     sessions: &'t mut [Session<P>],
     flag: &'f AtomicBool,
     waiter: Option<usize>,
     seats: &mut Vec<Seat<'f, At<'t, P, Global, R>>>,
-) -> Option<()>
+)
     requires opened { All (λ s. IsOpened table.now.options table.now.gates.items s.number s.passes.items) sessions.old }
     requires seated { All (λ s. (s.turns.table.now ≡ table.now) × IsOpened s.turns.table.now.options s.turns.table.now.gates.items s.turns.session.now.number s.turns.session.now.passes.items) seats.old.items }
     ensures { All (λ s. (s.turns.table.now ≡ table.now) × IsOpened s.turns.table.now.options s.turns.table.now.gates.items s.turns.session.now.number s.turns.session.now.passes.items) seats.new.items }
@@ -117,15 +118,15 @@ fn seat_all<'t, 'f, R: Wait, P: Part<Global> + Drop>(
     match sessions.split_first_mut() {
         Some((first, rest)) => {
             let waits = waiter == Some(seats.len());
-            seat_one(rt, table, first, flag, waits, seats)?;
-            seat_all(rt, table, rest, flag, waiter, seats)
+            seat_one(rt, table, first, flag, waits, seats);
+            seat_all(rt, table, rest, flag, waiter, seats);
         }
-        None => Some(()),
+        None => {}
     }
 }
 
-/// What comes of a call of sessions of a table, or a word where one waited in vain.
-fn called_at<R: Threads + Wait + Sync, P: Part<Global> + Drop + Send>(
+/// What comes of a call of sessions of a table, none of which may wait in vain.
+fn called_at<R: Threads + Wait + Abort + Sync, P: Part<Global> + Drop + Send>(
     rt: &R,
     alloc: Global,
     table: &Table<P>,
@@ -138,12 +139,10 @@ fn called_at<R: Threads + Wait + Sync, P: Part<Global> + Drop + Send>(
 {
     let flag = AtomicBool::new(false);
     let mut seats = Vec::new(alloc);
-    seat_all(rt, table, sessions, &flag, waiter, &mut seats)?;
-    let came = called(rt, alloc, seats.as_mut_slice(), query, call)?;
-    if was_alone(seats.as_slice()) {
-        return word(alloc, "alone");
-    }
-    Some(came)
+    seat_all(rt, table, sessions, &flag, waiter, &mut seats);
+    let came = called(rt, alloc, seats.as_mut_slice(), query, call);
+    assert!(rt; !was_alone(seats.as_slice()));
+    came
 }
 
 /// Sessions of a table, and one more behind them.
@@ -176,7 +175,7 @@ pub(crate) fn set_with_objects<R: Wait, A: Allocator + Copy, P: Part<A> + Drop>(
 
 /// What comes of a call by so many members at a table with objects, the member of the place `waiter` waiting for
 /// another.
-pub(crate) fn asked<P: Part<Global> + Drop + Send, R: Threads + Wait + Sync>(
+pub(crate) fn asked<P: Part<Global> + Drop + Send, R: Threads + Wait + Abort + Sync>(
     rt: &R,
     alloc: Global,
     members: u8,
@@ -185,113 +184,90 @@ pub(crate) fn asked<P: Part<Global> + Drop + Send, R: Threads + Wait + Sync>(
     query: &Query,
     call: Call,
 ) -> Option<Vec<u8>> {
-    let objects = read_terms(alloc, objects.as_bytes()).ok()?;
+    let objects = read_terms(alloc, objects.as_bytes()).expect(rt, "the objects");
     let options = options(2, members);
-    let (table, mut sessions) = set_with_objects::<R, Global, P>(
-        rt,
-        alloc,
-        options,
-        objects.as_slice(),
-    )?;
-    called_at(
-        rt,
-        alloc,
-        &table,
-        sessions.as_mut_slice(),
-        waiter,
-        query,
-        call,
-    )
+    let objects = objects.as_slice();
+    let opened = set_with_objects::<R, Global, P>(rt, alloc, options, objects);
+    let (table, mut sessions) = opened.expect(rt, "a table");
+    let sessions = sessions.as_mut_slice();
+    called_at(rt, alloc, &table, sessions, waiter, query, call)
 }
 
 /// What comes of a deletion by two members, and of a count by a third behind it.
-pub(crate) fn deleted_and_counted<P: Part<Global> + Drop + Send, R: Threads + Wait + Sync>(
+pub(crate) fn deleted_and_counted<P: Part<Global> + Drop + Send, R: Threads + Wait + Abort + Sync>(
     rt: &R,
     alloc: Global,
     objects: &str,
     query: &Query,
-) -> Option<(Vec<u8>, Vec<u8>)> {
-    let objects = read_terms(alloc, objects.as_bytes()).ok()?;
-    let options = options(2, 3);
-    let (table, mut sessions) = set_with_objects::<R, Global, P>(
-        rt,
-        alloc,
-        options,
-        objects.as_slice(),
-    )?;
-    let (one, others) = sessions.split_first_mut()?;
-    let deleted = called_at(rt, alloc, &table, others, None, query, Call::Delete)?;
-    let counted = called_at(
-        rt,
-        alloc,
-        &table,
-        std::slice::from_mut(one),
-        None,
-        query,
-        Call::Count,
-    )?;
-    Some((deleted, counted))
+) -> (Option<Vec<u8>>, Option<Vec<u8>>) {
+    let objects = read_terms(alloc, objects.as_bytes()).expect(rt, "the objects");
+    let opened = opened::<R, Global, P>(rt, alloc, options(2, 3), objects.as_slice());
+    let (table, mut two, mut third) = opened.expect(rt, "a table");
+    let two = two.as_mut_slice();
+    let deleted = called_at(rt, alloc, &table, two, None, query, Call::Delete);
+    let third = std::slice::from_mut(&mut third);
+    let counted = called_at(rt, alloc, &table, third, None, query, Call::Count);
+    (deleted, counted)
 }
 
 /// So many tables on one thread.
-fn local_tables<P: Part<Global> + Drop>(
+fn local_tables<R: Abort, P: Part<Global> + Drop>(
+    rt: &R,
     alloc: Global,
     options: Options,
     count: usize,
-) -> Option<Vec<LocalTable<P>>>
-    ensures { IfSome result (λ tables. All (λ t. t.options ≡ options) tables.items) }
+) -> Vec<LocalTable<P>>
+    ensures { All (λ t. t.options ≡ options) result.items }
 {
     let mut tables = Vec::new(alloc);
     for place in 0..count {
-        tables.push(LocalTable::open(alloc, options).ok()?).ok()?;
+        let table = LocalTable::open(alloc, options).expect(rt, "a table");
+        tables.push(table).ok().expect(rt, "room for a table");
     }
-    Some(tables)
+    tables
 }
 
-/// Gives the session of a table a seat behind others.
-fn seat_local<'t, 'f, P: Part<Global> + Drop>(
+/// Puts the session of a table behind others.
+fn put_local<'t, R: Abort, P: Part<Global> + Drop>(
+    rt: &R,
     options: Options,
     table: &'t mut LocalTable<P>,
-    flag: &'f AtomicBool,
-    seats: &mut Vec<Seat<'f, LocalAt<'t, P>>>,
-) -> Option<()>
+    members: &mut Vec<LocalAt<'t, P>>,
+)
     requires sessions { 0 < options.sessions }
     requires opened { table.old.options ≡ options }
-    requires seated { All (λ s. (s.turns.table.now.options ≡ options) × (s.turns.number < s.turns.table.now.options.sessions)) seats.old.items }
-    ensures { All (λ s. (s.turns.table.now.options ≡ options) × (s.turns.number < s.turns.table.now.options.sessions)) seats.new.items }
+    requires before { All (λ m. (m.table.now.options ≡ options) × (m.number < m.table.now.options.sessions)) members.old.items }
+    ensures { All (λ m. (m.table.now.options ≡ options) × (m.number < m.table.now.options.sessions)) members.new.items }
 {
-    let seat = Seat {
-        turns: table.at(0),
-        flag,
-        waits: false,
-        is_alone: false,
-    };
-    seats.push(seat).ok()
+    members
+        .push(table.at(0))
+        .ok()
+        .expect(rt, "room for a member");
 }
 
-/// Gives a session of each of these tables a seat behind others.
-fn seat_locals<'t, 'f, P: Part<Global> + Drop>(
+/// Puts a session of each of these tables behind others.
+fn put_locals<'t, R: Abort, P: Part<Global> + Drop>(
+    rt: &R,
     options: Options,
     tables: &'t mut [LocalTable<P>],
-    flag: &'f AtomicBool,
-    seats: &mut Vec<Seat<'f, LocalAt<'t, P>>>,
-) -> Option<()>
+    members: &mut Vec<LocalAt<'t, P>>,
+)
     requires sessions { 0 < options.sessions }
     requires opened { All (λ t. t.options ≡ options) tables.old }
-    requires seated { All (λ s. (s.turns.table.now.options ≡ options) × (s.turns.number < s.turns.table.now.options.sessions)) seats.old.items }
-    ensures { All (λ s. (s.turns.table.now.options ≡ options) × (s.turns.number < s.turns.table.now.options.sessions)) seats.new.items }
+    requires before { All (λ m. (m.table.now.options ≡ options) × (m.number < m.table.now.options.sessions)) members.old.items }
+    ensures { All (λ m. (m.table.now.options ≡ options) × (m.number < m.table.now.options.sessions)) members.new.items }
 {
     match tables.split_first_mut() {
         Some((first, rest)) => {
-            seat_local(options, first, flag, seats)?;
-            seat_locals(options, rest, flag, seats)
+            put_local(rt, options, first, members);
+            put_locals(rt, options, rest, members);
         }
-        None => Some(()),
+        None => {}
     }
 }
 
 /// What comes of a call by so many members, each of a table of its own that is used by one thread.
-pub(crate) fn asked_alone<P: Part<Global> + Drop + Send, R: Threads + Wait + Sync>(
+pub(crate) fn asked_alone<P: Part<Global> + Drop + Send, R: Threads + Wait + Abort + Sync>(
     rt: &R,
     alloc: Global,
     members: usize,
@@ -299,9 +275,8 @@ pub(crate) fn asked_alone<P: Part<Global> + Drop + Send, R: Threads + Wait + Syn
     call: Call,
 ) -> Option<Vec<u8>> {
     let options = options(2, 1);
-    let mut tables = local_tables::<P>(alloc, options, members)?;
-    let flag = AtomicBool::new(false);
+    let mut tables = local_tables::<R, P>(rt, alloc, options, members);
     let mut seats = Vec::new(alloc);
-    seat_locals(options, tables.as_mut_slice(), &flag, &mut seats)?;
+    put_locals(rt, options, tables.as_mut_slice(), &mut seats);
     called(rt, alloc, seats.as_mut_slice(), query, call)
 }

@@ -31,8 +31,23 @@ const LARGE: &str = "[{{'$1','_'},[{'=<',{{16}},{{'$1'}}}],[true]}].";
 const NAMED: &str =
     "[{{32,'$1'},[],['$1']},{{5,'$1'},[],['$1']},{{0,'$1'},[],['$1']},{{32,'_'},[],[again]}].";
 
+/// Each object's key.
+const KEY: &str = "[{{'$1'},[],['$1']}].";
+/// Each object answers true.
+const TRUE: &str = "[{'_',[],[true]}].";
+/// Keys of five classes.
+const FIVE: &str = "{1}. {2}. {3}. {4}. {5}.";
+/// Keys of one class.
+const ALIKE: &str = "{1}. {9}. {17}.";
+/// Keys of two parts.
+const FOUR: &str = "{1}. {2}. {3}. {4}.";
+/// Four keys in each of eight slots.
+const FULL: &str =
+    "{0}. {1}. {2}. {3}. {4}. {5}. {6}. {7}. {8}. {9}. {10}. {11}. {12}. {13}. {14}. {15}.
+    {16}. {17}. {18}. {19}. {20}. {21}. {22}. {23}. {24}. {25}. {26}. {27}. {28}. {29}. {30}. {31}.";
+
 /// The session fixes one of two parts, both, and that of an ordered set, or none.
-const TRIALS: [Trial; 5] = [
+const TRIALS: [Trial; 13] = [
     Trial {
         play: Play {
             kind: TableKind::Set,
@@ -87,6 +102,94 @@ const TRIALS: [Trial; 5] = [
         },
         act: Act::Ask(Call::Count),
         wanted: "3",
+    },
+    Trial {
+        play: Play {
+            kind: TableKind::Set,
+            parts: 1,
+            objects: FIVE,
+            specification: KEY,
+            fixed: 1,
+        },
+        act: Act::Ask(Call::Select),
+        wanted: "[1,2,3,4,5]",
+    },
+    Trial {
+        play: Play {
+            kind: TableKind::Set,
+            parts: 1,
+            objects: FIVE,
+            specification: TRUE,
+            fixed: 1,
+        },
+        act: Act::Ask(Call::Count),
+        wanted: "5",
+    },
+    Trial {
+        play: Play {
+            kind: TableKind::Set,
+            parts: 1,
+            objects: ALIKE,
+            specification: KEY,
+            fixed: 1,
+        },
+        act: Act::Ask(Call::Select),
+        wanted: "[1,9,17]",
+    },
+    Trial {
+        play: Play {
+            kind: TableKind::OrderedSet,
+            parts: 1,
+            objects: "{10}. {20}. {30}.",
+            specification: KEY,
+            fixed: 0,
+        },
+        act: Act::Ask(Call::Select),
+        wanted: "[10,20,30]",
+    },
+    Trial {
+        play: Play {
+            kind: TableKind::OrderedSet,
+            parts: 1,
+            objects: "{10}. {20}. {30}.",
+            specification: TRUE,
+            fixed: 0,
+        },
+        act: Act::Ask(Call::Count),
+        wanted: "3",
+    },
+    Trial {
+        play: Play {
+            kind: TableKind::Set,
+            parts: 2,
+            objects: FOUR,
+            specification: KEY,
+            fixed: 0,
+        },
+        act: Act::Ask(Call::Select),
+        wanted: "[2,4,1,3]",
+    },
+    Trial {
+        play: Play {
+            kind: TableKind::Set,
+            parts: 1,
+            objects: FULL,
+            specification: KEY,
+            fixed: 1,
+        },
+        act: Act::Ask(Call::Select),
+        wanted: "[0,8,16,24,1,9,17,25,2,10,18,26,3,11,19,27,4,12,20,28,5,13,21,29,6,14,22,30,7,15,23,31]",
+    },
+    Trial {
+        play: Play {
+            kind: TableKind::DuplicateBag,
+            parts: 1,
+            objects: FULL,
+            specification: TRUE,
+            fixed: 0,
+        },
+        act: Act::Ask(Call::Count),
+        wanted: "32",
     },
 ];
 

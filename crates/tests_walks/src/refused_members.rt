@@ -24,17 +24,34 @@ use term_core::Term;
 use term_text::read_terms;
 use walks::Query;
 
-/// The objects of the set.
-const OBJECTS: &[u8] = b"{1}. {2}. {3}. {4}. {5}. {6}. {7}. {8}. {9}. {10}.";
-/// How many they are.
-const COUNT: u64 = 10;
-/// Its parts.
-const PARTS: u8 = 8;
+/// A set.
+#[derive(Clone, Copy)]
+struct Set {
+    parts: u8,
+    objects: &'static [u8],
+    /// How many objects there are.
+    count: u64,
+    /// The answers in the order of the table: an integer is in the part of its remainder, and there in the class of its
+    /// quotient.
+    answers: &'static str,
+}
+
+/// Ten objects of eight parts.
+const TEN: Set = Set {
+    parts: 8,
+    objects: b"{1}. {2}. {3}. {4}. {5}. {6}. {7}. {8}. {9}. {10}.",
+    count: 10,
+    answers: "[{8},{1},{9},{2},{10},{3},{4},{5},{6},{7}]",
+};
+/// Four objects of two parts.
+const FOUR: Set = Set {
+    parts: 2,
+    objects: b"{1}. {2}. {3}. {4}.",
+    count: 4,
+    answers: "[{2},{4},{1},{3}]",
+};
 /// Each object's key, in a tuple that is made.
 const KEY: &str = "[{{'$1'},[],[{{'$1'}}]}].";
-/// The answers in the order of the table: an integer is in the part of its remainder, and there in the class of its
-/// quotient.
-const ANSWERS: &str = "[{8},{1},{9},{2},{10},{3},{4},{5},{6},{7}]";
 /// Each object answers true, by a tuple that is made of its key.
 const ALL: &str = "[{{'$1'},[{'=<',{{0}},{{'$1'}}}],[true]}].";
 /// The most requests for memory of a call and its table.
@@ -72,10 +89,10 @@ fn refused(gone: u64, fault: SelectFault) -> Option<Came> {
     }
 }
 
-/// Whether these are the answers.
-fn are_answers<A: Allocator>(alloc: Global, answers: &[Term<A>]) -> bool {
+/// Whether these are the answers of a set.
+fn are_answers<A: Allocator>(alloc: Global, answers: &[Term<A>], set: Set) -> bool {
     match listed(alloc, answers) {
-        Some(text) => text.as_slice() == ANSWERS.as_bytes(),
+        Some(text) => text.as_slice() == set.answers.as_bytes(),
         None => false,
     }
 }
@@ -88,6 +105,7 @@ fn called<R: Threads + Wait + Sync, A: Allocator + Copy + Send + Sync, T: Turns<
     members: &mut [T],
     query: &Query<A>,
     call: Call,
+    set: Set,
     before: u64,
 ) -> Option<Came>
     requires ready { All T.is_ready members.old }
@@ -97,15 +115,15 @@ fn called<R: Threads + Wait + Sync, A: Allocator + Copy + Send + Sync, T: Turns<
 {
     match call {
         Call::Select => match select_parts(rt, heap, members, query) {
-            Ok(answers) => answered(0, are_answers(alloc, answers.as_slice())),
+            Ok(answers) => answered(0, are_answers(alloc, answers.as_slice(), set)),
             Err(fault) => refused(0, fault),
         },
         Call::Count => match count_parts(rt, members, query) {
-            Ok(count) => answered(0, count == COUNT),
+            Ok(count) => answered(0, count == set.count),
             Err(fault) => refused(0, fault),
         },
         Call::Delete => match delete_parts(rt, members, query) {
-            Ok(count) => answered(count, count.saturating_add(before) == COUNT),
+            Ok(count) => answered(count, count.saturating_add(before) == set.count),
             Err(stopped) => refused(stopped.value, stopped.fault),
         },
     }
@@ -155,6 +173,7 @@ fn called_and_released<
     query: &Query<A>,
     objects: &[Term<A>],
     call: Call,
+    set: Set,
     before: u64,
 ) -> Option<Came>
     requires ready { All T.is_ready members.old }
@@ -162,7 +181,7 @@ fn called_and_released<
     ensures ready { All T.is_ready members.new }
     ensures same { map T.home members.new ≡ map T.home members.old }
 {
-    let came = called(rt, alloc, heap, members, query, call, before)?;
+    let came = called(rt, alloc, heap, members, query, call, set, before)?;
     watch.ended(came.is_refused);
     watch.sees(fix_nothing::<A, T>(members));
     let gone = gone(alloc, members, objects)?;
@@ -180,17 +199,20 @@ fn is_right_again<R: Threads + Wait + Sync, A: Allocator + Copy + Send + Sync, T
     query: &Query<A>,
     objects: &[Term<A>],
     call: Call,
+    set: Set,
 ) -> Option<bool>
     requires ready { All T.is_ready members.old }
     requires table { AreOfOneTable (map T.home members.old) }
 {
-    let first = called_and_released(rt, alloc, heap, watch, members, query, objects, call, 0)?;
+    let first = called_and_released(
+        rt, alloc, heap, watch, members, query, objects, call, set, 0,
+    )?;
     if !first.is_refused {
         return Some(watch.is_right() && first.is_whole);
     }
     let before = first.gone;
     let second = called_and_released(
-        rt, alloc, heap, watch, members, query, objects, call, before,
+        rt, alloc, heap, watch, members, query, objects, call, set, before,
     )?;
     if second.is_refused {
         return Some(watch.stops());
@@ -216,13 +238,16 @@ fn is_right_by<R: Threads + Wait + Sync, A: Allocator + Copy + Send + Sync, T: T
     members: &mut [T],
     objects: &[Term<A>],
     call: Call,
+    set: Set,
 ) -> Option<bool>
     requires ready { All T.is_ready members.old }
     requires table { AreOfOneTable (map T.home members.old) }
 {
     let query = query_of(heap, specification_of(call))?;
     let mut watch = Watch::new(counts);
-    let is_right = is_right_again(rt, alloc, heap, &mut watch, members, &query, objects, call);
+    let is_right = is_right_again(
+        rt, alloc, heap, &mut watch, members, &query, objects, call, set,
+    );
     Some(is_right == Some(true))
 }
 
@@ -240,6 +265,7 @@ fn is_right_in<
     sessions: &mut [Session<P, A>],
     objects: &[Term<A>],
     call: Call,
+    set: Set,
 ) -> Option<bool>
     requires { All (λ s. IsOpened table.now.options table.now.gates.items s.number s.passes.items) sessions.old }
 {
@@ -252,6 +278,7 @@ fn is_right_in<
         members.as_mut_slice(),
         objects,
         call,
+        set,
     )
 }
 
@@ -267,9 +294,10 @@ fn is_right_at<
     counts: &Failing<Global>,
     members: u8,
     call: Call,
+    set: Set,
 ) -> Option<bool> {
-    let objects = read_terms(heap, OBJECTS).ok()?;
-    let options = options(PARTS, members);
+    let objects = read_terms(heap, set.objects).ok()?;
+    let options = options(set.parts, members);
     let (table, mut sessions) = set_with_objects::<R, A, P>(rt, heap, options, objects.as_slice())?;
     is_right_in(
         rt,
@@ -280,6 +308,7 @@ fn is_right_at<
         sessions.as_mut_slice(),
         objects.as_slice(),
         call,
+        set,
     )
 }
 
@@ -290,9 +319,10 @@ fn is_right<R: Threads + Wait + Sync>(
     heap: &Failing<Global>,
     members: u8,
     call: Call,
+    set: Set,
 ) -> bool {
     match is_right_at::<R, &Failing<Global>, HashPart<&Failing<Global>>>(
-        rt, alloc, heap, heap, members, call,
+        rt, alloc, heap, heap, members, call, set,
     ) {
         Some(is_right) => is_right && heap.blocks() == 0,
         None => heap.was_refused() && heap.blocks() == 0,
@@ -300,12 +330,18 @@ fn is_right<R: Threads + Wait + Sync>(
 }
 
 /// Whether it is so with each request refused in turn.
-fn holds<R: Threads + Wait + Sync>(rt: &R, alloc: Global, members: u8, call: Call) -> bool {
+fn holds<R: Threads + Wait + Sync>(
+    rt: &R,
+    alloc: Global,
+    members: u8,
+    call: Call,
+    set: Set,
+) -> bool {
     let alone = sweep(alloc, MOST_REQUESTS, |heap: &Failing<Global>| {
-        is_right(rt, alloc, heap, members, call)
+        is_right(rt, alloc, heap, members, call, set)
     });
     let onward = sweep_onward(alloc, MOST_REQUESTS, |heap: &Failing<Global>| {
-        is_right(rt, alloc, heap, members, call)
+        is_right(rt, alloc, heap, members, call, set)
     });
     alone.is_complete() && onward.is_complete()
 }
@@ -313,8 +349,9 @@ fn holds<R: Threads + Wait + Sync>(rt: &R, alloc: Global, members: u8, call: Cal
 #[test]
 fn each_request_of_a_selection_may_be_refused(rt: HostRuntime) {
     for members in [1, 2, 4, 16] {
-        assert!(rt; holds(&rt, rt.alloc(), members, Call::Select), "{members}");
-        assert!(rt; holds(&rt, rt.alloc(), members, Call::Count), "{members}");
-        assert!(rt; holds(&rt, rt.alloc(), members, Call::Delete), "{members}");
+        for call in [Call::Select, Call::Count, Call::Delete] {
+            assert!(rt; holds(&rt, rt.alloc(), members, call, TEN), "{members}");
+            assert!(rt; holds(&rt, rt.alloc(), members, call, FOUR), "{members}");
+        }
     }
 }

@@ -7,12 +7,12 @@ use crate::trials::{Act, Trial, first_wrong};
 use crate::watch::Watch;
 use kit_alloc::Failing;
 use kit_rows::{fields, listed};
-use part_core::TableKind;
+use part_core::{Fault, TableKind};
 use std::alloc::{Allocator, Global};
 use tables::{Turns, delete, insert};
-use term_core::Term;
+use term_core::{Refused, Term};
 use term_text::read_terms;
-use walks::{Continuation, Query, Step, select_limit, select_more};
+use walks::{Continuation, Query, Step, WalkFault, select_limit, select_more};
 
 /// The most pieces of a walk.
 const MOST_PIECES: usize = 100;
@@ -35,7 +35,7 @@ const FULL: &str =
 
 /// Walks of session 0, and what session 1 writes behind each piece. The parts are fixed in the first four, and in the
 /// others not.
-const TRIALS: [Trial; 8] = [
+const TRIALS: [Trial; 9] = [
     // An object behind the walk is deleted, one is put where it has been, and one before it.
     Trial {
         play: Play {
@@ -128,9 +128,39 @@ const TRIALS: [Trial; 8] = [
         act: Act::Walk(1, "48. {48,f}."),
         wanted: "[a]\n[d]\n",
     },
+    // Keys before and behind the walk go, and one comes between them.
+    Trial {
+        play: Play {
+            kind: TableKind::OrderedSet,
+            parts: 1,
+            objects: "{10}. {20}. {30}.",
+            specification: KEY,
+            fixed: 0,
+        },
+        act: Act::Walk(1, "10. 20. {25}."),
+        wanted: "[10]\n[25]\n[30]\n",
+    },
 ];
 
-/// A walk is begun, once more with what is handed back where it is refused.
+/// What comes of a call that is asked for again; none where it is refused again, for want of memory, too.
+fn again<A: Allocator, V: Drop>(
+    watch: &mut Watch<'_>,
+    came: Result<Step<A>, Refused<V, WalkFault>>,
+) -> Option<Step<A>> {
+    match came {
+        Ok(step) => {
+            watch.ended(false);
+            Some(step)
+        }
+        Err(refused) => {
+            watch.ended(true);
+            watch.sees(refused.fault == WalkFault::Memory);
+            None
+        }
+    }
+}
+
+/// A walk is begun, once more with what is handed back where it is refused for want of memory.
 fn begun<A: Allocator + Copy, T: Turns<A>>(
     heap: A,
     watch: &mut Watch<'_>,
@@ -149,10 +179,8 @@ fn begun<A: Allocator + Copy, T: Turns<A>>(
         }
         Err(refused) => {
             watch.ended(true);
-            watch.sees(fixes_below(session, fixed));
-            let again = select_limit(heap, session, refused.value, limit);
-            watch.ended(again.is_err());
-            again.ok()
+            watch.sees(refused.fault == WalkFault::Memory && fixes_below(session, fixed));
+            again(watch, select_limit(heap, session, refused.value, limit))
         }
     }
 }
@@ -176,15 +204,13 @@ fn gone_on<A: Allocator + Copy, T: Turns<A>>(
         }
         Err(refused) => {
             watch.ended(true);
-            watch.sees(fixes_below(session, fixed));
-            let again = select_more(heap, session, refused.value);
-            watch.ended(again.is_err());
-            again.ok()
+            watch.sees(refused.fault == WalkFault::Memory && fixes_below(session, fixed));
+            again(watch, select_more(heap, session, refused.value))
         }
     }
 }
 
-/// Puts an object in, once more with what is handed back where it is refused.
+/// Puts an object in, once more with what is handed back where it is refused for want of memory.
 fn put<A: Allocator + Copy, T: Turns<A>>(
     watch: &mut Watch<'_>,
     session: &mut T,
@@ -201,6 +227,7 @@ fn put<A: Allocator + Copy, T: Turns<A>>(
         }
         Err(refused) => {
             watch.ended(true);
+            watch.sees(refused.fault == Fault::Memory);
             let again = insert(session, refused.value);
             watch.ended(again.is_err());
             again.ok()
