@@ -11,4 +11,4 @@ mod writers;
 
 pub use inputs::{FILE, INPUT};
 pub use readers::{FailingReader, SlowReader};
-pub use writers::{FailingWriter, HoldingWriter};
+pub use writers::{FailingWriter, Failure, HoldingWriter};

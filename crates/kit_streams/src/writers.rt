@@ -1,22 +1,63 @@
 //! Writers of bytes.
+use std::alloc::Global;
 use std::io::{self, ErrorKind, Write};
 
-/// A writer that fails at its nth call, counted from 1.
+/// What a writer does at a call.
+#[derive(Clone, Copy)]
+pub enum Failure {
+    /// It fails, a flush too.
+    Fails,
+    /// It takes nothing of what is written.
+    TakesNothing,
+    /// It is interrupted while it is written to.
+    IsInterrupted,
+}
+
+/// A writer that takes a byte at a call, and fails at its nth one, counted from 1. A flush is a call where it may fail.
 #[derive(Drop)]
 pub struct FailingWriter {
     pub calls_left: u32,
+    pub failure: Failure,
+    /// What it has taken.
+    pub taken: Vec<u8>,
+}
+
+impl FailingWriter {
+    /// A writer that fails so at this call.
+    pub fn new(alloc: Global, call: u32, failure: Failure) -> FailingWriter {
+        FailingWriter {
+            calls_left: call,
+            failure,
+            taken: Vec::new(alloc),
+        }
+    }
+
+    /// Whether its nth call is this one.
+    fn is_due(&mut self) -> bool {
+        let before = self.calls_left;
+        self.calls_left = before.saturating_sub(1);
+        before == 1
+    }
 }
 
 impl Write for FailingWriter {
     fn write(&mut self, buf: &[u8]) -> io::Result<usize> {
-        self.calls_left = self.calls_left.saturating_sub(1);
-        if self.calls_left == 0 {
-            return Err(io::Error::from(ErrorKind::Other));
+        if self.is_due() {
+            return match self.failure {
+                Failure::Fails => Err(io::Error::from(ErrorKind::Other)),
+                Failure::TakesNothing => Ok(0),
+                Failure::IsInterrupted => Err(io::Error::from(ErrorKind::Interrupted)),
+            };
         }
-        Ok(buf.len().min(1))
+        let room = buf.len().min(1);
+        self.taken.extend_from_slice(&buf[..room])?;
+        Ok(room)
     }
 
     fn flush(&mut self) -> io::Result<()> {
+        if matches!(self.failure, Failure::Fails) && self.is_due() {
+            return Err(io::Error::from(ErrorKind::Other));
+        }
         Ok(())
     }
 }

@@ -4,6 +4,7 @@ ghost use Rattle.tables.specs.Sessions.{IsOpened};
 
 use crate::objects::object;
 use crate::refusals::most_fixes;
+use kit_rows::number;
 use part_core::{Fault, Part};
 use std::alloc::Global;
 use std::process::Abort;
@@ -37,6 +38,9 @@ pub(crate) const fn only(key: u32) -> Keys {
     }
 }
 
+/// What a refused question for a key comes to, with the number of the refusal.
+pub(crate) const REFUSED: u32 = 1_000;
+
 /// What a session does. What answers nothing comes to 0.
 #[derive(Clone, Copy)]
 pub(crate) enum Act {
@@ -46,8 +50,7 @@ pub(crate) enum Act {
     Delete(Keys),
     /// It asks how many objects a key has.
     Count(u32),
-    /// It asks for the key behind another: the number of the refusal, 0 where there is such a key, 1 where there is
-    /// none.
+    /// It asks for the key behind another: that key, or what a refusal comes to.
     Next(u32),
     /// It fixes the table.
     Fix,
@@ -101,18 +104,23 @@ fn count<R: Abort, T: Turns<Global>>(rt: &R, turns: &mut T, key: u32) -> usize
     lookup(turns, &key).expect(rt, "a look-up").len()
 }
 
-/// The number of the refusal of the key behind another, 0 where there is such a key, 1 where there is none.
-fn behind<T: Turns<Global>>(turns: &mut T, key: u32) -> u8
+/// What an answered or refused question for a key comes to; none where there is no key.
+fn key_of(answered: Result<Option<Term>, Fault>) -> Option<u32> {
+    match answered {
+        Ok(Some(key)) => number(&key),
+        Ok(None) => None,
+        Err(fault) => Some(REFUSED + u32::from(fault.number())),
+    }
+}
+
+/// The same of the key behind another.
+fn behind<T: Turns<Global>>(turns: &mut T, key: u32) -> Option<u32>
     requires { T.is_ready turns.old }
     ensures ready { T.is_ready turns.new }
     ensures same { T.home turns.new ≡ T.home turns.old }
 {
     let key = Term::int(i64::from(key));
-    match next(turns, &key) {
-        Ok(Some(_)) => 0,
-        Ok(None) => 1,
-        Err(fault) => fault.number(),
-    }
+    key_of(next(turns, &key))
 }
 
 /// The number of the refusal of a fix that is one too many, which leaves those that there are at each part.
@@ -152,7 +160,7 @@ fn came<R: Abort, T: Turns<Global>>(rt: &R, alloc: Global, turns: &mut T, act: A
             0
         }
         Act::Count(key) => count(rt, turns, key),
-        Act::Next(key) => usize::from(behind(turns, key)),
+        Act::Next(key) => behind(turns, key).expect(rt, "a key or a refusal") as usize,
         Act::Fix => usize::from(refusal(fix(turns))),
         Act::FixMost => usize::from(limit(rt, turns)),
         Act::Unfix => usize::from(refusal(unfix(turns))),

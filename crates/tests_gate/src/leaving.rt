@@ -1,6 +1,6 @@
 //! Fixes at a table whose parts have gates: a dead row stays as long as some session fixes the table, and goes with the
 //! last fix, also where its session leaves without releasing it.
-use crate::acts::{Act, Keys, acted, only};
+use crate::acts::{Act, Keys, REFUSED, acted, only};
 use crate::pairs::opened;
 use part_core::{Part, TableKind};
 use part_hash::HashPart;
@@ -18,6 +18,9 @@ const OPTIONS: Options = Options {
     sessions: 2,
 };
 
+/// What a question for the key behind one without a row comes to.
+const NO_ROW: usize = REFUSED as usize + 53;
+
 /// Its keys.
 const KEYS: Keys = Keys {
     first: 1,
@@ -34,9 +37,9 @@ fn a_dead_row_is_kept<R: Wait + Abort, P: Part<Global> + Drop>(rt: &R, alloc: Gl
     let second = acted(rt, alloc, &table, second, Act::Fix, 0);
     let first = acted(rt, alloc, &table, first, Act::Delete(only(1)), 0);
     let first = acted(rt, alloc, &table, first, Act::Unfix, 0);
-    let first = acted(rt, alloc, &table, first, Act::Next(1), 0);
+    let first = acted(rt, alloc, &table, first, Act::Next(1), 2);
     table.leave(rt, second);
-    let first = acted(rt, alloc, &table, first, Act::Next(1), 53);
+    let first = acted(rt, alloc, &table, first, Act::Next(1), NO_ROW);
     table.leave(rt, first);
 }
 
@@ -47,9 +50,9 @@ fn the_most_fixes_go<R: Wait + Abort, P: Part<Global> + Drop>(rt: &R, alloc: Glo
     let first = acted(rt, alloc, &table, first, Act::Put(KEYS), 0);
     let second = acted(rt, alloc, &table, second, Act::FixMost, 51);
     let second = acted(rt, alloc, &table, second, Act::Delete(only(1)), 0);
-    let first = acted(rt, alloc, &table, first, Act::Next(1), 0);
+    let first = acted(rt, alloc, &table, first, Act::Next(1), 2);
     table.leave(rt, second);
-    let first = acted(rt, alloc, &table, first, Act::Next(1), 53);
+    let first = acted(rt, alloc, &table, first, Act::Next(1), NO_ROW);
     table.leave(rt, first);
 }
 

@@ -1,4 +1,5 @@
-//! A walk whose table another session empties meanwhile, on a thread of its own; and a visit out of place.
+//! A walk whose table another session empties meanwhile, on a thread of its own, and which no other session carries on;
+//! and a visit out of place.
 ghost use Rattle.std.specs.Prelude.{◌≡◌, ◌<◌};
 ghost use Rattle.tables.specs.Sessions.{IsOpened};
 
@@ -14,7 +15,7 @@ use std::sync::Wait;
 use std::thread::{Threads, join};
 use tables::{Options, Session, Table, Turns};
 use term_core::Term;
-use walks::{Continuation, Query, Step, select_limit, select_more};
+use walks::{Continuation, Query, Step, WalkFault, select_limit, select_more};
 
 /// Keys that are so far apart that all stand in one slot however many slots there are.
 const KEYS: Keys = Keys {
@@ -104,6 +105,23 @@ fn next_walk<R: Abort, T: Turns<Global>>(
     walk_behind(rt, step.expect(rt, "a step"), place)
 }
 
+/// A walk that is refused as another's, and handed back.
+fn refused_as_anothers<R: Abort, T: Turns<Global>>(
+    rt: &R,
+    alloc: Global,
+    turns: &mut T,
+    walk: Continuation,
+) -> Continuation
+    requires { T.is_ready turns.old }
+    ensures ready { T.is_ready turns.new }
+    ensures same { T.home turns.new ≡ T.home turns.old }
+{
+    let refused = select_more(alloc, turns, walk).err();
+    let refused = refused.expect(rt, "a refusal");
+    assert!(rt; refused.fault == WalkFault::StrangerContinuation);
+    refused.value
+}
+
 /// How many further pieces are the keys that follow, one each, before the walk ends; none where it doesn't.
 fn gone_on<R: Abort, T: Turns<Global>>(
     rt: &R,
@@ -139,6 +157,32 @@ fn begun_at<R: Wait + Abort, P: Part<Global> + Drop>(
     begun(rt, alloc, &mut at)
 }
 
+/// The same at a session that is another's, or another table's.
+fn refused_at<R: Wait + Abort, P: Part<Global> + Drop>(
+    rt: &R,
+    alloc: Global,
+    table: &Table<P>,
+    session: &mut Session<P>,
+    walk: Continuation,
+) -> Continuation
+    requires { IsOpened table.now.options table.now.gates.items session.old.number session.old.passes.items }
+    ensures { IsOpened table.now.options table.now.gates.items session.new.number session.new.passes.items }
+{
+    let mut at = table.at(rt, session);
+    refused_as_anothers(rt, alloc, &mut at, walk)
+}
+
+/// The walk, once a session of a table of another name was refused to carry it on.
+fn refused_elsewhere<R: Wait + Abort, P: Part<Global> + Drop>(
+    rt: &R,
+    alloc: Global,
+    walk: Continuation,
+) -> Continuation {
+    let options = Options { name: 2, ..OPTIONS };
+    let (table, mut first, _second) = opened::<Global, P>(alloc, options).expect(rt, "a table");
+    refused_at(rt, alloc, &table, &mut first, walk)
+}
+
 /// The other pieces, there.
 fn gone_on_at<R: Wait + Abort, P: Part<Global> + Drop>(
     rt: &R,
@@ -154,15 +198,18 @@ fn gone_on_at<R: Wait + Abort, P: Part<Global> + Drop>(
     gone_on(rt, alloc, &mut at, walk)
 }
 
-/// How many pieces follow the first where another session deletes all keys meanwhile; the walking session fixes.
+/// How many pieces follow the first where another session, which is refused to carry the walk on, deletes all keys
+/// meanwhile; the walking session fixes.
 fn outlasting<R: Threads + Wait + Abort + Sync, P: Part<Global> + Drop + Send>(
     rt: &R,
     alloc: Global,
 ) -> Option<u32> {
-    let (table, walker, writer) = opened::<Global, P>(alloc, OPTIONS).expect(rt, "a table");
+    let (table, walker, mut writer) = opened::<Global, P>(alloc, OPTIONS).expect(rt, "a table");
     let walker = acted(rt, alloc, &table, walker, Act::Put(KEYS), 0);
     let mut walker = acted(rt, alloc, &table, walker, Act::Fix, 0);
     let walk = begun_at(rt, alloc, &table, &mut walker);
+    let walk = refused_at(rt, alloc, &table, &mut writer, walk);
+    let walk = refused_elsewhere::<R, P>(rt, alloc, walk);
     deleted_on_a_thread(rt, alloc, &table, writer);
     gone_on_at(rt, alloc, &table, &mut walker, walk)
 }

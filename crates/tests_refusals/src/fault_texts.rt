@@ -49,11 +49,6 @@ fn are_told_of_terms(alloc: Global) -> bool {
     is_whole && lines.as_slice() == OF_TERMS.as_bytes()
 }
 
-#[test]
-fn faults_of_terms_are_told(rt: HostRuntime) {
-    assert!(rt; are_told_of_terms(rt.alloc()));
-}
-
 const OF_TEXTS: &str = "\
 1 out of memory
 2 at byte 1: the term is too deep
@@ -82,11 +77,6 @@ fn are_told_of_texts(alloc: Global) -> bool {
         is_whole = put(&mut lines, fault.number(), fault) && is_whole;
     }
     is_whole && lines.as_slice() == OF_TEXTS.as_bytes()
-}
-
-#[test]
-fn faults_of_texts_are_told(rt: HostRuntime) {
-    assert!(rt; are_told_of_texts(rt.alloc()));
 }
 
 const OF_SPECIFICATIONS: &str = "\
@@ -127,11 +117,6 @@ fn are_told_of_specifications(alloc: Global) -> bool {
     is_whole && lines.as_slice() == OF_SPECIFICATIONS.as_bytes()
 }
 
-#[test]
-fn faults_of_specifications_are_told(rt: HostRuntime) {
-    assert!(rt; are_told_of_specifications(rt.alloc()));
-}
-
 const OF_BUILDING: &str = "\
 1 out of memory
 36 the code has too many parts of a kind
@@ -150,11 +135,6 @@ fn are_told_of_building(alloc: Global) -> bool {
         is_whole = put(&mut lines, fault.number(), fault) && is_whole;
     }
     is_whole && lines.as_slice() == OF_BUILDING.as_bytes()
-}
-
-#[test]
-fn faults_of_building_are_told(rt: HostRuntime) {
-    assert!(rt; are_told_of_building(rt.alloc()));
 }
 
 const OF_FILES: &str = "\
@@ -185,11 +165,6 @@ fn are_told_of_files(alloc: Global) -> bool {
         is_whole = put(&mut lines, fault.number(), fault) && is_whole;
     }
     is_whole && lines.as_slice() == OF_FILES.as_bytes()
-}
-
-#[test]
-fn faults_of_files_are_told(rt: HostRuntime) {
-    assert!(rt; are_told_of_files(rt.alloc()));
 }
 
 const OF_CODE: &str = "\
@@ -239,11 +214,6 @@ fn are_told_of_code(alloc: Global) -> bool {
     is_whole && lines.as_slice() == OF_CODE.as_bytes()
 }
 
-#[test]
-fn faults_of_code_are_told(rt: HostRuntime) {
-    assert!(rt; are_told_of_code(rt.alloc()));
-}
-
 const OF_PARTS: &str = "\
 1 out of memory
 50 the object is too small
@@ -270,11 +240,6 @@ fn are_told_of_parts(alloc: Global) -> bool {
     is_whole && lines.as_slice() == OF_PARTS.as_bytes()
 }
 
-#[test]
-fn faults_of_parts_are_told(rt: HostRuntime) {
-    assert!(rt; are_told_of_parts(rt.alloc()));
-}
-
 const OF_OPENING: &str = "\
 1 out of memory
 60 the options don't fit
@@ -288,11 +253,6 @@ fn are_told_of_opening(alloc: Global) -> bool {
         is_whole = put(&mut lines, fault.number(), fault) && is_whole;
     }
     is_whole && lines.as_slice() == OF_OPENING.as_bytes()
-}
-
-#[test]
-fn faults_of_opening_are_told(rt: HostRuntime) {
-    assert!(rt; are_told_of_opening(rt.alloc()));
 }
 
 const OF_WALKS: &str = "\
@@ -315,11 +275,6 @@ fn are_told_of_walks(alloc: Global) -> bool {
     is_whole && lines.as_slice() == OF_WALKS.as_bytes()
 }
 
-#[test]
-fn faults_of_walks_are_told(rt: HostRuntime) {
-    assert!(rt; are_told_of_walks(rt.alloc()));
-}
-
 const OF_SELECTIONS: &str = "\
 1 out of memory
 60 the members aren't 1 to 16
@@ -335,20 +290,10 @@ fn are_told_of_selections(alloc: Global) -> bool {
     is_whole && lines.as_slice() == OF_SELECTIONS.as_bytes()
 }
 
-#[test]
-fn faults_of_selections_are_told(rt: HostRuntime) {
-    assert!(rt; are_told_of_selections(rt.alloc()));
-}
-
 /// Whether a part that can't be had back, which has no number, is told so.
 fn is_told_of_a_lost_part(alloc: Global) -> bool {
     let mut lines = Vec::new(alloc);
     put_text(&mut lines, Lost) && lines.as_slice() == b"the part is lost\n".as_slice()
-}
-
-#[test]
-fn a_lost_part_is_told(rt: HostRuntime) {
-    assert!(rt; is_told_of_a_lost_part(rt.alloc()));
 }
 
 /// Without their numbers, which stand in the line of each.
@@ -387,6 +332,17 @@ fn are_told_of_commands(alloc: Global) -> bool {
 }
 
 #[test]
-fn faults_of_commands_are_told(rt: HostRuntime) {
+fn each_refusal_is_told(rt: HostRuntime) {
+    assert!(rt; are_told_of_terms(rt.alloc()));
+    assert!(rt; are_told_of_texts(rt.alloc()));
+    assert!(rt; are_told_of_specifications(rt.alloc()));
+    assert!(rt; are_told_of_building(rt.alloc()));
+    assert!(rt; are_told_of_files(rt.alloc()));
+    assert!(rt; are_told_of_code(rt.alloc()));
+    assert!(rt; are_told_of_parts(rt.alloc()));
+    assert!(rt; are_told_of_opening(rt.alloc()));
+    assert!(rt; are_told_of_walks(rt.alloc()));
+    assert!(rt; are_told_of_selections(rt.alloc()));
+    assert!(rt; is_told_of_a_lost_part(rt.alloc()));
     assert!(rt; are_told_of_commands(rt.alloc()));
 }

@@ -118,9 +118,28 @@ const TESTED: &str =
 const TESTED_LINES: &str =
     "false.\n{ok,{2,[[[2]]|{[2]}],#{k=>[2]}}}.\n{ok,{3,[[[3]]|{[3]}],#{k=>[3]}}}.\n";
 
-/// Queries: two that are answered, one whose specification is refused, and two whose text has no end, behind objects that
+/// A condition and a variable, which make no term, and two objects.
+const PAIRS: &str = "[{{'$1','$2'},[{'>','$1',1}],['$2']}]. {1,a}. {2,b}.";
+
+/// Queries: four that are answered, one whose specification is refused, and two whose text has no end, behind objects that
 /// are answered and behind a first term that asks nothing.
-const QUERIES: [Case; 5] = [
+const QUERIES: [Case; 7] = [
+    Case {
+        request: Request::Run(Form::Canonical),
+        input: PAIRS,
+        lines: "b.\n",
+        at_once: true,
+        line: "",
+        status: 0,
+    },
+    Case {
+        request: Request::Test(Form::Canonical),
+        input: PAIRS,
+        lines: "false.\n{ok,b}.\n",
+        at_once: true,
+        line: "",
+        status: 0,
+    },
     Case {
         request: Request::Run(Form::Canonical),
         input: MADE,
@@ -321,7 +340,7 @@ const BAG_SCRIPT: &str =
     "{open,bag,1,1,2}. {insert,0,{1,a}}. {insert,0,{1,b}}. {insert,1,{1,a}}. {insert,0,{1,[c]}}. {insert,0,{1,d}}. {insert,0,{1,e}}.
 {insert,0,{9,a}}. {insert_new,0,{9,b}}. {lookup,1,1}. {delete_object,0,{1,b}}. {fix,1}. {select,1,[{{1,'$1'},[],['$1']}],3}. {delete,0,1}.
 {more,1,0}. {more,1,1}. {insert,0,{1,[f]}}. {insert,0,{1,g}}. {unfix,1}. {select_count,0,[{{'_',a},[],[true]}]}.
-{select,0,[{'_',[],[['$_']]}],2}. {more,0,2}. {select_delete,0,[{{1,g},[],[true]},{{9,'_'},[],[false]}]}. {take,0,1}. {close}.";
+{select,0,[{'_',[],[['$_']]}],2}. {more,0,2}. {select,0,[{'_',[],[['$_']]}]}. {select_delete,0,[{{1,g},[],[true]},{{9,'_'},[],[false]}]}. {take,0,1}. {close}.";
 
 /// What it is replied.
 const BAG_LINES: &str = "\
@@ -347,6 +366,7 @@ true.
 1.
 {[[{1,[f]}],[{1,g}]],2}.
 {[[{9,a}]],3}.
+[[{1,[f]}],[{1,g}],[{9,a}]].
 1.
 [{1,[f]}].
 [{9,a}].

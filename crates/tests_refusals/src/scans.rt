@@ -12,14 +12,17 @@ use tool_scan::{ScanKind, ScanOptions, tool_scan};
 /// of these are equal.
 const INPUT: &str = "[{{'$1','_'},[],[{{'$1',[]}}]}]. {1,a}. {1,b}. {1,a}. {2,b}. {3,c}. {4,d}.";
 
-/// The answers of a table of this kind and two parts.
-const fn lines_of(kind: ScanKind) -> &'static str {
-    match kind {
-        ScanKind::Set => "{2,[]}.\n{4,[]}.\n{1,[]}.\n{3,[]}.\n",
-        ScanKind::Bag => "{2,[]}.\n{4,[]}.\n{1,[]}.\n{1,[]}.\n{3,[]}.\n",
-        ScanKind::DuplicateBag => "{2,[]}.\n{4,[]}.\n{1,[]}.\n{1,[]}.\n{1,[]}.\n{3,[]}.\n",
-    }
-}
+/// Its answers of a set, a bag and a `duplicate_bag` of two parts.
+const OF_SET: &str = "{2,[]}.\n{4,[]}.\n{1,[]}.\n{3,[]}.\n";
+
+const OF_BAG: &str = "{2,[]}.\n{4,[]}.\n{1,[]}.\n{1,[]}.\n{3,[]}.\n";
+
+const OF_DUPLICATE_BAG: &str = "{2,[]}.\n{4,[]}.\n{1,[]}.\n{1,[]}.\n{1,[]}.\n{3,[]}.\n";
+
+/// A specification of which no answer takes memory, and objects; its answers of a set of two parts.
+const KEYS: &str = "[{{'$1'},[],['$1']}]. {1}. {2}. {3}. {4}.";
+
+const OF_KEYS: &str = "2.\n4.\n1.\n3.\n";
 
 /// Whether a scan ends with all lines, or for want of memory with a beginning of them: one by one session with no fewer
 /// than before. What several sessions ask for comes in an order of its own each time.
@@ -28,9 +31,11 @@ fn is_right<H: Threads + Wait + Sync>(
     alloc: Global,
     heap: &Failing<Global>,
     options: ScanOptions,
+    input: &str,
+    lines: &str,
     so_far: &mut Written,
 ) -> bool {
-    let mut reader = INPUT.as_bytes();
+    let mut reader = input.as_bytes();
     let mut written = Vec::new(alloc);
     let ended = tool_scan::<H, PlainPart<&Failing<Global>>, _, _, _>(
         rt,
@@ -39,7 +44,7 @@ fn is_right<H: Threads + Wait + Sync>(
         &mut reader,
         &mut written,
     );
-    let lines = lines_of(options.kind).as_bytes();
+    let lines = lines.as_bytes();
     match ended {
         Ok(()) => written.as_slice() == lines,
         Err(ToolFault::Memory) => {
@@ -63,30 +68,45 @@ fn options_of(kind: ScanKind, workers: u8) -> ScanOptions {
 /// Whether a scan of such a table by so many workers ends so with each request refused in turn, alone and with all
 /// behind it; one worker writes some lines with the last refused alone. How many these are hangs on how their memory
 /// grows.
-fn is_swept<H: Threads + Wait + Sync>(rt: &H, alloc: Global, kind: ScanKind, workers: u8) -> bool {
+fn is_swept<H: Threads + Wait + Sync>(
+    rt: &H,
+    alloc: Global,
+    kind: ScanKind,
+    workers: u8,
+    input: &str,
+    lines: &str,
+) -> bool {
     let options = options_of(kind, workers);
     let mut so_far = Written { lines: 0 };
     let alone = sweep(alloc, 4_000, |heap| {
-        is_right(rt, alloc, heap, options, &mut so_far) && heap.blocks() == 0
+        is_right(rt, alloc, heap, options, input, lines, &mut so_far) && heap.blocks() == 0
     });
     let mut so_far_onward = Written { lines: 0 };
     let onward = sweep_onward(alloc, 4_000, |heap| {
-        is_right(rt, alloc, heap, options, &mut so_far_onward) && heap.blocks() == 0
+        is_right(rt, alloc, heap, options, input, lines, &mut so_far_onward) && heap.blocks() == 0
     });
     alone.is_complete() && onward.is_complete() && (workers > 1 || 0 < so_far.lines)
 }
 
 #[test]
 fn each_request_refused_in_turn(rt: HostRuntime) {
-    assert!(rt; is_swept(&rt, rt.alloc(), ScanKind::Set, 1));
-    assert!(rt; is_swept(&rt, rt.alloc(), ScanKind::Set, 2));
-    assert!(rt; is_swept(&rt, rt.alloc(), ScanKind::Set, 3));
+    for workers in [1, 2, 3] {
+        assert!(rt;
+            is_swept(&rt, rt.alloc(), ScanKind::Set, workers, INPUT, OF_SET),
+            "{workers}"
+        );
+        assert!(rt;
+            is_swept(&rt, rt.alloc(), ScanKind::Set, workers, KEYS, OF_KEYS),
+            "{workers}"
+        );
+    }
 }
 
 #[test]
 fn each_request_for_a_bag_refused_in_turn(rt: HostRuntime) {
-    assert!(rt; is_swept(&rt, rt.alloc(), ScanKind::Bag, 2));
-    assert!(rt; is_swept(&rt, rt.alloc(), ScanKind::DuplicateBag, 2));
+    let duplicates = ScanKind::DuplicateBag;
+    assert!(rt; is_swept(&rt, rt.alloc(), ScanKind::Bag, 2, INPUT, OF_BAG));
+    assert!(rt; is_swept(&rt, rt.alloc(), duplicates, 2, INPUT, OF_DUPLICATE_BAG));
 }
 
 /// Why a scan of no object with such options is refused, which writes nothing.

@@ -1,9 +1,10 @@
-//! Commands whose reader or writer fails at each of its calls in turn, gives little at a time, or takes nothing.
+//! Commands whose reader or writer fails at each of its calls in turn, gives little at a time, takes nothing or is
+//! interrupted.
 use crate::sweeps::lines_in;
-use kit_streams::{FILE, FailingReader, FailingWriter, INPUT, SlowReader};
+use kit_streams::{FILE, FailingReader, FailingWriter, Failure, INPUT, SlowReader};
 use part_hash::HashPart;
 use std::alloc::Global;
-use std::io::{self, Read, Write};
+use std::io::{Read, Write};
 use std::sync::Wait;
 use std::thread::Threads;
 use term_text::Form;
@@ -28,10 +29,8 @@ struct Case {
 enum Trial {
     /// Its reader fails.
     Unread,
-    /// Its writer fails.
-    Unwritten,
-    /// Its writer takes nothing.
-    Full,
+    /// Its writer fails so at a call.
+    Unwritten(Failure),
     /// Its reader gives a byte at a time, and is interrupted before each or not.
     Slow(bool),
 }
@@ -171,27 +170,43 @@ fn is_refused_at_each_read<H: Threads + Wait + Sync>(rt: &H, alloc: Global, case
     is_right
 }
 
-/// Whether a command whose writer fails at this call is refused for that.
-fn is_unwritten<H: Threads + Wait + Sync>(rt: &H, alloc: Global, case: Case, call: u32) -> bool {
+/// Whether a command whose writer fails so at this call is refused for that.
+fn is_unwritten<H: Threads + Wait + Sync>(
+    rt: &H,
+    alloc: Global,
+    case: Case,
+    call: u32,
+    failure: Failure,
+) -> bool {
     let mut reader = case.input.as_bytes();
-    let mut writer = FailingWriter { calls_left: call };
-    let ended = ended(
-        rt,
-        alloc,
-        case.request,
-        &mut reader,
-        &mut writer,
-        "error E71\n",
-    );
+    let mut writer = FailingWriter::new(alloc, call, failure);
+    let request = case.request;
+    let ended = ended(rt, alloc, request, &mut reader, &mut writer, "error E71\n");
     ended == (4, true)
 }
 
-/// How many calls of its writer a command makes that ends well; 0 where it doesn't.
-fn writes_of<H: Threads + Wait + Sync>(rt: &H, alloc: Global, case: Case) -> u32 {
+/// Whether a command whose writer is interrupted at this call writes the same.
+fn is_written_all_the_same<H: Threads + Wait + Sync>(
+    rt: &H,
+    alloc: Global,
+    case: Case,
+    call: u32,
+) -> bool {
     let mut reader = case.input.as_bytes();
-    let mut writer = FailingWriter {
-        calls_left: MOST_CALLS,
-    };
+    let mut again = case.input.as_bytes();
+    let mut writer = FailingWriter::new(alloc, call, Failure::IsInterrupted);
+    let is_well = ended(rt, alloc, case.request, &mut reader, &mut writer, "") == (0, true);
+    match written(rt, alloc, case.request, &mut again) {
+        Some(wanted) => is_well && writer.taken.as_slice() == wanted.as_slice(),
+        None => false,
+    }
+}
+
+/// How many calls of its writer a command makes that ends well, with its flushes where these may fail; 0 where it
+/// doesn't.
+fn writes_of<H: Threads + Wait + Sync>(rt: &H, alloc: Global, case: Case, failure: Failure) -> u32 {
+    let mut reader = case.input.as_bytes();
+    let mut writer = FailingWriter::new(alloc, MOST_CALLS, failure);
     if ended(rt, alloc, case.request, &mut reader, &mut writer, "") == (0, true) {
         MOST_CALLS.saturating_sub(writer.calls_left)
     } else {
@@ -199,46 +214,24 @@ fn writes_of<H: Threads + Wait + Sync>(rt: &H, alloc: Global, case: Case) -> u32
     }
 }
 
-/// Whether a command is refused at each call of its writer in turn.
-fn is_refused_at_each_write<H: Threads + Wait + Sync>(rt: &H, alloc: Global, case: Case) -> bool {
-    let writes = writes_of(rt, alloc, case);
-    let mut is_right = 1 < writes;
-    for call in 0..writes {
-        is_right = is_unwritten(rt, alloc, case, call.saturating_add(1)) && is_right;
-    }
-    is_right
-}
-
-/// A writer that takes nothing.
-#[derive(Drop)]
-struct FullWriter;
-
-impl Write for FullWriter {
-    fn write(&mut self, _buf: &[u8]) -> io::Result<usize> {
-        Ok(0)
-    }
-
-    fn flush(&mut self) -> io::Result<()> {
-        Ok(())
-    }
-}
-
-/// Whether a command whose writer takes nothing is refused for that.
-fn is_refused_where_nothing_is_taken<H: Threads + Wait + Sync>(
+/// Whether a command is refused at each call of its writer in turn, or writes the same where that is interrupted.
+fn is_right_at_each_write<H: Threads + Wait + Sync>(
     rt: &H,
     alloc: Global,
     case: Case,
+    failure: Failure,
 ) -> bool {
-    let mut reader = case.input.as_bytes();
-    let ended = ended(
-        rt,
-        alloc,
-        case.request,
-        &mut reader,
-        &mut FullWriter,
-        "error E71\n",
-    );
-    ended == (4, true)
+    let writes = writes_of(rt, alloc, case, failure);
+    let mut is_right = 1 < writes;
+    for before in 0..writes {
+        let call = before.saturating_add(1);
+        let is_so = match failure {
+            Failure::Fails | Failure::TakesNothing => is_unwritten(rt, alloc, case, call, failure),
+            Failure::IsInterrupted => is_written_all_the_same(rt, alloc, case, call),
+        };
+        is_right = is_so && is_right;
+    }
+    is_right
 }
 
 /// What a command writes that ends well.
@@ -283,8 +276,7 @@ fn is_read_slowly<H: Threads + Wait + Sync>(
 fn is_right<H: Threads + Wait + Sync>(rt: &H, alloc: Global, case: Case, trial: Trial) -> bool {
     match trial {
         Trial::Unread => is_refused_at_each_read(rt, alloc, case),
-        Trial::Unwritten => is_refused_at_each_write(rt, alloc, case),
-        Trial::Full => is_refused_where_nothing_is_taken(rt, alloc, case),
+        Trial::Unwritten(failure) => is_right_at_each_write(rt, alloc, case, failure),
         Trial::Slow(is_interrupted) => is_read_slowly(rt, alloc, case, is_interrupted),
     }
 }
@@ -317,13 +309,11 @@ fn each_read_of_each_command_may_fail(rt: HostRuntime) {
 
 #[test]
 fn each_write_of_each_command_may_fail(rt: HostRuntime) {
-    let wrong = first_wrong(&rt, rt.alloc(), Trial::Unwritten);
+    let wrong = first_wrong(&rt, rt.alloc(), Trial::Unwritten(Failure::Fails));
     assert!(rt; wrong == None, "{wrong:?}");
-}
-
-#[test]
-fn a_writer_that_takes_nothing_is_refused(rt: HostRuntime) {
-    let wrong = first_wrong(&rt, rt.alloc(), Trial::Full);
+    let wrong = first_wrong(&rt, rt.alloc(), Trial::Unwritten(Failure::TakesNothing));
+    assert!(rt; wrong == None, "{wrong:?}");
+    let wrong = first_wrong(&rt, rt.alloc(), Trial::Unwritten(Failure::IsInterrupted));
     assert!(rt; wrong == None, "{wrong:?}");
 }
 

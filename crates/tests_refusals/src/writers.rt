@@ -1,5 +1,5 @@
 //! Writers that fail, or hold all back until they are flushed.
-use kit_streams::{FILE, FailingWriter, HoldingWriter, INPUT};
+use kit_streams::{FILE, FailingWriter, Failure, HoldingWriter, INPUT};
 use part_hash::HashPart;
 use std::alloc::Global;
 use std::sync::Wait;
@@ -92,13 +92,14 @@ fn all_lines_are_passed_on(rt: HostRuntime) {
 
 fn run_writing(alloc: Global, call: u32) -> Result<(), ToolFault> {
     let mut reader = INPUT.as_bytes();
-    let mut writer = FailingWriter { calls_left: call };
+    let mut writer = FailingWriter::new(alloc, call, Failure::Fails);
     tool_run(alloc, Form::Canonical, &mut reader, &mut writer)
 }
 
 #[test]
 fn a_writer_that_fails_is_refused(rt: HostRuntime) {
-    for call in 1..7 {
+    // Its six bytes, and a flush.
+    for call in 1..8 {
         assert!(rt; run_writing(rt.alloc(), call) == Err(ToolFault::WriteFailed));
     }
     assert!(rt; run_writing(rt.alloc(), 60) == Ok(()));
@@ -111,7 +112,7 @@ fn left_by_unwritten_help<H: Threads + Wait + Sync>(
     told: &str,
 ) -> (u8, bool) {
     let mut reader = "".as_bytes();
-    let mut out = FailingWriter { calls_left: 3 };
+    let mut out = FailingWriter::new(alloc, 3, Failure::Fails);
     let mut err = Told::new(Vec::new(alloc));
     let words = ["ets_tool", "help"];
     let status = run_words(rt, alloc, words.as_slice(), &mut reader, &mut out, &mut err);
@@ -128,7 +129,7 @@ fn help_that_cannot_be_written_is_refused(rt: HostRuntime) {
 fn left_by_an_untold_refusal<H: Threads + Wait + Sync>(rt: &H, alloc: Global) -> (u8, bool) {
     let mut reader = "a.".as_bytes();
     let mut out = Vec::new(alloc);
-    let mut err = Told::new(FailingWriter { calls_left: 2 });
+    let mut err = Told::new(FailingWriter::new(alloc, 2, Failure::Fails));
     let status = run_request::<H, HashPart<Global>, _, _, _, _>(
         rt,
         alloc,
