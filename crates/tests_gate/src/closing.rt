@@ -58,10 +58,18 @@ fn closed<R: Wait + Abort, P: Part<Global> + Drop>(
     alloc: Global,
     kind: TableKind,
 ) -> Option<u32> {
-    let part = P::make(alloc, kind, 1, 1, 2).expect(rt, "a part");
-    let (gate, mut passes) = Gate::new(alloc, part, 2).expect(rt, "a gate");
-    let second = passes.pop().expect(rt, "a pass");
-    let mut first = passes.pop().expect(rt, "another pass");
+    let Ok(part) = P::make(alloc, kind, 1, 1, 2) else {
+        rt.panic("no part")
+    };
+    let Ok((gate, mut passes)) = Gate::new(alloc, part, 2) else {
+        rt.panic("no gate")
+    };
+    let Some(second) = passes.pop() else {
+        rt.panic("no pass")
+    };
+    let Some(mut first) = passes.pop() else {
+        rt.panic("no other pass")
+    };
     put(rt, alloc, &gate, &mut first);
     key_behind(rt, alloc, gate, second)
 }

@@ -31,7 +31,9 @@ const KEYS: Keys = Keys {
 /// Both sessions fix, the first deletes a key and releases its fix: it is answered behind the dead row, until the
 /// second has left with its fix.
 fn a_dead_row_is_kept<R: Wait + Abort, P: Part<Global> + Drop>(rt: &R, alloc: Global) {
-    let (table, first, second) = opened::<Global, P>(alloc, OPTIONS).expect(rt, "a table");
+    let Some((table, first, second)) = opened::<Global, P>(alloc, OPTIONS) else {
+        rt.panic("no table")
+    };
     let first = acted(rt, alloc, &table, first, Act::Put(KEYS), 0);
     let first = acted(rt, alloc, &table, first, Act::Fix, 0);
     let second = acted(rt, alloc, &table, second, Act::Fix, 0);
@@ -46,7 +48,9 @@ fn a_dead_row_is_kept<R: Wait + Abort, P: Part<Global> + Drop>(rt: &R, alloc: Gl
 /// The second fixes as often as it may, deletes a key and leaves: the first is answered behind the dead row before
 /// that, and not afterwards.
 fn the_most_fixes_go<R: Wait + Abort, P: Part<Global> + Drop>(rt: &R, alloc: Global) {
-    let (table, first, second) = opened::<Global, P>(alloc, OPTIONS).expect(rt, "a table");
+    let Some((table, first, second)) = opened::<Global, P>(alloc, OPTIONS) else {
+        rt.panic("no table")
+    };
     let first = acted(rt, alloc, &table, first, Act::Put(KEYS), 0);
     let second = acted(rt, alloc, &table, second, Act::FixMost, 51);
     let second = acted(rt, alloc, &table, second, Act::Delete(only(1)), 0);

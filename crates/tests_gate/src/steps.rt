@@ -108,7 +108,9 @@ fn in_turn<R: Threads + Wait + Abort + Sync, P: Part<Global> + Drop + Send>(
     rt: &R,
     alloc: Global,
 ) -> (u32, usize, usize, bool) {
-    let (table, first, second) = opened::<Global, P>(alloc, options(2, 2)).expect(rt, "a table");
+    let Some((table, first, second)) = opened::<Global, P>(alloc, options(2, 2)) else {
+        rt.panic("no table")
+    };
     let mut first = acted_on_a_thread(rt, alloc, &table, first, Act::Put(BOTH), 0);
     let second = acted_on_a_thread(rt, alloc, &table, second, Act::Count(1), 1);
     let mut second = acted_on_a_thread(rt, alloc, &table, second, Act::Delete(only(2)), 0);
@@ -121,7 +123,9 @@ fn closed_by_another<R: Threads + Wait + Abort + Sync, P: Part<Global> + Drop + 
     rt: &R,
     alloc: Global,
 ) -> (u32, usize, usize, bool) {
-    let (table, first, second) = opened::<Global, P>(alloc, options(2, 3)).expect(rt, "a table");
+    let Some((table, first, second)) = opened::<Global, P>(alloc, options(2, 3)) else {
+        rt.panic("no table")
+    };
     let first = acted_on_a_thread(rt, alloc, &table, first, Act::Put(BOTH), 0);
     table.leave(rt, first);
     left(rt, alloc, table.close(second))
@@ -132,7 +136,9 @@ fn side_by_side<R: Threads + Wait + Abort + Sync, P: Part<Global> + Drop + Send>
     rt: &R,
     alloc: Global,
 ) -> usize {
-    let (table, first, second) = opened::<Global, P>(alloc, options(1, 2)).expect(rt, "a table");
+    let Some((table, first, second)) = opened::<Global, P>(alloc, options(1, 2)) else {
+        rt.panic("no table")
+    };
     let (first, second) = both_put(rt, alloc, &table, first, second);
     table.leave(rt, first);
     let mut closed = table.close(second);

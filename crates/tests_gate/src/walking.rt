@@ -179,7 +179,9 @@ fn refused_elsewhere<R: Wait + Abort, P: Part<Global> + Drop>(
     walk: Continuation,
 ) -> Continuation {
     let options = Options { name: 2, ..OPTIONS };
-    let (table, mut first, _second) = opened::<Global, P>(alloc, options).expect(rt, "a table");
+    let Some((table, mut first, _second)) = opened::<Global, P>(alloc, options) else {
+        rt.panic("no table")
+    };
     refused_at(rt, alloc, &table, &mut first, walk)
 }
 
@@ -204,7 +206,9 @@ fn outlasting<R: Threads + Wait + Abort + Sync, P: Part<Global> + Drop + Send>(
     rt: &R,
     alloc: Global,
 ) -> Option<u32> {
-    let (table, walker, mut writer) = opened::<Global, P>(alloc, OPTIONS).expect(rt, "a table");
+    let Some((table, walker, mut writer)) = opened::<Global, P>(alloc, OPTIONS) else {
+        rt.panic("no table")
+    };
     let walker = acted(rt, alloc, &table, walker, Act::Put(KEYS), 0);
     let mut walker = acted(rt, alloc, &table, walker, Act::Fix, 0);
     let walk = begun_at(rt, alloc, &table, &mut walker);
@@ -237,7 +241,9 @@ fn is_refused<'q, T: Turns<Global>>(turns: &mut T, query: &'q Query, scope: Scop
 fn is_refused_at<R: Wait + Abort, P: Part<Global> + Drop>(rt: &R, alloc: Global) -> bool {
     let query = keys_query(rt, alloc);
     let cursor = Cursor::Class { base: 8, class: 8 };
-    let (table, mut session, _other) = opened::<Global, P>(alloc, OPTIONS).expect(rt, "a table");
+    let Some((table, mut session, _other)) = opened::<Global, P>(alloc, OPTIONS) else {
+        rt.panic("no table")
+    };
     let mut at = table.at(rt, &mut session);
     is_refused(&mut at, &query, Scope::After(&cursor))
 }

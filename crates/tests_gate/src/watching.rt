@@ -90,15 +90,17 @@ pub(crate) fn part_that_watches<R: Abort, P: Part<Global> + Drop>(
 ) -> Watching<P>
     ensures { (P.settings result.part ≡ settings_of options) × P.is_after result.part [] }
 {
-    let part = P::make(
+    let Ok(part) = P::make(
         alloc,
         options.kind,
         options.keypos,
         options.parts,
         options.sessions,
-    );
+    ) else {
+        rt.panic("no part")
+    };
     Watching {
-        part: part.expect(rt, "a part"),
+        part,
         mine: mine.clone().expect(rt, "its flag"),
         others: others.clone().expect(rt, "the other's flag"),
         lingers,
@@ -139,8 +141,12 @@ pub(crate) fn opened_over<R: Abort, P: Part<Global> + Drop>(
     ensures first { IsOpened result.0.options result.0.gates.items result.1.number result.1.passes.items }
     ensures second { IsOpened result.0.options result.0.gates.items result.2.number result.2.passes.items }
 {
-    let (table, sessions) = Table::over(alloc, options, parts).expect(rt, "a table");
-    let (first, second) = last_two(&table, sessions).expect(rt, "two sessions");
+    let Ok((table, sessions)) = Table::over(alloc, options, parts) else {
+        rt.panic("no table")
+    };
+    let Some((first, second)) = last_two(&table, sessions) else {
+        rt.panic("no two sessions")
+    };
     (table, first, second)
 }
 

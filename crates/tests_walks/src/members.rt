@@ -187,8 +187,10 @@ pub(crate) fn asked<P: Part<Global> + Drop + Send, R: Threads + Wait + Abort + S
     let objects = read_terms(alloc, objects.as_bytes()).expect(rt, "the objects");
     let options = options(2, members);
     let objects = objects.as_slice();
-    let opened = set_with_objects::<R, Global, P>(rt, alloc, options, objects);
-    let (table, mut sessions) = opened.expect(rt, "a table");
+    let Some((table, mut sessions)) = set_with_objects::<R, Global, P>(rt, alloc, options, objects)
+    else {
+        rt.panic("no table")
+    };
     let sessions = sessions.as_mut_slice();
     called_at(rt, alloc, &table, sessions, waiter, query, call)
 }
@@ -201,8 +203,15 @@ pub(crate) fn deleted_and_counted<P: Part<Global> + Drop + Send, R: Threads + Wa
     query: &Query,
 ) -> (Option<Vec<u8>>, Option<Vec<u8>>) {
     let objects = read_terms(alloc, objects.as_bytes()).expect(rt, "the objects");
-    let opened = opened::<R, Global, P>(rt, alloc, options(2, 3), objects.as_slice());
-    let (table, mut two, mut third) = opened.expect(rt, "a table");
+    let objects = objects.as_slice();
+    let Some((table, mut two, mut third)) = opened::<R, Global, P>(
+        rt,
+        alloc,
+        options(2, 3),
+        objects,
+    ) else {
+        rt.panic("no table")
+    };
     let two = two.as_mut_slice();
     let deleted = called_at(rt, alloc, &table, two, None, query, Call::Delete);
     let third = std::slice::from_mut(&mut third);
@@ -221,7 +230,9 @@ fn local_tables<R: Abort, P: Part<Global> + Drop>(
 {
     let mut tables = Vec::new(alloc);
     for place in 0..count {
-        let table = LocalTable::open(alloc, options).expect(rt, "a table");
+        let Ok(table) = LocalTable::open(alloc, options) else {
+            rt.panic("no table")
+        };
         tables.push(table).ok().expect(rt, "room for a table");
     }
     tables

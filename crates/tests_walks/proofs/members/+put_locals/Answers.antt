@@ -1,9 +1,9 @@
 use Rattle.std.proofs.Common.{◌≡◌, arith}
 use Rattle.std.proofs.lemmas.List.Elements.{All-rest}
-use Rattle.tests_walks.proofs.members.+seat_locals.Goals as goal
+use Rattle.tests_walks.proofs.members.+put_locals.Goals as goal
 
-pub seat_locals-requires : goal.seat_locals-requires
-seat_locals-requires g t c κs within = (
+pub put_locals-requires : goal.put_locals-requires
+put_locals-requires g t c κs within = (
   omega (arith, c.in-Some.ensures.cases.1, c.decreases),
   (
     within,
@@ -11,7 +11,7 @@ seat_locals-requires g t c κs within = (
       c.requires.sessions,
       (
         All-rest (λ t. t.options ≡ c.args.options) c.in-Some.first.now c.in-Some.rest.now c.args.tables.now c.in-Some.ensures.cases.0 c.requires.opened,
-        c.seat_local.ensures,
+        c.put_local.ensures,
       ),
     ),
   ),
