@@ -1,7 +1,8 @@
 #!/usr/bin/env python3
 """Compares what `ets_tool explain` writes with a listing made here, from the bytes of code files and the text of specifications alone: of
-each specification in the rows of `crates/ets_tool/rows` and `crates/judge_language/stdin`, of the file that `compile` writes of it, and of
-each file in these rows. What is refused is refused as by `compile` or `verify`. Silent where all agree.
+each specification in the rows of `crates/ets_tool` (of queries, scans, and the selections of scripts) and of `crates/judge_language/stdin`, of
+the file that `compile` writes of it, and of each file in these rows. What is refused is refused as by `compile` or `verify`. Silent where all
+agree.
 
 usage: .ci/listing.py [PROGRAM [EACH]]     EACH: one row of so many is taken, each if none is given"""
 from concurrent.futures import ThreadPoolExecutor
@@ -418,20 +419,38 @@ def specification_agrees(program, text):
 # Rows
 
 
-def rows_of_program():
-    """The first terms of the inputs of queries."""
+def inputs_of(name):
+    """The inputs of the rows of a file of `crates/ets_tool`, each behind the words of its row."""
     words, text = "", ""
-    with open(f"{TOP}/crates/ets_tool/rows", encoding="utf-8") as file:
+    with open(f"{TOP}/crates/ets_tool/{name}", encoding="utf-8") as file:
         for line in [*file.read().split("\n"), ""]:
-            if line.startswith("< "):
+            if line.startswith(("< ", "- ")):
                 text += line[2:] + "\n"
             elif not line:
-                first = first_of(text) if words.split()[:1] in (["run"], ["test"], ["compile"], ["verify"]) else None
-                if first:
-                    yield first
+                yield words, text
                 words, text = "", ""
             elif not line.startswith(("> ", "! ")):
                 words = line
+
+
+def rows_of_queries():
+    """The first terms of the inputs of queries and scans."""
+    queries = [text for words, text in inputs_of("rows") if words.split()[:1] in (["run"], ["test"], ["compile"], ["verify"], ["scan"])]
+    for text in queries + [text for _, text in inputs_of("scan_rows")]:
+        first = first_of(text)
+        if first:
+            yield first
+
+
+def rows_of_scripts():
+    """The specifications by which scripts select, as far as their text is read here."""
+    for _, text in inputs_of("script_rows"):
+        try:
+            for term in Reader(text).terms():
+                if term.kind == "tuple" and len(term.parts) > 2 and term.parts[0].text in ("select", "select_count", "select_delete"):
+                    yield term.parts[2]
+        except (NoText, RecursionError, ValueError, KeyError):
+            pass
 
 
 def rows_of_judge():
@@ -458,9 +477,10 @@ def rows_of_judge():
 def main(words):
     program = words[0] if words else f"{TOP}/crates/ets_tool/out/ets_tool"
     each = int(words[1]) if len(words) > 1 else 1
-    texts = list(dict.fromkeys(f"{term.text}.\n" for term in [*rows_of_program(), *rows_of_judge()]))[::each]
+    rows = [*rows_of_queries(), *rows_of_scripts(), *rows_of_judge()]
+    texts = list(dict.fromkeys(f"{term.text}.\n" for term in rows))[::each]
     files = [text for text in texts if text.startswith("<<")]
-    if len(texts) * each < 600 or len(files) * each < 300:
+    if len(texts) * each < 2600 or len(files) * each < 1300:
         print(f".ci/listing.py: no more than {len(texts)} rows, {len(files)} of them files", file=sys.stderr)
         return 1
     with ThreadPoolExecutor(os.cpu_count()) as pool:
