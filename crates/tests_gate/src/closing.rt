@@ -1,17 +1,35 @@
-//! Gates by themselves, closed by a session that was never used: while the part is at home it comes out with what
-//! another session put in.
-ghost use Rattle.std.specs.Prelude.{◌≡◌};
+//! Gates by themselves, closed with the pass of a session that was never used: while the part is at home it comes out
+//! with what another session put in.
+ghost use Rattle.std.specs.Prelude.{◌≡◌, IfSome};
+ghost use Rattle.tables.specs.Sessions.{IsOpened};
 
-use crate::objects::object;
+use crate::acts::{Act, acted, only};
+use crate::pairs::opened;
 use gate::{Gate, Pass};
 use kit_rows::{fields, number};
-use part_core::{Part, PartOp, TableKind};
+use part_core::{Part, TableKind};
 use part_hash::HashPart;
 use part_order::OrderPart;
 use part_plain::PlainPart;
 use std::alloc::Global;
 use std::process::Abort;
 use std::sync::Wait;
+use tables::{Options, Session, Table};
+
+/// The gate of a table of one part, and the pass that a session has there.
+fn gate_and_pass<P: Part<Global> + Drop>(
+    table: Table<P>,
+    session: Session<P>,
+) -> Option<(Gate<P>, Pass<P>)>
+    requires { IsOpened table.options table.gates.items session.number session.passes.items }
+    ensures { IfSome result (λ both. both.1.gate ≡ both.0) }
+{
+    let mut gates = table.gates;
+    let mut passes = session.passes;
+    let gate = gates.pop()?;
+    let pass = passes.pop()?;
+    Some((gate, pass))
+}
 
 /// The key of the only object of a part; none where it has others.
 fn only_key<R: Abort, P: Part<Global>>(rt: &R, alloc: Global, part: &P) -> Option<u32> {
@@ -35,43 +53,28 @@ fn key_behind<R: Abort, P: Part<Global> + Drop>(
     only_key(rt, alloc, &part)
 }
 
-/// Puts an object in through a gate.
-fn put<R: Wait + Abort, P: Part<Global> + Drop>(
-    rt: &R,
-    alloc: Global,
-    gate: &Gate<P>,
-    pass: &mut Pass<P>,
-)
-    requires { pass.old.gate ≡ gate.now }
-    ensures { pass.new.gate ≡ gate.now }
-{
-    let object = object(alloc, 7).expect(rt, "an object");
-    let mut insert = PartOp::Insert(Some(object));
-    let is_put = gate.turn(rt, pass, &mut insert).is_ok();
-    assert!(rt; is_put);
-}
-
-/// A gate, through which its first session puts an object in, is closed with the pass of its second one: the object's
-/// key.
+/// A gate, behind which the first of two sessions puts an object in, is closed with the pass of the second one: the
+/// object's key.
 fn closed<R: Wait + Abort, P: Part<Global> + Drop>(
     rt: &R,
     alloc: Global,
     kind: TableKind,
 ) -> Option<u32> {
-    let Ok(part) = P::make(alloc, kind, 1, 1, 2) else {
-        rt.panic("no part")
+    let options = Options {
+        name: 1,
+        kind,
+        keypos: 1,
+        parts: 1,
+        sessions: 2,
     };
-    let Ok((gate, mut passes)) = Gate::new(alloc, part, 2) else {
+    let Some((table, first, second)) = opened::<Global, P>(alloc, options) else {
+        rt.panic("no table")
+    };
+    let _first = acted(rt, alloc, &table, first, Act::Put(only(7)), 0);
+    let Some((gate, pass)) = gate_and_pass(table, second) else {
         rt.panic("no gate")
     };
-    let Some(second) = passes.pop() else {
-        rt.panic("no pass")
-    };
-    let Some(mut first) = passes.pop() else {
-        rt.panic("no other pass")
-    };
-    put(rt, alloc, &gate, &mut first);
-    key_behind(rt, alloc, gate, second)
+    key_behind(rt, alloc, gate, pass)
 }
 
 #[test]
