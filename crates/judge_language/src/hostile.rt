@@ -1,6 +1,7 @@
 //! The beginnings of a file, and each of its bytes changed to each other value.
 use crate::files::{Refusal, load};
 use code_file::{FileFault, decode};
+use kit_code::is_true;
 use kit_rows::{Outcome, elements, numbered, text, word};
 use machine::Machine;
 use std::alloc::Global;
@@ -17,22 +18,28 @@ fn fronts(alloc: Global, file: &[u8]) -> Option<Vec<u8>> {
     word(alloc, "truncated")
 }
 
-/// Whether each run of code on one of these objects ends within its budget; none for want of memory.
+/// Whether a run of a machine on an object ends within a budget, and a test whether the answer is the atom `true` takes
+/// as many instructions and says so; none for want of memory.
+fn is_within<'a>(machine: &mut Machine<'a, '_>, object: &'a Term, budget: u32) -> Option<bool> {
+    let (holds, tested) = machine.run_true(object).ok()?;
+    let (answer, executed) = machine.run(object).ok()?;
+    Some(executed <= budget && tested == executed && holds == is_true(answer.as_ref()))
+}
+
+/// Whether it is so of runs of code on each of these objects; none for want of memory.
 fn runs_within(alloc: Global, code: &Verified, objects: &[Term]) -> Option<bool> {
     let heap = &alloc;
     let mut machine = Machine::new(heap, code).ok()?;
     let mut within = true;
     for object in objects {
-        let (_, executed) = machine.run(object).ok()?;
-        if executed > code.budget() {
-            within = false;
-        }
+        within = is_within(&mut machine, object, code.budget())? && within;
     }
     machine.finish();
     Some(within)
 }
 
-/// Whether a file is refused by name, or runs within its budget on these objects; none for want of memory.
+/// Whether a file is refused by name, or runs within its budget on these objects, where its tests agree with its
+/// answers; none for want of memory.
 fn holds(alloc: Global, file: &[u8], objects: &[Term]) -> Option<bool> {
     match load(alloc, file) {
         Ok(code) => runs_within(alloc, &code, objects),

@@ -104,6 +104,10 @@ impl Calls for CodeCalls {
             _ => run_outcome::<GivenCode, A>(alloc, heap, call, given),
         }
     }
+
+    fn asks_again(call: &str) -> bool {
+        call == "swept_verify"
+    }
 }
 
 impl Loads for CodeCalls {

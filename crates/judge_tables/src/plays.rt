@@ -1,7 +1,8 @@
-//! Rows that are played, once with memory and again with each request for memory refused in turn.
+//! Rows that are played, once with memory and again with each request for memory refused in turn, alone and with all
+//! behind it.
 use kit_alloc::Failing;
 use kit_parts::{
-    Options, Setting, byte, kind_of, made, open_fault_text, steps_text, watching_code,
+    Options, Setting, Wants, byte, kind_of, made, open_fault_text, steps_text, watching_code,
 };
 use kit_rows::{elements, short, word, written};
 use part_core::{OpenFault, Part, TableKind};
@@ -40,9 +41,9 @@ fn at_hashed(kind: &str) -> &str {
 
 /// How a row is played.
 #[derive(Clone, Copy)]
-struct Form {
-    /// A request for memory may be refused.
-    is_scarce: bool,
+struct Form<'w> {
+    /// Whether a request for memory may be refused, and how often it was wanted.
+    wants: &'w Wants,
     /// The part is looked at before each operation and where it refuses.
     is_watched: bool,
 }
@@ -52,7 +53,7 @@ fn played<A: Allocator + Copy, P: Part<A> + Drop>(
     alloc: Global,
     heap: A,
     options: Options,
-    form: Form,
+    form: Form<'_>,
     steps: &[Term<A>],
 ) -> Option<Vec<u8>> {
     let code = if form.is_watched {
@@ -62,16 +63,16 @@ fn played<A: Allocator + Copy, P: Part<A> + Drop>(
     };
     let setting = Setting {
         sessions: options.sessions,
-        is_scarce: form.is_scarce,
+        wants: form.wants,
         watch: code.as_ref(),
     };
-    match made::<A, P>(heap, options, form.is_scarce) {
+    match made::<A, P>(heap, options, form.wants) {
         Ok(mut part) => {
             let steps = steps_text(alloc, heap, &mut part, setting, steps);
             drop(part);
             steps
         }
-        Err(fault) => open_fault_text(alloc, fault),
+        Err(fault) => open_fault_text(alloc, fault, form.wants),
     }
 }
 
@@ -80,14 +81,14 @@ fn made_text<A: Allocator + Copy, P: Part<A> + Drop>(
     alloc: Global,
     heap: A,
     options: Options,
-    is_scarce: bool,
+    wants: &Wants,
 ) -> Option<Vec<u8>> {
-    match made::<A, P>(heap, options, is_scarce) {
+    match made::<A, P>(heap, options, wants) {
         Ok(part) => {
             drop(part);
             word(alloc, "done")
         }
-        Err(fault) => open_fault_text(alloc, fault),
+        Err(fault) => open_fault_text(alloc, fault, wants),
     }
 }
 
@@ -97,7 +98,7 @@ fn steps_row<A: Allocator + Copy, P: Part<A> + Drop>(
     heap: A,
     kind: TableKind,
     row: &[Term<A>],
-    form: Form,
+    form: Form<'_>,
 ) -> Option<Vec<u8>> {
     let [keypos, parts, sessions, steps] = row else {
         return None;
@@ -116,7 +117,7 @@ fn options_row<A: Allocator + Copy, P: Part<A> + Drop>(
     alloc: Global,
     heap: A,
     row: &[Term<A>],
-    is_scarce: bool,
+    wants: &Wants,
 ) -> Option<Vec<u8>> {
     let [kind, keypos, parts, sessions, _wanted] = row else {
         return None;
@@ -127,7 +128,7 @@ fn options_row<A: Allocator + Copy, P: Part<A> + Drop>(
         parts: byte(parts)?,
         sessions: byte(sessions)?,
     };
-    made_text::<A, P>(alloc, heap, options, is_scarce)
+    made_text::<A, P>(alloc, heap, options, wants)
 }
 
 /// The part that plays a row of steps.
@@ -169,7 +170,7 @@ fn played_at<A: Allocator + Copy>(
     heap: A,
     place: Place,
     row: &[Term<A>],
-    form: Form,
+    form: Form<'_>,
 ) -> Option<Vec<u8>> {
     match place {
         Place::Plain(kind) => steps_row::<A, PlainPart<A>>(alloc, heap, kind, row, form),
@@ -186,20 +187,17 @@ fn outcome_of<A: Allocator + Copy>(
     heap: A,
     call: &str,
     given: &[u8],
-    is_scarce: bool,
+    wants: &Wants,
 ) -> Option<Vec<u8>> {
     let row = read_terms(heap, given).ok()?;
     let row = row.as_slice();
     match call {
-        "make_set" => options_row::<A, PlainPart<A>>(alloc, heap, row, is_scarce),
-        "make_hashed_set" => options_row::<A, HashPart<A>>(alloc, heap, row, is_scarce),
-        "make_ordered_set" => options_row::<A, OrderPart<A>>(alloc, heap, row, is_scarce),
+        "make_set" => options_row::<A, PlainPart<A>>(alloc, heap, row, wants),
+        "make_hashed_set" => options_row::<A, HashPart<A>>(alloc, heap, row, wants),
+        "make_ordered_set" => options_row::<A, OrderPart<A>>(alloc, heap, row, wants),
         _ => {
             let (place, is_watched) = play_of(call)?;
-            let form = Form {
-                is_scarce,
-                is_watched,
-            };
+            let form = Form { wants, is_watched };
             played_at(alloc, heap, place, row, form)
         }
     }
@@ -215,27 +213,71 @@ fn requests_to_read(alloc: Global, given: &[u8]) -> Option<u64> {
     Some(heap.requests())
 }
 
-/// Whether the same comes of a row over an allocator that refuses a request, or memory is wanted where it did, and no
+/// Which requests are refused in a run of a row.
+#[derive(Clone, Copy)]
+enum Refusals {
+    /// One alone.
+    Alone,
+    /// Each from one on.
+    Onward,
+}
+
+impl Refusals {
+    /// An allocator that refuses the request of this number.
+    fn heap(self, alloc: Global, request: u64) -> Failing<Global> {
+        match self {
+            Refusals::Alone => Failing::refusing_nth(alloc, request),
+            Refusals::Onward => Failing::refusing_from(alloc, request),
+        }
+    }
+
+    /// How often memory may be wanted in a row that is played to its end: an operation is asked for again behind one.
+    fn most_wants(self) -> u64 {
+        match self {
+            Refusals::Alone => 1,
+            Refusals::Onward => 0,
+        }
+    }
+
+    /// How often memory may be wanted in a row that ends early: alone, where what an operation is made of can't be read.
+    fn most_wants_at_end(self) -> u64 {
+        match self {
+            Refusals::Alone => 0,
+            Refusals::Onward => u64::MAX,
+        }
+    }
+}
+
+/// Whether the same comes of a row over an allocator that refuses requests, or memory is wanted where it did, and no
 /// block is left then.
 fn is_right(
     alloc: Global,
+    refusals: Refusals,
     heap: &Failing<Global>,
     call: &str,
     given: &[u8],
     wanted: &[u8],
 ) -> bool {
-    let is_right = match outcome_of(alloc, heap, call, given, true) {
-        Some(out) => out.as_slice() == wanted,
-        None => heap.was_refused(),
+    let wants = Wants::new(true);
+    let is_right = match outcome_of(alloc, heap, call, given, &wants) {
+        Some(out) => out.as_slice() == wanted && wants.count() <= refusals.most_wants(),
+        None => heap.was_refused() && wants.count() <= refusals.most_wants_at_end(),
     };
     is_right && heap.blocks() == 0
 }
 
 /// Whether it is so whichever request behind the first ones is refused.
-fn is_swept(alloc: Global, call: &str, given: &[u8], first: u64, wanted: &[u8]) -> bool {
+fn is_swept(
+    alloc: Global,
+    refusals: Refusals,
+    call: &str,
+    given: &[u8],
+    first: u64,
+    wanted: &[u8],
+) -> bool {
     for request in 1..MOST_REQUESTS {
-        let heap = Failing::refusing_nth(alloc, first.saturating_add(request));
-        if !is_right(alloc, &heap, call, given, wanted) {
+        let heap = refusals.heap(alloc, first.saturating_add(request));
+        if !is_right(alloc, refusals, &heap, call, given, wanted) {
             return false;
         }
         if !heap.was_refused() {
@@ -245,11 +287,14 @@ fn is_swept(alloc: Global, call: &str, given: &[u8], first: u64, wanted: &[u8]) 
     false
 }
 
-/// What comes of a row, with memory and with each request refused in turn that isn't made to read it.
+/// What comes of a row, with memory and with each request refused in turn that isn't made to read it, alone and with all
+/// behind it.
 fn swept(alloc: Global, call: &str, given: &[u8]) -> Option<Vec<u8>> {
-    let out = outcome_of(alloc, alloc, call, given, true)?;
+    let out = outcome_of(alloc, alloc, call, given, &Wants::new(false))?;
     let first = requests_to_read(alloc, given)?;
-    if is_swept(alloc, call, given, first, out.as_slice()) {
+    if is_swept(alloc, Refusals::Alone, call, given, first, out.as_slice())
+        && is_swept(alloc, Refusals::Onward, call, given, first, out.as_slice())
+    {
         Some(out)
     } else {
         word(alloc, "another_without_memory")
@@ -261,7 +306,7 @@ pub(crate) fn came(alloc: Global, kind: &str, parts: &[Term], forms: usize) -> O
     let given = written(alloc, parts)?;
     let call = if forms < FORMS { kind } else { at_hashed(kind) };
     if forms % FORMS == 0 {
-        outcome_of(alloc, alloc, call, given.as_slice(), false)
+        outcome_of(alloc, alloc, call, given.as_slice(), &Wants::new(false))
     } else {
         swept(alloc, call, given.as_slice())
     }

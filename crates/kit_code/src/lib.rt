@@ -25,4 +25,4 @@ pub use instr::instruction;
 pub use loads::{is_loaded, run_outcome};
 pub use meanings::{agrees, answers_of, answers_of_text};
 pub use parts::{BodyParts, Parts, RoutineParts, parts_of};
-pub use runs::{came, ran_each};
+pub use runs::{came, is_true, ran_each};

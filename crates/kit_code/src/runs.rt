@@ -18,7 +18,7 @@ fn answer_text(alloc: Global, answer: Option<&Term>, executed: u32) -> Option<Ve
 }
 
 /// Whether an answer is the atom `true`.
-fn is_true(answer: Option<&Term>) -> bool {
+pub fn is_true(answer: Option<&Term>) -> bool {
     match answer {
         Some(answer) => is_atom(answer, "true"),
         None => false,

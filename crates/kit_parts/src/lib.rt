@@ -21,5 +21,5 @@ mod watching;
 pub use operations::{byte, kind_of};
 pub use replies::open_fault_text;
 pub use steps::{Setting, steps_text};
-pub use turns::{Options, made};
+pub use turns::{Options, Wants, made};
 pub use watching::watching_code;

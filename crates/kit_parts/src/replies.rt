@@ -1,4 +1,5 @@
 //! What a part answers, as a text.
+use crate::turns::Wants;
 use kit_rows::{Outcome, listed, numbered, tagged, truth_name, word};
 use part_core::{Cursor, Fault, OpenFault, Reply};
 use std::alloc::{Allocator, Global};
@@ -89,7 +90,10 @@ pub(crate) fn answer_text<A: Allocator>(
     }
 }
 
-/// The text of why a part isn't made.
-pub fn open_fault_text(alloc: Global, fault: OpenFault) -> Option<Vec<u8>> {
+/// The text of why a part isn't made; none where a request for memory may be refused, and it was wanted again.
+pub fn open_fault_text(alloc: Global, fault: OpenFault, wants: &Wants) -> Option<Vec<u8>> {
+    if fault == OpenFault::Memory && wants.note() {
+        return None;
+    }
     numbered(alloc, "error", usize::from(fault.number()))
 }

@@ -7,7 +7,7 @@ use crate::operations::{
     bare, byte, code_of, cursor_of, keyed, name_of, named_key, visit, wanted_of,
 };
 use crate::replies::{answer_text, objects_text};
-use crate::turns::{Turn, answer, objects};
+use crate::turns::{Turn, Wants, answer, ends, objects};
 use crate::watching::watched;
 use kit_rows::{Outcome, canonical, fields, is_atom, number};
 use part_core::{Part, PartOp, Scope};
@@ -15,7 +15,7 @@ use std::alloc::{Allocator, Global};
 use term_core::Term;
 use verifier::Verified;
 
-/// What comes of an operation.
+/// What comes of an operation; none where it wants memory again and again.
 fn came_of<'w, 'a, A: Allocator + Copy, P: Part<A>>(
     alloc: Global,
     heap: A,
@@ -31,7 +31,11 @@ fn came_of<'w, 'a, A: Allocator + Copy, P: Part<A>>(
         Some(code) => watched(alloc, heap, part, turn, code, &mut op),
         None => {
             let answer = answer(part, turn, &mut op);
-            answer_text(alloc, &answer)
+            if ends(turn, &op, &answer) {
+                None
+            } else {
+                answer_text(alloc, &answer)
+            }
         }
     }
 }
@@ -106,7 +110,7 @@ fn all_objects<A: Allocator + Copy, P: Part<A>>(
     part: &P,
     turn: Turn<'_, A>,
 ) -> Option<Vec<u8>> {
-    let objects = objects(heap, part, turn).ok()?;
+    let objects = objects(heap, part, turn)?;
     objects_text(alloc, objects.as_slice())
 }
 
@@ -134,13 +138,13 @@ fn came<A: Allocator + Copy, P: Part<A>>(
     }
 }
 
-/// Where a row is: who may ask, whether a request for memory may be refused, and whether the part is looked at.
+/// Where a row is: who may ask, what notes that memory was wanted, and whether the part is looked at.
 #[derive(Clone, Copy)]
 pub struct Setting<'w, A: Allocator + Copy> {
     /// How many sessions use the part, numbered from 0.
     pub sessions: u8,
-    /// Whether a request for memory may be refused.
-    pub is_scarce: bool,
+    /// Whether a request for memory may be refused, and how often it was wanted.
+    pub wants: &'w Wants,
     /// What a look at the part asks, where what is refused has to leave all as it was.
     pub watch: Option<&'w Verified<A>>,
 }
@@ -165,7 +169,7 @@ fn step_once<A: Allocator + Copy, P: Part<A>>(
     }
     let turn = Turn {
         session,
-        is_scarce: setting.is_scarce,
+        wants: setting.wants,
         watch: setting.watch,
     };
     let reply = came(alloc, heap, part, turn, op)?;

@@ -1,19 +1,50 @@
 //! One operation at a part. What is refused has to stay in its place: it is asked for again, and has to be answered as
-//! it was, but where memory was wanted, which is there then.
+//! it was, but where memory was wanted, which may be there then. How often it was wanted is noted.
 ghost use Rattle.std.specs.Prelude.{◌≡◌, ◌<◌, IfOk, IfErr};
 ghost use Rattle.part_core.specs.Acts.{IsAsked};
 ghost use Rattle.part_core.specs.Ops.{act_of};
 
 use part_core::{Fault, OpenFault, Part, PartOp, Reply, TableKind};
-use std::alloc::{AllocError, Allocator};
+use std::alloc::Allocator;
+use std::sync::atomic::{AtomicU64, Ordering};
 use term_core::Term;
 use verifier::Verified;
 
-/// Who asks, whether a request for memory may be refused, and what a look at the part asks, where it is looked at.
+/// Whether a request for memory may be refused while a row is played, and how often it was wanted then.
+#[derive(Drop)]
+pub struct Wants {
+    is_scarce: bool,
+    count: AtomicU64,
+}
+
+impl Wants {
+    /// None yet.
+    pub fn new(is_scarce: bool) -> Self {
+        Wants {
+            is_scarce,
+            count: AtomicU64::new(0),
+        }
+    }
+
+    /// How often memory was wanted where a request may be refused.
+    pub fn count(&self) -> u64 {
+        self.count.load(Ordering::SeqCst)
+    }
+
+    /// Whether a request may be refused; that memory was wanted is noted then.
+    pub(crate) fn note(&self) -> bool {
+        if self.is_scarce {
+            self.count.fetch_add(1, Ordering::SeqCst);
+        }
+        self.is_scarce
+    }
+}
+
+/// Who asks, what notes that memory was wanted, and what a look at the part asks, where it is looked at.
 #[derive(Clone, Copy)]
 pub(crate) struct Turn<'w, A: Allocator + Copy> {
     pub(crate) session: u8,
-    pub(crate) is_scarce: bool,
+    pub(crate) wants: &'w Wants,
     pub(crate) watch: Option<&'w Verified<A>>,
 }
 
@@ -43,18 +74,18 @@ fn make<A: Allocator + Copy, P: Part<A>>(heap: A, options: Options) -> Result<P,
     )
 }
 
-/// Makes a part, again where one request for memory was refused.
+/// Makes a part, again where a request for memory was refused.
 pub fn made<A: Allocator + Copy, P: Part<A>>(
     heap: A,
     options: Options,
-    is_scarce: bool,
+    wants: &Wants,
 ) -> Result<P, OpenFault>
     ensures { IfOk result (λ p. (P.settings p).sessions ≡ options.sessions) }
 {
     match make::<A, P>(heap, options) {
         Ok(part) => Ok(part),
         Err(fault) => {
-            if is_scarce && fault == OpenFault::Memory {
+            if fault == OpenFault::Memory && wants.note() {
                 make::<A, P>(heap, options)
             } else {
                 Err(fault)
@@ -72,7 +103,16 @@ pub(crate) fn takes_no_memory<A: Allocator>(op: &PartOp<'_, A>) -> bool {
     }
 }
 
-/// Does an operation, again where one request for memory was refused that it may make.
+/// Whether an operation wanted memory that it may take, where a request may be refused, which is noted.
+pub(crate) fn wants_memory<A: Allocator + Copy>(
+    turn: Turn<'_, A>,
+    op: &PartOp<'_, A>,
+    fault: Fault,
+) -> bool {
+    fault == Fault::Memory && !takes_no_memory(op) && turn.wants.note()
+}
+
+/// Does an operation, again where a request for memory was refused that it may make.
 fn done<'a, A: Allocator + Copy, P: Part<A>>(
     part: &mut P,
     turn: Turn<'_, A>,
@@ -83,11 +123,10 @@ fn done<'a, A: Allocator + Copy, P: Part<A>>(
     ensures settings { P.settings part.new ≡ P.settings part.old }
     ensures back { IfErr result (λ fault. op.new ≡ op.old) }
 {
-    let may_want = turn.is_scarce && !takes_no_memory(op);
     match part.apply(turn.session, op) {
         Ok(reply) => Ok(reply),
         Err(fault) => {
-            if may_want && fault == Fault::Memory {
+            if wants_memory(turn, op, fault) {
                 part.apply(turn.session, op)
             } else {
                 Err(fault)
@@ -96,7 +135,7 @@ fn done<'a, A: Allocator + Copy, P: Part<A>>(
     }
 }
 
-/// Does an operation, and asks for it once more where it is refused.
+/// Does an operation, and asks for it once more where it is refused, but where memory was wanted twice.
 pub(crate) fn answer<'a, A: Allocator + Copy, P: Part<A>>(
     part: &mut P,
     turn: Turn<'_, A>,
@@ -108,24 +147,43 @@ pub(crate) fn answer<'a, A: Allocator + Copy, P: Part<A>>(
 {
     match done(part, turn, op) {
         Ok(reply) => Ok(reply),
-        Err(_) => done(part, turn, op),
+        Err(fault) => {
+            if wants_memory(turn, op, fault) {
+                Err(fault)
+            } else {
+                done(part, turn, op)
+            }
+        }
     }
 }
 
-/// The objects of a part, asked for again where one request for memory was refused.
+/// Whether an answer ends the row: memory was wanted once more.
+pub(crate) fn ends<A: Allocator + Copy>(
+    turn: Turn<'_, A>,
+    op: &PartOp<'_, A>,
+    answer: &Result<Reply<A>, Fault>,
+) -> bool {
+    match answer {
+        Ok(_) => false,
+        Err(fault) => wants_memory(turn, op, *fault),
+    }
+}
+
+/// The objects of a part, asked for again where a request for memory was refused.
 pub(crate) fn objects<A: Allocator + Copy, P: Part<A>>(
     heap: A,
     part: &P,
     turn: Turn<'_, A>,
-) -> Result<Vec<Term<A>, A>, AllocError> {
-    match part.objects(heap) {
-        Ok(objects) => Ok(objects),
-        Err(AllocError) => {
-            if turn.is_scarce {
-                part.objects(heap)
-            } else {
-                Err(AllocError)
-            }
-        }
+) -> Option<Vec<Term<A>, A>> {
+    if let Ok(objects) = part.objects(heap) {
+        return Some(objects);
     }
+    if !turn.wants.note() {
+        return None;
+    }
+    let again = part.objects(heap);
+    if again.is_err() {
+        turn.wants.note();
+    }
+    again.ok()
 }

@@ -6,7 +6,7 @@ ghost use Rattle.part_core.specs.Ops.{act_of};
 
 use crate::operations::{code_of, visit};
 use crate::replies::{answer_text, found_text, objects_text, reply_text};
-use crate::turns::{Turn, answer, objects, takes_no_memory};
+use crate::turns::{Turn, answer, ends, objects, wants_memory};
 use kit_rows::{Outcome, term_of, word};
 use part_core::{Cursor, Fault, Part, PartOp, Reply, Scope};
 use std::alloc::{Allocator, Global};
@@ -87,7 +87,7 @@ fn look<A: Allocator + Copy, P: Part<A>>(
     requires { turn.session < (P.settings part.old).sessions }
     ensures { P.settings part.new ≡ P.settings part.old }
 {
-    let objects = objects(heap, part, turn).ok()?;
+    let objects = objects(heap, part, turn)?;
     let objects = objects_text(alloc, objects.as_slice())?;
     let walk = walk_text(alloc, part, turn, code)?;
     let fixes = part.fixes(turn.session);
@@ -95,7 +95,8 @@ fn look<A: Allocator + Copy, P: Part<A>>(
     out.text(walk.as_slice()).number(usize::from(fixes)).end()
 }
 
-/// What comes of an operation that was refused, asked for again where it may be.
+/// What comes of an operation that was refused, asked for again where it may be; none where it wants memory again and
+/// again.
 fn again<'a, A: Allocator + Copy, P: Part<A>>(
     alloc: Global,
     part: &mut P,
@@ -107,13 +108,16 @@ fn again<'a, A: Allocator + Copy, P: Part<A>>(
     requires asked { IsAsked (act_of op.old) }
     ensures { P.settings part.new ≡ P.settings part.old }
 {
-    let is_wanting = fault == Fault::Memory && (takes_no_memory(op) || !turn.is_scarce);
-    let answer = if is_wanting {
-        Err(fault)
-    } else {
+    let answer = if fault != Fault::Memory || wants_memory(turn, op, fault) {
         answer(part, turn, op)
+    } else {
+        Err(fault)
     };
-    answer_text(alloc, &answer)
+    if ends(turn, op, &answer) {
+        None
+    } else {
+        answer_text(alloc, &answer)
+    }
 }
 
 /// What comes of an operation; `changed` where it is refused and the part isn't as it was before.

@@ -1,7 +1,7 @@
 //! Calls with each request for memory refused in turn.
 use crate::outcome::word;
 use crate::texts::text;
-use kit_alloc::{Failing, sweep, sweep_onward};
+use kit_alloc::{Failing, Plan, sweep, sweep_onward};
 use std::alloc::{Allocator, Global};
 use term_core::Term;
 
@@ -18,9 +18,30 @@ pub trait Calls {
         call: &str,
         given: &[u8],
     ) -> Option<Vec<u8>>;
+
+    /// Whether the call of a name may answer where a request for memory was refused, since it asks again itself.
+    fn asks_again(_call: &str) -> bool {
+        false
+    }
 }
 
-/// Whether the same comes of a call or memory is wanted, where it may be refused, and no block is left then.
+/// Whether a call that wanted memory, which was refused, gives the same when it is made again over the same allocator;
+/// where each later request is refused, too, it may want memory once more.
+fn is_right_again<C: Calls>(
+    alloc: Global,
+    heap: &Failing<Global>,
+    call: &str,
+    given: &[u8],
+    wanted: &[u8],
+) -> bool {
+    match C::outcome(alloc, heap, call, given) {
+        Some(out) => out.as_slice() == wanted,
+        None => !matches!(heap.plan(), Plan::Once(_)),
+    }
+}
+
+/// Whether the same comes of a call where no request was refused, and memory is wanted where one was, and the same comes
+/// of it when it is made again; and no block is left then.
 fn is_right<C: Calls>(
     alloc: Global,
     heap: &Failing<Global>,
@@ -29,8 +50,8 @@ fn is_right<C: Calls>(
     wanted: &[u8],
 ) -> bool {
     let is_right = match C::outcome(alloc, heap, call, given) {
-        Some(out) => out.as_slice() == wanted,
-        None => heap.was_refused(),
+        Some(out) => { out.as_slice() == wanted && (C::asks_again(call) || !heap.was_refused()) }
+        None => heap.was_refused() && is_right_again::<C>(alloc, heap, call, given, wanted),
     };
     is_right && heap.blocks() == 0
 }

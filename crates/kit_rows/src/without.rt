@@ -27,7 +27,8 @@ fn without_memory<C: Calls + Loads>(alloc: Global, call: &str, given: &[u8]) -> 
     let heap = Failing::refusing_from(alloc, requests::<C>(alloc, given)?.saturating_add(1));
     match C::outcome(alloc, &heap, call, given) {
         Some(out) => Some(out),
-        None => word(alloc, "refused"),
+        None if heap.was_refused() => word(alloc, "refused"),
+        None => word(alloc, "wanting"),
     }
 }
 
