@@ -6,12 +6,15 @@ pub put_locals-requires : goal.put_locals-requires
 put_locals-requires g t c κs within = (
   omega (arith, c.in-Some.ensures.cases.1, c.decreases),
   (
-    within,
+    within.0,
     (
-      c.requires.sessions,
+      within.1,
       (
-        All-rest (λ t. t.options ≡ c.args.options) c.in-Some.first.now c.in-Some.rest.now c.args.tables.now c.in-Some.ensures.cases.0 c.requires.opened,
-        c.put_local.ensures,
+        c.requires.sessions,
+        (
+          All-rest (λ t. t.options ≡ c.args.options) c.in-Some.first.now c.in-Some.rest.now c.args.tables.now c.in-Some.ensures.cases.0 c.requires.opened,
+          c.put_local.ensures,
+        ),
       ),
     ),
   ),
