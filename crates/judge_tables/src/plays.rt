@@ -231,6 +231,14 @@ impl Refusals {
         }
     }
 
+    /// How many requests lie between the first refused ones of two runs: onward each third is the first, for time.
+    fn stride(self) -> u64 {
+        match self {
+            Refusals::Alone => 1,
+            Refusals::Onward => 3,
+        }
+    }
+
     /// How often memory may be wanted in a row that is played to its end: an operation is asked for again behind one.
     fn most_wants(self) -> u64 {
         match self {
@@ -266,7 +274,7 @@ fn is_right(
     is_right && heap.blocks() == 0
 }
 
-/// Whether it is so whichever request behind the first ones is refused.
+/// Whether it is so whichever request behind the first ones is refused, as far as the stride goes.
 fn is_swept(
     alloc: Global,
     refusals: Refusals,
@@ -275,8 +283,9 @@ fn is_swept(
     first: u64,
     wanted: &[u8],
 ) -> bool {
-    for request in 1..MOST_REQUESTS {
-        let heap = refusals.heap(alloc, first.saturating_add(request));
+    for run in 1..MOST_REQUESTS {
+        let request = first.saturating_add(refusals.stride().saturating_mul(run));
+        let heap = refusals.heap(alloc, request);
         if !is_right(alloc, refusals, &heap, call, given, wanted) {
             return false;
         }
