@@ -213,6 +213,9 @@ fn requests_to_read(alloc: Global, given: &[u8]) -> Option<u64> {
     Some(heap.requests())
 }
 
+/// From how many bytes on a row is long.
+const LONG: usize = 1_000;
+
 /// Which requests are refused in a run of a row.
 #[derive(Clone, Copy)]
 enum Refusals {
@@ -231,11 +234,12 @@ impl Refusals {
         }
     }
 
-    /// How many requests lie between the first refused ones of two runs: onward each third is the first, for time.
-    fn stride(self) -> u64 {
+    /// How many requests lie between the first refused ones of two runs of a row: onward each third is the first of a
+    /// long one, for time.
+    fn stride(self, given: &[u8]) -> u64 {
         match self {
             Refusals::Alone => 1,
-            Refusals::Onward => 3,
+            Refusals::Onward => { if given.len() > LONG { 3 } else { 1 } }
         }
     }
 
@@ -283,8 +287,9 @@ fn is_swept(
     first: u64,
     wanted: &[u8],
 ) -> bool {
+    let stride = refusals.stride(given);
     for run in 1..MOST_REQUESTS {
-        let request = first.saturating_add(refusals.stride().saturating_mul(run));
+        let request = first.saturating_add(stride.saturating_mul(run));
         let heap = refusals.heap(alloc, request);
         if !is_right(alloc, refusals, &heap, call, given, wanted) {
             return false;
