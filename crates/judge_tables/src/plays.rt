@@ -214,7 +214,7 @@ fn requests_to_read(alloc: Global, given: &[u8]) -> Option<u64> {
 }
 
 /// From how many bytes on a row is long.
-const LONG: usize = 1_000;
+const LONG: usize = 4_000;
 
 /// Which requests are refused in a run of a row.
 #[derive(Clone, Copy)]
