@@ -284,6 +284,11 @@ impl Calls for TermCalls {
             _ => makes(alloc, heap, call, given),
         }
     }
+
+    // Room for characters is asked for first, and done without where it is refused.
+    fn asks_again(call: &str) -> bool {
+        matches!(call, "atom" | "from_characters" | "copy" | "copy_all")
+    }
 }
 
 /// The refusal of a constructor, how many terms came back, and how long the last of them is.

@@ -35,4 +35,9 @@ impl Calls for FileCalls {
             _ => None,
         }
     }
+
+    // Room for the characters of an atom is asked for first, and done without where it is refused.
+    fn asks_again(call: &str) -> bool {
+        matches!(call, "swept_file" | "swept_encoded")
+    }
 }

@@ -105,8 +105,12 @@ impl Calls for CodeCalls {
         }
     }
 
+    // Atoms are collected from characters, for which room is asked for first and done without where it is refused.
     fn asks_again(call: &str) -> bool {
-        call == "swept_verify"
+        matches!(
+            call,
+            "swept_verify" | "swept_spec" | "swept_answers" | "swept_run"
+        )
     }
 }
 
