@@ -12,6 +12,7 @@ use part_plain::PlainPart;
 use std::alloc::{Allocator, Global};
 use term_core::Term;
 use term_text::read_terms;
+use verifier::Verified;
 
 /// With memory, and with each request refused in turn.
 const FORMS: usize = 2;
@@ -49,6 +50,30 @@ struct Form<'w> {
 }
 
 /// The steps of a row with the replies that came, or the fault where the part isn't made.
+fn played_with<'w, A: Allocator + Copy, P: Part<A> + Drop>(
+    alloc: Global,
+    heap: A,
+    options: Options,
+    wants: &'w Wants,
+    watch: Option<&'w Verified<A>>,
+    steps: &[Term<A>],
+) -> Option<Vec<u8>> {
+    let setting = Setting {
+        sessions: options.sessions,
+        wants,
+        watch,
+    };
+    match made::<A, P>(heap, options, wants) {
+        Ok(mut part) => {
+            let steps = steps_text(alloc, heap, &mut part, setting, steps);
+            drop(part);
+            steps
+        }
+        Err(fault) => open_fault_text(alloc, fault, wants),
+    }
+}
+
+/// The same with what a look at the part asks, where it is looked at.
 fn played<A: Allocator + Copy, P: Part<A> + Drop>(
     alloc: Global,
     heap: A,
@@ -56,23 +81,11 @@ fn played<A: Allocator + Copy, P: Part<A> + Drop>(
     form: Form<'_>,
     steps: &[Term<A>],
 ) -> Option<Vec<u8>> {
-    let code = if form.is_watched {
-        Some(watching_code(heap)?)
+    if form.is_watched {
+        let code = watching_code(heap)?;
+        played_with::<A, P>(alloc, heap, options, form.wants, Some(&code), steps)
     } else {
-        None
-    };
-    let setting = Setting {
-        sessions: options.sessions,
-        wants: form.wants,
-        watch: code.as_ref(),
-    };
-    match made::<A, P>(heap, options, form.wants) {
-        Ok(mut part) => {
-            let steps = steps_text(alloc, heap, &mut part, setting, steps);
-            drop(part);
-            steps
-        }
-        Err(fault) => open_fault_text(alloc, fault, form.wants),
+        played_with::<A, P>(alloc, heap, options, form.wants, None, steps)
     }
 }
 
