@@ -104,10 +104,24 @@ pub(crate) fn cursor_of<A: Allocator + Copy>(term: &Term<A>) -> Option<Cursor<A>
 }
 
 /// The key of a term `{named,Key}`.
-pub(crate) fn named_key<A: Allocator>(term: &Term<A>) -> Option<&Term<A>> {
+fn named_key<A: Allocator>(term: &Term<A>) -> Option<&Term<A>> {
     match fields(term)? {
         [tag, key] if is_atom(tag, "named") => Some(key),
         _ => None,
+    }
+}
+
+/// The scope that a term says: `begin`, a key, or what is behind the cursor that it says.
+pub(crate) fn scope_of<'t, A: Allocator>(
+    term: &'t Term<A>,
+    cursor: Option<&'t Cursor<A>>,
+) -> Option<Scope<'t, A>> {
+    if is_atom(term, "begin") {
+        return Some(Scope::Begin);
+    }
+    match named_key(term) {
+        Some(key) => Some(Scope::Named(key)),
+        None => Some(Scope::After(cursor?)),
     }
 }
 

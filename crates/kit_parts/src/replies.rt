@@ -1,7 +1,7 @@
 //! What a part answers, as a text.
-use crate::turns::Wants;
+use crate::turns::{Turn, Wants, objects};
 use kit_rows::{Outcome, listed, numbered, tagged, truth_name, word};
-use part_core::{Cursor, Fault, OpenFault, Reply};
+use part_core::{Cursor, Fault, OpenFault, Part, Reply};
 use std::alloc::{Allocator, Global};
 use term_core::Term;
 
@@ -28,24 +28,31 @@ fn next_text<A: Allocator>(alloc: Global, next: Option<&Cursor<A>>) -> Option<Ve
 }
 
 /// The text of some objects.
-pub(crate) fn objects_text<A: Allocator>(alloc: Global, objects: &[Term<A>]) -> Option<Vec<u8>> {
-    let objects = listed(alloc, objects)?;
-    Outcome::tuple(alloc)
-        .word("objects")
-        .text(objects.as_slice())
-        .end()
+fn objects_text<A: Allocator>(alloc: Global, objects: &[Term<A>]) -> Option<Vec<u8>> {
+    let out = Outcome::tuple(alloc).word("objects");
+    out.part(listed(alloc, objects)).end()
+}
+
+/// The text of all objects of a part.
+pub(crate) fn all_objects<A: Allocator + Copy, P: Part<A>>(
+    alloc: Global,
+    heap: A,
+    part: &P,
+    turn: Turn<'_, A>,
+) -> Option<Vec<u8>> {
+    let objects = objects(heap, part, turn)?;
+    objects_text(alloc, objects.as_slice())
 }
 
 /// The text of what a visit found.
-pub(crate) fn found_text<A: Allocator>(
+fn found_text<A: Allocator>(
     alloc: Global,
     answers: &[Term<A>],
     next: Option<&Cursor<A>>,
 ) -> Option<Vec<u8>> {
-    let answers = listed(alloc, answers)?;
-    let next = next_text(alloc, next)?;
     let out = Outcome::tuple(alloc).word("found");
-    out.text(answers.as_slice()).text(next.as_slice()).end()
+    let out = out.part(listed(alloc, answers));
+    out.part(next_text(alloc, next)).end()
 }
 
 /// The text of how many a visit counted or deleted.
@@ -54,9 +61,9 @@ fn counted_text<A: Allocator>(
     count: u64,
     next: Option<&Cursor<A>>,
 ) -> Option<Vec<u8>> {
-    let next = next_text(alloc, next)?;
     let out = Outcome::tuple(alloc).word("counted");
-    out.number(count as usize).text(next.as_slice()).end()
+    let out = out.number(count as usize);
+    out.part(next_text(alloc, next)).end()
 }
 
 /// The text of a key, or of the end.

@@ -4,10 +4,10 @@ ghost use Rattle.part_core.specs.Acts.{IsAsked};
 ghost use Rattle.part_core.specs.Ops.{act_of};
 
 use crate::operations::{
-    bare, byte, code_of, cursor_of, keyed, name_of, named_key, visit, wanted_of,
+    bare, byte, code_of, cursor_of, keyed, name_of, scope_of, visit, wanted_of,
 };
-use crate::replies::{answer_text, objects_text};
-use crate::turns::{Turn, Wants, answer, ends, objects};
+use crate::replies::{all_objects, answer_text};
+use crate::turns::{Turn, Wants, answer, ends};
 use crate::watching::watched;
 use kit_rows::{Outcome, canonical, fields, is_atom, number};
 use part_core::{Part, PartOp, Scope};
@@ -73,45 +73,11 @@ fn visited<A: Allocator + Copy, P: Part<A>>(
         return None;
     };
     let name = name_of(tag)?;
-    let code = code_of(heap, specification)?;
     let wanted = wanted_of(wanted)?;
-    if is_atom(place, "begin") {
-        return visited_in(alloc, heap, part, turn, name, &code, Scope::Begin, wanted);
-    }
-    if let Some(key) = named_key(place) {
-        return visited_in(
-            alloc,
-            heap,
-            part,
-            turn,
-            name,
-            &code,
-            Scope::Named(key),
-            wanted,
-        );
-    }
-    let cursor = cursor_of(place)?;
-    visited_in(
-        alloc,
-        heap,
-        part,
-        turn,
-        name,
-        &code,
-        Scope::After(&cursor),
-        wanted,
-    )
-}
-
-/// The objects of a part, as a text.
-fn all_objects<A: Allocator + Copy, P: Part<A>>(
-    alloc: Global,
-    heap: A,
-    part: &P,
-    turn: Turn<'_, A>,
-) -> Option<Vec<u8>> {
-    let objects = objects(heap, part, turn)?;
-    objects_text(alloc, objects.as_slice())
+    let cursor = cursor_of(place);
+    let scope = scope_of(place, cursor.as_ref())?;
+    let code = code_of(heap, specification)?;
+    visited_in(alloc, heap, part, turn, name, &code, scope, wanted)
 }
 
 /// What comes of the operation that a term says.
@@ -172,9 +138,9 @@ fn step_once<A: Allocator + Copy, P: Part<A>>(
         wants: setting.wants,
         watch: setting.watch,
     };
-    let reply = came(alloc, heap, part, turn, op)?;
+    let reply = came(alloc, heap, part, turn, op);
     let out = Outcome::tuple(alloc).number(usize::from(session)).term(op);
-    out.text(reply.as_slice()).end()
+    out.part(reply).end()
 }
 
 /// So many times a step, with the reply that came, up to the first that isn't what is wanted.

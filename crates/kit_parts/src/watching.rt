@@ -4,11 +4,11 @@ ghost use Rattle.std.specs.Prelude.{◌≡◌, ◌<◌};
 ghost use Rattle.part_core.specs.Acts.{IsAsked};
 ghost use Rattle.part_core.specs.Ops.{act_of};
 
-use crate::operations::{code_of, visit};
-use crate::replies::{answer_text, found_text, objects_text, reply_text};
-use crate::turns::{Turn, answer, ends, objects, wants_memory};
+use crate::operations::code_of;
+use crate::replies::{all_objects, answer_text, reply_text};
+use crate::turns::{Turn, answer, ends, wants_memory};
 use kit_rows::{Outcome, term_of, word};
-use part_core::{Cursor, Fault, Part, PartOp, Reply, Scope};
+use part_core::{Cursor, Fault, Look, Part, PartOp, Reply, Scope};
 use std::alloc::{Allocator, Global};
 use verifier::Verified;
 
@@ -20,14 +20,13 @@ pub fn watching_code<A: Allocator + Copy>(heap: A) -> Option<Verified<A>> {
     code_of(heap, &term_of(heap, b"[{'_',[],['$_']}].")?)
 }
 
-/// What a visit from a place on finds, as a text, and where a walk goes on.
+/// What a visit from a place on is answered.
 fn visited_from<A: Allocator + Copy, P: Part<A>>(
-    alloc: Global,
     part: &mut P,
     turn: Turn<'_, A>,
     code: &Verified<A>,
     place: Option<&Cursor<A>>,
-) -> Option<(Vec<u8>, Option<Cursor<A>>)>
+) -> Result<Reply<A>, Fault>
     requires { turn.session < (P.settings part.old).sessions }
     ensures { P.settings part.new ≡ P.settings part.old }
 {
@@ -35,20 +34,19 @@ fn visited_from<A: Allocator + Copy, P: Part<A>>(
         Some(cursor) => Scope::After(cursor),
         None => Scope::Begin,
     };
-    let mut op = visit("visit", code, scope, 1)?;
-    let answer = answer(part, turn, &mut op);
-    drop(op);
-    let reply = answer.ok()?;
+    let look = Look {
+        code,
+        scope,
+        wanted: 1,
+    };
+    answer(part, turn, &mut PartOp::Visit(look))
+}
+
+/// Where a walk goes on behind a reply.
+fn behind<A: Allocator>(reply: Reply<A>) -> Option<Cursor<A>> {
     match reply {
-        Reply::Found(answers, next) => {
-            let text = found_text(alloc, answers.as_slice(), next.as_ref())?;
-            Some((text, next))
-        }
-        Reply::Counted(_count, _next) => None,
-        Reply::AtKey(_key) => None,
-        Reply::Objects(_objects) => None,
-        Reply::Flag(_is) => None,
-        Reply::Done => None,
+        Reply::Found(_answers, next) => next,
+        _ => None,
     }
 }
 
@@ -65,12 +63,12 @@ fn walk_text<A: Allocator + Copy, P: Part<A>>(
     let mut out = Outcome::list(alloc);
     let mut place = None;
     for _visit in 0..MOST_VISITS {
-        let (found, next) = visited_from(alloc, part, turn, code, place.as_ref())?;
-        out = out.text(found.as_slice());
-        if next.is_none() {
+        let reply = visited_from(part, turn, code, place.as_ref()).ok()?;
+        out = out.part(reply_text(alloc, &reply));
+        place = behind(reply);
+        if place.is_none() {
             return out.end();
         }
-        place = next;
     }
     None
 }
@@ -87,12 +85,11 @@ fn look<A: Allocator + Copy, P: Part<A>>(
     requires { turn.session < (P.settings part.old).sessions }
     ensures { P.settings part.new ≡ P.settings part.old }
 {
-    let objects = objects(heap, part, turn)?;
-    let objects = objects_text(alloc, objects.as_slice())?;
-    let walk = walk_text(alloc, part, turn, code)?;
+    let objects = all_objects(alloc, heap, part, turn);
+    let walk = walk_text(alloc, part, turn, code);
     let fixes = part.fixes(turn.session);
-    let out = Outcome::tuple(alloc).text(objects.as_slice());
-    out.text(walk.as_slice()).number(usize::from(fixes)).end()
+    let out = Outcome::tuple(alloc).part(objects).part(walk);
+    out.number(usize::from(fixes)).end()
 }
 
 /// What comes of an operation that was refused, asked for again where it may be; none where it wants memory again and

@@ -6,7 +6,7 @@
 //!
 //! - What stands in a row: `parts`, names, numbers and lists; `texts`, a text, in pieces that may be repeated, and the
 //!   term that it says; `functions`, a function by its name; `sizes`, how deep and how long a term is.
-//! - `putting`: terms put behind others, for rows that are made.
+//! - `putting`: terms put behind others, for rows that are made; `let_go`: values that are let go whole.
 //! - `rows`: the rows of a text, judged by what a program says comes of each; `tally`: how many there were of each
 //!   kind; `outcome`: what came, as a text that is put together.
 //! - Rows of refused memory: `sweeps`, calls on a text with each request refused in turn; `without`, with each refused
@@ -14,6 +14,7 @@
 #![tactic(auto)]
 
 mod functions;
+mod let_go;
 mod outcome;
 mod parts;
 mod putting;
@@ -25,6 +26,7 @@ mod texts;
 mod without;
 
 pub use functions::{arithmetic, function, primitive};
+pub use let_go::{was_ok, was_some};
 pub use outcome::{
     Outcome, canonical, digits, listed, numbered, refused, tagged, truth_name, word, written,
 };

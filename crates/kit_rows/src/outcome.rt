@@ -72,6 +72,17 @@ impl Outcome {
         self
     }
 
+    /// Puts an element of this text at the end, none where memory was wanted for it.
+    pub fn part(mut self, text: Option<Vec<u8>>) -> Self {
+        match text {
+            Some(text) => self.text(text.as_slice()),
+            None => {
+                self.keep(false);
+                self
+            }
+        }
+    }
+
     /// Puts a word at the end.
     pub fn word(self, word: &str) -> Self {
         self.text(word.as_bytes())

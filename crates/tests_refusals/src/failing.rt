@@ -3,22 +3,23 @@ use kit_alloc::{Failing, Plan, SweepOutcome, sweep, sweep_onward};
 use std::alloc::{AllocError, Allocator, Global};
 use std::thread::{self, Threads};
 
+/// Makes a request, and answers whether it was granted.
+fn request<A: Allocator>(heap: A) -> bool {
+    Box::new(heap, 1u8).is_ok()
+}
+
 /// Makes four requests, one after another, and answers which were granted.
 fn four_requests<A: Allocator + Copy>(heap: A) -> [bool; 4] {
-    [
-        Box::new(heap, 1u8).is_ok(),
-        Box::new(heap, 2u8).is_ok(),
-        Box::new(heap, 3u8).is_ok(),
-        Box::new(heap, 4u8).is_ok(),
-    ]
+    [request(heap), request(heap), request(heap), request(heap)]
 }
 
 /// Code under test that makes three requests, and answers a number.
 fn sum_of_three<A: Allocator + Copy>(heap: A) -> Result<u64, AllocError> {
-    let one = Box::new(heap, 1u64)?;
-    let two = Box::new(heap, 2u64)?;
-    let three = Box::new(heap, 3u64)?;
-    Ok(one.saturating_add(*two).saturating_add(*three))
+    if request(heap) && request(heap) && request(heap) {
+        Ok(6)
+    } else {
+        Err(AllocError)
+    }
 }
 
 /// Code under test that hides that it was refused.
@@ -39,8 +40,10 @@ fn up_to<A: Allocator>(heap: A, count: u8) -> Result<Vec<u8, A>, AllocError> {
 
 /// How many numbers there are up to one, and the last of them.
 fn end_of<A: Allocator>(heap: A, count: u8) -> Option<(usize, u8)> {
-    let numbers = up_to(heap, count).ok()?;
-    Some((numbers.len(), *numbers.last()?))
+    match up_to(heap, count) {
+        Ok(numbers) => Some((numbers.len(), *numbers.last()?)),
+        Err(AllocError) => None,
+    }
 }
 
 /// How many of four requests were granted.
@@ -101,9 +104,8 @@ fn first_refused<A: Allocator>(numbers: &mut Vec<u8, A>) -> Option<usize> {
 
 /// Whether a vec that is refused to grow keeps the numbers before, whether its allocator says that it refused, whether
 /// the growth that is asked again is granted, and how many requests there were.
-fn grown_again(alloc: Global) -> (bool, bool, bool, u64) {
-    let heap = Failing::refusing_nth(alloc, 2);
-    let mut numbers = Vec::new(&heap);
+fn grown_again(heap: &Failing<Global>) -> (bool, bool, bool, u64) {
+    let mut numbers = Vec::new(heap);
     let refused = first_refused(&mut numbers);
     let are_kept = refused == Some(numbers.len());
     let was_refused = heap.was_refused();
@@ -113,15 +115,16 @@ fn grown_again(alloc: Global) -> (bool, bool, bool, u64) {
 
 #[test]
 fn refuses_the_growth_of_a_vec(rt: HostRuntime) {
-    assert!(rt; grown_again(rt.alloc()) == (true, true, true, 3));
+    assert!(rt; grown_again(&Failing::refusing_nth(rt.alloc(), 2)) == (true, true, true, 3));
 }
 
 /// Of an allocator over another one: which of four requests it grants, how many it and the other one counted, and
 /// whether it and the other one refused one.
 type Nested = ([bool; 4], (u64, u64), (bool, bool));
 
-fn nested(inner: &Failing<Global>, outer: &Failing<&Failing<Global>>) -> Nested {
-    let granted = four_requests(outer);
+fn nested(inner: &Failing<Global>, outer: Plan) -> Nested {
+    let outer = Failing::new(inner, outer);
+    let granted = four_requests(&outer);
     let requests = (outer.requests(), inner.requests());
     (
         granted,
@@ -130,29 +133,15 @@ fn nested(inner: &Failing<Global>, outer: &Failing<&Failing<Global>>) -> Nested 
     )
 }
 
-/// What comes of an allocator that refuses the second request, over one that refuses none.
-fn refused_outside(alloc: Global) -> Nested {
-    let inner = Failing::counting(alloc);
-    let outer = Failing::refusing_nth(&inner, 2);
-    nested(&inner, &outer)
-}
-
 #[test]
 fn passes_on_what_it_does_not_refuse(rt: HostRuntime) {
-    let came = refused_outside(rt.alloc());
+    let came = nested(&Failing::counting(rt.alloc()), Plan::Once(2));
     assert!(rt; came == ([true, false, true, true], (4, 3), (true, false)));
-}
-
-/// What comes of an allocator that refuses no request, over one that refuses from the second on.
-fn refused_inside(alloc: Global) -> Nested {
-    let inner = Failing::refusing_from(alloc, 2);
-    let outer = Failing::counting(&inner);
-    nested(&inner, &outer)
 }
 
 #[test]
 fn tells_its_refusals_from_those_of_the_inner_allocator(rt: HostRuntime) {
-    let came = refused_inside(rt.alloc());
+    let came = nested(&Failing::refusing_from(rt.alloc(), 2), Plan::Never);
     assert!(rt; came == ([true, false, false, false], (4, 4), (false, true)));
 }
 
@@ -244,24 +233,25 @@ fn counts_the_requests_of_two_threads(rt: HostRuntime) {
 }
 
 /// How many numbers a vec has that is let go in another thread; none for want of memory.
-fn length_elsewhere<R: Threads>(rt: &R, alloc: Global) -> Option<usize> {
-    let heap = Failing::counting(alloc);
-    let numbers = up_to(&heap, 9).ok()?;
+fn length_elsewhere<R: Threads>(rt: &R, heap: &Failing<Global>) -> Option<usize> {
+    let Ok(numbers) = up_to(heap, 9) else {
+        return None;
+    };
     let (count, ()) = thread::join(rt, move || numbers.len(), || ());
     Some(count)
 }
 
 #[test]
 fn frees_a_block_in_another_thread(rt: HostRuntime) {
-    assert!(rt; length_elsewhere(&rt, rt.alloc()) == Some(9));
+    assert!(rt; length_elsewhere(&rt, &Failing::counting(rt.alloc())) == Some(9));
 }
 
 /// How many blocks two vecs have that grew, how many when one is gone, and how many when both are; none for want of
 /// memory.
-fn blocks_of_two(alloc: Global) -> Option<[u64; 3]> {
-    let heap = Failing::counting(alloc);
-    let first = up_to(&heap, 9).ok()?;
-    let second = up_to(&heap, 9).ok()?;
+fn blocks_of_two(heap: &Failing<Global>) -> Option<[u64; 3]> {
+    let (Ok(first), Ok(second)) = (up_to(heap, 9), up_to(heap, 9)) else {
+        return None;
+    };
     let of_both = heap.blocks();
     drop(first);
     let of_one = heap.blocks();
@@ -271,5 +261,5 @@ fn blocks_of_two(alloc: Global) -> Option<[u64; 3]> {
 
 #[test]
 fn counts_the_blocks_that_have_not_come_back(rt: HostRuntime) {
-    assert!(rt; blocks_of_two(rt.alloc()) == Some([2, 1, 0]));
+    assert!(rt; blocks_of_two(&Failing::counting(rt.alloc())) == Some([2, 1, 0]));
 }
