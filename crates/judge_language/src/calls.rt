@@ -76,6 +76,16 @@ fn function(named: &Term, arguments: usize) -> Option<Primitive> {
     }
 }
 
+/// The text of a pair of a word and the term that an operand is.
+pub(crate) fn tagged_operand(alloc: Global, tag: &str, operand: Operand<'_>) -> Option<Vec<u8>> {
+    let Ok(term) = operand.to_term(alloc) else {
+        return None;
+    };
+    let text = tagged(alloc, tag, &term);
+    drop(term);
+    text
+}
+
 /// What a call gives.
 fn given(alloc: Global, function: Primitive, operands: &[Operand<'_>]) -> Option<Vec<u8>> {
     let Some(operand) = call(function, operands) else {
@@ -86,7 +96,7 @@ fn given(alloc: Global, function: Primitive, operands: &[Operand<'_>]) -> Option
     } else {
         "gives_in_another_form"
     };
-    tagged(alloc, tag, &operand.to_term(alloc).ok()?)
+    tagged_operand(alloc, tag, operand)
 }
 
 /// What the call of a name with a list of terms gives.

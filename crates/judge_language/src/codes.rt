@@ -42,7 +42,7 @@ fn counts(alloc: Global, code: &Code) -> Option<Vec<u8>> {
     if code.routines().is_empty() {
         out.end()
     } else {
-        out.text(routine_counts(alloc, code)?.as_slice()).end()
+        out.part(routine_counts(alloc, code)).end()
     }
 }
 
@@ -56,35 +56,43 @@ fn refused_part(alloc: Global, part: Part, number: u8) -> Outcome {
 fn built_text(alloc: Global, built: &Built<Global>) -> Option<Vec<u8>> {
     match built {
         Built::Whole(code) => {
-            let counts = counts(alloc, code)?;
-            Outcome::tuple(alloc)
-                .word("built")
-                .text(counts.as_slice())
-                .end()
+            let out = Outcome::tuple(alloc).word("built");
+            out.part(counts(alloc, code)).end()
         }
         Built::NoSlots(number) => refused_part(alloc, Part::Slots, *number).end(),
         Built::Refused(part, number, code) => {
-            let counts = counts(alloc, code)?;
-            refused_part(alloc, *part, *number)
-                .text(counts.as_slice())
-                .end()
+            let out = refused_part(alloc, *part, *number);
+            out.part(counts(alloc, code)).end()
         }
         Built::Wrong => word(alloc, "wrong"),
     }
 }
 
+/// What a builder makes of these parts.
+fn built_of(alloc: Global, parts: Parts<Global>, wanted: &Parts<Global>) -> Option<Vec<u8>> {
+    let built = build(alloc, parts, wanted);
+    let text = built_text(alloc, &built);
+    drop(built);
+    text
+}
+
 /// What a builder makes of the parts of code.
 fn built(alloc: Global, term: &Term) -> Option<Vec<u8>> {
-    let wanted = parts_of(alloc, term)?;
-    built_text(alloc, &build(alloc, parts_of(alloc, term)?, &wanted))
+    let (parts, wanted) = parts_of(alloc, term).zip(parts_of(alloc, term))?;
+    let text = built_of(alloc, parts, &wanted);
+    drop(wanted);
+    text
 }
 
 /// The depth of the frame of code at an instruction.
-fn frame_at(alloc: Global, code: &Code, pc: u16) -> Option<Vec<u8>> {
-    match code.frame_at(pc) {
+fn frame_at(alloc: Global, term: &Term, pc: u16) -> Option<Vec<u8>> {
+    let code = code_of(alloc, term)?;
+    let text = match code.frame_at(pc) {
         Some(frame) => digits(alloc, u64::from(frame.depth)),
         None => word(alloc, "none"),
-    }
+    };
+    drop(code);
+    text
 }
 
 /// Whether the function that an instruction calls by a name is the one of that name and of so many arguments.
@@ -109,11 +117,7 @@ fn leads(alloc: Global, term: &Term) -> Option<Vec<u8>> {
 }
 
 /// The budget of code whose jumps go forward, with memory from `heap`.
-pub(crate) fn budget<A: Allocator + Copy>(
-    alloc: Global,
-    heap: A,
-    code: &Code<A>,
-) -> Option<Vec<u8>> {
+fn budget<A: Allocator + Copy>(alloc: Global, heap: A, code: &Code<A>) -> Option<Vec<u8>> {
     if all_forward(code) {
         match longest(heap, code).ok()? {
             Some(budget) => digits(alloc, u64::from(budget)),
@@ -124,9 +128,24 @@ pub(crate) fn budget<A: Allocator + Copy>(
     }
 }
 
+/// The same of the code that a term says.
+pub(crate) fn budget_of<A: Allocator + Copy>(
+    alloc: Global,
+    heap: A,
+    term: &Term<A>,
+) -> Option<Vec<u8>> {
+    let code = code_of(heap, term)?;
+    let text = budget(alloc, heap, &code);
+    drop(code);
+    text
+}
+
 /// Whether all jumps go forward.
-fn forward(alloc: Global, code: &Code) -> Option<Vec<u8>> {
-    word(alloc, truth_name(all_forward(code)))
+fn forward(alloc: Global, term: &Term) -> Option<Vec<u8>> {
+    let code = code_of(alloc, term)?;
+    let is_forward = all_forward(&code);
+    drop(code);
+    word(alloc, truth_name(is_forward))
 }
 
 /// Whether a body has the depths of these frames.
@@ -173,7 +192,12 @@ fn to_compile<A: Allocator>(term: &Term<A>) -> Option<&Term<A>> {
 
 /// The code of the specification that a term is read as.
 fn compiled_code<A: Allocator + Copy>(heap: A, specification: &Term<A>) -> Option<Verified<A>> {
-    compile(heap, &read_spec(heap, specification).ok()?).ok()
+    let Ok(specification) = read_spec(heap, specification) else {
+        return None;
+    };
+    let code = compile(heap, &specification).ok();
+    drop(specification);
+    code
 }
 
 /// Code that is given by its parts, or by its specification in a term `{compile,Specification}`.
@@ -206,42 +230,51 @@ pub(crate) fn refused(alloc: Global, told: BodyFault) -> Option<Vec<u8>> {
 
 /// What the verifier says of code, which it keeps or hands back.
 fn verdict(alloc: Global, code: Code, parts: &Parts<Global>) -> Option<Vec<u8>> {
-    match verify(alloc, code) {
-        Ok(verified) if is_code(verified.code(), parts) && are_depths(&verified, parts) => {
-            accepted(alloc, &verified)
+    let verified = verify(alloc, code);
+    let text = match &verified {
+        Ok(verified) if is_code(verified.code(), parts) && are_depths(verified, parts) => {
+            accepted(alloc, verified)
         }
         Err(handed_back) if is_code(&handed_back.value, parts) => {
             refused(alloc, handed_back.fault)
         }
         _ => word(alloc, "other_code"),
-    }
+    };
+    drop(verified);
+    text
 }
 
 /// What the verifier says of the code that a term says.
 fn verified(alloc: Global, term: &Term) -> Option<Vec<u8>> {
-    let parts = parts_of(alloc, term)?;
-    verdict(alloc, code_of(alloc, term)?, &parts)
+    let (code, parts) = code_of(alloc, term).zip(parts_of(alloc, term))?;
+    let text = verdict(alloc, code, &parts);
+    drop(parts);
+    text
 }
 
 /// Whether the code of a specification has these parts, and what the verifier says of it.
 fn compiled(alloc: Global, specification: &Term, code: &Term) -> Option<Vec<u8>> {
-    let verified = compiled_code(alloc, specification)?;
-    if is_code(verified.code(), &parts_of(alloc, code)?) {
+    let verified = compiled_code(alloc, specification);
+    let (verified, parts) = verified.zip(parts_of(alloc, code))?;
+    let text = if is_code(verified.code(), &parts) {
         accepted(alloc, &verified)
     } else {
         word(alloc, "other_code")
-    }
+    };
+    drop(verified);
+    drop(parts);
+    text
 }
 
 /// What comes of a row of code.
 pub(crate) fn came(alloc: Global, kind: &str, parts: &[Term]) -> Option<Vec<u8>> {
     match (kind, parts) {
         ("built", [code, _]) => built(alloc, code),
-        ("frame_at", [code, pc, _]) => frame_at(alloc, &code_of(alloc, code)?, short(pc)?),
+        ("frame_at", [code, pc, _]) => frame_at(alloc, code, short(pc)?),
         ("function", [name, arguments, _]) => called(alloc, name, short(arguments)?),
         ("leads", [instr, _]) => leads(alloc, instr),
-        ("forward", [code, _]) => forward(alloc, &code_of(alloc, code)?),
-        ("budget", [code, _]) => budget(alloc, alloc, &code_of(alloc, code)?),
+        ("forward", [code, _]) => forward(alloc, code),
+        ("budget", [code, _]) => budget_of(alloc, alloc, code),
         ("verify", [code, _]) => verified(alloc, code),
         ("compiled", [specification, code, _]) => compiled(alloc, specification, code),
         _ => None,

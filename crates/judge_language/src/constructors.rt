@@ -4,8 +4,8 @@ ghost use Rattle.term_core.specs.Datum.Datum.{integer};
 ghost use Rattle.term_core.specs.MapPairs.{keys_of};
 
 use kit_rows::{
-    Calls, Outcome, canonical, length, name, put, put_pair, refused, size_of, swept, text, word,
-    written,
+    Calls, Outcome, canonical, length, name, put, put_pair, refused, size_of, swept, text,
+    truth_name, word, written,
 };
 use std::alloc::{Allocator, Global};
 use term_build::{
@@ -23,13 +23,10 @@ fn put_next<A: Allocator>(
     key: Option<Term<A>>,
     value: Option<Term<A>>,
 ) -> bool {
-    let Some(key) = key else {
-        return false;
-    };
-    let Some(value) = value else {
-        return false;
-    };
-    put_pair(pairs, key, value)
+    match key.zip(value) {
+        Some((key, value)) => put_pair(pairs, key, value),
+        None => false,
+    }
 }
 
 /// These terms by twos, `None` for want of memory.
@@ -44,7 +41,7 @@ fn paired<A: Allocator + Copy>(
     for _ in 0..count {
         is_whole = put_next(&mut pairs, terms.next(), terms.next()) && is_whole;
     }
-    if is_whole { Some(pairs) } else { None }
+    is_whole.then_some(pairs)
 }
 
 /// The keys and values of these pairs by turns, `None` for want of memory.
@@ -58,7 +55,7 @@ fn unpaired<A: Allocator + Copy>(
         is_whole = put(&mut terms, key) && is_whole;
         is_whole = put(&mut terms, value) && is_whole;
     }
-    if is_whole { Some(terms) } else { None }
+    is_whole.then_some(terms)
 }
 
 /// A list's elements with its tail behind them, `None` for want of memory.
@@ -68,7 +65,15 @@ fn with_tail<A: Allocator + Copy>(parts: ListParts<A>) -> Option<Vec<Term<A>, A>
         Some(tail) => put(&mut elements, tail),
         None => true,
     };
-    if is_whole { Some(elements) } else { None }
+    is_whole.then_some(elements)
+}
+
+/// The refusal of terms, where they came back.
+fn refused_again<A: Allocator>(value: Option<Vec<Term<A>, A>>, fault: Fault) -> Option<Made<A>> {
+    Some(Err(Refused {
+        value: value?,
+        fault,
+    }))
 }
 
 fn list<A: Allocator + Copy>(
@@ -78,10 +83,10 @@ fn list<A: Allocator + Copy>(
 ) -> Option<Made<A>> {
     match Term::list(heap, elements, tail) {
         Ok(list) => Some(Ok(list)),
-        Err(refused) => Some(Err(Refused {
-            value: with_tail(refused.value)?,
-            fault: refused.fault,
-        })),
+        Err(refused) => {
+            let Refused { value, fault } = refused;
+            refused_again(with_tail(value), fault)
+        }
     }
 }
 
@@ -93,10 +98,10 @@ fn list_with_tail<A: Allocator + Copy>(heap: A, mut elements: Vec<Term<A>, A>) -
 fn map<A: Allocator + Copy>(heap: A, terms: Vec<Term<A>, A>) -> Option<Made<A>> {
     match map_of_pairs(heap, paired(heap, terms)?) {
         Ok(map) => Some(Ok(map)),
-        Err(refused) => Some(Err(Refused {
-            value: unpaired(heap, refused.value)?,
-            fault: refused.fault,
-        })),
+        Err(refused) => {
+            let Refused { value, fault } = refused;
+            refused_again(unpaired(heap, value), fault)
+        }
     }
 }
 
@@ -111,7 +116,10 @@ fn constructed<A: Allocator + Copy>(
         "list" => list(heap, terms, None),
         "list_with_tail" => list_with_tail(heap, terms),
         "map" => map(heap, terms),
-        _ => None,
+        _ => {
+            drop(terms);
+            None
+        }
     }
 }
 
@@ -123,9 +131,12 @@ fn keyed<A: Allocator + Copy>(
     ensures { IfSome result (λ pairs. keys_of pairs.items ≡ integer (pos 3) ∷ integer (pos 1) ∷ integer (pos 2) ∷ []) }
 {
     let mut pairs = Vec::new(heap);
-    pairs.push((Term::int(3), terms.pop()?)).ok()?;
-    pairs.push((Term::int(1), terms.pop()?)).ok()?;
-    pairs.push((Term::int(2), terms.pop()?)).ok()?;
+    let last = terms.pop()?;
+    pairs.push((Term::int(3), last)).ok()?;
+    let middle = terms.pop()?;
+    pairs.push((Term::int(1), middle)).ok()?;
+    let first = terms.pop()?;
+    pairs.push((Term::int(2), first)).ok()?;
     Some(pairs)
 }
 
@@ -135,7 +146,9 @@ fn mapped<A: Allocator + Copy>(heap: A, terms: Vec<Term<A>, A>) -> Option<Option
 }
 
 fn copied_all<A: Allocator + Copy>(heap: A, terms: &[Term<A>]) -> Option<Option<Term<A>>> {
-    let copies = copy_all(heap, terms).ok()?;
+    let Ok(copies) = copy_all(heap, terms) else {
+        return None;
+    };
     make_tuple(heap, copies).ok()
 }
 
@@ -146,6 +159,13 @@ fn copied_tail<A: Allocator + Copy>(list: &Term<A>) -> Option<Option<Term<A>>> {
     }
 }
 
+fn copied_one<A: Allocator + Copy>(term: &Term<A>) -> Option<Option<Term<A>>> {
+    match term.copy() {
+        Ok(copy) => Some(Some(copy)),
+        Err(_) => None,
+    }
+}
+
 /// What a call copies of these terms, if anything; `None` for want of memory.
 fn copied<A: Allocator + Copy>(
     heap: A,
@@ -153,7 +173,7 @@ fn copied<A: Allocator + Copy>(
     terms: &[Term<A>],
 ) -> Option<Option<Term<A>>> {
     match copier {
-        "copy" => Some(Some(terms.first()?.copy().ok()?)),
+        "copy" => copied_one(terms.first()?),
         "copy_all" => copied_all(heap, terms),
         "copy_tail" => copied_tail(terms.first()?),
         _ => None,
@@ -161,8 +181,13 @@ fn copied<A: Allocator + Copy>(
 }
 
 fn listed<A: Allocator + Copy>(heap: A, mut elements: Vec<Term<A>, A>) -> Option<Option<Term<A>>> {
-    let tail = elements.pop()?;
-    make_list(heap, elements, tail).ok()
+    match elements.pop() {
+        Some(tail) => make_list(heap, elements, tail).ok(),
+        None => {
+            drop(elements);
+            None
+        }
+    }
 }
 
 /// What a call that hands nothing back makes of these terms, if anything; `None` for want of memory.
@@ -175,7 +200,11 @@ fn made<A: Allocator + Copy>(
         "make_tuple" => make_tuple(heap, terms).ok(),
         "make_list" => listed(heap, terms),
         "make_map" => mapped(heap, terms),
-        _ => copied(heap, maker, terms.as_slice()),
+        _ => {
+            let copied = copied(heap, maker, terms.as_slice());
+            drop(terms);
+            copied
+        }
     }
 }
 
@@ -207,10 +236,13 @@ fn constructs<A: Allocator + Copy>(
     constructor: &str,
     given: &[u8],
 ) -> Option<Vec<u8>> {
-    match constructed(heap, constructor, read_terms(heap, given).ok()?)? {
-        Ok(term) => canonical(alloc, &term),
-        Err(refused) => refused_terms(alloc, &refused, given),
-    }
+    let made = constructed(heap, constructor, read_terms(heap, given).ok()?)?;
+    let out = match &made {
+        Ok(term) => canonical(alloc, term),
+        Err(refused) => refused_terms(alloc, refused, given),
+    };
+    drop(made);
+    out
 }
 
 fn makes<A: Allocator + Copy>(
@@ -219,17 +251,23 @@ fn makes<A: Allocator + Copy>(
     maker: &str,
     given: &[u8],
 ) -> Option<Vec<u8>> {
-    match made(heap, maker, read_terms(heap, given).ok()?)? {
-        Some(term) => canonical(alloc, &term),
+    let made = made(heap, maker, read_terms(heap, given).ok()?)?;
+    let out = match &made {
+        Some(term) => canonical(alloc, term),
         None => word(alloc, "none"),
-    }
+    };
+    drop(made);
+    out
 }
 
 fn atom<A: Allocator + Copy>(alloc: Global, heap: A, given: &[u8]) -> Option<Vec<u8>> {
-    match atom_of_text(heap, str::from_utf8(given).ok()?) {
-        Ok(term) => canonical(alloc, &term),
-        Err(fault) => refusal(alloc, fault, true),
-    }
+    let made = atom_of_text(heap, str::from_utf8(given).ok()?);
+    let out = match &made {
+        Ok(term) => canonical(alloc, term),
+        Err(fault) => refusal(alloc, *fault, true),
+    };
+    drop(made);
+    out
 }
 
 /// The refusal of characters, which have to come back.
@@ -244,23 +282,32 @@ fn refused_characters<A: Allocator>(
 
 fn from_characters<A: Allocator + Copy>(alloc: Global, heap: A, given: &[u8]) -> Option<Vec<u8>> {
     let given = str::from_utf8(given).ok()?;
-    match Term::from_characters(heap, given.chars().collect(heap).ok()?) {
-        Ok(term) => canonical(alloc, &term),
-        Err(refused) => refused_characters(alloc, &refused, given),
-    }
+    let made = Term::from_characters(heap, given.chars().collect(heap).ok()?);
+    let out = match &made {
+        Ok(term) => canonical(alloc, term),
+        Err(refused) => refused_characters(alloc, refused, given),
+    };
+    drop(made);
+    out
 }
 
 fn binary<A: Allocator + Copy>(alloc: Global, heap: A, given: &[u8]) -> Option<Vec<u8>> {
-    match Term::binary(heap, Vec::from_slice(heap, given).ok()?) {
-        Ok(term) => canonical(alloc, &term),
+    let made = Term::binary(heap, Vec::from_slice(heap, given).ok()?);
+    let out = match &made {
+        Ok(term) => canonical(alloc, term),
         Err(refused) => refusal(alloc, refused.fault, refused.value.as_slice() == given),
-    }
+    };
+    drop(made);
+    out
 }
 
 fn tells_apart<A: Allocator + Copy>(alloc: Global, heap: A, given: &[u8]) -> Option<Vec<u8>> {
-    let terms = read_terms(heap, given).ok()?;
-    let are_apart = are_apart(heap, terms.as_slice()).ok()?;
-    word(alloc, if are_apart { "true" } else { "false" })
+    let Ok(terms) = read_terms(heap, given) else {
+        return None;
+    };
+    let are_apart = are_apart(heap, terms.as_slice());
+    drop(terms);
+    word(alloc, truth_name(are_apart.ok()?))
 }
 
 /// The calls of rows of terms that are made.
@@ -300,18 +347,24 @@ fn sized_refusal(alloc: Global, fault: Fault, terms: &[Term]) -> Option<Vec<u8>>
 
 /// The size of what a call that hands nothing back makes of these terms.
 fn made_size(alloc: Global, call: &str, terms: Vec<Term>) -> Option<Vec<u8>> {
-    match made(alloc, call, terms)? {
-        Some(term) => size_of(alloc, &term),
+    let made = made(alloc, call, terms)?;
+    let out = match &made {
+        Some(term) => size_of(alloc, term),
         None => word(alloc, "none"),
-    }
+    };
+    drop(made);
+    out
 }
 
 /// The size of what a constructor makes of these terms.
 fn constructed_size(alloc: Global, call: &str, terms: Vec<Term>) -> Option<Vec<u8>> {
-    match constructed(alloc, call, terms)? {
-        Ok(term) => size_of(alloc, &term),
+    let made = constructed(alloc, call, terms)?;
+    let out = match &made {
+        Ok(term) => size_of(alloc, term),
         Err(refused) => sized_refusal(alloc, refused.fault, refused.value.as_slice()),
-    }
+    };
+    drop(made);
+    out
 }
 
 /// The size of what a call makes of the terms of a text.
@@ -326,18 +379,24 @@ fn sized(alloc: Global, call: &str, given: &[u8]) -> Option<Vec<u8>> {
 
 /// The size of the atom of these characters, or the refusal.
 fn sized_atom(alloc: Global, given: &[u8]) -> Option<Vec<u8>> {
-    match atom_of_text(alloc, str::from_utf8(given).ok()?) {
-        Ok(term) => size_of(alloc, &term),
-        Err(fault) => refusal(alloc, fault, true),
-    }
+    let made = atom_of_text(alloc, str::from_utf8(given).ok()?);
+    let out = match &made {
+        Ok(term) => size_of(alloc, term),
+        Err(fault) => refusal(alloc, *fault, true),
+    };
+    drop(made);
+    out
 }
 
 /// The size of the binary of these bytes, or the refusal.
 fn sized_binary(alloc: Global, given: &[u8]) -> Option<Vec<u8>> {
-    match Term::binary(alloc, Vec::from_slice(alloc, given).ok()?) {
-        Ok(term) => size_of(alloc, &term),
+    let made = Term::binary(alloc, Vec::from_slice(alloc, given).ok()?);
+    let out = match &made {
+        Ok(term) => size_of(alloc, term),
         Err(refused) => refusal(alloc, refused.fault, refused.value.as_slice() == given),
-    }
+    };
+    drop(made);
+    out
 }
 
 /// The size of the atom or binary of so many characters or bytes, or the refusal and how many came back.

@@ -2,19 +2,28 @@
 use crate::files::{encoded, verdict};
 use kit_rows::Calls;
 use std::alloc::{Allocator, Global};
-use term_core::View;
+use term_core::{Term, View};
 use term_text::read_terms;
 
-/// Whether the code of a text is written as the binary behind it; none for want of memory.
-fn written<A: Allocator + Copy>(alloc: Global, heap: A, given: &[u8]) -> Option<Vec<u8>> {
-    let terms = read_terms(heap, given).ok()?;
-    let [code, file] = terms.as_slice() else {
+/// Whether the first of two terms says code that is written as the binary that is the second; none for want of memory.
+fn written_of<A: Allocator + Copy>(alloc: Global, heap: A, terms: &[Term<A>]) -> Option<Vec<u8>> {
+    let [code, file] = terms else {
         return None;
     };
     match file.view() {
         View::Binary(bytes) => encoded(alloc, heap, code, bytes),
         _ => None,
     }
+}
+
+/// Whether the code of a text is written as the binary behind it; none for want of memory.
+fn written<A: Allocator + Copy>(alloc: Global, heap: A, given: &[u8]) -> Option<Vec<u8>> {
+    let Ok(terms) = read_terms(heap, given) else {
+        return None;
+    };
+    let text = written_of(alloc, heap, terms.as_slice());
+    drop(terms);
+    text
 }
 
 /// The calls of rows of refused memory.

@@ -24,7 +24,11 @@ pub(crate) fn load<A: Allocator + Copy>(heap: A, bytes: &[u8]) -> Result<Verifie
     };
     match verify(heap, code) {
         Ok(code) => Ok(code),
-        Err(refused) => Err(Refusal::Untyped(refused.fault)),
+        Err(refused) => {
+            let fault = refused.fault;
+            drop(refused);
+            Err(Refusal::Untyped(fault))
+        }
     }
 }
 
@@ -49,30 +53,65 @@ fn refused(alloc: Global, refusal: Refusal) -> Option<Vec<u8>> {
     }
 }
 
+/// What is said of code that is accepted, which has to be written as these bytes; none for want of memory.
+fn written_again<A: Allocator + Copy>(
+    alloc: Global,
+    heap: A,
+    code: &Verified<A>,
+    bytes: &[u8],
+) -> Option<Vec<u8>> {
+    let file = encode(heap, code.code()).ok()?;
+    if file.as_slice() == bytes {
+        accepted(alloc, code)
+    } else {
+        word(alloc, "other_file")
+    }
+}
+
 /// What is said of a file, which the code that is accepted has to be written as again; none for want of memory.
 pub(crate) fn verdict<A: Allocator + Copy>(
     alloc: Global,
     heap: A,
     bytes: &[u8],
 ) -> Option<Vec<u8>> {
-    let code = match load(heap, bytes) {
-        Ok(code) => code,
-        Err(refusal) => return refused(alloc, refusal),
-    };
-    let file = encode(heap, code.code()).ok()?;
-    if file.as_slice() == bytes {
-        accepted(alloc, &code)
-    } else {
-        word(alloc, "other_file")
+    match load(heap, bytes) {
+        Ok(code) => {
+            let text = written_again(alloc, heap, &code, bytes);
+            drop(code);
+            text
+        }
+        Err(refusal) => refused(alloc, refusal),
     }
 }
 
 /// What the code of a file answers on each of these objects, or what is said of a file that is refused.
 fn answers(alloc: Global, bytes: &[u8], objects: &[Term]) -> Option<Vec<u8>> {
     match load(alloc, bytes) {
-        Ok(code) => ran_each(alloc, &code, objects),
+        Ok(code) => {
+            let text = ran_each(alloc, &code, objects);
+            drop(code);
+            text
+        }
         Err(refusal) => refused(alloc, refusal),
     }
+}
+
+/// The file of the code that a term says; none for want of memory.
+fn file_of<A: Allocator + Copy>(heap: A, term: &Term<A>) -> Option<Vec<u8, A>> {
+    let code = code_of(heap, term)?;
+    let file = encode(heap, &code).ok();
+    drop(code);
+    file
+}
+
+/// Whether bytes are read as code of the parts that a term says; none for want of memory.
+fn is_read_as<A: Allocator + Copy>(heap: A, bytes: &[u8], term: &Term<A>) -> Option<bool> {
+    let read = decode(heap, bytes).ok();
+    let (read, parts) = read.zip(parts_of(heap, term))?;
+    let is_so = is_code(&read, &parts);
+    drop(read);
+    drop(parts);
+    Some(is_so)
 }
 
 /// Whether code is written as these bytes, and these bytes are read as code of the same parts; none for want of memory.
@@ -82,12 +121,11 @@ pub(crate) fn encoded<A: Allocator + Copy>(
     code: &Term<A>,
     bytes: &[u8],
 ) -> Option<Vec<u8>> {
-    let file = encode(heap, &code_of(heap, code)?).ok()?;
+    let file = file_of(heap, code)?;
     if file.as_slice() != bytes {
         return word(alloc, "other_file");
     }
-    let read = decode(heap, bytes).ok()?;
-    if is_code(&read, &parts_of(heap, code)?) {
+    if is_read_as(heap, bytes, code)? {
         word(alloc, "same")
     } else {
         word(alloc, "other_code")

@@ -22,27 +22,41 @@ fn fronts(alloc: Global, file: &[u8]) -> Option<Vec<u8>> {
 /// as many instructions and says so; none for want of memory.
 fn is_within<'a>(machine: &mut Machine<'a, '_>, object: &'a Term, budget: u32) -> Option<bool> {
     let (holds, tested) = machine.run_true(object).ok()?;
-    let (answer, executed) = machine.run(object).ok()?;
-    Some(executed <= budget && tested == executed && holds == is_true(answer.as_ref()))
+    let Ok((answer, executed)) = machine.run(object) else {
+        return None;
+    };
+    let is_right = executed <= budget && tested == executed && holds == is_true(answer.as_ref());
+    drop(answer);
+    Some(is_right)
+}
+
+/// Whether it is so of its runs on each of these objects; none for want of memory.
+fn are_within<'a>(machine: &mut Machine<'a, '_>, objects: &'a [Term], budget: u32) -> Option<bool> {
+    let mut within = true;
+    for object in objects {
+        within = is_within(machine, object, budget)? && within;
+    }
+    Some(within)
 }
 
 /// Whether it is so of runs of code on each of these objects; none for want of memory.
 fn runs_within(alloc: Global, code: &Verified, objects: &[Term]) -> Option<bool> {
     let heap = &alloc;
     let mut machine = Machine::new(heap, code).ok()?;
-    let mut within = true;
-    for object in objects {
-        within = is_within(&mut machine, object, code.budget())? && within;
-    }
+    let within = are_within(&mut machine, objects, code.budget());
     machine.finish();
-    Some(within)
+    within
 }
 
 /// Whether a file is refused by name, or runs within its budget on these objects, where its tests agree with its
 /// answers; none for want of memory.
 fn holds(alloc: Global, file: &[u8], objects: &[Term]) -> Option<bool> {
     match load(alloc, file) {
-        Ok(code) => runs_within(alloc, &code, objects),
+        Ok(code) => {
+            let within = runs_within(alloc, &code, objects);
+            drop(code);
+            within
+        }
         Err(Refusal::Unread(FileFault::Memory)) => None,
         Err(Refusal::Untyped(told)) if told.fault == Fault::Memory => None,
         Err(Refusal::Unread(_)) | Err(Refusal::Untyped(_)) => Some(true),

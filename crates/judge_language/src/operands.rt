@@ -38,9 +38,13 @@ fn with_operand(
     terms: &Term,
 ) -> Option<Vec<u8>> {
     let terms = elements(terms)?;
-    let copy = operand.to_term(alloc).ok()?;
+    let Ok(copy) = operand.to_term(alloc) else {
+        return None;
+    };
     let out = with_equals(out.term(&copy), operand, terms);
-    with_equals(out, Operand::Term(&copy), terms).end()
+    let text = with_equals(out, Operand::Term(&copy), terms).end();
+    drop(copy);
+    text
 }
 
 /// A copy of the only element of a list of one tail or none.
@@ -50,23 +54,25 @@ fn tail(alloc: Global, tails: &Term) -> Option<Option<Term>> {
 
 /// The list of one more element, of these and of one tail or none.
 fn list(alloc: Global, listed: &Term, tails: &Term) -> Option<Term> {
-    let (listed, tail) = (elements(listed)?, tail(alloc, tails)?);
+    let listed = elements(listed)?;
     let mut terms = Vec::new(alloc);
     let mut is_whole = put(&mut terms, Term::int(0));
     for element in listed {
         is_whole = put_copy(&mut terms, element) && is_whole;
     }
-    if is_whole {
-        Term::list(alloc, terms, tail).ok()
-    } else {
-        None
+    let terms = is_whole.then_some(terms);
+    match terms.zip(tail(alloc, tails)) {
+        Some((terms, tail)) => Term::list(alloc, terms, tail).ok(),
+        None => None,
     }
 }
 
 /// The term that the rest of these elements and of one tail or none is, and the terms that are equal to it.
 fn rest(alloc: Global, listed: &Term, tails: &Term, terms: &Term) -> Option<Vec<u8>> {
     let list = list(alloc, listed, tails)?;
-    with_operand(alloc, Outcome::tuple(alloc), Operand::Rest(&list, 1), terms)
+    let text = with_operand(alloc, Outcome::tuple(alloc), Operand::Rest(&list, 1), terms);
+    drop(list);
+    text
 }
 
 /// The first element of a list, what follows it, and the terms that are equal to that.
@@ -85,10 +91,18 @@ fn with_truth(out: Outcome, truth: Option<bool>) -> Outcome {
     }
 }
 
+/// Puts an integer at the end.
+fn with_integer(out: Outcome, value: i64) -> Outcome {
+    let term: Term = Term::int(value);
+    let out = out.term(&term);
+    drop(term);
+    out
+}
+
 /// Puts a number at the end, or none.
 fn with_number(out: Outcome, number: Option<i64>) -> Outcome {
     match number {
-        Some(value) => out.term::<Global>(&Term::int(value)),
+        Some(value) => with_integer(out, value),
         None => out.word("none"),
     }
 }
@@ -106,22 +120,37 @@ fn values(alloc: Global, operand: Operand<'_>) -> Option<Vec<u8>> {
 
 /// The size of what is left behind the first element of a list.
 fn size_behind_first(alloc: Global, list: &Term) -> Option<Vec<u8>> {
-    size_of(alloc, &Operand::Rest(list, 1).to_term(alloc).ok()?)
+    let Ok(rest) = Operand::Rest(list, 1).to_term(alloc) else {
+        return None;
+    };
+    let text = size_of(alloc, &rest);
+    drop(rest);
+    text
 }
 
 /// The size of what is left behind the first element of the list of a text's terms and of one tail or none, or the
 /// refusal of that list.
 fn rest_size(alloc: Global, listed: &Term, tails: &Term) -> Option<Vec<u8>> {
-    let terms = read_terms(alloc, text(alloc, listed)?.as_slice()).ok()?;
-    match Term::list(alloc, terms, tail(alloc, tails)?) {
-        Ok(list) => size_behind_first(alloc, &list),
+    let listed = text(alloc, listed)?;
+    let terms = read_terms(alloc, listed.as_slice()).ok();
+    let (terms, tail) = terms.zip(tail(alloc, tails))?;
+    let made = Term::list(alloc, terms, tail);
+    let text = match &made {
+        Ok(list) => size_behind_first(alloc, list),
         Err(refusal) => refused(alloc, refusal.fault),
-    }
+    };
+    drop(made);
+    text
 }
 
 /// The term that an operand is.
 fn term(alloc: Global, operand: Operand<'_>) -> Option<Vec<u8>> {
-    canonical(alloc, &operand.to_term(alloc).ok()?)
+    let Ok(term) = operand.to_term(alloc) else {
+        return None;
+    };
+    let text = canonical(alloc, &term);
+    drop(term);
+    text
 }
 
 /// What comes of a row of operands.

@@ -21,21 +21,43 @@ fn fault_text(alloc: Global, fault: SpecFault) -> Option<Vec<u8>> {
 /// How many clauses the specification has that a term is read as, or its fault.
 fn read(alloc: Global, term: &Term) -> Option<Vec<u8>> {
     match read_spec(alloc, term) {
-        Ok(spec) => numbered(alloc, "ok", spec.clauses().len()),
+        Ok(spec) => {
+            let clauses = spec.clauses().len();
+            drop(spec);
+            numbered(alloc, "ok", clauses)
+        }
         Err(fault) => fault_text(alloc, fault),
     }
 }
 
 /// The same of the first term of a text.
 fn read_text(alloc: Global, given: &Term) -> Option<Vec<u8>> {
-    let terms = read_terms(alloc, text(alloc, given)?.as_slice()).ok()?;
-    read(alloc, terms.first()?)
+    let given = text(alloc, given)?;
+    let Ok(terms) = read_terms(alloc, given.as_slice()) else {
+        return None;
+    };
+    let text = match terms.first() {
+        Some(term) => read(alloc, term),
+        None => None,
+    };
+    drop(terms);
+    text
+}
+
+/// Whether the code of the specification that a term is read as answers what that does, on each of these objects.
+fn term_agrees(alloc: Global, term: &Term, objects: &[Term]) -> Option<bool> {
+    let Ok(specification) = read_spec(alloc, term) else {
+        return None;
+    };
+    let agree = agrees(alloc, &specification, objects);
+    drop(specification);
+    agree
 }
 
 /// The first of these specifications of which the code answers something else on one of these objects.
 fn all_agree(alloc: Global, specifications: &[Term], objects: &[Term]) -> Option<Vec<u8>> {
     for specification in specifications {
-        if !agrees(alloc, &read_spec(alloc, specification).ok()?, objects)? {
+        if !term_agrees(alloc, specification, objects)? {
             return canonical(alloc, specification);
         }
     }
@@ -44,13 +66,15 @@ fn all_agree(alloc: Global, specifications: &[Term], objects: &[Term]) -> Option
 
 /// Whether the code of the first term of a text answers what that term does as a specification, on those behind it.
 fn agrees_on_text(alloc: Global, given: &[u8]) -> Option<Vec<u8>> {
-    let terms = read_terms(alloc, given).ok()?;
-    let (specification, objects) = terms.as_slice().split_first()?;
-    if agrees(alloc, &read_spec(alloc, specification).ok()?, objects)? {
-        word(alloc, "same")
-    } else {
-        word(alloc, "other")
-    }
+    let Ok(terms) = read_terms(alloc, given) else {
+        return None;
+    };
+    let agrees = match terms.as_slice().split_first() {
+        Some((specification, objects)) => term_agrees(alloc, specification, objects),
+        None => None,
+    };
+    drop(terms);
+    word(alloc, if agrees? { "same" } else { "other" })
 }
 
 /// What comes of a row of specifications.

@@ -13,11 +13,6 @@ use std::alloc::{Allocator, Global};
 use term_core::{Refused, Term};
 use verifier::{BodyFault, Fault, verify};
 
-/// The code of a text.
-fn code<A: Allocator + Copy>(heap: A, given: &[u8]) -> Option<Code<A>> {
-    code_of(heap, &term_of(heap, given)?)
-}
-
 /// Whether code that was built has these parts.
 fn whole<A: Allocator>(alloc: Global, code: &Code<A>, parts: &Parts<A>) -> Option<Vec<u8>> {
     if is_code(code, parts) {
@@ -27,20 +22,29 @@ fn whole<A: Allocator>(alloc: Global, code: &Code<A>, parts: &Parts<A>) -> Optio
     }
 }
 
-/// Whether code is built of its parts; none where it wants memory, hands back what it was given and keeps the rest.
-fn built<A: Allocator + Copy>(alloc: Global, heap: A, given: &[u8]) -> Option<Vec<u8>> {
-    let term = term_of(heap, given)?;
-    let wanted = parts_of(heap, &term)?;
-    match build(heap, parts_of(heap, &term)?, &wanted) {
-        Built::Whole(code) => whole(alloc, &code, &wanted),
+/// Whether code is built of these parts; none where it wants memory, hands back what it was given and keeps the rest.
+fn built_of<A: Allocator + Copy>(
+    alloc: Global,
+    heap: A,
+    parts: Parts<A>,
+    wanted: &Parts<A>,
+) -> Option<Vec<u8>> {
+    let built = build(heap, parts, wanted);
+    let text = match &built {
+        Built::Whole(code) => whole(alloc, code, wanted),
         Built::Refused(_, 1, _) => None,
         Built::Refused(_, _, _) | Built::NoSlots(_) | Built::Wrong => word(alloc, "wrong"),
-    }
+    };
+    drop(built);
+    text
 }
 
-/// The budget of the code of a text.
-fn budget<A: Allocator + Copy>(alloc: Global, heap: A, given: &[u8]) -> Option<Vec<u8>> {
-    codes::budget(alloc, heap, &code(heap, given)?)
+/// The same of the parts that a term says.
+fn built<A: Allocator + Copy>(alloc: Global, heap: A, term: &Term<A>) -> Option<Vec<u8>> {
+    let (parts, wanted) = parts_of(heap, term).zip(parts_of(heap, term))?;
+    let text = built_of(alloc, heap, parts, &wanted);
+    drop(wanted);
+    text
 }
 
 /// What the verifier says of code that came back: why it is refused, and where memory was wanted, what comes of it once
@@ -53,34 +57,86 @@ fn once_more<A: Allocator + Copy>(
 ) -> Option<Vec<u8>> {
     let Refused { value: code, fault } = refused;
     if !is_code(&code, parts) {
+        drop(code);
         return word(alloc, "other_code");
     }
     if fault.fault != Fault::Memory {
+        drop(code);
         return codes::refused(alloc, fault);
     }
-    match verify(heap, code) {
-        Ok(verified) => accepted(alloc, &verified),
+    let verified = verify(heap, code);
+    let text = match &verified {
+        Ok(verified) => accepted(alloc, verified),
         Err(again) => codes::refused(alloc, again.fault),
-    }
+    };
+    drop(verified);
+    text
 }
 
 /// What the verifier says of code. Where it wants memory, the code comes back and is verified again.
-fn verdict<A: Allocator + Copy>(alloc: Global, heap: A, given: &[u8]) -> Option<Vec<u8>> {
-    let term = term_of(heap, given)?;
-    let parts = parts_of(heap, &term)?;
-    match verify(heap, code_of(heap, &term)?) {
-        Ok(verified) => accepted(alloc, &verified),
-        Err(refused) => once_more(alloc, heap, refused, &parts),
+fn verdict_of<A: Allocator + Copy>(
+    alloc: Global,
+    heap: A,
+    code: Code<A>,
+    parts: &Parts<A>,
+) -> Option<Vec<u8>> {
+    match verify(heap, code) {
+        Ok(verified) => {
+            let text = accepted(alloc, &verified);
+            drop(verified);
+            text
+        }
+        Err(refused) => once_more(alloc, heap, refused, parts),
     }
 }
 
-/// Whether a text is read as a specification.
-fn read<A: Allocator + Copy>(alloc: Global, heap: A, given: &[u8]) -> Option<Vec<u8>> {
-    match read_spec(heap, &term_of(heap, given)?) {
+/// The same of the code that a term says.
+fn verdict<A: Allocator + Copy>(alloc: Global, heap: A, term: &Term<A>) -> Option<Vec<u8>> {
+    let (code, parts) = code_of(heap, term).zip(parts_of(heap, term))?;
+    let text = verdict_of(alloc, heap, code, &parts);
+    drop(parts);
+    text
+}
+
+/// Whether a term is read as a specification.
+fn read<A: Allocator + Copy>(alloc: Global, heap: A, term: &Term<A>) -> Option<Vec<u8>> {
+    let specification = read_spec(heap, term);
+    let text = match &specification {
         Ok(_) => word(alloc, "ok"),
         Err(SpecFault::Memory) => None,
         Err(_) => word(alloc, "refused"),
+    };
+    drop(specification);
+    text
+}
+
+/// What comes of a call on a term.
+fn outcome_of<A: Allocator + Copy>(
+    alloc: Global,
+    heap: A,
+    call: &str,
+    term: &Term<A>,
+) -> Option<Vec<u8>> {
+    match call {
+        "swept_built" => built(alloc, heap, term),
+        "swept_budget" => codes::budget_of(alloc, heap, term),
+        "swept_verify" => verdict(alloc, heap, term),
+        "swept_spec" => read(alloc, heap, term),
+        _ => None,
     }
+}
+
+/// The same on the term that a text says.
+fn outcome<A: Allocator + Copy>(
+    alloc: Global,
+    heap: A,
+    call: &str,
+    given: &[u8],
+) -> Option<Vec<u8>> {
+    let term = term_of(heap, given)?;
+    let text = outcome_of(alloc, heap, call, &term);
+    drop(term);
+    text
 }
 
 /// The calls of rows of refused memory.
@@ -96,12 +152,11 @@ impl Calls for CodeCalls {
         given: &[u8],
     ) -> Option<Vec<u8>> {
         match call {
-            "swept_built" => built(alloc, heap, given),
-            "swept_budget" => budget(alloc, heap, given),
-            "swept_verify" => verdict(alloc, heap, given),
-            "swept_spec" => read(alloc, heap, given),
             "swept_answers" => answers_of_text(alloc, heap, given),
-            _ => run_outcome::<GivenCode, A>(alloc, heap, call, given),
+            "swept_run" | "swept_run_true" | "run_without" | "run_true_without" => {
+                run_outcome::<GivenCode, A>(alloc, heap, call, given)
+            }
+            _ => outcome(alloc, heap, call, given),
         }
     }
 

@@ -16,7 +16,11 @@ fn fault_text(alloc: Global, fault: TextFault) -> Option<Vec<u8>> {
 fn read(alloc: Global, given: &Term) -> Option<Vec<u8>> {
     let bytes = text(alloc, given)?;
     match read_terms(alloc, bytes.as_slice()) {
-        Ok(terms) => written(alloc, terms.as_slice()),
+        Ok(terms) => {
+            let text = written(alloc, terms.as_slice());
+            drop(terms);
+            text
+        }
         Err(fault) => fault_text(alloc, fault),
     }
 }

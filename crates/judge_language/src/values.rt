@@ -1,7 +1,7 @@
 //! Values: what calls over them give, borrowed or made, and what is read of their copies.
-use crate::calls::{is_in_form, operand, operands};
+use crate::calls::{is_in_form, operand, operands, tagged_operand};
 use crate::operands::with_values;
-use kit_rows::{Outcome, elements, primitive, tagged, word};
+use kit_rows::{Outcome, elements, primitive, word};
 use prims::call_values;
 use prims_table::Primitive;
 use std::alloc::Global;
@@ -32,17 +32,27 @@ fn values<'a>(alloc: Global, operands: &[Operand<'a>], is_made: bool) -> Option<
     Some(values)
 }
 
-/// What a call over values gives.
-fn given(alloc: Global, function: Primitive, values: &[Value<'_>]) -> Option<Vec<u8>> {
-    let Some(value) = call_values(&alloc, function, values).ok()? else {
-        return word(alloc, "fails");
-    };
-    let tag = match (is_in_form(function, value.operand()), is_borrowed(&value)) {
+/// The text of a value that a call gives.
+fn value_text(alloc: Global, function: Primitive, value: &Value<'_>) -> Option<Vec<u8>> {
+    let tag = match (is_in_form(function, value.operand()), is_borrowed(value)) {
         (true, true) => "borrowed",
         (true, false) => "made",
         (false, _) => "in_another_form",
     };
-    tagged(alloc, tag, &value.operand().to_term(alloc).ok()?)
+    tagged_operand(alloc, tag, value.operand())
+}
+
+/// What a call over values gives.
+fn given(alloc: Global, function: Primitive, values: &[Value<'_>]) -> Option<Vec<u8>> {
+    let Ok(given) = call_values(&alloc, function, values) else {
+        return None;
+    };
+    let text = match &given {
+        Some(value) => value_text(alloc, function, value),
+        None => word(alloc, "fails"),
+    };
+    drop(given);
+    text
 }
 
 /// What the call of a name with a list of terms gives, of which the last may be made.
@@ -56,8 +66,30 @@ fn called(alloc: Global, name: &Term, list: &Term, forms: usize, is_made: bool) 
 
 /// Whether a copy of a value is borrowed where it is.
 fn is_copied_in_form(value: &Value<'_>) -> Option<bool> {
-    let copy = value.copy().ok()?;
-    Some(is_borrowed(&copy) == is_borrowed(value))
+    let Ok(copy) = value.copy() else {
+        return None;
+    };
+    let is_so = is_borrowed(&copy) == is_borrowed(value);
+    drop(copy);
+    Some(is_so)
+}
+
+/// The truth value and the number that a copy of a value is.
+fn copied_values(value: &Value<'_>) -> Option<(Option<bool>, Option<i64>)> {
+    let Ok(copy) = value.copy() else {
+        return None;
+    };
+    let values = (copy.boolean(), copy.integer());
+    drop(copy);
+    Some(values)
+}
+
+/// The term that a copy of a value becomes.
+fn copied_term(alloc: Global, value: &Value<'_>) -> Option<Term> {
+    let Ok(copy) = value.copy() else {
+        return None;
+    };
+    copy.into_term(alloc).ok()
 }
 
 /// The term, the truth value and the number that the copies of a value are, which are borrowed where it is.
@@ -65,15 +97,19 @@ fn copies(alloc: Global, value: &Value<'_>) -> Option<Vec<u8>> {
     if !is_copied_in_form(value)? {
         return word(alloc, "in_another_form");
     }
-    let truth = value.copy().ok()?.boolean();
-    let number = value.copy().ok()?.integer();
-    let term = value.copy().ok()?.into_term(alloc).ok()?;
-    with_values(Outcome::tuple(alloc).term(&term), truth, number).end()
+    let (truth, number) = copied_values(value)?;
+    let term = copied_term(alloc, value)?;
+    let text = with_values(Outcome::tuple(alloc).term(&term), truth, number).end();
+    drop(term);
+    text
 }
 
 /// What the copies of the value are that an operand is, which may be made.
 fn copied(alloc: Global, operand: Operand<'_>, is_made: bool) -> Option<Vec<u8>> {
-    copies(alloc, &value(alloc, operand, is_made)?)
+    let value = value(alloc, operand, is_made)?;
+    let text = copies(alloc, &value);
+    drop(value);
+    text
 }
 
 /// What comes of a row of values.

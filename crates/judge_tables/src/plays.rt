@@ -4,7 +4,7 @@ use kit_alloc::Failing;
 use kit_parts::{
     Options, Setting, Wants, byte, kind_of, made, open_fault_text, steps_text, watching_code,
 };
-use kit_rows::{elements, short, word, written};
+use kit_rows::{elements, short, was_ok, word, written};
 use part_core::{OpenFault, Part, TableKind};
 use part_hash::HashPart;
 use part_order::OrderPart;
@@ -83,7 +83,9 @@ fn played<A: Allocator + Copy, P: Part<A> + Drop>(
 ) -> Option<Vec<u8>> {
     if form.is_watched {
         let code = watching_code(heap)?;
-        played_with::<A, P>(alloc, heap, options, form.wants, Some(&code), steps)
+        let text = played_with::<A, P>(alloc, heap, options, form.wants, Some(&code), steps);
+        drop(code);
+        text
     } else {
         played_with::<A, P>(alloc, heap, options, form.wants, None, steps)
     }
@@ -195,15 +197,13 @@ fn played_at<A: Allocator + Copy>(
 }
 
 /// What comes of a row by its call, which names the part that plays it.
-fn outcome_of<A: Allocator + Copy>(
+fn outcome_of_row<A: Allocator + Copy>(
     alloc: Global,
     heap: A,
     call: &str,
-    given: &[u8],
+    row: &[Term<A>],
     wants: &Wants,
 ) -> Option<Vec<u8>> {
-    let row = read_terms(heap, given).ok()?;
-    let row = row.as_slice();
     match call {
         "make_set" => options_row::<A, PlainPart<A>>(alloc, heap, row, wants),
         "make_hashed_set" => options_row::<A, HashPart<A>>(alloc, heap, row, wants),
@@ -216,14 +216,33 @@ fn outcome_of<A: Allocator + Copy>(
     }
 }
 
+/// The same of the row that a text says.
+fn outcome_of<A: Allocator + Copy>(
+    alloc: Global,
+    heap: A,
+    call: &str,
+    given: &[u8],
+    wants: &Wants,
+) -> Option<Vec<u8>> {
+    let Ok(row) = read_terms(heap, given) else {
+        return None;
+    };
+    let out = outcome_of_row(alloc, heap, call, row.as_slice(), wants);
+    drop(row);
+    out
+}
+
 /// The most requests for memory that one row makes behind the reading of its text.
 const MOST_REQUESTS: u64 = 20_000;
 
 /// How many requests for memory the reading of a row's text makes.
 fn requests_to_read(alloc: Global, given: &[u8]) -> Option<u64> {
     let heap = Failing::counting(alloc);
-    read_terms(&heap, given).ok()?;
-    Some(heap.requests())
+    if was_ok(read_terms(&heap, given)) {
+        Some(heap.requests())
+    } else {
+        None
+    }
 }
 
 /// From how many bytes on a row is long.

@@ -32,7 +32,12 @@ fn replies<S: Part<Global> + Drop>(alloc: Global, commands: &[Term]) -> Option<V
     let mut reader = script.as_slice();
     let mut out: Vec<u8> = Vec::new(alloc);
     run_script::<S, OrderPart<Global>, _, _, _>(alloc, &mut reader, &mut out).ok()?;
-    listed(alloc, read_terms(alloc, out.as_slice()).ok()?.as_slice())
+    let Ok(replies) = read_terms(alloc, out.as_slice()) else {
+        return None;
+    };
+    let text = listed(alloc, replies.as_slice());
+    drop(replies);
+    text
 }
 
 /// What comes of a row of scripts in one of the forms.

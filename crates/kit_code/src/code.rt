@@ -74,13 +74,16 @@ fn add_constant<A: Allocator>(
     constant: Term<A>,
     wanted: &[Term<A>],
 ) -> Result<(), Stop> {
-    match builder.constant(constant) {
-        Ok(number) => check_number(number, place),
+    let added = builder.constant(constant);
+    let came = match &added {
+        Ok(number) => check_number(*number, place),
         Err(refused) => {
             let is_whole = is_at(wanted, place, &refused.value);
             Err(stop_at(Part::Constant, refused.fault, is_whole))
         }
-    }
+    };
+    drop(added);
+    came
 }
 
 fn add_constants<A: Allocator>(
@@ -118,13 +121,16 @@ fn add_frame<A: Allocator>(
     frame: Frame<A>,
     wanted: &[Frame<A>],
 ) -> Result<(), Stop> {
-    match builder.frame(frame) {
+    let added = builder.frame(frame);
+    let came = match &added {
         Ok(()) => Ok(()),
         Err(refused) => {
             let is_whole = is_frame_at(wanted, place, &refused.value);
             Err(stop_at(Part::Frame, refused.fault, is_whole))
         }
-    }
+    };
+    drop(added);
+    came
 }
 
 fn add_frames<A: Allocator>(
@@ -144,8 +150,18 @@ fn add_body<A: Allocator>(
     given: BodyParts<A>,
     wanted: &BodyParts<A>,
 ) -> Result<(), Stop> {
-    add_instructions(builder, given.instructions.as_slice())?;
-    add_frames(builder, given.frames, wanted.frames.as_slice())
+    let BodyParts {
+        slots: _,
+        instructions,
+        frames,
+    } = given;
+    match add_instructions(builder, instructions.as_slice()) {
+        Ok(()) => add_frames(builder, frames, wanted.frames.as_slice()),
+        Err(stop) => {
+            drop(frames);
+            Err(stop)
+        }
+    }
 }
 
 /// Adds a routine, whose number is one above its place, as the main body has the first.
@@ -156,13 +172,25 @@ fn add_routine<A: Allocator + Copy>(
     wanted: &[RoutineParts<A>],
 ) -> Result<(), Stop> {
     let Some(wanted) = wanted.get(place) else {
+        drop(given);
         return Err(Stop::Wrong);
     };
-    match builder.routine(given.arguments, given.gives, given.body.slots) {
-        Ok(number) => check_number(number, place.saturating_add(1))?,
-        Err(fault) => return Err(stop_at(Part::Routine, fault, true)),
+    let RoutineParts {
+        arguments,
+        gives,
+        body,
+    } = given;
+    let added = match builder.routine(arguments, gives, body.slots) {
+        Ok(number) => check_number(number, place.saturating_add(1)),
+        Err(fault) => Err(stop_at(Part::Routine, fault, true)),
+    };
+    match added {
+        Ok(()) => add_body(builder, body, &wanted.body),
+        Err(stop) => {
+            drop(body);
+            Err(stop)
+        }
     }
-    add_body(builder, given.body, &wanted.body)
 }
 
 fn add_routines<A: Allocator + Copy>(
@@ -283,39 +311,96 @@ pub fn is_code<A: Allocator>(code: &Code<A>, parts: &Parts<A>) -> bool {
         && is_last_whole(code, parts)
 }
 
+/// Adds the main body and the routines.
+fn add_bodies<A: Allocator + Copy>(
+    builder: &mut Builder<A>,
+    main: BodyParts<A>,
+    routines: Vec<RoutineParts<A>, A>,
+    wanted: &Parts<A>,
+) -> Result<(), Stop> {
+    match add_body(builder, main, &wanted.main) {
+        Ok(()) => add_routines(builder, routines, wanted.routines.as_slice()),
+        Err(stop) => {
+            drop(routines);
+            Err(stop)
+        }
+    }
+}
+
 fn add_all<A: Allocator + Copy>(
     builder: &mut Builder<A>,
     given: Parts<A>,
     wanted: &Parts<A>,
 ) -> Result<(), Stop> {
-    add_constants(builder, given.constants, wanted.constants.as_slice())?;
-    add_body(builder, given.main, &wanted.main)?;
-    add_routines(builder, given.routines, wanted.routines.as_slice())
+    let Parts {
+        constants,
+        main,
+        routines,
+    } = given;
+    match add_constants(builder, constants, wanted.constants.as_slice()) {
+        Ok(()) => add_bodies(builder, main, routines, wanted),
+        Err(stop) => {
+            drop(main);
+            drop(routines);
+            Err(stop)
+        }
+    }
+}
+
+/// What comes of code of parts that were added so far.
+fn built<A: Allocator>(code: Code<A>, added: Result<(), Stop>, wanted: &Parts<A>) -> Built<A> {
+    if !is_front(&code, wanted) {
+        drop(code);
+        return Built::Wrong;
+    }
+    match added {
+        Ok(()) => Built::Whole(code),
+        Err(Stop::Refused(part, number)) => Built::Refused(part, number, code),
+        Err(Stop::Wrong) => {
+            drop(code);
+            Built::Wrong
+        }
+    }
 }
 
 /// Gives parts to a builder; the same once more are what has to be there in the end.
 pub fn build<A: Allocator + Copy>(heap: A, given: Parts<A>, wanted: &Parts<A>) -> Built<A> {
     let mut builder = match Builder::new(heap, given.main.slots) {
         Ok(builder) => builder,
-        Err(fault) => return Built::NoSlots(fault.number()),
+        Err(fault) => {
+            drop(given);
+            return Built::NoSlots(fault.number());
+        }
     };
     let added = add_all(&mut builder, given, wanted);
-    let code = builder.finish();
-    if !is_front(&code, wanted) {
-        return Built::Wrong;
+    built(builder.finish(), added, wanted)
+}
+
+/// The code that was built of all parts.
+fn whole<A: Allocator>(built: Built<A>) -> Option<Code<A>> {
+    match built {
+        Built::Whole(code) => Some(code),
+        Built::Refused(_part, _number, code) => {
+            drop(code);
+            None
+        }
+        Built::NoSlots(_) | Built::Wrong => None,
     }
-    match added {
-        Ok(()) => Built::Whole(code),
-        Err(Stop::Refused(part, number)) => Built::Refused(part, number, code),
-        Err(Stop::Wrong) => Built::Wrong,
-    }
+}
+
+/// The code that a term says, where its parts are these; none where it can't be built.
+fn code_of_parts<A: Allocator + Copy>(
+    heap: A,
+    term: &Term<A>,
+    wanted: &Parts<A>,
+) -> Option<Code<A>> {
+    whole(build(heap, parts_of(heap, term)?, wanted))
 }
 
 /// The code that a term says, none where it can't be built.
 pub fn code_of<A: Allocator + Copy>(heap: A, term: &Term<A>) -> Option<Code<A>> {
     let wanted = parts_of(heap, term)?;
-    match build(heap, parts_of(heap, term)?, &wanted) {
-        Built::Whole(code) => Some(code),
-        Built::NoSlots(_) | Built::Refused(_, _, _) | Built::Wrong => None,
-    }
+    let code = code_of_parts(heap, term, &wanted);
+    drop(wanted);
+    code
 }

@@ -57,13 +57,22 @@ fn push_member<A: Allocator>(out: &mut Vec<(u16, Kind), A>, member: &[Term<A>]) 
     }
 }
 
+/// Adds the places that the members of a list say.
+fn push_members<A: Allocator>(out: &mut Vec<(u16, Kind), A>, members: &[Term<A>]) -> Option<()> {
+    for member in members {
+        push_member(out, fields(member)?)?;
+    }
+    Some(())
+}
+
 /// The places that a list says.
 fn places<A: Allocator + Copy>(heap: A, list: &Term<A>) -> Option<Vec<(u16, Kind), A>> {
+    let members = elements(list)?;
     let mut out = Vec::new(heap);
-    for member in elements(list)? {
-        push_member(&mut out, fields(member)?)?;
+    match push_members(&mut out, members) {
+        Some(()) => Some(out),
+        None => None,
     }
-    Some(out)
 }
 
 /// Adds so many slots, from the first on.
@@ -123,12 +132,12 @@ fn frame<A: Allocator + Copy>(
     placed: &Term<A>,
     bound: &Term<A>,
 ) -> Option<Frame<A>> {
-    let places = places(heap, placed)?;
+    let (places, slots) = places(heap, placed).zip(slots(heap, bound))?;
     Some(Frame {
         pc,
         depth,
         places: Places::new(places),
-        slots: Slots::new(slots(heap, bound)?),
+        slots: Slots::new(slots),
     })
 }
 
@@ -148,13 +157,29 @@ fn push_frame<A: Allocator + Copy>(
     }
 }
 
+/// Adds what the members of a list of frames say.
+fn push_frames<A: Allocator + Copy>(
+    heap: A,
+    out: &mut Vec<Frame<A>, A>,
+    members: &[Term<A>],
+) -> Option<()> {
+    for member in members {
+        push_frame(heap, out, fields(member)?)?;
+    }
+    Some(())
+}
+
 /// The frames that a list says.
 pub(crate) fn frames<A: Allocator + Copy>(heap: A, list: &Term<A>) -> Option<Vec<Frame<A>, A>> {
+    let members = elements(list)?;
     let mut out = Vec::new(heap);
-    for term in elements(list)? {
-        push_frame(heap, &mut out, fields(term)?)?;
+    match push_frames(heap, &mut out, members) {
+        Some(()) => Some(out),
+        None => {
+            drop(out);
+            None
+        }
     }
-    Some(out)
 }
 
 /// Whether two frames are the same.

@@ -8,6 +8,7 @@ use mspec_syntax::Spec;
 use std::alloc::{Allocator, Global};
 use term_core::Term;
 use term_text::read_terms;
+use verifier::Verified;
 
 /// Whether two answers are the same.
 fn same<A: Allocator>(left: Option<&Term<A>>, right: Option<&Term<A>>) -> bool {
@@ -18,6 +19,21 @@ fn same<A: Allocator>(left: Option<&Term<A>>, right: Option<&Term<A>>) -> bool {
     }
 }
 
+/// Whether what a run answered is what its specification answers on an object; none for want of memory.
+fn is_meant<A: Allocator + Copy>(
+    heap: A,
+    ran: Option<&Term<A>>,
+    specification: &Spec<A>,
+    object: &Term<A>,
+) -> Option<bool> {
+    let Ok(meant) = evaluate(heap, specification, object) else {
+        return None;
+    };
+    let is_meant = same(ran, meant.as_ref());
+    drop(meant);
+    Some(is_meant)
+}
+
 /// Whether a machine answers what its specification does.
 fn agrees_on<'a, A: Allocator + Copy>(
     heap: A,
@@ -25,9 +41,12 @@ fn agrees_on<'a, A: Allocator + Copy>(
     specification: &Spec<A>,
     object: &'a Term<A>,
 ) -> Option<bool> {
-    let (ran, _) = machine.run(object).ok()?;
-    let meant = evaluate(heap, specification, object).ok()?;
-    Some(same(ran.as_ref(), meant.as_ref()))
+    let Ok((ran, _executed)) = machine.run(object) else {
+        return None;
+    };
+    let agrees = is_meant(heap, ran.as_ref(), specification, object);
+    drop(ran);
+    agrees
 }
 
 /// Whether a machine answers what its specification does, on each of these objects.
@@ -45,6 +64,19 @@ fn all_agree_on<'a, A: Allocator + Copy>(
     Some(true)
 }
 
+/// Whether code answers what its specification does, on each of these objects.
+fn code_agrees<A: Allocator + Copy>(
+    heap: A,
+    code: &Verified<A>,
+    specification: &Spec<A>,
+    objects: &[Term<A>],
+) -> Option<bool> {
+    let mut machine = Machine::new(&heap, code).ok()?;
+    let agree = all_agree_on(heap, &mut machine, specification, objects);
+    machine.finish();
+    agree
+}
+
 /// Whether the code of a specification answers what the specification does, on each of these objects; none for want of
 /// memory.
 pub fn agrees<A: Allocator + Copy>(
@@ -52,10 +84,11 @@ pub fn agrees<A: Allocator + Copy>(
     specification: &Spec<A>,
     objects: &[Term<A>],
 ) -> Option<bool> {
-    let code = compile(heap, specification).ok()?;
-    let mut machine = Machine::new(&heap, &code).ok()?;
-    let agree = all_agree_on(heap, &mut machine, specification, objects);
-    machine.finish();
+    let Ok(code) = compile(heap, specification) else {
+        return None;
+    };
+    let agree = code_agrees(heap, &code, specification, objects);
+    drop(code);
     agree
 }
 
@@ -66,10 +99,12 @@ fn put_meant<A: Allocator + Copy>(
     object: &Term<A>,
     answers: &mut Vec<Term<A>, A>,
 ) -> bool {
-    match evaluate(heap, spec, object) {
-        Ok(Some(answer)) => put(answers, answer),
-        Ok(None) => true,
-        Err(_) => false,
+    let Ok(meant) = evaluate(heap, spec, object) else {
+        return false;
+    };
+    match meant {
+        Some(answer) => put(answers, answer),
+        None => true,
     }
 }
 
@@ -85,11 +120,13 @@ fn answers<A: Allocator + Copy>(
     for object in objects {
         is_whole = put_meant(heap, spec, object, &mut answers) && is_whole;
     }
-    if is_whole {
+    let text = if is_whole {
         listed(alloc, answers.as_slice())
     } else {
         None
-    }
+    };
+    drop(answers);
+    text
 }
 
 /// The answers of the specification that a term is read as, where its code has the same.
@@ -99,12 +136,26 @@ pub fn answers_of<A: Allocator + Copy>(
     term: &Term<A>,
     objects: &[Term<A>],
 ) -> Option<Vec<u8>> {
-    let specification = read_spec(heap, term).ok()?;
-    if agrees(heap, &specification, objects)? {
-        answers(alloc, heap, &specification, objects)
-    } else {
-        word(alloc, "code_differs")
-    }
+    let Ok(specification) = read_spec(heap, term) else {
+        return None;
+    };
+    let text = match agrees(heap, &specification, objects) {
+        Some(true) => answers(alloc, heap, &specification, objects),
+        Some(false) => word(alloc, "code_differs"),
+        None => None,
+    };
+    drop(specification);
+    text
+}
+
+/// The answers of the first of these terms on those behind it.
+fn answers_of_terms<A: Allocator + Copy>(
+    alloc: Global,
+    heap: A,
+    terms: &[Term<A>],
+) -> Option<Vec<u8>> {
+    let (specification, objects) = terms.split_first()?;
+    answers_of(alloc, heap, specification, objects)
 }
 
 /// The answers of the first term of a text on those behind it.
@@ -113,7 +164,10 @@ pub fn answers_of_text<A: Allocator + Copy>(
     heap: A,
     given: &[u8],
 ) -> Option<Vec<u8>> {
-    let terms = read_terms(heap, given).ok()?;
-    let (spec, objects) = terms.as_slice().split_first()?;
-    answers_of(alloc, heap, spec, objects)
+    let Ok(terms) = read_terms(heap, given) else {
+        return None;
+    };
+    let text = answers_of_terms(alloc, heap, terms.as_slice());
+    drop(terms);
+    text
 }

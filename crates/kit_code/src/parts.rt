@@ -60,7 +60,7 @@ fn repeated<A: Allocator + Copy>(
     for _ in 0..count {
         is_whole = put_copy(&mut out, constant) && is_whole;
     }
-    if is_whole { Some(out) } else { None }
+    is_whole.then_some(out)
 }
 
 /// The constants that a term says.
@@ -80,11 +80,12 @@ fn body<A: Allocator + Copy>(
     framed: &Term<A>,
 ) -> Option<BodyParts<A>> {
     let slots = short(slots)?;
-    let instructions = instructions(heap, own, listed)?;
+    let instructions = instructions(heap, own, listed);
+    let (instructions, frames) = instructions.zip(frames(heap, framed))?;
     Some(BodyParts {
         slots,
         instructions,
-        frames: frames(heap, framed)?,
+        frames,
     })
 }
 
@@ -128,11 +129,12 @@ fn routine<A: Allocator + Copy>(heap: A, own: u16, said: &[Term<A>]) -> Option<R
         return None;
     }
     let gives = kind(gives)?;
-    let arguments = kinds(heap, arguments)?;
+    let body = body(heap, own, slots, listed, framed);
+    let (arguments, body) = kinds(heap, arguments).zip(body)?;
     Some(RoutineParts {
         arguments,
         gives,
-        body: body(heap, own, slots, listed, framed)?,
+        body,
     })
 }
 
@@ -183,20 +185,35 @@ fn push_member<A: Allocator + Copy>(
     }
 }
 
+/// Adds what the members of a list of routines say.
+fn push_members<A: Allocator + Copy>(
+    heap: A,
+    out: &mut Vec<RoutineParts<A>, A>,
+    members: &[Term<A>],
+) -> Option<()> {
+    for member in members {
+        push_member(heap, out, fields(member)?)?;
+    }
+    Some(())
+}
+
 /// The routines that these terms say.
 fn routines<A: Allocator + Copy>(heap: A, members: &[Term<A>]) -> Option<Vec<RoutineParts<A>, A>> {
     let mut out = Vec::new(heap);
-    for member in members {
-        push_member(heap, &mut out, fields(member)?)?;
+    match push_members(heap, &mut out, members) {
+        Some(()) => Some(out),
+        None => {
+            drop(out);
+            None
+        }
     }
-    Some(out)
 }
 
-/// The parts of code that these fields say, with these routines.
+/// The parts of code that these fields say, with the routines that these terms say.
 fn parts_with<A: Allocator + Copy>(
     heap: A,
     said: &[Term<A>],
-    routines: Vec<RoutineParts<A>, A>,
+    members: &[Term<A>],
 ) -> Option<Parts<A>> {
     let [code, slots, fixed, listed, framed] = said else {
         return None;
@@ -204,9 +221,11 @@ fn parts_with<A: Allocator + Copy>(
     if !is_atom(code, "code") {
         return None;
     }
-    let main = body(heap, 0, slots, listed, framed)?;
+    let main = body(heap, 0, slots, listed, framed);
+    let bodies = main.zip(routines(heap, members));
+    let (constants, (main, routines)) = constants(heap, fixed).zip(bodies)?;
     Some(Parts {
-        constants: constants(heap, fixed)?,
+        constants,
         main,
         routines,
     })
@@ -216,8 +235,8 @@ fn parts_with<A: Allocator + Copy>(
 pub fn parts_of<A: Allocator + Copy>(heap: A, term: &Term<A>) -> Option<Parts<A>> {
     let said = fields(term)?;
     if said.len() == FIELDS {
-        return parts_with(heap, said, Vec::new(heap));
+        return parts_with(heap, said, &[]);
     }
     let (members, front) = said.split_last()?;
-    parts_with(heap, front, routines(heap, elements(members)?)?)
+    parts_with(heap, front, elements(members)?)
 }

@@ -42,15 +42,23 @@ fn outcome(
 /// The answer of verified code on an object.
 fn ran(alloc: Global, code: &Verified, object: &Term) -> Option<Vec<u8>> {
     let tested = run_true(alloc, code, object).ok()?;
-    let (answer, executed) = run(alloc, code, object).ok()?;
-    outcome(alloc, answer.as_ref(), executed, tested)
+    let Ok((answer, executed)) = run(alloc, code, object) else {
+        return None;
+    };
+    let text = outcome(alloc, answer.as_ref(), executed, tested);
+    drop(answer);
+    text
 }
 
 /// The answer of a machine on an object.
 fn ran_by<'a>(alloc: Global, machine: &mut Machine<'a, '_>, object: &'a Term) -> Option<Vec<u8>> {
     let tested = machine.run_true(object).ok()?;
-    let (answer, executed) = machine.run(object).ok()?;
-    outcome(alloc, answer.as_ref(), executed, tested)
+    let Ok((answer, executed)) = machine.run(object) else {
+        return None;
+    };
+    let text = outcome(alloc, answer.as_ref(), executed, tested);
+    drop(answer);
+    text
 }
 
 /// Puts the answer of a machine on an object at the end.
@@ -79,19 +87,33 @@ pub fn ran_each(alloc: Global, code: &Verified, objects: &[Term]) -> Option<Vec<
 
 /// The answer of the code that a term says.
 fn ran_code<C: CodeTerms>(alloc: Global, code: &Term, object: &Term) -> Option<Vec<u8>> {
-    ran(alloc, &C::verified_of(alloc, code)?, object)
+    let code = C::verified_of(alloc, code)?;
+    let text = ran(alloc, &code, object);
+    drop(code);
+    text
 }
 
 /// The answers of the code on each of a list of objects, by one machine.
 fn ran_code_on_each<C: CodeTerms>(alloc: Global, code: &Term, objects: &Term) -> Option<Vec<u8>> {
+    let objects = elements(objects)?;
     let code = C::verified_of(alloc, code)?;
-    ran_each(alloc, &code, elements(objects)?)
+    let text = ran_each(alloc, &code, objects);
+    drop(code);
+    text
 }
 
 /// The answer of the code on the first term of a text.
 fn ran_on_text<C: CodeTerms>(alloc: Global, code: &Term, given: &Term) -> Option<Vec<u8>> {
-    let objects = read_terms(alloc, text(alloc, given)?.as_slice()).ok()?;
-    ran_code::<C>(alloc, code, objects.first()?)
+    let given = text(alloc, given)?;
+    let Ok(objects) = read_terms(alloc, given.as_slice()) else {
+        return None;
+    };
+    let text = match objects.first() {
+        Some(object) => ran_code::<C>(alloc, code, object),
+        None => None,
+    };
+    drop(objects);
+    text
 }
 
 /// What comes of a row of runs.

@@ -88,7 +88,12 @@ pub(crate) fn wanted_of<A: Allocator>(term: &Term<A>) -> Option<u64>
 
 /// The code of the specification that a term is.
 pub(crate) fn code_of<A: Allocator + Copy>(heap: A, term: &Term<A>) -> Option<Verified<A>> {
-    compile(heap, &read_spec(heap, term).ok()?).ok()
+    let Ok(specification) = read_spec(heap, term) else {
+        return None;
+    };
+    let code = compile(heap, &specification).ok();
+    drop(specification);
+    code
 }
 
 /// The cursor that a term says: `{class,Base,Class}` or `{behind,Key}`.

@@ -41,7 +41,9 @@ pub(crate) fn all_objects<A: Allocator + Copy, P: Part<A>>(
     turn: Turn<'_, A>,
 ) -> Option<Vec<u8>> {
     let objects = objects(heap, part, turn)?;
-    objects_text(alloc, objects.as_slice())
+    let text = objects_text(alloc, objects.as_slice());
+    drop(objects);
+    text
 }
 
 /// The text of what a visit found.

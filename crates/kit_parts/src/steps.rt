@@ -28,14 +28,21 @@ fn came_of<'w, 'a, A: Allocator + Copy, P: Part<A>>(
     ensures { P.settings part.new ≡ P.settings part.old }
 {
     match turn.watch {
-        Some(code) => watched(alloc, heap, part, turn, code, &mut op),
+        Some(code) => {
+            let text = watched(alloc, heap, part, turn, code, &mut op);
+            drop(op);
+            text
+        }
         None => {
             let answer = answer(part, turn, &mut op);
-            if ends(turn, &op, &answer) {
+            let text = if ends(turn, &op, &answer) {
                 None
             } else {
                 answer_text(alloc, &answer)
-            }
+            };
+            drop(op);
+            drop(answer);
+            text
         }
     }
 }
@@ -58,6 +65,27 @@ fn visited_in<'w, 'a, A: Allocator + Copy, P: Part<A>>(
     came_of(alloc, heap, part, turn, visit(name, code, scope, wanted)?)
 }
 
+/// What comes of a visit by the code of a specification.
+fn visited_by<A: Allocator + Copy, P: Part<A>>(
+    alloc: Global,
+    heap: A,
+    part: &mut P,
+    turn: Turn<'_, A>,
+    name: &str,
+    specification: &Term<A>,
+    scope: Scope<'_, A>,
+    wanted: u64,
+) -> Option<Vec<u8>>
+    requires session { turn.session < (P.settings part.old).sessions }
+    requires wanted { 0 < wanted }
+    ensures { P.settings part.new ≡ P.settings part.old }
+{
+    let code = code_of(heap, specification)?;
+    let came = visited_in(alloc, heap, part, turn, name, &code, scope, wanted);
+    drop(code);
+    came
+}
+
 /// What comes of a visit that a term says: its name, a specification, a place and the number of answers that is wanted.
 fn visited<A: Allocator + Copy, P: Part<A>>(
     alloc: Global,
@@ -75,9 +103,12 @@ fn visited<A: Allocator + Copy, P: Part<A>>(
     let name = name_of(tag)?;
     let wanted = wanted_of(wanted)?;
     let cursor = cursor_of(place);
-    let scope = scope_of(place, cursor.as_ref())?;
-    let code = code_of(heap, specification)?;
-    visited_in(alloc, heap, part, turn, name, &code, scope, wanted)
+    let came = match scope_of(place, cursor.as_ref()) {
+        Some(scope) => visited_by(alloc, heap, part, turn, name, specification, scope, wanted),
+        None => None,
+    };
+    drop(cursor);
+    came
 }
 
 /// What comes of the operation that a term says.

@@ -10,6 +10,7 @@ use crate::turns::{Turn, answer, ends, wants_memory};
 use kit_rows::{Outcome, term_of, word};
 use part_core::{Cursor, Fault, Look, Part, PartOp, Reply, Scope};
 use std::alloc::{Allocator, Global};
+use std::mem;
 use verifier::Verified;
 
 /// The most visits of a walk through a part.
@@ -17,7 +18,10 @@ const MOST_VISITS: u32 = 10_000;
 
 /// The code of the specification that is answered each object.
 pub fn watching_code<A: Allocator + Copy>(heap: A) -> Option<Verified<A>> {
-    code_of(heap, &term_of(heap, b"[{'_',[],['$_']}].")?)
+    let specification = term_of(heap, b"[{'_',[],['$_']}].")?;
+    let code = code_of(heap, &specification);
+    drop(specification);
+    code
 }
 
 /// What a visit from a place on is answered.
@@ -39,15 +43,29 @@ fn visited_from<A: Allocator + Copy, P: Part<A>>(
         scope,
         wanted: 1,
     };
-    answer(part, turn, &mut PartOp::Visit(look))
+    let mut op = PartOp::Visit(look);
+    let answer = answer(part, turn, &mut op);
+    drop(op);
+    answer
 }
 
-/// Where a walk goes on behind a reply.
-fn behind<A: Allocator>(reply: Reply<A>) -> Option<Cursor<A>> {
-    match reply {
-        Reply::Found(_answers, next) => next,
-        _ => None,
+/// The text of what a visit found; none where it was refused.
+fn visit_text<A: Allocator>(alloc: Global, answer: &Result<Reply<A>, Fault>) -> Option<Vec<u8>> {
+    match answer {
+        Ok(reply) => reply_text(alloc, reply),
+        Err(_) => None,
     }
+}
+
+/// Where a walk goes on behind a visit.
+fn behind<A: Allocator>(answer: Result<Reply<A>, Fault>) -> Option<Cursor<A>> {
+    let mut answer = answer;
+    let next = match &mut answer {
+        Ok(Reply::Found(_answers, next)) => next.take(),
+        _ => None,
+    };
+    drop(answer);
+    next
 }
 
 /// What a walk through a part finds, visit by visit, as a text.
@@ -63,13 +81,15 @@ fn walk_text<A: Allocator + Copy, P: Part<A>>(
     let mut out = Outcome::list(alloc);
     let mut place = None;
     for _visit in 0..MOST_VISITS {
-        let reply = visited_from(part, turn, code, place.as_ref()).ok()?;
-        out = out.part(reply_text(alloc, &reply));
-        place = behind(reply);
+        let answer = visited_from(part, turn, code, place.as_ref());
+        out = out.part(visit_text(alloc, &answer));
+        drop(mem::replace(&mut place, behind(answer)));
         if place.is_none() {
+            drop(place);
             return out.end();
         }
     }
+    drop(place);
     None
 }
 
@@ -110,11 +130,13 @@ fn again<'a, A: Allocator + Copy, P: Part<A>>(
     } else {
         Err(fault)
     };
-    if ends(turn, op, &answer) {
+    let text = if ends(turn, op, &answer) {
         None
     } else {
         answer_text(alloc, &answer)
-    }
+    };
+    drop(answer);
+    text
 }
 
 /// What comes of an operation; `changed` where it is refused and the part isn't as it was before.
@@ -132,7 +154,11 @@ pub(crate) fn watched<'a, A: Allocator + Copy, P: Part<A>>(
 {
     let before = look(alloc, heap, part, turn, code)?;
     match part.apply(turn.session, op) {
-        Ok(reply) => reply_text(alloc, &reply),
+        Ok(reply) => {
+            let text = reply_text(alloc, &reply);
+            drop(reply);
+            text
+        }
         Err(fault) => {
             let behind = look(alloc, heap, part, turn, code)?;
             if behind.as_slice() == before.as_slice() {

@@ -1,11 +1,11 @@
-//! Terms put behind others. What a `push` hands back for want of memory is let go here alone, so that callers have no
-//! proof of it.
+//! Terms put behind others. What a `push` hands back for want of memory is let go.
+use crate::let_go::was_ok;
 use std::alloc::Allocator;
 use term_core::Term;
 
 /// Puts a term behind others; false for want of memory.
 pub fn put<A: Allocator>(terms: &mut Vec<Term<A>, A>, term: Term<A>) -> bool {
-    terms.push(term).is_ok()
+    was_ok(terms.push(term))
 }
 
 /// Puts a copy of a term behind others; false for want of memory.
@@ -22,5 +22,5 @@ pub fn put_pair<A: Allocator>(
     key: Term<A>,
     value: Term<A>,
 ) -> bool {
-    pairs.push((key, value)).is_ok()
+    was_ok(pairs.push((key, value)))
 }

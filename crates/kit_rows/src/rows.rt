@@ -176,7 +176,11 @@ fn judge_rows<K: Kinds>(kinds: &K, alloc: Global, rows: &[Term]) -> Result<Repor
 /// Judges the rows of a text.
 fn judge<K: Kinds>(kinds: &K, alloc: Global, text: &[u8]) -> Result<Report, AllocError> {
     match read_terms(alloc, text) {
-        Ok(rows) => judge_rows(kinds, alloc, rows.as_slice()),
+        Ok(rows) => {
+            let report = judge_rows(kinds, alloc, rows.as_slice());
+            drop(rows);
+            report
+        }
         Err(fault) => Ok(Report {
             text: format!(in alloc; "the rows can't be read: {fault}\n")?.into_bytes(),
             is_right: false,

@@ -125,5 +125,10 @@ pub fn text<A: Allocator + Copy>(heap: A, pieces: &Term<A>) -> Option<Vec<u8, A>
 
 /// The only term that a text says.
 pub fn term_of<A: Allocator + Copy>(heap: A, text: &[u8]) -> Option<Term<A>> {
-    read_terms(heap, text).ok()?.pop()
+    let Ok(mut terms) = read_terms(heap, text) else {
+        return None;
+    };
+    let term = terms.pop();
+    drop(terms);
+    term
 }
