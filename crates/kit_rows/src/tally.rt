@@ -1,6 +1,11 @@
 //! How many rows there were of each kind.
 use std::alloc::{AllocError, Global};
 
+/// Appends the digits of a number.
+fn write_number(alloc: Global, out: &mut Vec<u8>, number: u64) -> Result<(), AllocError> {
+    out.extend_from_slice(number.to_string(alloc)?.as_bytes())
+}
+
 /// The rows of one kind.
 #[derive(Drop)]
 struct Count {
@@ -54,10 +59,14 @@ impl Tally {
     pub(crate) fn write(&self, alloc: Global, out: &mut Vec<u8>) -> Result<(), AllocError> {
         for count in &self.counts {
             out.extend_from_slice(count.kind.as_bytes())?;
-            let rows = format!(in alloc; ": {} rows\n", count.rows)?;
-            out.extend_from_slice(rows.as_bytes())?;
+            out.extend_from_slice(b": ")?;
+            write_number(alloc, out, count.rows)?;
+            out.extend_from_slice(b" rows\n")?;
         }
-        let line = format!(in alloc; "in all: {} rows, {} failed\n", self.rows, self.failed)?;
-        out.extend_from_slice(line.as_bytes())
+        out.extend_from_slice(b"in all: ")?;
+        write_number(alloc, out, self.rows)?;
+        out.extend_from_slice(b" rows, ")?;
+        write_number(alloc, out, self.failed)?;
+        out.extend_from_slice(b" failed\n")
     }
 }

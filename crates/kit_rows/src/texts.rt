@@ -38,6 +38,17 @@ fn push_repeated<A: Allocator>(out: &mut Vec<u8, A>, count: u32, unit: &[u8]) ->
     Some(())
 }
 
+/// Appends the text of a term so many times.
+fn push_unit<A: Allocator + Copy>(
+    heap: A,
+    out: &mut Vec<u8, A>,
+    count: u32,
+    unit: &Term<A>,
+) -> Option<()> {
+    let unit = plain_text(heap, unit)?;
+    push_repeated(out, count, unit.as_slice())
+}
+
 /// Appends the digits of a number.
 fn push_digits<A: Allocator + Copy>(heap: A, out: &mut Vec<u8, A>, number: u32) -> Option<()> {
     let digits = number.to_string(heap).ok()?;
@@ -70,8 +81,7 @@ fn push_numbers_between<A: Allocator + Copy>(
     before: &Term<A>,
     after: &Term<A>,
 ) -> Option<()> {
-    let before = plain_text(heap, before)?;
-    let after = plain_text(heap, after)?;
+    let (before, after) = plain_text(heap, before).zip(plain_text(heap, after))?;
     push_numbers(heap, out, first, count, before.as_slice(), after.as_slice())
 }
 
@@ -89,7 +99,7 @@ fn push_character<A: Allocator + Copy>(
 /// Appends a piece of a text that is a tuple.
 fn push_many<A: Allocator + Copy>(heap: A, out: &mut Vec<u8, A>, piece: &[Term<A>]) -> Option<()> {
     match piece {
-        [count, unit] => push_repeated(out, number(count)?, plain_text(heap, unit)?.as_slice()),
+        [count, unit] => push_unit(heap, out, number(count)?, unit),
         [first, count, before, after] => {
             push_numbers_between(heap, out, number(first)?, number(count)?, before, after)
         }
@@ -114,13 +124,26 @@ fn push_piece<A: Allocator + Copy>(heap: A, out: &mut Vec<u8, A>, piece: &Term<A
     }
 }
 
+/// Appends each of these pieces.
+fn push_pieces<A: Allocator + Copy>(
+    heap: A,
+    out: &mut Vec<u8, A>,
+    pieces: &[Term<A>],
+) -> Option<()> {
+    for piece in pieces {
+        push_piece(heap, out, piece)?;
+    }
+    Some(())
+}
+
 /// The bytes of a text in pieces.
 pub fn text<A: Allocator + Copy>(heap: A, pieces: &Term<A>) -> Option<Vec<u8, A>> {
+    let pieces = elements(pieces)?;
     let mut out = Vec::new(heap);
-    for piece in elements(pieces)? {
-        push_piece(heap, &mut out, piece)?;
+    match push_pieces(heap, &mut out, pieces) {
+        Some(()) => Some(out),
+        None => None,
     }
-    Some(out)
 }
 
 /// The only term that a text says.

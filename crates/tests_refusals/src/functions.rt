@@ -1,31 +1,26 @@
 //! Functions: operands and values that are copied, and what takes no memory.
 use kit_alloc::Failing;
-use kit_rows::{is_atom, term_of};
+use kit_rows::{is_atom, term_of, was_ok, was_some};
 use prims::{call, call_values};
 use prims_table::{BooleanFunction, Comparison, Extreme, Function, Primitive, TupleFunction};
 use std::alloc::{Allocator, Global};
 use term_core::Term;
 use term_operand::{Operand, Value};
-use term_text::read_terms;
 
 /// Whether `max` of a term and of the number one as a plain operand gives the first.
-fn is_first_given(number: &Term) -> bool {
+fn is_first_given(number: Term) -> bool {
     let max = Primitive::Function(Function::Extreme(Extreme::Max));
-    match call(max, &[Operand::Term(number), Operand::Int(1)]) {
+    let is_first = match call(max, &[Operand::Term(&number), Operand::Int(1)]) {
         Some(operand) => matches!(operand, Operand::Term(_)),
         None => false,
-    }
-}
-
-/// Whether the first is given of two operands that are the number one, which a text is.
-fn is_first_given_of(heap: Global, text: &str) -> Option<bool> {
-    let numbers = read_terms(heap, text.as_bytes()).ok()?;
-    Some(is_first_given(numbers.first()?))
+    };
+    drop(number);
+    is_first
 }
 
 #[test]
 fn of_equal_operands_the_first_is_given(rt: HostRuntime) {
-    assert!(rt; is_first_given_of(rt.alloc(), "1.") == Some(true));
+    assert!(rt; is_first_given(Term::int(1)));
 }
 
 /// Whether an operand is exactly equal to a term.
@@ -63,72 +58,116 @@ fn formed<A: Allocator>(list: &Term<A>, form: Form) -> Operand<'_, A> {
 /// Whether the copy of an operand of that form is right, none where memory is refused.
 fn is_copied<A: Allocator + Copy>(heap: A, list: &Term<A>, form: Form) -> Option<bool> {
     let operand = formed(list, form);
-    let copy = operand.to_term(heap).ok()?;
-    Some(is_equal(&copy, operand))
+    let Ok(copy) = operand.to_term(heap) else {
+        return None;
+    };
+    let is_right = is_equal(&copy, operand);
+    drop(copy);
+    Some(is_right)
 }
 
-/// Whether copies made of `[a,true,1|b]` are right, none where memory is refused.
-pub(super) fn are_copied<A: Allocator + Copy>(heap: A) -> Option<bool> {
-    let terms = read_terms(heap, b"[a,true,1|b].").ok()?;
+/// Whether copies made of a list are right, none where memory is refused.
+fn are_copied_of<A: Allocator + Copy>(heap: A, list: &Term<A>) -> Option<bool> {
     for form in [Form::Rest, Form::Term, Form::Truth, Form::Number] {
-        if !is_copied(heap, terms.first()?, form)? {
+        if !is_copied(heap, list, form)? {
             return Some(false);
         }
     }
     Some(true)
 }
 
+/// Whether copies made of `[a,true,1|b]` are right, none where memory is refused.
+pub(super) fn are_copied<A: Allocator + Copy>(heap: A) -> Option<bool> {
+    let list = term_of(heap, b"[a,true,1|b].")?;
+    let are_copied = are_copied_of(heap, &list);
+    drop(list);
+    are_copied
+}
+
+/// Puts a value behind others; false for want of memory.
+fn put<'a, A: Allocator>(values: &mut Vec<Value<'a, A>, A>, value: Value<'a, A>) -> bool {
+    was_ok(values.push(value))
+}
+
 /// The number one, and the only term of a text as a value that was made.
 fn one_and_made<'a, A: Allocator + Copy>(alloc: A, text: &[u8]) -> Option<Vec<Value<'a, A>, A>> {
+    let made = term_of(alloc, text)?;
     let mut values = Vec::new(alloc);
-    values.push(Value::Int(1)).ok()?;
-    values.push(Value::Made(term_of(alloc, text)?)).ok()?;
-    Some(values)
+    let is_one = put(&mut values, Value::Int(1));
+    let is_made = put(&mut values, Value::Made(made));
+    (is_one && is_made).then_some(values)
+}
+
+/// The term that a copy of a value becomes, none where memory is refused.
+fn copied_term<A: Allocator + Copy>(alloc: A, value: &Value<'_, A>) -> Option<Term<A>> {
+    let Ok(copy) = value.copy() else {
+        return None;
+    };
+    copy.into_term(alloc).ok()
 }
 
 /// Whether a copy of a value is the atom `a`, none where memory is refused.
 fn is_copied_a<A: Allocator + Copy>(alloc: A, value: &Value<'_, A>) -> Option<bool> {
-    let term = value.copy().ok()?.into_term(alloc).ok()?;
-    Some(is_atom(&term, "a"))
+    let term = copied_term(alloc, value)?;
+    let is_right = is_atom(&term, "a");
+    drop(term);
+    Some(is_right)
 }
 
 /// Whether a copy of the first element of a tuple that was made is right, none where memory is refused.
 pub(super) fn is_element_copied<A: Allocator + Copy>(heap: A) -> Option<bool> {
     let values = one_and_made(heap, b"{a}.")?;
     let element = Primitive::Function(Function::Tuple(TupleFunction::Element));
-    match call_values(&heap, element, values.as_slice()).ok()? {
-        Some(value) => is_copied_a(heap, &value),
-        None => Some(false),
-    }
+    let called = call_values(&heap, element, values.as_slice());
+    let is_copied = match &called {
+        Ok(Some(value)) => is_copied_a(heap, value),
+        Ok(None) => Some(false),
+        Err(_) => None,
+    };
+    drop(called);
+    drop(values);
+    is_copied
 }
 
 /// So many times the borrowed value `true`.
 fn trues<'a, A: Allocator + Copy>(alloc: A, count: usize) -> Option<Vec<Value<'a, A>, A>> {
     let mut values = Vec::new(alloc);
+    let mut is_whole = true;
     for _ in 0..count {
-        values.push(Value::Bool(true)).ok()?;
+        is_whole = put(&mut values, Value::Bool(true)) && is_whole;
     }
-    Some(values)
+    is_whole.then_some(values)
 }
 
 /// How many requests of memory it takes to make so many.
 fn requests(heap: Global, count: usize) -> Option<u64> {
     let counting = Failing::counting(heap);
-    let _values = trues(&counting, count)?;
-    Some(counting.requests())
+    if was_some(trues(&counting, count)) {
+        Some(counting.requests())
+    } else {
+        None
+    }
 }
 
-/// What `and` gives of so many times `true`, none where it is refused memory, as each request of the call is.
-fn and_without_memory(heap: Global, count: usize) -> Option<Option<bool>> {
-    let failing = Failing::refusing_from(heap, requests(heap, count)?.saturating_add(1));
-    let refusing = &failing;
-    let values = trues(refusing, count)?;
+/// What `and` gives of so many times `true`, none where it is refused memory.
+fn and_of<A: Allocator + Copy>(heap: A, count: usize) -> Option<Option<bool>> {
+    let values = trues(heap, count)?;
     let and = Primitive::Function(Function::Boolean(BooleanFunction::And));
-    match call_values(&refusing, and, values.as_slice()) {
+    let called = call_values(&heap, and, values.as_slice());
+    let given = match &called {
         Ok(Some(value)) => Some(value.boolean()),
         Ok(None) => None,
         Err(_) => Some(None),
-    }
+    };
+    drop(called);
+    drop(values);
+    given
+}
+
+/// The same, where each request of the call is refused.
+fn and_without_memory(heap: Global, count: usize) -> Option<Option<bool>> {
+    let requests = requests(heap, count)?.saturating_add(1);
+    and_of(&Failing::refusing_from(heap, requests), count)
 }
 
 #[test]

@@ -100,6 +100,18 @@ impl Case {
     }
 }
 
+/// The status of a command over these streams.
+pub(crate) fn status_of<H: Threads + Wait + Sync, R: Read, W: Write, E: Write>(
+    rt: &H,
+    alloc: Global,
+    request: Request,
+    reader: &mut R,
+    writer: &mut W,
+    err: &mut Told<E>,
+) -> u8 {
+    run_request::<H, HashPart<Global>, _, _, _, _>(rt, alloc, request, reader, writer, err)
+}
+
 /// The status of a command over these streams, and whether it tells this line.
 fn ended<H: Threads + Wait + Sync, R: Read, W: Write>(
     rt: &H,
@@ -110,9 +122,7 @@ fn ended<H: Threads + Wait + Sync, R: Read, W: Write>(
     line: &str,
 ) -> (u8, bool) {
     let mut err = Told::new(Vec::new(alloc));
-    let status = run_request::<H, HashPart<Global>, _, _, _, _>(
-        rt, alloc, request, reader, writer, &mut err,
-    );
+    let status = status_of(rt, alloc, request, reader, writer, &mut err);
     (status, err.writer.as_slice() == line.as_bytes())
 }
 

@@ -1,5 +1,6 @@
 //! Terms: what takes no memory, and that a limit is told without it.
 use kit_alloc::Failing;
+use kit_rows::{term_of, was_ok};
 use std::alloc::{Allocator, Global};
 use term_core::Fault::{self, TooLong};
 use term_core::{ShortRow, Term};
@@ -7,25 +8,18 @@ use term_operand::Operand;
 use term_text::{read_terms, write_term};
 
 /// Whether the term is this text's and one level deep.
-fn is_leaf(alloc: Global, term: &Term, text: &str) -> bool {
+fn is_leaf(alloc: Global, term: Term, text: &str) -> bool {
     let mut out = Vec::new(alloc);
-    write_term(term, &mut out).is_ok() && out.as_slice() == text.as_bytes() && term.depth() == 1
-}
-
-/// Whether the integer of a text is made.
-fn is_integer_made(alloc: Global, value: i64, text: &str) -> bool {
-    is_leaf(alloc, &Term::int(value), text)
-}
-
-/// Whether `[]` is made.
-fn is_nil_made(alloc: Global) -> bool {
-    is_leaf(alloc, &Term::nil(), "[]")
+    let is_written = write_term(&term, &mut out).is_ok() && out.as_slice() == text.as_bytes();
+    let depth = term.depth();
+    drop(term);
+    is_written && depth == 1
 }
 
 #[test]
 fn integers_and_nil_alone_take_no_memory(rt: HostRuntime) {
-    assert!(rt; is_integer_made(rt.alloc(), -7, "-7"));
-    assert!(rt; is_nil_made(rt.alloc()));
+    assert!(rt; is_leaf(rt.alloc(), Term::int(-7), "-7"));
+    assert!(rt; is_leaf(rt.alloc(), Term::nil(), "[]"));
 }
 
 /// So many times the text of an integer and a dot.
@@ -40,21 +34,33 @@ fn ones(alloc: Global, count: u32) -> Option<Vec<u8>> {
 /// How many requests for memory it takes to read a text.
 fn requests_to_read(alloc: Global, text: &[u8]) -> Option<u64> {
     let counting = Failing::counting(alloc);
-    if read_terms(&counting, text).is_ok() {
+    if was_ok(read_terms(&counting, text)) {
         Some(counting.requests())
     } else {
         None
     }
 }
 
-/// The fault of the tuple of a text's terms, when each request is refused once they are read.
-fn fault_without_memory(alloc: Global, text: &[u8]) -> Option<Fault> {
+/// An allocator that refuses each request once a text is read.
+fn refusing_once_read(alloc: Global, text: &[u8]) -> Option<Failing<Global>> {
     let requests = requests_to_read(alloc, text)?;
-    let failing = Failing::refusing_from(alloc, requests.saturating_add(1));
-    match Term::tuple(&failing, read_terms(&failing, text).ok()?) {
+    Some(Failing::refusing_from(alloc, requests.saturating_add(1)))
+}
+
+/// The fault of the tuple of a text's terms.
+fn fault_of<A: Allocator + Copy>(heap: A, text: &[u8]) -> Option<Fault> {
+    let made = Term::tuple(heap, read_terms(heap, text).ok()?);
+    let fault = match &made {
         Ok(_) => None,
         Err(refused) => Some(refused.fault),
-    }
+    };
+    drop(made);
+    fault
+}
+
+/// The same, when each request is refused once they are read.
+fn fault_without_memory(alloc: Global, text: &[u8]) -> Option<Fault> {
+    fault_of(&refusing_once_read(alloc, text)?, text)
 }
 
 /// The same of so many integers.
@@ -68,12 +74,17 @@ fn a_limit_is_told_without_memory(rt: HostRuntime) {
     assert!(rt; fault_of_many(rt.alloc(), 65_536) == Some(TooLong));
 }
 
-/// Whether the only term of a text is copied, when each request is refused once it is read.
+/// Whether the only term of a text is copied.
+fn is_copied<A: Allocator + Copy>(heap: A, text: &[u8]) -> Option<bool> {
+    let term = term_of(heap, text)?;
+    let is_copied = was_ok(term.copy());
+    drop(term);
+    Some(is_copied)
+}
+
+/// The same, when each request is refused once it is read.
 fn is_copied_without_memory(alloc: Global, text: &[u8]) -> Option<bool> {
-    let requests = requests_to_read(alloc, text)?;
-    let failing = Failing::refusing_from(alloc, requests.saturating_add(1));
-    let terms = read_terms(&failing, text).ok()?;
-    Some(terms.first()?.copy().is_ok())
+    is_copied(&refusing_once_read(alloc, text)?, text)
 }
 
 #[test]
@@ -83,13 +94,17 @@ fn a_copy_takes_no_memory(rt: HostRuntime) {
     assert!(rt; is_copied_without_memory(rt.alloc(), b"7.") == Some(true));
 }
 
-/// Whether what is left behind the first element of the list of a text is made, when each request is refused once it is
-/// read.
+/// Whether what is left behind the first element of the list of a text is made.
+fn is_rest_made<A: Allocator + Copy>(heap: A, text: &[u8]) -> Option<bool> {
+    let list = term_of(heap, text)?;
+    let is_made = was_ok(Operand::Rest(&list, 1).to_term(heap));
+    drop(list);
+    Some(is_made)
+}
+
+/// The same, when each request is refused once it is read.
 fn is_rest_shared(alloc: Global, text: &[u8]) -> Option<bool> {
-    let requests = requests_to_read(alloc, text)?;
-    let failing = Failing::refusing_from(alloc, requests.saturating_add(1));
-    let terms = read_terms(&failing, text).ok()?;
-    Some(Operand::Rest(terms.first()?, 1).to_term(&failing).is_ok())
+    is_rest_made(&refusing_once_read(alloc, text)?, text)
 }
 
 #[test]
@@ -101,15 +116,14 @@ fn a_rest_as_deep_as_its_list_takes_no_memory(rt: HostRuntime) {
     assert!(rt; is_rest_shared(rt.alloc(), b"[1,2,3,4,5].") == Some(false));
 }
 
-/// Whether a tuple of two elements is made.
-fn is_pair_made<A: Allocator + Copy>(heap: A) -> bool {
-    Term::short_tuple(heap, ShortRow::Two([Term::int(1), Term::int(2)])).is_ok()
+/// A row of two.
+fn two<A: Allocator>() -> ShortRow<A> {
+    ShortRow::Two([Term::int(1), Term::int(2)])
 }
 
-/// The same of three.
-fn is_triple_made<A: Allocator + Copy>(heap: A) -> bool {
-    let row = ShortRow::Three([Term::int(1), Term::int(2), Term::int(3)]);
-    Term::short_tuple(heap, row).is_ok()
+/// A row of three.
+fn three<A: Allocator>() -> ShortRow<A> {
+    ShortRow::Three([Term::int(1), Term::int(2), Term::int(3)])
 }
 
 /// A row of four.
@@ -131,12 +145,12 @@ enum Shortest {
 /// Whether one of them is made.
 fn is_made<A: Allocator + Copy>(heap: A, shortest: Shortest) -> bool {
     match shortest {
-        Shortest::TupleOfOne => Term::short_tuple(heap, ShortRow::One([Term::int(1)])).is_ok(),
-        Shortest::TupleOfTwo => is_pair_made(heap),
-        Shortest::TupleOfThree => is_triple_made(heap),
-        Shortest::TupleOfFour => Term::short_tuple(heap, four()).is_ok(),
-        Shortest::MapOfOne => Term::map_of_one(heap, Term::int(1), Term::int(2)).is_ok(),
-        Shortest::ListOfFour => Term::short_list(heap, four()).is_ok(),
+        Shortest::TupleOfOne => was_ok(Term::short_tuple(heap, ShortRow::One([Term::int(1)]))),
+        Shortest::TupleOfTwo => was_ok(Term::short_tuple(heap, two())),
+        Shortest::TupleOfThree => was_ok(Term::short_tuple(heap, three())),
+        Shortest::TupleOfFour => was_ok(Term::short_tuple(heap, four())),
+        Shortest::MapOfOne => was_ok(Term::map_of_one(heap, Term::int(1), Term::int(2))),
+        Shortest::ListOfFour => was_ok(Term::short_list(heap, four())),
     }
 }
 

@@ -1,4 +1,5 @@
 //! Texts that are read and written.
+use kit_rows::term_of;
 use std::alloc::{AllocError, Allocator, Global};
 use term_core::Term;
 use term_text::{TextFault, read_terms, write_term};
@@ -26,8 +27,9 @@ const WRITTEN: &str = ">[{a,'b c',-7},#{k=>[104,105]}|<<1>>]";
 pub(super) fn is_read<A: Allocator + Copy>(alloc: Global, heap: A) -> Option<bool> {
     match read_terms(heap, EVERY_KIND.as_bytes()) {
         Ok(terms) => {
-            let out = joined(alloc, terms.as_slice()).ok()?;
-            Some(out.as_slice() == EVERY_KIND_JOINED.as_bytes())
+            let out = joined(alloc, terms.as_slice()).ok();
+            drop(terms);
+            Some(out?.as_slice() == EVERY_KIND_JOINED.as_bytes())
         }
         Err(TextFault::Memory) => None,
         Err(_) => Some(false),
@@ -52,6 +54,8 @@ fn is_term_written<A: Allocator + Copy>(heap: A, term: &Term) -> Option<bool> {
 
 /// Whether the term of a text is written behind a text, none for want of memory.
 pub(super) fn is_written<A: Allocator + Copy>(alloc: Global, heap: A) -> Option<bool> {
-    let terms = read_terms(alloc, WRITING.as_bytes()).ok()?;
-    is_term_written(heap, terms.first()?)
+    let term = term_of(alloc, WRITING.as_bytes())?;
+    let is_written = is_term_written(heap, &term);
+    drop(term);
+    is_written
 }

@@ -1,11 +1,11 @@
 //! Writers that fail, or hold all back until they are flushed.
+use crate::streams::status_of;
 use kit_streams::{FILE, FailingWriter, Failure, HoldingWriter, INPUT};
-use part_hash::HashPart;
 use std::alloc::Global;
 use std::sync::Wait;
 use std::thread::Threads;
 use term_text::Form;
-use tool_cli::{Request, Told, run_request, run_words};
+use tool_cli::{Request, Told, run_words};
 use tool_io::ToolFault;
 use tool_query::tool_run;
 use tool_scan::{ScanKind, ScanOptions};
@@ -24,14 +24,7 @@ fn passes_on<H: Threads + Wait + Sync>(
         passed: Vec::new(alloc),
     };
     let mut err = Told::new(Vec::new(alloc));
-    let _status = run_request::<H, HashPart<Global>, _, _, _, _>(
-        rt,
-        alloc,
-        request,
-        &mut reader,
-        &mut writer,
-        &mut err,
-    );
+    let _status = status_of(rt, alloc, request, &mut reader, &mut writer, &mut err);
     writer.passed.as_slice() == lines.as_bytes()
 }
 
@@ -130,14 +123,8 @@ fn left_by_an_untold_refusal<H: Threads + Wait + Sync>(rt: &H, alloc: Global) ->
     let mut reader = "a.".as_bytes();
     let mut out = Vec::new(alloc);
     let mut err = Told::new(FailingWriter::new(alloc, 2, Failure::Fails));
-    let status = run_request::<H, HashPart<Global>, _, _, _, _>(
-        rt,
-        alloc,
-        Request::Run(Form::Canonical),
-        &mut reader,
-        &mut out,
-        &mut err,
-    );
+    let request = Request::Run(Form::Canonical);
+    let status = status_of(rt, alloc, request, &mut reader, &mut out, &mut err);
     (status, err.has_failed)
 }
 
@@ -153,14 +140,8 @@ fn passed_on_of_a_refusal<H: Threads + Wait + Sync>(
         held: Vec::new(alloc),
         passed: Vec::new(alloc),
     });
-    let _status = run_request::<H, HashPart<Global>, _, _, _, _>(
-        rt,
-        alloc,
-        Request::Run(Form::Canonical),
-        &mut reader,
-        &mut out,
-        &mut err,
-    );
+    let request = Request::Run(Form::Canonical);
+    let _status = status_of(rt, alloc, request, &mut reader, &mut out, &mut err);
     let has_failed = err.has_failed;
     let writer = err.writer;
     (writer.passed.as_slice() == line.as_bytes(), has_failed)

@@ -1,6 +1,0 @@
-use denote.Param.Send.{sendable}
-use Rattle.part_hash.proofs.SendLemmas.{hash_part_send}
-use Rattle.tests_refusals.proofs.writers.passes_on.Goals as goal
-
-pub run_request-status-requires-send-P : goal.run_request-status-requires-send-P
-run_request-status-requires-send-P g c κs = search (sendable, hash_part_send) depth 40
