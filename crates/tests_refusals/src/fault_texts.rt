@@ -17,15 +17,103 @@ use tool_io::ToolFault;
 use verifier::Fault as CodeFault;
 use walks::WalkFault;
 
+/// A refusal that has a number.
+trait Numbered: Copy + Display {
+    fn number_of(self) -> u8;
+}
+
+impl Numbered for TermFault {
+    fn number_of(self) -> u8 {
+        self.number()
+    }
+}
+
+impl Numbered for TextFault {
+    fn number_of(self) -> u8 {
+        self.number()
+    }
+}
+
+impl Numbered for SpecFault {
+    fn number_of(self) -> u8 {
+        self.number()
+    }
+}
+
+impl Numbered for BuildFault {
+    fn number_of(self) -> u8 {
+        self.number()
+    }
+}
+
+impl Numbered for FileFault {
+    fn number_of(self) -> u8 {
+        self.number()
+    }
+}
+
+impl Numbered for CodeFault {
+    fn number_of(self) -> u8 {
+        self.number()
+    }
+}
+
+impl Numbered for PartFault {
+    fn number_of(self) -> u8 {
+        self.number()
+    }
+}
+
+impl Numbered for OpenFault {
+    fn number_of(self) -> u8 {
+        self.number()
+    }
+}
+
+impl Numbered for WalkFault {
+    fn number_of(self) -> u8 {
+        self.number()
+    }
+}
+
+impl Numbered for SelectFault {
+    fn number_of(self) -> u8 {
+        self.number()
+    }
+}
+
 /// Puts a line with the number and the text of a refusal at the end; false for want of memory.
-fn put<F: Display + Drop>(lines: &mut Vec<u8>, number: u8, fault: F) -> bool {
+fn put<F: Numbered>(lines: &mut Vec<u8>, fault: F) -> bool {
+    let number = fault.number_of();
     write!(lines, "{number} {fault}\n").is_ok()
 }
 
+/// Puts the line of each of these at the end; false for want of memory.
+fn put_all<F: Numbered>(lines: &mut Vec<u8>, faults: &[F]) -> bool {
+    let mut is_whole = true;
+    for fault in faults {
+        is_whole = put(lines, *fault) && is_whole;
+    }
+    is_whole
+}
+
+/// Whether each of these is told by its line.
+fn are_told<F: Numbered>(alloc: Global, faults: &[F], wanted: &str) -> bool {
+    let mut lines = Vec::new(alloc);
+    put_all(&mut lines, faults) && lines.as_slice() == wanted.as_bytes()
+}
+
 /// Puts a line with the text alone of a refusal at the end; false for want of memory.
-fn put_text<F: Display + Drop>(lines: &mut Vec<u8>, fault: F) -> bool {
+fn put_text<F: Display + Copy>(lines: &mut Vec<u8>, fault: F) -> bool {
     write!(lines, "{fault}\n").is_ok()
 }
+
+const TERMS: [TermFault; 4] = [
+    TermFault::Memory,
+    TermFault::TooDeep,
+    TermFault::TooLong,
+    TermFault::DuplicateKey,
+];
 
 const OF_TERMS: &str = "\
 1 out of memory
@@ -34,20 +122,16 @@ const OF_TERMS: &str = "\
 4 a key stands twice in a map
 ";
 
-/// Whether each of them is told so.
-fn are_told_of_terms(alloc: Global) -> bool {
-    let mut lines = Vec::new(alloc);
-    let mut is_whole = true;
-    for fault in [
-        TermFault::Memory,
-        TermFault::TooDeep,
-        TermFault::TooLong,
-        TermFault::DuplicateKey,
-    ] {
-        is_whole = put(&mut lines, fault.number(), fault) && is_whole;
-    }
-    is_whole && lines.as_slice() == OF_TERMS.as_bytes()
-}
+const TEXTS: [TextFault; 8] = [
+    TextFault::Memory,
+    TextFault::TooDeep(1),
+    TextFault::TooLong(2),
+    TextFault::DuplicateKey(3),
+    TextFault::Syntax(4),
+    TextFault::BadUtf8(5),
+    TextFault::IntegerRange(6),
+    TextFault::UnsupportedEscape(7),
+];
 
 const OF_TEXTS: &str = "\
 1 out of memory
@@ -60,24 +144,20 @@ const OF_TEXTS: &str = "\
 8 at byte 7: unsupported escape
 ";
 
-/// Whether each of them is told so.
-fn are_told_of_texts(alloc: Global) -> bool {
-    let mut lines = Vec::new(alloc);
-    let mut is_whole = true;
-    for fault in [
-        TextFault::Memory,
-        TextFault::TooDeep(1),
-        TextFault::TooLong(2),
-        TextFault::DuplicateKey(3),
-        TextFault::Syntax(4),
-        TextFault::BadUtf8(5),
-        TextFault::IntegerRange(6),
-        TextFault::UnsupportedEscape(7),
-    ] {
-        is_whole = put(&mut lines, fault.number(), fault) && is_whole;
-    }
-    is_whole && lines.as_slice() == OF_TEXTS.as_bytes()
-}
+const SPECIFICATIONS: [SpecFault; 12] = [
+    SpecFault::Memory,
+    SpecFault::NotAList,
+    SpecFault::NotAClause(1),
+    SpecFault::BadHead(2),
+    SpecFault::BadConditions(3),
+    SpecFault::BadBody(4),
+    SpecFault::UnknownCall(5),
+    SpecFault::Unbound(6, 60),
+    SpecFault::BadVariableName(7),
+    SpecFault::BadExpression(8),
+    SpecFault::VariableInMapKey(9),
+    SpecFault::TooLarge,
+];
 
 const OF_SPECIFICATIONS: &str = "\
 1 out of memory
@@ -94,28 +174,11 @@ const OF_SPECIFICATIONS: &str = "\
 20 the specification is too large
 ";
 
-/// Whether each of them is told so.
-fn are_told_of_specifications(alloc: Global) -> bool {
-    let mut lines = Vec::new(alloc);
-    let mut is_whole = true;
-    for fault in [
-        SpecFault::Memory,
-        SpecFault::NotAList,
-        SpecFault::NotAClause(1),
-        SpecFault::BadHead(2),
-        SpecFault::BadConditions(3),
-        SpecFault::BadBody(4),
-        SpecFault::UnknownCall(5),
-        SpecFault::Unbound(6, 60),
-        SpecFault::BadVariableName(7),
-        SpecFault::BadExpression(8),
-        SpecFault::VariableInMapKey(9),
-        SpecFault::TooLarge,
-    ] {
-        is_whole = put(&mut lines, fault.number(), fault) && is_whole;
-    }
-    is_whole && lines.as_slice() == OF_SPECIFICATIONS.as_bytes()
-}
+const BUILDING: [BuildFault; 3] = [
+    BuildFault::Memory,
+    BuildFault::Limit,
+    BuildFault::FrameOrder,
+];
 
 const OF_BUILDING: &str = "\
 1 out of memory
@@ -123,19 +186,16 @@ const OF_BUILDING: &str = "\
 37 the frame is out of order
 ";
 
-/// Whether each of them is told so.
-fn are_told_of_building(alloc: Global) -> bool {
-    let mut lines = Vec::new(alloc);
-    let mut is_whole = true;
-    for fault in [
-        BuildFault::Memory,
-        BuildFault::Limit,
-        BuildFault::FrameOrder,
-    ] {
-        is_whole = put(&mut lines, fault.number(), fault) && is_whole;
-    }
-    is_whole && lines.as_slice() == OF_BUILDING.as_bytes()
-}
+const FILES: [FileFault; 8] = [
+    FileFault::Memory,
+    FileFault::BadMagic,
+    FileFault::BadVersion,
+    FileFault::Truncated(1),
+    FileFault::BadOpcode(2),
+    FileFault::NotCanonical(3),
+    FileFault::Trailing(4),
+    FileFault::Limit,
+];
 
 const OF_FILES: &str = "\
 1 out of memory
@@ -148,24 +208,20 @@ const OF_FILES: &str = "\
 36 past a limit
 ";
 
-/// Whether each of them is told so.
-fn are_told_of_files(alloc: Global) -> bool {
-    let mut lines = Vec::new(alloc);
-    let mut is_whole = true;
-    for fault in [
-        FileFault::Memory,
-        FileFault::BadMagic,
-        FileFault::BadVersion,
-        FileFault::Truncated(1),
-        FileFault::BadOpcode(2),
-        FileFault::NotCanonical(3),
-        FileFault::Trailing(4),
-        FileFault::Limit,
-    ] {
-        is_whole = put(&mut lines, fault.number(), fault) && is_whole;
-    }
-    is_whole && lines.as_slice() == OF_FILES.as_bytes()
-}
+const CODE: [CodeFault; 12] = [
+    CodeFault::Memory,
+    CodeFault::Underflow(0),
+    CodeFault::Kind(1),
+    CodeFault::Unbound(2),
+    CodeFault::JumpOutside(3),
+    CodeFault::JumpBack(4),
+    CodeFault::Frame(5),
+    CodeFault::FallsOff(6),
+    CodeFault::Constant(7),
+    CodeFault::Depth(65_535),
+    CodeFault::Routine(8),
+    CodeFault::Budget,
+];
 
 const OF_CODE: &str = "\
 1 out of memory
@@ -182,37 +238,14 @@ const OF_CODE: &str = "\
 39 the body may take too many instructions
 ";
 
-/// Puts the number of the instruction at the end, where there is one; false for want of memory.
-fn put_place(lines: &mut Vec<u8>, pc: Option<u16>) -> bool {
-    match pc {
-        Some(pc) => write!(lines, "{pc} ").is_ok(),
-        None => true,
-    }
-}
-
-/// Whether each of them is told so.
-fn are_told_of_code(alloc: Global) -> bool {
-    let mut lines = Vec::new(alloc);
-    let mut is_whole = true;
-    for fault in [
-        CodeFault::Memory,
-        CodeFault::Underflow(0),
-        CodeFault::Kind(1),
-        CodeFault::Unbound(2),
-        CodeFault::JumpOutside(3),
-        CodeFault::JumpBack(4),
-        CodeFault::Frame(5),
-        CodeFault::FallsOff(6),
-        CodeFault::Constant(7),
-        CodeFault::Depth(65_535),
-        CodeFault::Routine(8),
-        CodeFault::Budget,
-    ] {
-        is_whole = put_place(&mut lines, fault.pc()) && is_whole;
-        is_whole = put(&mut lines, fault.number(), fault) && is_whole;
-    }
-    is_whole && lines.as_slice() == OF_CODE.as_bytes()
-}
+const PARTS: [PartFault; 6] = [
+    PartFault::Memory,
+    PartFault::TooSmall,
+    PartFault::FixLimit,
+    PartFault::NotFixed,
+    PartFault::BadKey,
+    PartFault::CursorOutside,
+];
 
 const OF_PARTS: &str = "\
 1 out of memory
@@ -223,37 +256,18 @@ const OF_PARTS: &str = "\
 54 the cursor isn't the part's
 ";
 
-/// Whether each of them is told so.
-fn are_told_of_parts(alloc: Global) -> bool {
-    let mut lines = Vec::new(alloc);
-    let mut is_whole = true;
-    for fault in [
-        PartFault::Memory,
-        PartFault::TooSmall,
-        PartFault::FixLimit,
-        PartFault::NotFixed,
-        PartFault::BadKey,
-        PartFault::CursorOutside,
-    ] {
-        is_whole = put(&mut lines, fault.number(), fault) && is_whole;
-    }
-    is_whole && lines.as_slice() == OF_PARTS.as_bytes()
-}
+const OPENING: [OpenFault; 2] = [OpenFault::Memory, OpenFault::BadOptions];
 
 const OF_OPENING: &str = "\
 1 out of memory
 60 the options don't fit
 ";
 
-/// Whether each of them is told so.
-fn are_told_of_opening(alloc: Global) -> bool {
-    let mut lines = Vec::new(alloc);
-    let mut is_whole = true;
-    for fault in [OpenFault::Memory, OpenFault::BadOptions] {
-        is_whole = put(&mut lines, fault.number(), fault) && is_whole;
-    }
-    is_whole && lines.as_slice() == OF_OPENING.as_bytes()
-}
+const WALKS: [WalkFault; 3] = [
+    WalkFault::Memory,
+    WalkFault::StrangerContinuation,
+    WalkFault::BadLimit,
+];
 
 const OF_WALKS: &str = "\
 1 out of memory
@@ -261,40 +275,25 @@ const OF_WALKS: &str = "\
 63 the limit is 0
 ";
 
-/// Whether each of them is told so.
-fn are_told_of_walks(alloc: Global) -> bool {
-    let mut lines = Vec::new(alloc);
-    let mut is_whole = true;
-    for fault in [
-        WalkFault::Memory,
-        WalkFault::StrangerContinuation,
-        WalkFault::BadLimit,
-    ] {
-        is_whole = put(&mut lines, fault.number(), fault) && is_whole;
-    }
-    is_whole && lines.as_slice() == OF_WALKS.as_bytes()
-}
+const SELECTIONS: [SelectFault; 2] = [SelectFault::Memory, SelectFault::BadOptions];
 
 const OF_SELECTIONS: &str = "\
 1 out of memory
 60 the members aren't 1 to 16
 ";
 
-/// Whether each of them is told so.
-fn are_told_of_selections(alloc: Global) -> bool {
-    let mut lines = Vec::new(alloc);
-    let mut is_whole = true;
-    for fault in [SelectFault::Memory, SelectFault::BadOptions] {
-        is_whole = put(&mut lines, fault.number(), fault) && is_whole;
-    }
-    is_whole && lines.as_slice() == OF_SELECTIONS.as_bytes()
-}
-
-/// Whether a part that can't be had back, which has no number, is told so.
-fn is_told_of_a_lost_part(alloc: Global) -> bool {
-    let mut lines = Vec::new(alloc);
-    put_text(&mut lines, Lost) && lines.as_slice() == b"the part is lost\n".as_slice()
-}
+const COMMANDS: [ToolFault; 10] = [
+    ToolFault::Memory,
+    ToolFault::Text(TextFault::Syntax(3)),
+    ToolFault::BadInput,
+    ToolFault::Specification(SpecFault::Unbound(0, 7)),
+    ToolFault::File(FileFault::Truncated(9)),
+    ToolFault::Code(CodeFault::Underflow(2), 0),
+    ToolFault::TooSmall,
+    ToolFault::BadOptions,
+    ToolFault::ReadFailed,
+    ToolFault::WriteFailed,
+];
 
 /// Without their numbers, which stand in the line of each.
 const OF_COMMANDS: &str = "\
@@ -310,39 +309,63 @@ the input can't be read
 the output can't be written
 ";
 
-/// Whether each of them is told so.
+/// Puts the number of the instruction at the end, where there is one; false for want of memory.
+fn put_place(lines: &mut Vec<u8>, pc: Option<u16>) -> bool {
+    match pc {
+        Some(pc) => write!(lines, "{pc} ").is_ok(),
+        None => true,
+    }
+}
+
+/// Puts the line of each refusal of code at the end, behind the instruction that it names; false for want of memory.
+fn put_places(lines: &mut Vec<u8>, faults: &[CodeFault]) -> bool {
+    let mut is_whole = true;
+    for fault in faults {
+        is_whole = put_place(lines, fault.pc()) && put(lines, *fault) && is_whole;
+    }
+    is_whole
+}
+
+/// Whether each refusal of code is told by its line.
+fn are_told_of_code(alloc: Global) -> bool {
+    let mut lines = Vec::new(alloc);
+    put_places(&mut lines, &CODE) && lines.as_slice() == OF_CODE.as_bytes()
+}
+
+/// Whether a part that can't be had back, which has no number, is told so.
+fn is_told_of_a_lost_part(alloc: Global) -> bool {
+    let mut lines = Vec::new(alloc);
+    put_text(&mut lines, Lost) && lines.as_slice() == b"the part is lost\n".as_slice()
+}
+
+/// Puts the text of each refusal of a command at the end; false for want of memory.
+fn put_texts(lines: &mut Vec<u8>, faults: &[ToolFault]) -> bool {
+    let mut is_whole = true;
+    for fault in faults {
+        is_whole = put_text(lines, *fault) && is_whole;
+    }
+    is_whole
+}
+
+/// Whether each refusal of a command is told so.
 fn are_told_of_commands(alloc: Global) -> bool {
     let mut lines = Vec::new(alloc);
-    let mut is_whole = true;
-    for fault in [
-        ToolFault::Memory,
-        ToolFault::Text(TextFault::Syntax(3)),
-        ToolFault::BadInput,
-        ToolFault::Specification(SpecFault::Unbound(0, 7)),
-        ToolFault::File(FileFault::Truncated(9)),
-        ToolFault::Code(CodeFault::Underflow(2), 0),
-        ToolFault::TooSmall,
-        ToolFault::BadOptions,
-        ToolFault::ReadFailed,
-        ToolFault::WriteFailed,
-    ] {
-        is_whole = put_text(&mut lines, fault) && is_whole;
-    }
-    is_whole && lines.as_slice() == OF_COMMANDS.as_bytes()
+    put_texts(&mut lines, &COMMANDS) && lines.as_slice() == OF_COMMANDS.as_bytes()
 }
 
 #[test]
 fn each_refusal_is_told(rt: HostRuntime) {
-    assert!(rt; are_told_of_terms(rt.alloc()));
-    assert!(rt; are_told_of_texts(rt.alloc()));
-    assert!(rt; are_told_of_specifications(rt.alloc()));
-    assert!(rt; are_told_of_building(rt.alloc()));
-    assert!(rt; are_told_of_files(rt.alloc()));
-    assert!(rt; are_told_of_code(rt.alloc()));
-    assert!(rt; are_told_of_parts(rt.alloc()));
-    assert!(rt; are_told_of_opening(rt.alloc()));
-    assert!(rt; are_told_of_walks(rt.alloc()));
-    assert!(rt; are_told_of_selections(rt.alloc()));
-    assert!(rt; is_told_of_a_lost_part(rt.alloc()));
-    assert!(rt; are_told_of_commands(rt.alloc()));
+    let alloc = rt.alloc();
+    assert!(rt; are_told(alloc, &TERMS, OF_TERMS));
+    assert!(rt; are_told(alloc, &TEXTS, OF_TEXTS));
+    assert!(rt; are_told(alloc, &SPECIFICATIONS, OF_SPECIFICATIONS));
+    assert!(rt; are_told(alloc, &BUILDING, OF_BUILDING));
+    assert!(rt; are_told(alloc, &FILES, OF_FILES));
+    assert!(rt; are_told_of_code(alloc));
+    assert!(rt; are_told(alloc, &PARTS, OF_PARTS));
+    assert!(rt; are_told(alloc, &OPENING, OF_OPENING));
+    assert!(rt; are_told(alloc, &WALKS, OF_WALKS));
+    assert!(rt; are_told(alloc, &SELECTIONS, OF_SELECTIONS));
+    assert!(rt; is_told_of_a_lost_part(alloc));
+    assert!(rt; are_told_of_commands(alloc));
 }
