@@ -65,7 +65,7 @@ fn played_with<'w, A: Allocator + Copy, P: Part<A> + Drop>(
     };
     match made::<A, P>(heap, options, wants) {
         Ok(mut part) => {
-            let steps = steps_text(alloc, heap, &mut part, setting, steps);
+            let steps = steps_text(alloc, heap, &mut part, &setting, steps);
             drop(part);
             steps
         }

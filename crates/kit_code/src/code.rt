@@ -348,7 +348,7 @@ fn add_all<A: Allocator + Copy>(
 }
 
 /// What comes of code of parts that were added so far.
-fn built<A: Allocator>(code: Code<A>, added: Result<(), Stop>, wanted: &Parts<A>) -> Built<A> {
+fn finished<A: Allocator>(code: Code<A>, added: Result<(), Stop>, wanted: &Parts<A>) -> Built<A> {
     if !is_front(&code, wanted) {
         drop(code);
         return Built::Wrong;
@@ -373,7 +373,7 @@ pub fn build<A: Allocator + Copy>(heap: A, given: Parts<A>, wanted: &Parts<A>) -
         }
     };
     let added = add_all(&mut builder, given, wanted);
-    built(builder.finish(), added, wanted)
+    finished(builder.finish(), added, wanted)
 }
 
 /// The code that was built of all parts.

@@ -96,14 +96,25 @@ pub(crate) fn code_of<A: Allocator + Copy>(heap: A, term: &Term<A>) -> Option<Ve
     code
 }
 
+/// The cursor at a class.
+fn cursor_at<A: Allocator>(base: &Term<A>, class: &Term<A>) -> Option<Cursor<A>> {
+    let (base, class) = (number(base)?, number(class)?);
+    Some(Cursor::Class { base, class })
+}
+
+/// The cursor behind a key.
+fn cursor_behind<A: Allocator + Copy>(key: &Term<A>) -> Option<Cursor<A>> {
+    match key.copy() {
+        Ok(key) => Some(Cursor::Behind(key)),
+        Err(_) => None,
+    }
+}
+
 /// The cursor that a term says: `{class,Base,Class}` or `{behind,Key}`.
 pub(crate) fn cursor_of<A: Allocator + Copy>(term: &Term<A>) -> Option<Cursor<A>> {
     match fields(term)? {
-        [tag, base, class] if is_atom(tag, "class") => Some(Cursor::Class {
-            base: number(base)?,
-            class: number(class)?,
-        }),
-        [tag, key] if is_atom(tag, "behind") => Some(Cursor::Behind(key.copy().ok()?)),
+        [tag, base, class] if is_atom(tag, "class") => cursor_at(base, class),
+        [tag, key] if is_atom(tag, "behind") => cursor_behind(key),
         _ => None,
     }
 }
@@ -143,6 +154,18 @@ pub(crate) fn bare<'a, A: Allocator>(name: &str) -> Option<PartOp<'a, A>>
     }
 }
 
+/// The operation of a name that puts an object in.
+fn inserted<'a, A: Allocator + Copy>(name: &str, object: &'a Term<A>) -> Option<PartOp<'a, A>>
+    ensures { IfSome result (λ op. IsAsked (act_of op)) }
+{
+    let copy = object.copy().ok()?;
+    if name == "insert" {
+        Some(PartOp::Insert(Some(copy)))
+    } else {
+        Some(PartOp::InsertNew(Some(copy)))
+    }
+}
+
 /// The operation of a name on an object or a key.
 pub(crate) fn keyed<'a, A: Allocator + Copy>(
     name: &str,
@@ -151,8 +174,7 @@ pub(crate) fn keyed<'a, A: Allocator + Copy>(
     ensures { IfSome result (λ op. IsAsked (act_of op)) }
 {
     match name {
-        "insert" => Some(PartOp::Insert(Some(operand.copy().ok()?))),
-        "insert_new" => Some(PartOp::InsertNew(Some(operand.copy().ok()?))),
+        "insert" | "insert_new" => inserted(name, operand),
         "lookup" => Some(PartOp::Lookup(operand)),
         "member" => Some(PartOp::Member(operand)),
         "delete" => Some(PartOp::Delete(operand)),

@@ -111,6 +111,41 @@ fn visited<A: Allocator + Copy, P: Part<A>>(
     came
 }
 
+/// What comes of the operation of a name that needs nothing else.
+fn came_of_bare<A: Allocator + Copy, P: Part<A>>(
+    alloc: Global,
+    heap: A,
+    part: &mut P,
+    turn: Turn<'_, A>,
+    name: &str,
+) -> Option<Vec<u8>>
+    requires { turn.session < (P.settings part.old).sessions }
+    ensures { P.settings part.new ≡ P.settings part.old }
+{
+    match bare(name) {
+        Some(op) => came_of(alloc, heap, part, turn, op),
+        None => None,
+    }
+}
+
+/// What comes of the operation of a name on an object or a key.
+fn came_of_keyed<A: Allocator + Copy, P: Part<A>>(
+    alloc: Global,
+    heap: A,
+    part: &mut P,
+    turn: Turn<'_, A>,
+    name: &str,
+    operand: &Term<A>,
+) -> Option<Vec<u8>>
+    requires { turn.session < (P.settings part.old).sessions }
+    ensures { P.settings part.new ≡ P.settings part.old }
+{
+    match keyed(name, operand) {
+        Some(op) => came_of(alloc, heap, part, turn, op),
+        None => None,
+    }
+}
+
 /// What comes of the operation that a term says.
 fn came<A: Allocator + Copy, P: Part<A>>(
     alloc: Global,
@@ -126,17 +161,13 @@ fn came<A: Allocator + Copy, P: Part<A>>(
         return all_objects(alloc, heap, part, turn);
     }
     match fields(op) {
-        None => came_of(alloc, heap, part, turn, bare(name_of(op)?)?),
-        Some([tag, operand]) => {
-            let op = keyed(name_of(tag)?, operand)?;
-            came_of(alloc, heap, part, turn, op)
-        }
+        None => came_of_bare(alloc, heap, part, turn, name_of(op)?),
+        Some([tag, operand]) => came_of_keyed(alloc, heap, part, turn, name_of(tag)?, operand),
         Some(op) => visited(alloc, heap, part, turn, op),
     }
 }
 
 /// Where a row is: who may ask, what notes that memory was wanted, and whether the part is looked at.
-#[derive(Clone, Copy)]
 pub struct Setting<'w, A: Allocator + Copy> {
     /// How many sessions use the part, numbered from 0.
     pub sessions: u8,
@@ -151,10 +182,10 @@ fn step_once<A: Allocator + Copy, P: Part<A>>(
     alloc: Global,
     heap: A,
     part: &mut P,
-    setting: Setting<'_, A>,
+    setting: &Setting<'_, A>,
     step: &Term<A>,
 ) -> Option<Vec<u8>>
-    requires { (P.settings part.old).sessions ≡ setting.sessions }
+    requires { (P.settings part.old).sessions ≡ setting.now.sessions }
     ensures { P.settings part.new ≡ P.settings part.old }
 {
     let [session, op, _reply] = fields(step)? else {
@@ -179,11 +210,11 @@ fn step_often<A: Allocator + Copy, P: Part<A>>(
     alloc: Global,
     heap: A,
     part: &mut P,
-    setting: Setting<'_, A>,
+    setting: &Setting<'_, A>,
     count: u32,
     step: &Term<A>,
 ) -> Option<Vec<u8>>
-    requires { (P.settings part.old).sessions ≡ setting.sessions }
+    requires { (P.settings part.old).sessions ≡ setting.now.sessions }
     ensures { P.settings part.new ≡ P.settings part.old }
 {
     let wanted = canonical(alloc, step)?;
@@ -203,10 +234,10 @@ fn step_text<A: Allocator + Copy, P: Part<A>>(
     alloc: Global,
     heap: A,
     part: &mut P,
-    setting: Setting<'_, A>,
+    setting: &Setting<'_, A>,
     step: &Term<A>,
 ) -> Option<Vec<u8>>
-    requires { (P.settings part.old).sessions ≡ setting.sessions }
+    requires { (P.settings part.old).sessions ≡ setting.now.sessions }
     ensures { P.settings part.new ≡ P.settings part.old }
 {
     match fields(step)? {
@@ -220,10 +251,10 @@ pub fn steps_text<A: Allocator + Copy, P: Part<A>>(
     alloc: Global,
     heap: A,
     part: &mut P,
-    setting: Setting<'_, A>,
+    setting: &Setting<'_, A>,
     steps: &[Term<A>],
 ) -> Option<Vec<u8>>
-    requires { (P.settings part.old).sessions ≡ setting.sessions }
+    requires { (P.settings part.old).sessions ≡ setting.now.sessions }
 {
     let mut out = Outcome::list(alloc);
     for step in steps {
