@@ -209,31 +209,22 @@ fn routines<A: Allocator + Copy>(heap: A, members: &[Term<A>]) -> Option<Vec<Rou
     }
 }
 
-/// The routines that a list says, none without one.
-fn routines_of<A: Allocator + Copy>(
-    heap: A,
-    list: Option<&Term<A>>,
-) -> Option<Vec<RoutineParts<A>, A>> {
-    match list {
-        Some(list) => routines(heap, elements(list)?),
-        None => Some(Vec::new(heap)),
-    }
-}
-
-/// The parts of code that these fields say, with the routines that a list says.
+/// The parts of code that these fields say, with these routines.
 fn parts_with<A: Allocator + Copy>(
     heap: A,
     said: &[Term<A>],
-    list: Option<&Term<A>>,
+    routines: Option<Vec<RoutineParts<A>, A>>,
 ) -> Option<Parts<A>> {
     let [code, slots, fixed, listed, framed] = said else {
+        drop(routines);
         return None;
     };
     if !is_atom(code, "code") {
+        drop(routines);
         return None;
     }
     let main = body(heap, 0, slots, listed, framed);
-    let bodies = main.zip(routines_of(heap, list));
+    let bodies = main.zip(routines);
     let (constants, (main, routines)) = constants(heap, fixed).zip(bodies)?;
     Some(Parts {
         constants,
@@ -246,8 +237,8 @@ fn parts_with<A: Allocator + Copy>(
 pub fn parts_of<A: Allocator + Copy>(heap: A, term: &Term<A>) -> Option<Parts<A>> {
     let said = fields(term)?;
     if said.len() == FIELDS {
-        return parts_with(heap, said, None);
+        return parts_with(heap, said, Some(Vec::new(heap)));
     }
-    let (listed, front) = said.split_last()?;
-    parts_with(heap, front, Some(listed))
+    let (members, front) = said.split_last()?;
+    parts_with(heap, front, routines(heap, elements(members)?))
 }
