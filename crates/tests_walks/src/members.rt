@@ -214,11 +214,12 @@ pub(crate) fn asked<P: Part<Global> + Drop + Send, R: Threads + Wait + Abort + S
 ) -> Option<Vec<u8>> {
     let terms = read_terms(alloc, objects.as_bytes()).expect(rt, "the objects");
     let options = options(2, members);
-    let made = set_with_objects::<R, Global, P>(rt, alloc, options, terms.as_slice());
-    drop(terms);
-    let Some((table, mut sessions)) = made else {
+    let objects = terms.as_slice();
+    let Some((table, mut sessions)) = set_with_objects::<R, Global, P>(rt, alloc, options, objects)
+    else {
         rt.panic("no table")
     };
+    drop(terms);
     let flag = AtomicBool::new(false);
     let all = sessions.as_mut_slice();
     let came = called_at(rt, alloc, &table, all, &flag, waiter, query, call);
@@ -236,11 +237,12 @@ pub(crate) fn deleted_and_counted<P: Part<Global> + Drop + Send, R: Threads + Wa
 ) -> (Option<Vec<u8>>, Option<Vec<u8>>) {
     let terms = read_terms(alloc, objects.as_bytes()).expect(rt, "the objects");
     let options = options(2, 3);
-    let made = opened::<R, Global, P>(rt, alloc, options, terms.as_slice());
-    drop(terms);
-    let Some((table, mut sessions, mut third)) = made else {
+    let objects = terms.as_slice();
+    let Some((table, mut sessions, mut third)) = opened::<R, Global, P>(rt, alloc, options, objects)
+    else {
         rt.panic("no table")
     };
+    drop(terms);
     let flag = AtomicBool::new(false);
     let two = sessions.as_mut_slice();
     let deleted = called_at(rt, alloc, &table, two, &flag, None, query, Call::Delete);
