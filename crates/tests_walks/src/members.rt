@@ -141,7 +141,7 @@ fn seat_all<'t, 'f, R: Wait + Abort, P: Part<Global> + Drop>(
     }
 }
 
-/// What comes of a call of sessions of a table, which wait for this flag; none of them may wait in vain.
+/// What comes of a call of sessions of a table, none of which may wait for the flag in vain.
 fn called_at<R: Threads + Wait + Abort + Sync, P: Part<Global> + Drop + Send>(
     rt: &R,
     alloc: Global,
