@@ -141,21 +141,21 @@ fn seat_all<'t, 'f, R: Wait + Abort, P: Part<Global> + Drop>(
     }
 }
 
-/// What comes of a call of sessions of a table, none of which may wait for the flag in vain.
+/// What comes of a call of sessions of a table, none of which may wait in vain.
 fn called_at<R: Threads + Wait + Abort + Sync, P: Part<Global> + Drop + Send>(
     rt: &R,
     alloc: Global,
     table: &Table<P>,
     sessions: &mut [Session<P>],
-    flag: &AtomicBool,
     waiter: Option<usize>,
     query: &Query,
     call: Call,
 ) -> Option<Vec<u8>>
     requires { All (λ s. IsOpened table.now.options table.now.gates.items s.number s.passes.items) sessions.old }
 {
+    let flag = AtomicBool::new(false);
     let mut seats = Vec::new(alloc);
-    seat_all(rt, table, sessions, flag, waiter, &mut seats);
+    seat_all(rt, table, sessions, &flag, waiter, &mut seats);
     let came = called(rt, alloc, seats.as_mut_slice(), query, call);
     let was_alone = was_alone(seats.as_slice());
     drop(seats);
@@ -220,9 +220,8 @@ pub(crate) fn asked<P: Part<Global> + Drop + Send, R: Threads + Wait + Abort + S
         rt.panic("no table")
     };
     drop(terms);
-    let flag = AtomicBool::new(false);
     let all = sessions.as_mut_slice();
-    let came = called_at(rt, alloc, &table, all, &flag, waiter, query, call);
+    let came = called_at(rt, alloc, &table, all, waiter, query, call);
     drop(sessions);
     drop(table);
     came
@@ -243,12 +242,10 @@ pub(crate) fn deleted_and_counted<P: Part<Global> + Drop + Send, R: Threads + Wa
         rt.panic("no table")
     };
     drop(terms);
-    let flag = AtomicBool::new(false);
     let two = sessions.as_mut_slice();
-    let deleted = called_at(rt, alloc, &table, two, &flag, None, query, Call::Delete);
-    let flag = AtomicBool::new(false);
+    let deleted = called_at(rt, alloc, &table, two, None, query, Call::Delete);
     let one = std::slice::from_mut(&mut third);
-    let counted = called_at(rt, alloc, &table, one, &flag, None, query, Call::Count);
+    let counted = called_at(rt, alloc, &table, one, None, query, Call::Count);
     drop(third);
     drop(sessions);
     drop(table);
