@@ -57,6 +57,11 @@ pub fn members_of<'t, R: Wait, A: Allocator + Copy, P: Part<A> + Drop>(
     ensures count { IfSome result (λ members. length members.items ≡ length sessions.old) }
 {
     let mut members = Vec::new(alloc);
-    put_all(rt, table, sessions, &mut members)?;
-    Some(members)
+    match put_all(rt, table, sessions, &mut members) {
+        Some(()) => Some(members),
+        None => {
+            drop(members);
+            None
+        }
+    }
 }

@@ -32,8 +32,13 @@ pub fn filled<R: Wait, A: Allocator + Copy, P: Part<A> + Drop>(
 {
     let mut session = session;
     let mut at = table.at(rt, &mut session);
-    put_all(&mut at, objects)?;
-    Some(session)
+    match put_all(&mut at, objects) {
+        Some(()) => Some(session),
+        None => {
+            drop(session);
+            None
+        }
+    }
 }
 
 /// A table with objects, all its sessions but the last, and the last.
@@ -49,7 +54,17 @@ pub fn opened<R: Wait, A: Allocator + Copy, P: Part<A> + Drop>(
     let Ok((table, mut sessions)) = Table::<P, A>::open(alloc, options) else {
         return None;
     };
-    let last = sessions.pop()?;
-    let filled = filled(rt, &table, last, objects)?;
-    Some((table, sessions, filled))
+    let Some(last) = sessions.pop() else {
+        drop(sessions);
+        drop(table);
+        return None;
+    };
+    match filled(rt, &table, last, objects) {
+        Some(filled) => Some((table, sessions, filled)),
+        None => {
+            drop(sessions);
+            drop(table);
+            None
+        }
+    }
 }

@@ -104,17 +104,17 @@ fn is_left<A: Allocator, T: Turns<A>>(session: &mut T, object: &Term<A>) -> Opti
     Some(member(session, fields(object)?.first()?))
 }
 
-/// Of each of these objects whether it is left or gone, as `+` or `-`. It takes no memory of the table's allocator.
-pub(crate) fn marks<A: Allocator, T: Turns<A>>(
-    alloc: Global,
+/// Puts behind others of each of these objects whether it is left or gone, as `+` or `-`. It takes no memory of the
+/// table's allocator.
+pub(crate) fn put_marks<A: Allocator, T: Turns<A>>(
     session: &mut T,
     objects: &[Term<A>],
-) -> Option<Vec<u8>>
+    marks: &mut Vec<u8>,
+) -> Option<()>
     requires { T.is_ready session.old }
     ensures ready { T.is_ready session.new }
     ensures same { T.home session.new ≡ T.home session.old }
 {
-    let mut marks = Vec::new(alloc);
     for object in objects {
         let mark = if is_left(session, object)? {
             b'+'
@@ -123,7 +123,7 @@ pub(crate) fn marks<A: Allocator, T: Turns<A>>(
         };
         marks.push(mark).ok()?;
     }
-    Some(marks)
+    Some(())
 }
 
 /// How many objects are gone by these marks.
@@ -151,11 +151,14 @@ fn stage<A: Allocator, T: Turns<A>>(
     ensures same { T.home session.new ≡ T.home session.old }
 {
     watch.sees(fixes_below(session, fixed));
-    let marks = marks(alloc, session, objects)?;
     let mut stage = digits(alloc, count)?;
-    stage.extend_from_slice(marks.as_slice()).ok()?;
-    stage.push(b' ').ok()?;
-    Some(stage)
+    let are_put = put_marks(session, objects, &mut stage).is_some();
+    if are_put && stage.push(b' ').is_ok() {
+        Some(stage)
+    } else {
+        drop(stage);
+        None
+    }
 }
 
 /// A deletion: how many objects it says, and whether it was refused.
@@ -184,8 +187,41 @@ fn put_stage(stage: &[u8], stages: &mut Vec<u8>) -> Option<()> {
     stages.extend_from_slice(stage).ok()
 }
 
-/// Whether a deletion is right at these objects. A stage at which it is refused is put behind those before; refused
-/// again, it has deleted nothing more.
+/// Whether a deletion that said so many and was refused at this stage is right, asked again. The stage is put behind
+/// those before; refused again, it has deleted nothing more.
+fn is_deleted_again<A: Allocator, T: Turns<A>>(
+    alloc: Global,
+    watch: &mut Watch<'_>,
+    session: &mut T,
+    query: &Query<A>,
+    objects: &[Term<A>],
+    trial: Trial,
+    count: u64,
+    first: &[u8],
+    stages: &mut Vec<u8>,
+) -> Option<bool>
+    requires { T.is_ready session.old }
+{
+    put_stage(first, stages)?;
+    let (more, is_refused) = deleted(watch, session, query);
+    let second = stage(
+        alloc,
+        watch,
+        session,
+        objects,
+        trial.play.fixed,
+        count.saturating_add(more),
+    )?;
+    let is_right = if is_refused {
+        watch.stops() && second.as_slice() == first
+    } else {
+        watch.is_right() && second.as_slice() == trial.wanted.as_bytes()
+    };
+    drop(second);
+    Some(is_right)
+}
+
+/// Whether a deletion is right at these objects, asked again where it is refused.
 fn is_deleted<A: Allocator, T: Turns<A>>(
     alloc: Global,
     watch: &mut Watch<'_>,
@@ -197,26 +233,18 @@ fn is_deleted<A: Allocator, T: Turns<A>>(
 ) -> Option<bool>
     requires { T.is_ready session.old }
 {
-    let fixed = trial.play.fixed;
     let (count, is_refused) = deleted(watch, session, query);
-    let first = stage(alloc, watch, session, objects, fixed, count)?;
-    if !is_refused {
-        return Some(watch.is_right() && first.as_slice() == trial.wanted.as_bytes());
-    }
-    put_stage(first.as_slice(), stages)?;
-    let (more, is_refused) = deleted(watch, session, query);
-    let second = stage(
-        alloc,
-        watch,
-        session,
-        objects,
-        fixed,
-        count.saturating_add(more),
-    )?;
-    if is_refused {
-        return Some(watch.stops() && second.as_slice() == first.as_slice());
-    }
-    Some(watch.is_right() && second.as_slice() == trial.wanted.as_bytes())
+    let first = stage(alloc, watch, session, objects, trial.play.fixed, count)?;
+    let is_right = if is_refused {
+        let first = first.as_slice();
+        is_deleted_again(
+            alloc, watch, session, query, objects, trial, count, first, stages,
+        )
+    } else {
+        Some(watch.is_right() && first.as_slice() == trial.wanted.as_bytes())
+    };
+    drop(first);
+    is_right
 }
 
 /// The same by its own query; none where there is no memory for it.
@@ -231,13 +259,11 @@ pub(crate) fn is_deleted_by<A: Allocator + Copy, T: Turns<A>>(
 ) -> Option<bool>
     requires { T.is_ready session.old }
 {
-    match query_of(heap, trial.play.specification) {
-        Some(query) => {
-            let mut watch = Watch::new(counts);
-            is_deleted(alloc, &mut watch, session, &query, objects, trial, stages)
-        }
-        None => None,
-    }
+    let query = query_of(heap, trial.play.specification)?;
+    let mut watch = Watch::new(counts);
+    let is_right = is_deleted(alloc, &mut watch, session, &query, objects, trial, stages);
+    drop(query);
+    is_right
 }
 
 #[test]

@@ -2,7 +2,7 @@
 //! side by side.
 //!
 //! It has no code of its own. What a test here calls is proved in its own crate once, and not a second time with its
-//! tests.
+//! tests. What holds terms is let go by `drop`, which costs less of a proof than the end of a scope.
 //!
 //! - `watch`: what is seen of calls whose requests are refused; `plays`: a table, its objects, and what is asked of it.
 //! - With each request refused in turn (`trials`): `refusals`, whole walks; `deletions`, what refused ones say;

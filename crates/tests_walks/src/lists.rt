@@ -3,6 +3,7 @@
 use crate::watch::Watch;
 use compiler::compile;
 use kit_alloc::{Failing, Plan};
+use kit_rows::term_of;
 use machine::run;
 use mspec_reader::read_spec;
 use parallel_select::run_list;
@@ -21,18 +22,30 @@ const MOST_REQUESTS: u64 = 1_000;
 /// The text of `{1}`, `{2}` and so on, so many.
 fn text_of(alloc: Global, count: usize) -> Option<String> {
     let mut text = String::new(alloc);
+    let mut is_whole = true;
     for place in 0..count {
         let number = place.saturating_add(1);
-        write!(text, "{{{number}}}. ").ok()?;
+        is_whole = is_whole && write!(text, "{{{number}}}. ").is_ok();
     }
-    Some(text)
+    if is_whole {
+        Some(text)
+    } else {
+        drop(text);
+        None
+    }
 }
 
 /// The code of `EVEN`.
 fn code<A: Allocator + Copy>(heap: A) -> Option<Verified<A>> {
-    let terms = read_terms(heap, EVEN).ok()?;
-    let specification = read_spec(heap, terms.first()?).ok()?;
-    compile(heap, &specification).ok()
+    let term = term_of(heap, EVEN)?;
+    let specification = read_spec(heap, &term);
+    drop(term);
+    let Ok(specification) = specification else {
+        return None;
+    };
+    let code = compile(heap, &specification);
+    drop(specification);
+    code.ok()
 }
 
 /// The number that is answered, 0 where there is no answer.
@@ -66,10 +79,13 @@ fn is_plain<A: Allocator + Copy>(
     object: &Term<A>,
     answer: &Option<Term<A>>,
 ) -> bool {
-    match run(heap, code, object) {
-        Ok((ran, _executed)) => number(&ran) == number(answer),
+    let ran = run(heap, code, object);
+    let is_same = match &ran {
+        Ok((ran, _executed)) => number(ran) == number(answer),
         Err(_) => false,
-    }
+    };
+    drop(ran);
+    is_same
 }
 
 /// Whether each object has the answer of a run of its own.
@@ -99,9 +115,10 @@ fn are_right<'h, R: Threads + Sync>(
     match run_list(rt, heap, code, objects) {
         Ok(answers) => {
             watch.ended(false);
-            let answers = answers.as_slice();
-            let are_even = answers.len() == objects.len() && are_even(answers);
-            let is_alike = heap.plan() != Plan::Never || are_plain(heap, code, objects, answers);
+            let all = answers.as_slice();
+            let are_even = all.len() == objects.len() && are_even(all);
+            let is_alike = heap.plan() != Plan::Never || are_plain(heap, code, objects, all);
+            drop(answers);
             Some(are_even && is_alike)
         }
         Err(AllocError) => {
@@ -153,8 +170,14 @@ fn came_of<'h, R: Threads + Sync>(
 /// The same of the objects of a text; none where there is no memory for the code and the objects.
 fn listed<R: Threads + Sync>(rt: &R, heap: &Failing<Global>, text: &str) -> Option<Came> {
     let code = code(heap)?;
-    let objects = read_terms(heap, text.as_bytes()).ok()?;
-    Some(came_of(rt, heap, &code, objects.as_slice()))
+    let objects = read_terms(heap, text.as_bytes());
+    let came = match &objects {
+        Ok(objects) => Some(came_of(rt, heap, &code, objects.as_slice())),
+        Err(_) => None,
+    };
+    drop(objects);
+    drop(code);
+    came
 }
 
 /// The same by a plan of what is refused; none also where a block is left.
@@ -169,7 +192,9 @@ fn is_answered<R: Threads + Sync>(rt: &R, alloc: Global, count: usize) -> bool {
     let Some(text) = text_of(alloc, count) else {
         return false;
     };
-    match planned(rt, alloc, Plan::Never, text.as_str()) {
+    let came = planned(rt, alloc, Plan::Never, text.as_str());
+    drop(text);
+    match came {
         Some(came) => came.is_right && !came.is_refused && came.count == count,
         None => false,
     }
@@ -205,7 +230,9 @@ fn refusals_of<R: Threads + Sync>(
     onward: bool,
 ) -> Option<u64> {
     let text = text_of(alloc, count)?;
-    refusals(rt, alloc, text.as_str(), onward)
+    let requests = refusals(rt, alloc, text.as_str(), onward);
+    drop(text);
+    requests
 }
 
 #[test]

@@ -43,6 +43,18 @@ pub(crate) fn options(parts: u8, sessions: u8) -> Options
     }
 }
 
+/// Whether what came is this text.
+pub(crate) fn is_text(came: Option<Vec<u8>>, wanted: &str) -> bool {
+    match came {
+        Some(text) => {
+            let is_wanted = text.as_slice() == wanted.as_bytes();
+            drop(text);
+            is_wanted
+        }
+        None => false,
+    }
+}
+
 /// What comes of a call: the answers, the number, or the number of its refusal.
 fn called<R: Threads + Wait + Sync, T: Turns<Global> + Send>(
     rt: &R,
@@ -56,7 +68,11 @@ fn called<R: Threads + Wait + Sync, T: Turns<Global> + Send>(
 {
     match call {
         Call::Select => match select_parts(rt, alloc, members, query) {
-            Ok(answers) => listed(alloc, answers.as_slice()),
+            Ok(answers) => {
+                let text = listed(alloc, answers.as_slice());
+                drop(answers);
+                text
+            }
             Err(fault) => numbered(alloc, "refused", usize::from(fault.number())),
         },
         Call::Count => match count_parts(rt, members, query) {
@@ -141,7 +157,9 @@ fn called_at<R: Threads + Wait + Abort + Sync, P: Part<Global> + Drop + Send>(
     let mut seats = Vec::new(alloc);
     seat_all(rt, table, sessions, &flag, waiter, &mut seats);
     let came = called(rt, alloc, seats.as_mut_slice(), query, call);
-    assert!(rt; !was_alone(seats.as_slice()));
+    let was_alone = was_alone(seats.as_slice());
+    drop(seats);
+    assert!(rt; !was_alone);
     came
 }
 
@@ -155,8 +173,13 @@ fn put_back<A: Allocator, P: Part<A> + Drop>(
         × IsOpened _table.now.options _table.now.gates.items last.number last.passes.items }
     ensures { IfSome result (λ all. All (λ s. IsOpened _table.now.options _table.now.gates.items s.number s.passes.items) all.items) }
 {
-    sessions.push(last).ok()?;
-    Some(sessions)
+    match sessions.push(last).ok() {
+        Some(()) => Some(sessions),
+        None => {
+            drop(sessions);
+            None
+        }
+    }
 }
 
 /// A table with objects and all its sessions; none for want of memory.
@@ -169,8 +192,13 @@ pub(crate) fn set_with_objects<R: Wait, A: Allocator + Copy, P: Part<A> + Drop>(
     ensures { IfSome result (λ made. All (λ s. IsOpened made.0.options made.0.gates.items s.number s.passes.items) made.1.items) }
 {
     let (table, sessions, last) = opened::<R, A, P>(rt, heap, options, objects)?;
-    let all = put_back(&table, sessions, last)?;
-    Some((table, all))
+    match put_back(&table, sessions, last) {
+        Some(all) => Some((table, all)),
+        None => {
+            drop(table);
+            None
+        }
+    }
 }
 
 /// What comes of a call by so many members at a table with objects, the member of the place `waiter` waiting for
@@ -184,15 +212,19 @@ pub(crate) fn asked<P: Part<Global> + Drop + Send, R: Threads + Wait + Abort + S
     query: &Query,
     call: Call,
 ) -> Option<Vec<u8>> {
-    let objects = read_terms(alloc, objects.as_bytes()).expect(rt, "the objects");
+    let terms = read_terms(alloc, objects.as_bytes()).expect(rt, "the objects");
     let options = options(2, members);
-    let objects = objects.as_slice();
+    let objects = terms.as_slice();
     let Some((table, mut sessions)) = set_with_objects::<R, Global, P>(rt, alloc, options, objects)
     else {
         rt.panic("no table")
     };
-    let sessions = sessions.as_mut_slice();
-    called_at(rt, alloc, &table, sessions, waiter, query, call)
+    drop(terms);
+    let all = sessions.as_mut_slice();
+    let came = called_at(rt, alloc, &table, all, waiter, query, call);
+    drop(sessions);
+    drop(table);
+    came
 }
 
 /// What comes of a deletion by two members, and of a count by a third behind it.
@@ -202,20 +234,21 @@ pub(crate) fn deleted_and_counted<P: Part<Global> + Drop + Send, R: Threads + Wa
     objects: &str,
     query: &Query,
 ) -> (Option<Vec<u8>>, Option<Vec<u8>>) {
-    let objects = read_terms(alloc, objects.as_bytes()).expect(rt, "the objects");
-    let objects = objects.as_slice();
-    let Some((table, mut two, mut third)) = opened::<R, Global, P>(
-        rt,
-        alloc,
-        options(2, 3),
-        objects,
-    ) else {
+    let terms = read_terms(alloc, objects.as_bytes()).expect(rt, "the objects");
+    let options = options(2, 3);
+    let objects = terms.as_slice();
+    let Some((table, mut sessions, mut third)) = opened::<R, Global, P>(rt, alloc, options, objects)
+    else {
         rt.panic("no table")
     };
-    let two = two.as_mut_slice();
+    drop(terms);
+    let two = sessions.as_mut_slice();
     let deleted = called_at(rt, alloc, &table, two, None, query, Call::Delete);
-    let third = std::slice::from_mut(&mut third);
-    let counted = called_at(rt, alloc, &table, third, None, query, Call::Count);
+    let one = std::slice::from_mut(&mut third);
+    let counted = called_at(rt, alloc, &table, one, None, query, Call::Count);
+    drop(third);
+    drop(sessions);
+    drop(table);
     (deleted, counted)
 }
 
@@ -289,5 +322,8 @@ pub(crate) fn asked_alone<P: Part<Global> + Drop + Send, R: Threads + Wait + Abo
     let mut tables = local_tables::<R, P>(rt, alloc, options, members);
     let mut seats = Vec::new(alloc);
     put_locals(rt, options, tables.as_mut_slice(), &mut seats);
-    called(rt, alloc, seats.as_mut_slice(), query, call)
+    let came = called(rt, alloc, seats.as_mut_slice(), query, call);
+    drop(seats);
+    drop(tables);
+    came
 }

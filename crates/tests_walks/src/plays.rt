@@ -6,7 +6,6 @@ use mspec_reader::read_spec;
 use part_core::{Part, TableKind};
 use std::alloc::Allocator;
 use tables::{LocalAt, LocalTable, Options, Turns, fix_at};
-use term_core::Term;
 use walks::Query;
 
 /// A table, its objects, and what is asked of it.
@@ -58,20 +57,17 @@ pub(crate) fn opened<P: Part<A> + Drop, A: Allocator + Copy>(
     LocalTable::open(heap, options).ok()
 }
 
-/// The query of a term.
-fn query_of_term<A: Allocator + Copy>(heap: A, term: &Term<A>) -> Option<Query<A>> {
-    match read_spec(heap, term) {
-        Ok(specification) => Query::from_spec(heap, &specification, 1).ok(),
-        Err(_) => None,
-    }
-}
-
 /// The query of a specification.
 pub(crate) fn query_of<A: Allocator + Copy>(heap: A, specification: &str) -> Option<Query<A>> {
-    match term_of(heap, specification.as_bytes()) {
-        Some(term) => query_of_term(heap, &term),
-        None => None,
-    }
+    let term = term_of(heap, specification.as_bytes())?;
+    let specification = read_spec(heap, &term);
+    drop(term);
+    let Ok(specification) = specification else {
+        return None;
+    };
+    let query = Query::from_spec(heap, &specification, 1);
+    drop(specification);
+    query.ok()
 }
 
 /// Fixes the parts below a number.

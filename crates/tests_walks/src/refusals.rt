@@ -210,7 +210,9 @@ fn asked<A: Allocator + Copy, T: Turns<A>>(
         Call::Select => match select(heap, session, query) {
             Ok(answers) => {
                 watch.ended(false);
-                listed(alloc, answers.as_slice())
+                let text = listed(alloc, answers.as_slice());
+                drop(answers);
+                text
             }
             Err(_) => {
                 watch.ended(true);
@@ -230,26 +232,7 @@ fn asked<A: Allocator + Copy, T: Turns<A>>(
     }
 }
 
-/// The same, with a look at the fixes of the session behind it.
-fn asked_and_released<A: Allocator + Copy, T: Turns<A>>(
-    alloc: Global,
-    heap: A,
-    watch: &mut Watch<'_>,
-    session: &mut T,
-    query: &Query<A>,
-    call: Call,
-    fixed: u8,
-) -> Option<Vec<u8>>
-    requires { T.is_ready session.old }
-    ensures ready { T.is_ready session.new }
-    ensures same { T.home session.new ≡ T.home session.old }
-{
-    let came = asked(alloc, heap, watch, session, query, call);
-    watch.sees(fixes_below(session, fixed));
-    came
-}
-
-/// Whether a call comes to this text; none where it is refused.
+/// Whether a call comes to what is wanted, with a look at the fixes of the session behind it; none where it is refused.
 fn comes_to<A: Allocator + Copy, T: Turns<A>>(
     alloc: Global,
     heap: A,
@@ -263,9 +246,14 @@ fn comes_to<A: Allocator + Copy, T: Turns<A>>(
     ensures ready { T.is_ready session.new }
     ensures same { T.home session.new ≡ T.home session.old }
 {
-    let fixed = trial.play.fixed;
-    match asked_and_released(alloc, heap, watch, session, query, call, fixed) {
-        Some(came) => Some(came.as_slice() == trial.wanted.as_bytes()),
+    let came = asked(alloc, heap, watch, session, query, call);
+    watch.sees(fixes_below(session, trial.play.fixed));
+    match came {
+        Some(text) => {
+            let is_wanted = text.as_slice() == trial.wanted.as_bytes();
+            drop(text);
+            Some(is_wanted)
+        }
         None => None,
     }
 }
@@ -304,13 +292,11 @@ pub(crate) fn is_asked_by<A: Allocator + Copy, T: Turns<A>>(
 ) -> Option<bool>
     requires { T.is_ready session.old }
 {
-    match query_of(heap, trial.play.specification) {
-        Some(query) => {
-            let mut watch = Watch::new(counts);
-            Some(is_asked(alloc, heap, &mut watch, session, &query, trial, call))
-        }
-        None => None,
-    }
+    let query = query_of(heap, trial.play.specification)?;
+    let mut watch = Watch::new(counts);
+    let is_right = is_asked(alloc, heap, &mut watch, session, &query, trial, call);
+    drop(query);
+    Some(is_right)
 }
 
 #[test]

@@ -5,8 +5,8 @@ ghost use Rattle.std.specs.Prelude.{◌≡◌, All, map};
 ghost use Rattle.tables.specs.Sessions.{IsOpened};
 ghost use Rattle.parallel_select.specs.Workers.{AreOfOneTable};
 
-use crate::deletions::{gone_of, marks};
-use crate::members::{Call, options, set_with_objects};
+use crate::deletions::{gone_of, put_marks};
+use crate::members::{Call, is_text, options, set_with_objects};
 use crate::plays::{fixes_below, query_of};
 use crate::watch::Watch;
 use kit_alloc::{Failing, sweep, sweep_onward};
@@ -90,11 +90,10 @@ fn refused(gone: u64, fault: SelectFault) -> Option<Came> {
 }
 
 /// Whether these are the answers of a set.
-fn are_answers<A: Allocator>(alloc: Global, answers: &[Term<A>], set: Set) -> bool {
-    match listed(alloc, answers) {
-        Some(text) => text.as_slice() == set.answers.as_bytes(),
-        None => false,
-    }
+fn are_answers<A: Allocator>(alloc: Global, answers: Vec<Term<A>, A>, set: Set) -> bool {
+    let text = listed(alloc, answers.as_slice());
+    drop(answers);
+    is_text(text, set.answers)
 }
 
 /// What comes of a call, so many objects being gone before.
@@ -115,7 +114,7 @@ fn called<R: Threads + Wait + Sync, A: Allocator + Copy + Send + Sync, T: Turns<
 {
     match call {
         Call::Select => match select_parts(rt, heap, members, query) {
-            Ok(answers) => answered(0, are_answers(alloc, answers.as_slice(), set)),
+            Ok(answers) => answered(0, are_answers(alloc, answers, set)),
             Err(fault) => refused(0, fault),
         },
         Call::Count => match count_parts(rt, members, query) {
@@ -154,8 +153,11 @@ fn gone<A: Allocator, T: Turns<A>>(
     if members.is_empty() {
         return None;
     }
-    let marks = marks(alloc, &mut members[0], objects)?;
-    Some(gone_of(marks.as_slice()))
+    let mut marks = Vec::new(alloc);
+    let are_put = put_marks(&mut members[0], objects, &mut marks).is_some();
+    let gone = gone_of(marks.as_slice());
+    drop(marks);
+    if are_put { Some(gone) } else { None }
 }
 
 /// What comes of a call behind which as many objects are gone as it says, with those that were gone before, and no
@@ -248,6 +250,7 @@ fn is_right_by<R: Threads + Wait + Sync, A: Allocator + Copy + Send + Sync, T: T
     let is_right = is_right_again(
         rt, alloc, heap, &mut watch, members, &query, objects, call, set,
     );
+    drop(query);
     Some(is_right == Some(true))
 }
 
@@ -270,7 +273,7 @@ fn is_right_in<
     requires { All (λ s. IsOpened table.now.options table.now.gates.items s.number s.passes.items) sessions.old }
 {
     let mut members = members_of(rt, alloc, table, sessions)?;
-    is_right_by(
+    let is_right = is_right_by(
         rt,
         alloc,
         heap,
@@ -279,7 +282,9 @@ fn is_right_in<
         objects,
         call,
         set,
-    )
+    );
+    drop(members);
+    is_right
 }
 
 /// Whether a call by so many members is right; none where there is no memory for the table, its objects and the query.
@@ -296,20 +301,23 @@ fn is_right_at<
     call: Call,
     set: Set,
 ) -> Option<bool> {
-    let objects = read_terms(heap, set.objects).ok()?;
+    let Ok(terms) = read_terms(heap, set.objects) else {
+        return None;
+    };
+    let objects = terms.as_slice();
     let options = options(set.parts, members);
-    let (table, mut sessions) = set_with_objects::<R, A, P>(rt, heap, options, objects.as_slice())?;
-    is_right_in(
-        rt,
-        alloc,
-        heap,
-        counts,
-        &table,
-        sessions.as_mut_slice(),
-        objects.as_slice(),
-        call,
-        set,
-    )
+    let is_right = match set_with_objects::<R, A, P>(rt, heap, options, objects) {
+        Some((table, mut sessions)) => {
+            let all = sessions.as_mut_slice();
+            let is_right = is_right_in(rt, alloc, heap, counts, &table, all, objects, call, set);
+            drop(sessions);
+            drop(table);
+            is_right
+        }
+        None => None,
+    };
+    drop(terms);
+    is_right
 }
 
 /// Whether a call is right by an allocator that may refuse, and no block is left.

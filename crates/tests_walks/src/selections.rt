@@ -1,6 +1,6 @@
 //! Selections by one member and by several: the same answers, refused numbers of members, deletions, and members that
 //! wait for each other.
-use crate::members::{Call, asked, asked_alone, deleted_and_counted};
+use crate::members::{Call, asked, asked_alone, deleted_and_counted, is_text};
 use crate::plays::query_of;
 use part_core::Part;
 use part_hash::HashPart;
@@ -29,15 +29,8 @@ fn comes_to<P: Part<Global> + Drop + Send, R: Threads + Wait + Abort + Sync>(
 ) -> bool {
     let query = query_of(alloc, KEYS).expect(rt, "a query");
     let came = asked::<P, R>(rt, alloc, members, waiter, OBJECTS, &query, Call::Select);
-    is_text(&came, wanted)
-}
-
-/// Whether what came is this text.
-fn is_text(came: &Option<Vec<u8>>, wanted: &str) -> bool {
-    match came {
-        Some(text) => text.as_slice() == wanted.as_bytes(),
-        None => false,
-    }
+    drop(query);
+    is_text(came, wanted)
 }
 
 /// Whether a call by so many members, each of a table of its own, is refused for their number.
@@ -49,7 +42,8 @@ fn is_refused<P: Part<Global> + Drop + Send, R: Threads + Wait + Abort + Sync>(
 ) -> bool {
     let query = query_of(alloc, KEYS).expect(rt, "a query");
     let came = asked_alone::<P, R>(rt, alloc, members, &query, call);
-    is_text(&came, "{refused,60}")
+    drop(query);
+    is_text(came, "{refused,60}")
 }
 
 /// Whether a deletion by two members and a count behind it come to 4 and to 0.
@@ -59,7 +53,10 @@ fn are_deleted<P: Part<Global> + Drop + Send, R: Threads + Wait + Abort + Sync>(
 ) -> bool {
     let query = query_of(alloc, ALL).expect(rt, "a query");
     let (deleted, counted) = deleted_and_counted::<P, R>(rt, alloc, OBJECTS, &query);
-    is_text(&deleted, "4") && is_text(&counted, "0")
+    drop(query);
+    let is_deleted = is_text(deleted, "4");
+    let is_counted = is_text(counted, "0");
+    is_deleted && is_counted
 }
 
 #[test]

@@ -83,13 +83,13 @@ fn is_right_by<A: Allocator + Copy, T: Numbered<A>>(
 ) -> Option<bool>
     requires { T.is_ready session.old }
 {
-    match read_terms(heap, trial.play.objects.as_bytes()) {
-        Ok(objects) => {
-            let objects = objects.as_slice();
-            is_right_over(alloc, heap, counts, session, objects, trial, stages)
-        }
-        Err(_) => None,
-    }
+    let Ok(terms) = read_terms(heap, trial.play.objects.as_bytes()) else {
+        return None;
+    };
+    let objects = terms.as_slice();
+    let is_right = is_right_over(alloc, heap, counts, session, objects, trial, stages);
+    drop(terms);
+    is_right
 }
 
 /// The same, none where there is no memory for the table.
@@ -102,7 +102,9 @@ fn is_right_at<P: Part<A> + Drop, A: Allocator + Copy>(
 ) -> Option<bool> {
     let mut table = opened::<P, A>(heap, trial.play)?;
     let mut session = table.at(0);
-    is_right_by(alloc, heap, counts, &mut session, trial, stages)
+    let is_right = is_right_by(alloc, heap, counts, &mut session, trial, stages);
+    drop(table);
+    is_right
 }
 
 /// Whether what comes of a trial is right, by an allocator that may refuse, and no block is left.
@@ -132,10 +134,11 @@ fn holds(alloc: Global, trial: Trial) -> bool {
     let onward = sweep_onward(alloc, MOST_REQUESTS, |heap: &Failing<Global>| {
         is_right(alloc, heap, trial, &mut stages_onward)
     });
-    alone.is_complete()
-        && onward.is_complete()
-        && stages.as_slice() == trial.stages().as_bytes()
-        && stages_onward.as_slice() == trial.stages().as_bytes()
+    let wanted = trial.stages().as_bytes();
+    let are_wanted = stages.as_slice() == wanted && stages_onward.as_slice() == wanted;
+    drop(stages);
+    drop(stages_onward);
+    alone.is_complete() && onward.is_complete() && are_wanted
 }
 
 /// The first of these trials that doesn't hold.

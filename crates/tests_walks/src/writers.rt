@@ -147,17 +147,11 @@ fn again<A: Allocator, V: Drop>(
     watch: &mut Watch<'_>,
     came: Result<Step<A>, Refused<V, WalkFault>>,
 ) -> Option<Step<A>> {
-    match came {
-        Ok(step) => {
-            watch.ended(false);
-            Some(step)
-        }
-        Err(refused) => {
-            watch.ended(true);
-            watch.sees(refused.fault == WalkFault::Memory);
-            None
-        }
+    watch.ended(came.is_err());
+    if let Err(refused) = &came {
+        watch.sees(refused.fault == WalkFault::Memory);
     }
+    came.ok()
 }
 
 /// A walk is begun, once more with what is handed back where it is refused for want of memory.
@@ -172,13 +166,11 @@ fn begun<A: Allocator + Copy, T: Turns<A>>(
     requires { T.is_ready session.old }
     ensures { T.is_ready session.new }
 {
-    match select_limit(heap, session, query, limit) {
-        Ok(step) => {
-            watch.ended(false);
-            Some(step)
-        }
+    let came = select_limit(heap, session, query, limit);
+    watch.ended(came.is_err());
+    match came {
+        Ok(step) => Some(step),
         Err(refused) => {
-            watch.ended(true);
             watch.sees(refused.fault == WalkFault::Memory && fixes_below(session, fixed));
             again(watch, select_limit(heap, session, refused.value, limit))
         }
@@ -197,13 +189,11 @@ fn gone_on<A: Allocator + Copy, T: Turns<A>>(
     ensures { T.is_ready session.new }
 {
     watch.sees(fixes_below(session, fixed));
-    match select_more(heap, session, walk) {
-        Ok(step) => {
-            watch.ended(false);
-            Some(step)
-        }
+    let came = select_more(heap, session, walk);
+    watch.ended(came.is_err());
+    match came {
+        Ok(step) => Some(step),
         Err(refused) => {
-            watch.ended(true);
             watch.sees(refused.fault == WalkFault::Memory && fixes_below(session, fixed));
             again(watch, select_more(heap, session, refused.value))
         }
@@ -220,13 +210,11 @@ fn put<A: Allocator + Copy, T: Turns<A>>(
     ensures ready { T.is_ready session.new }
     ensures same { T.home session.new ≡ T.home session.old }
 {
-    match insert(session, object.copy().ok()?) {
-        Ok(()) => {
-            watch.ended(false);
-            Some(())
-        }
+    let came = insert(session, object.copy().ok()?);
+    watch.ended(came.is_err());
+    match came {
+        Ok(()) => Some(()),
         Err(refused) => {
-            watch.ended(true);
             watch.sees(refused.fault == Fault::Memory);
             let again = insert(session, refused.value);
             watch.ended(again.is_err());
@@ -270,12 +258,14 @@ fn is_written<A: Allocator + Copy, T: Numbered<A>>(
     is_other && is_written && is_first
 }
 
-/// Puts the line of a piece at the end.
-fn put_piece<A: Allocator>(alloc: Global, piece: &[Term<A>], lines: &mut Vec<u8>) -> Option<()> {
-    lines
-        .extend_from_slice(listed(alloc, piece)?.as_slice())
-        .ok()?;
-    lines.push(b'\n').ok()
+/// Puts the line of a piece at the end; false for want of memory.
+fn put_piece<A: Allocator>(alloc: Global, piece: &[Term<A>], lines: &mut Vec<u8>) -> bool {
+    let Some(line) = listed(alloc, piece) else {
+        return false;
+    };
+    let is_put = lines.extend_from_slice(line.as_slice()).is_ok();
+    drop(line);
+    is_put && lines.push(b'\n').is_ok()
 }
 
 /// Puts the line of a piece at the end, writes behind it, and carries the walk on; none where a call is refused again.
@@ -293,11 +283,12 @@ fn next_behind<A: Allocator + Copy, T: Numbered<A>>(
     requires { T.is_ready session.old }
     ensures { T.is_ready session.new }
 {
-    let is_put = put_piece(alloc, piece, lines).is_some();
+    let is_put = put_piece(alloc, piece, lines);
     let is_written = is_written(watch, session, writes);
     if is_put && is_written {
         gone_on(heap, watch, session, walk, fixed)
     } else {
+        drop(walk);
         None
     }
 }
@@ -318,10 +309,12 @@ fn next<A: Allocator + Copy, T: Numbered<A>>(
 {
     match step {
         Some(Step::Piece(piece, walk)) => {
-            let piece = piece.as_slice();
-            next_behind(
-                alloc, heap, watch, session, piece, walk, writes, fixed, lines,
-            )
+            let objects = piece.as_slice();
+            let step = next_behind(
+                alloc, heap, watch, session, objects, walk, writes, fixed, lines,
+            );
+            drop(piece);
+            step
         }
         Some(Step::End(query)) => Some(Step::End(query)),
         None => None,
@@ -346,10 +339,41 @@ fn is_walked<A: Allocator + Copy, T: Numbered<A>>(
     for _piece in 0..MOST_PIECES {
         step = next(alloc, heap, watch, session, step, writes, fixed, lines);
     }
-    matches!(step, Some(Step::End(_)))
+    let is_over = matches!(&step, Some(Step::End(_)));
+    drop(step);
+    is_over
 }
 
-/// Whether the pieces of a walk are right; none where there is no memory for the query and what is written.
+/// Whether the pieces of a walk are right.
+fn are_pieces<A: Allocator + Copy, T: Numbered<A>>(
+    alloc: Global,
+    heap: A,
+    watch: &mut Watch<'_>,
+    session: &mut T,
+    query: Query<A>,
+    trial: Trial,
+    limit: u64,
+    writes: &[Term<A>],
+) -> bool
+    requires { T.is_ready session.old }
+{
+    let fixed = trial.play.fixed;
+    let first = begun(heap, watch, session, query, limit, fixed);
+    let mut lines = Vec::new(alloc);
+    let is_over = is_walked(
+        alloc, heap, watch, session, first, writes, fixed, &mut lines,
+    );
+    let wanted = trial.wanted.as_bytes();
+    let is_right = if is_over {
+        watch.is_right() && lines.as_slice() == wanted
+    } else {
+        watch.stops() && wanted.starts_with(lines.as_slice())
+    };
+    drop(lines);
+    is_right
+}
+
+/// The same by its own query; none where there is no memory for it and what is written.
 pub(crate) fn is_walked_by<A: Allocator + Copy, T: Numbered<A>>(
     alloc: Global,
     heap: A,
@@ -361,27 +385,21 @@ pub(crate) fn is_walked_by<A: Allocator + Copy, T: Numbered<A>>(
 ) -> Option<bool>
     requires { T.is_ready session.old }
 {
-    let fixed = trial.play.fixed;
-    let writes = read_terms(heap, writes.as_bytes()).ok()?;
-    let query = query_of(heap, trial.play.specification)?;
-    let mut watch = Watch::new(counts);
-    let first = begun(heap, &mut watch, session, query, limit, fixed);
-    let mut lines = Vec::new(alloc);
-    let is_over = is_walked(
-        alloc,
-        heap,
-        &mut watch,
-        session,
-        first,
-        writes.as_slice(),
-        fixed,
-        &mut lines,
-    );
-    if is_over {
-        Some(watch.is_right() && lines.as_slice() == trial.wanted.as_bytes())
-    } else {
-        Some(watch.stops() && trial.wanted.as_bytes().starts_with(lines.as_slice()))
-    }
+    let Ok(writes) = read_terms(heap, writes.as_bytes()) else {
+        return None;
+    };
+    let is_right = match query_of(heap, trial.play.specification) {
+        Some(query) => {
+            let mut watch = Watch::new(counts);
+            let writes = writes.as_slice();
+            Some(are_pieces(
+                alloc, heap, &mut watch, session, query, trial, limit, writes,
+            ))
+        }
+        None => None,
+    };
+    drop(writes);
+    is_right
 }
 
 #[test]

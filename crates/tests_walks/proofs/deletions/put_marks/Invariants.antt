@@ -1,5 +1,5 @@
 use Rattle.std.proofs.Common.{◌≡◌}
-use Rattle.tests_walks.proofs.deletions.marks.Given as goal
+use Rattle.tests_walks.proofs.deletions.put_marks.Given as goal
 
 abbrev pub invariant-loop-object : goal.invariant-loop-object
 invariant-loop-object g l =
