@@ -53,10 +53,12 @@ fn walked<R: Wait, A: Allocator + Copy, P: Part<A> + Drop>(
     let (session, answers) = select_at(rt, heap, table, session, query);
     let mut session = session;
     let keeps = keeps_its_fix(rt, table, &mut session);
-    match answers {
-        Ok(answers) => (session, Some(answers.len()), keeps),
-        Err(AllocError) => (session, None, keeps),
-    }
+    let count = match &answers {
+        Ok(answers) => Some(answers.len()),
+        Err(AllocError) => None,
+    };
+    drop(answers);
+    (session, count, keeps)
 }
 
 /// Whether a walk answers both objects, asked again where it is refused, and its session keeps its one fix in between
@@ -73,9 +75,11 @@ fn is_walked<R: Wait, A: Allocator + Copy, P: Part<A> + Drop>(
 {
     let (session, answers, keeps) = walked(rt, heap, table, session, query);
     if answers.is_some() {
+        drop(session);
         return answers == Some(2) && keeps;
     }
-    let (_session, again, still_keeps) = walked(rt, heap, table, session, query);
+    let (session, again, still_keeps) = walked(rt, heap, table, session, query);
+    drop(session);
     let is_right = match again {
         Some(count) => count == 2,
         None => matches!(counts.plan(), Plan::From(_)),
@@ -93,10 +97,13 @@ pub(crate) fn is_selected<R: Wait, A: Allocator + Copy, P: Part<A> + Drop>(
 ) -> bool
     requires { IsOpened table.now.options table.now.gates.items session.number session.passes.items }
 {
-    match query_of(heap, KEYS) {
-        Some(query) => is_walked(rt, heap, counts, table, session, &query),
-        None => counts.was_refused(),
-    }
+    let Some(query) = query_of(heap, KEYS) else {
+        drop(session);
+        return counts.was_refused();
+    };
+    let is_walked = is_walked(rt, heap, counts, table, session, &query);
+    drop(query);
+    is_walked
 }
 
 #[test]

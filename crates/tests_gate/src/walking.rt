@@ -72,9 +72,13 @@ fn walk_behind<R: Abort>(rt: &R, step: Step, place: u32) -> Option<Continuation>
     match step {
         Step::Piece(piece, walk) => {
             assert!(rt; is_piece(piece.as_slice(), place));
+            drop(piece);
             Some(walk)
         }
-        Step::End(_query) => None,
+        Step::End(query) => {
+            drop(query);
+            None
+        }
     }
 }
 
@@ -140,6 +144,7 @@ fn gone_on<R: Abort, T: Turns<Global>>(
             None => return Some(place - 1),
         }
     }
+    drop(walk);
     None
 }
 
@@ -179,10 +184,14 @@ fn refused_elsewhere<R: Wait + Abort, P: Part<Global> + Drop>(
     walk: Continuation,
 ) -> Continuation {
     let options = Options { name: 2, ..OPTIONS };
-    let Some((table, mut first, _second)) = opened::<Global, P>(alloc, options) else {
+    let Some((table, mut first, second)) = opened::<Global, P>(alloc, options) else {
         rt.panic("no table")
     };
-    refused_at(rt, alloc, &table, &mut first, walk)
+    let walk = refused_at(rt, alloc, &table, &mut first, walk);
+    drop(second);
+    drop(first);
+    drop(table);
+    walk
 }
 
 /// The other pieces, there.
@@ -215,7 +224,10 @@ fn outlasting<R: Threads + Wait + Abort + Sync, P: Part<Global> + Drop + Send>(
     let walk = refused_at(rt, alloc, &table, &mut writer, walk);
     let walk = refused_elsewhere::<R, P>(rt, alloc, walk);
     deleted_on_a_thread(rt, alloc, &table, writer);
-    gone_on_at(rt, alloc, &table, &mut walker, walk)
+    let pieces = gone_on_at(rt, alloc, &table, &mut walker, walk);
+    drop(walker);
+    drop(table);
+    pieces
 }
 
 /// Whether a visit is refused as out of place, and comes back.
@@ -230,22 +242,37 @@ fn is_refused<'q, T: Turns<Global>>(turns: &mut T, query: &'q Query, scope: Scop
     };
     let mut op = PartOp::Visit(look);
     let answer = turns.turn(0, &mut op);
-    let is_back = matches!(op, PartOp::Visit(_));
-    match answer {
-        Ok(_reply) => false,
-        Err(fault) => fault == Fault::CursorOutside && is_back,
-    }
+    let is_back = matches!(&op, PartOp::Visit(_));
+    drop(op);
+    let is_outside = matches!(&answer, Err(Fault::CursorOutside));
+    drop(answer);
+    is_outside && is_back
 }
 
-/// Whether a visit of class 8 of 8 is, at a session of a table.
-fn is_refused_at<R: Wait + Abort, P: Part<Global> + Drop>(rt: &R, alloc: Global) -> bool {
+/// Whether a visit of class 8 of 8 is.
+fn is_class_refused<R: Abort, T: Turns<Global>>(rt: &R, alloc: Global, turns: &mut T) -> bool
+    requires ready { T.is_ready turns.old }
+    requires parts { 0 < (T.home turns.old).options.parts }
+{
     let query = keys_query(rt, alloc);
     let cursor = Cursor::Class { base: 8, class: 8 };
-    let Some((table, mut session, _other)) = opened::<Global, P>(alloc, OPTIONS) else {
+    let is_refused = is_refused(turns, &query, Scope::After(&cursor));
+    drop(cursor);
+    drop(query);
+    is_refused
+}
+
+/// Whether it is at a session of a table.
+fn is_refused_at<R: Wait + Abort, P: Part<Global> + Drop>(rt: &R, alloc: Global) -> bool {
+    let Some((table, mut session, other)) = opened::<Global, P>(alloc, OPTIONS) else {
         rt.panic("no table")
     };
     let mut at = table.at(rt, &mut session);
-    is_refused(&mut at, &query, Scope::After(&cursor))
+    let is_refused = is_class_refused(rt, alloc, &mut at);
+    drop(other);
+    drop(session);
+    drop(table);
+    is_refused
 }
 
 #[test]
