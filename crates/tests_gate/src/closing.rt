@@ -27,18 +27,19 @@ fn gate_and_pass<P: Part<Global> + Drop>(
 {
     let mut gates = table.gates;
     let mut passes = session.passes;
-    let gate = gates.pop();
-    let pass = passes.pop();
+    let Some(gate) = gates.pop() else {
+        drop(gates);
+        drop(passes);
+        return None;
+    };
     drop(gates);
+    let Some(pass) = passes.pop() else {
+        drop(gate);
+        drop(passes);
+        return None;
+    };
     drop(passes);
-    match (gate, pass) {
-        (Some(gate), Some(pass)) => Some((gate, pass)),
-        (gate, pass) => {
-            drop(gate);
-            drop(pass);
-            None
-        }
-    }
+    Some((gate, pass))
 }
 
 /// The key of the only one of some objects; none where there are others.

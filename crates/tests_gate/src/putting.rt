@@ -319,9 +319,12 @@ fn came_of(answered: Option<bool>, answer: bool) -> Came {
 fn is_written<A: Allocator>(alloc: Global, object: &Term<A>, key: u32, mark: u32) -> bool {
     let written = canonical(alloc, object);
     let text = format!(in alloc; "{{{{{key}}},{mark}}}");
-    let is_written = match (&written, &text) {
-        (Some(written), Ok(text)) => written.as_slice() == text.as_bytes(),
-        _ => false,
+    let is_written = match &written {
+        Some(written) => match &text {
+            Ok(text) => written.as_slice() == text.as_bytes(),
+            Err(_) => false,
+        },
+        None => false,
     };
     drop(text);
     drop(written);

@@ -26,19 +26,6 @@ fn is_fixed_once<A: Allocator, T: Turns<A>>(turns: &T) -> bool
     true
 }
 
-/// The same of a session of a table.
-fn keeps_its_fix<R: Wait, A: Allocator + Copy, P: Part<A> + Drop>(
-    rt: &R,
-    table: &Table<P, A>,
-    session: &mut Session<P, A>,
-) -> bool
-    requires { IsOpened table.now.options table.now.gates.items session.old.number session.old.passes.items }
-    ensures { IsOpened table.now.options table.now.gates.items session.new.number session.new.passes.items }
-{
-    let at = table.at(rt, session);
-    is_fixed_once(&at)
-}
-
 /// How many answers a walk gives, none where it is refused, and whether its session keeps its one fix.
 fn walked<R: Wait, A: Allocator + Copy, P: Part<A> + Drop>(
     rt: &R,
@@ -51,13 +38,14 @@ fn walked<R: Wait, A: Allocator + Copy, P: Part<A> + Drop>(
     ensures { IsOpened table.now.options table.now.gates.items result.0.number result.0.passes.items }
 {
     let (session, answers) = select_at(rt, heap, table, session, query);
-    let mut session = session;
-    let keeps = keeps_its_fix(rt, table, &mut session);
     let count = match &answers {
         Ok(answers) => Some(answers.len()),
         Err(AllocError) => None,
     };
     drop(answers);
+    let mut session = session;
+    let at = table.at(rt, &mut session);
+    let keeps = is_fixed_once(&at);
     (session, count, keeps)
 }
 

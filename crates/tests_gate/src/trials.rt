@@ -32,6 +32,7 @@ pub(crate) enum Sort {
 /// What a session does.
 #[derive(Clone, Copy)]
 pub(crate) enum Act {
+    /// Nothing, where its table is only opened.
     Nothing,
     /// It puts objects in by a call, one after the other.
     Put(Call),

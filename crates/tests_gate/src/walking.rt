@@ -148,21 +148,7 @@ fn gone_on<R: Abort, T: Turns<Global>>(
     None
 }
 
-/// The first piece, at a session of a table.
-fn begun_at<R: Wait + Abort, P: Part<Global> + Drop>(
-    rt: &R,
-    alloc: Global,
-    table: &Table<P>,
-    session: &mut Session<P>,
-) -> Continuation
-    requires { IsOpened table.now.options table.now.gates.items session.old.number session.old.passes.items }
-    ensures { IsOpened table.now.options table.now.gates.items session.new.number session.new.passes.items }
-{
-    let mut at = table.at(rt, session);
-    begun(rt, alloc, &mut at)
-}
-
-/// The same at a session that is another's, or another table's.
+/// The same at a session of a table that is another's, or another table's.
 fn refused_at<R: Wait + Abort, P: Part<Global> + Drop>(
     rt: &R,
     alloc: Global,
@@ -194,38 +180,41 @@ fn refused_elsewhere<R: Wait + Abort, P: Part<Global> + Drop>(
     walk
 }
 
-/// The other pieces, there.
-fn gone_on_at<R: Wait + Abort, P: Part<Global> + Drop>(
+/// How many pieces follow the first where another session, which is refused to carry the walk on, deletes all keys
+/// meanwhile.
+fn outlasted<R: Threads + Wait + Abort + Sync, P: Part<Global> + Drop + Send>(
     rt: &R,
     alloc: Global,
     table: &Table<P>,
-    session: &mut Session<P>,
-    walk: Continuation,
+    walker: Session<P>,
+    writer: Session<P>,
 ) -> Option<u32>
-    requires { IsOpened table.now.options table.now.gates.items session.old.number session.old.passes.items }
-    ensures { IsOpened table.now.options table.now.gates.items session.new.number session.new.passes.items }
+    requires walker { IsOpened table.now.options table.now.gates.items walker.number walker.passes.items }
+    requires writer { IsOpened table.now.options table.now.gates.items writer.number writer.passes.items }
 {
-    let mut at = table.at(rt, session);
-    gone_on(rt, alloc, &mut at, walk)
+    let mut walker = walker;
+    let mut writer = writer;
+    let mut at = table.at(rt, &mut walker);
+    let walk = begun(rt, alloc, &mut at);
+    let walk = refused_at(rt, alloc, table, &mut writer, walk);
+    let walk = refused_elsewhere::<R, P>(rt, alloc, walk);
+    deleted_on_a_thread(rt, alloc, table, writer);
+    let pieces = gone_on(rt, alloc, &mut at, walk);
+    drop(walker);
+    pieces
 }
 
-/// How many pieces follow the first where another session, which is refused to carry the walk on, deletes all keys
-/// meanwhile; the walking session fixes.
+/// The same of two sessions of a table that has the keys, of which the walking one fixes it.
 fn outlasting<R: Threads + Wait + Abort + Sync, P: Part<Global> + Drop + Send>(
     rt: &R,
     alloc: Global,
 ) -> Option<u32> {
-    let Some((table, walker, mut writer)) = opened::<Global, P>(alloc, OPTIONS) else {
+    let Some((table, walker, writer)) = opened::<Global, P>(alloc, OPTIONS) else {
         rt.panic("no table")
     };
     let walker = acted(rt, alloc, &table, walker, Act::Put(KEYS), 0);
-    let mut walker = acted(rt, alloc, &table, walker, Act::Fix, 0);
-    let walk = begun_at(rt, alloc, &table, &mut walker);
-    let walk = refused_at(rt, alloc, &table, &mut writer, walk);
-    let walk = refused_elsewhere::<R, P>(rt, alloc, walk);
-    deleted_on_a_thread(rt, alloc, &table, writer);
-    let pieces = gone_on_at(rt, alloc, &table, &mut walker, walk);
-    drop(walker);
+    let walker = acted(rt, alloc, &table, walker, Act::Fix, 0);
+    let pieces = outlasted(rt, alloc, &table, walker, writer);
     drop(table);
     pieces
 }
