@@ -23,7 +23,7 @@ fn is_due<T: Drop>(counts: &Failing<Global>, opened: Result<T, OpenFault>) -> bo
     is_due
 }
 
-/// Whether a table is.
+/// Whether it is so of a table.
 pub(crate) fn is_opened<A: Allocator + Copy, P: Part<A> + Drop>(
     heap: A,
     counts: &Failing<Global>,
@@ -68,7 +68,7 @@ fn two_parts<A: Allocator + Copy, P: Part<A> + Drop>(heap: A, options: Options) 
     }
 }
 
-/// Whether a table over two parts is.
+/// Whether it is so of a table over two parts.
 pub(crate) fn is_opened_over<A: Allocator + Copy, P: Part<A> + Drop>(
     heap: A,
     counts: &Failing<Global>,

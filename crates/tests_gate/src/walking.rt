@@ -126,6 +126,21 @@ fn refused_as_anothers<R: Abort, T: Turns<Global>>(
     refused.value
 }
 
+/// The same at a session of a table that is another's, or another table's.
+fn refused_at<R: Wait + Abort, P: Part<Global> + Drop>(
+    rt: &R,
+    alloc: Global,
+    table: &Table<P>,
+    session: &mut Session<P>,
+    walk: Continuation,
+) -> Continuation
+    requires { IsOpened table.now.options table.now.gates.items session.old.number session.old.passes.items }
+    ensures { IsOpened table.now.options table.now.gates.items session.new.number session.new.passes.items }
+{
+    let mut at = table.at(rt, session);
+    refused_as_anothers(rt, alloc, &mut at, walk)
+}
+
 /// How many further pieces are the keys that follow, one each, before the walk ends; none where it doesn't.
 fn gone_on<R: Abort, T: Turns<Global>>(
     rt: &R,
@@ -146,21 +161,6 @@ fn gone_on<R: Abort, T: Turns<Global>>(
     }
     drop(walk);
     None
-}
-
-/// The same at a session of a table that is another's, or another table's.
-fn refused_at<R: Wait + Abort, P: Part<Global> + Drop>(
-    rt: &R,
-    alloc: Global,
-    table: &Table<P>,
-    session: &mut Session<P>,
-    walk: Continuation,
-) -> Continuation
-    requires { IsOpened table.now.options table.now.gates.items session.old.number session.old.passes.items }
-    ensures { IsOpened table.now.options table.now.gates.items session.new.number session.new.passes.items }
-{
-    let mut at = table.at(rt, session);
-    refused_as_anothers(rt, alloc, &mut at, walk)
 }
 
 /// The walk, once a session of a table of another name was refused to carry it on.
