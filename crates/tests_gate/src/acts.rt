@@ -2,7 +2,7 @@
 ghost use Rattle.std.specs.Prelude.{◌≡◌};
 ghost use Rattle.tables.specs.Sessions.{IsOpened};
 
-use crate::objects::object;
+use crate::objects::{is_there, put_one};
 use crate::refusals::most_fixes;
 use kit_rows::number;
 use part_core::{Fault, Part};
@@ -10,7 +10,7 @@ use std::alloc::Global;
 use std::process::Abort;
 use std::sync::Wait;
 use std::thread::{Threads, join};
-use tables::{Session, Table, Turns, delete, fix, insert, lookup, unfix};
+use tables::{Session, Table, Turns, delete, fix, lookup, unfix};
 use term_core::Term;
 use walks::next;
 
@@ -50,6 +50,8 @@ pub(crate) enum Act {
     Delete(Keys),
     /// It asks how many objects a key has.
     Count(u32),
+    /// It asks whether a key has an object: 1 where it has.
+    Member(u32),
     /// It asks for the key behind another: that key, or what a refusal comes to.
     Next(u32),
     /// It fixes the table.
@@ -68,8 +70,7 @@ fn put<R: Abort, T: Turns<Global>>(rt: &R, alloc: Global, turns: &mut T, keys: K
     ensures same { T.home turns.new ≡ T.home turns.old }
 {
     for place in 0..keys.count {
-        let object = object(alloc, i64::from(keys.at(place))).expect(rt, "an object");
-        insert(turns, object).ok().expect(rt, "an insert");
+        put_one(alloc, turns, i64::from(keys.at(place))).expect(rt, "an object, and its insert");
     }
 }
 
@@ -81,6 +82,7 @@ fn delete_one<T: Turns<Global>>(turns: &mut T, key: u32)
 {
     let key = Term::int(i64::from(key));
     delete(turns, &key);
+    drop(key);
 }
 
 /// Deletes each key.
@@ -101,16 +103,23 @@ fn count<R: Abort, T: Turns<Global>>(rt: &R, turns: &mut T, key: u32) -> usize
     ensures same { T.home turns.new ≡ T.home turns.old }
 {
     let key = Term::int(i64::from(key));
-    lookup(turns, &key).expect(rt, "a look-up").len()
+    let found = lookup(turns, &key);
+    drop(key);
+    let found = found.expect(rt, "a look-up");
+    let count = found.len();
+    drop(found);
+    count
 }
 
 /// What an answered or refused question for a key comes to; none where there is no key.
 fn key_of(answered: Result<Option<Term>, Fault>) -> Option<u32> {
-    match answered {
-        Ok(Some(key)) => number(&key),
+    let key = match &answered {
+        Ok(Some(key)) => number(key),
         Ok(None) => None,
         Err(fault) => Some(REFUSED + u32::from(fault.number())),
-    }
+    };
+    drop(answered);
+    key
 }
 
 /// The same of the key behind another.
@@ -120,7 +129,9 @@ fn behind<T: Turns<Global>>(turns: &mut T, key: u32) -> Option<u32>
     ensures same { T.home turns.new ≡ T.home turns.old }
 {
     let key = Term::int(i64::from(key));
-    key_of(next(turns, &key))
+    let answered = next(turns, &key);
+    drop(key);
+    key_of(answered)
 }
 
 /// The number of the refusal of a fix that is one too many, which leaves those that there are at each part.
@@ -160,6 +171,7 @@ fn came<R: Abort, T: Turns<Global>>(rt: &R, alloc: Global, turns: &mut T, act: A
             0
         }
         Act::Count(key) => count(rt, turns, key),
+        Act::Member(key) => usize::from(is_there(turns, i64::from(key))),
         Act::Next(key) => behind(turns, key).expect(rt, "a key or a refusal") as usize,
         Act::Fix => usize::from(refusal(fix(turns))),
         Act::FixMost => usize::from(limit(rt, turns)),
@@ -207,4 +219,33 @@ pub(crate) fn acted_on_a_thread<R: Threads + Wait + Abort + Sync, P: Part<Global
         || {},
     );
     session
+}
+
+/// Two sessions do an act each side by side, the first on a thread of its own, and nothing comes of either; both come
+/// back.
+pub(crate) fn both_acted<R: Threads + Wait + Abort + Sync, P: Part<Global> + Drop + Send>(
+    rt: &R,
+    alloc: Global,
+    table: &Table<P>,
+    first: Session<P>,
+    first_act: Act,
+    second: Session<P>,
+    second_act: Act,
+) -> (Session<P>, Session<P>)
+    requires first { IsOpened table.now.options table.now.gates.items first.number first.passes.items }
+    requires second { IsOpened table.now.options table.now.gates.items second.number second.passes.items }
+    ensures first { IsOpened table.now.options table.now.gates.items result.0.number result.0.passes.items }
+    ensures second { IsOpened table.now.options table.now.gates.items result.1.number result.1.passes.items }
+{
+    join(
+        rt,
+        || -> Session<P>
+            requires { IsOpened table.now.options table.now.gates.items first.number first.passes.items }
+            ensures { IsOpened table.entry.now.options table.entry.now.gates.items result.number result.passes.items }
+        { acted(rt, alloc, table, first, first_act, 0) },
+        || -> Session<P>
+            requires { IsOpened table.now.options table.now.gates.items second.number second.passes.items }
+            ensures { IsOpened table.entry.now.options table.entry.now.gates.items result.number result.passes.items }
+        { acted(rt, alloc, table, second, second_act, 0) },
+    )
 }

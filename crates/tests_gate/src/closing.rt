@@ -4,9 +4,9 @@ ghost use Rattle.std.specs.Prelude.{◌≡◌, IfSome};
 ghost use Rattle.tables.specs.Sessions.{IsOpened};
 
 use crate::acts::{Act, acted, only};
+use crate::objects::key_of;
 use crate::pairs::opened;
 use gate::{Gate, Pass};
-use kit_rows::{fields, number};
 use part_core::{Part, TableKind};
 use part_hash::HashPart;
 use part_order::OrderPart;
@@ -15,6 +15,7 @@ use std::alloc::Global;
 use std::process::Abort;
 use std::sync::Wait;
 use tables::{Options, Session, Table};
+use term_core::Term;
 
 /// The gate of a table of one part, and the pass that a session has there.
 fn gate_and_pass<P: Part<Global> + Drop>(
@@ -26,16 +27,25 @@ fn gate_and_pass<P: Part<Global> + Drop>(
 {
     let mut gates = table.gates;
     let mut passes = session.passes;
-    let gate = gates.pop()?;
-    let pass = passes.pop()?;
+    let Some(gate) = gates.pop() else {
+        drop(gates);
+        drop(passes);
+        return None;
+    };
+    drop(gates);
+    let Some(pass) = passes.pop() else {
+        drop(gate);
+        drop(passes);
+        return None;
+    };
+    drop(passes);
     Some((gate, pass))
 }
 
-/// The key of the only object of a part; none where it has others.
-fn only_key<R: Abort, P: Part<Global>>(rt: &R, alloc: Global, part: &P) -> Option<u32> {
-    let objects = part.objects(alloc).expect(rt, "the objects");
-    match objects.as_slice() {
-        [object] => number(fields(object)?.first()?),
+/// The key of the only one of some objects; none where there are others.
+fn only_key(objects: &[Term]) -> Option<u32> {
+    match objects {
+        [object] => key_of(object),
         _ => None,
     }
 }
@@ -50,7 +60,11 @@ fn key_behind<R: Abort, P: Part<Global> + Drop>(
     requires { pass.gate ≡ gate }
 {
     let part = gate.close(pass).expect(rt, "a part that is home");
-    only_key(rt, alloc, &part)
+    let objects = part.objects(alloc).expect(rt, "the objects");
+    drop(part);
+    let key = only_key(objects.as_slice());
+    drop(objects);
+    key
 }
 
 /// A gate, behind which the first of two sessions puts an object in, is closed with the pass of the second one: the
@@ -70,11 +84,13 @@ fn closed<R: Wait + Abort, P: Part<Global> + Drop>(
     let Some((table, first, second)) = opened::<Global, P>(alloc, options) else {
         rt.panic("no table")
     };
-    let _first = acted(rt, alloc, &table, first, Act::Put(only(7)), 0);
+    let first = acted(rt, alloc, &table, first, Act::Put(only(7)), 0);
     let Some((gate, pass)) = gate_and_pass(table, second) else {
         rt.panic("no gate")
     };
-    key_behind(rt, alloc, gate, pass)
+    let key = key_behind(rt, alloc, gate, pass);
+    drop(first);
+    key
 }
 
 #[test]

@@ -68,17 +68,26 @@ fn next_step<A: Allocator + Copy, T: Turns<A>>(
     ensures same { T.home turns.new ≡ T.home turns.old }
 {
     match step {
-        Step::Piece(_piece, walk) => select_more(heap, turns, walk).ok(),
-        Step::End(_query) => None,
+        Step::Piece(piece, walk) => {
+            let next = select_more(heap, turns, walk).ok();
+            drop(piece);
+            next
+        }
+        Step::End(query) => {
+            drop(query);
+            None
+        }
     }
 }
 
 /// Whether a step is a piece of one object, which is let go with the walk behind it.
 fn is_piece<A: Allocator>(step: Step<A>) -> bool {
-    match step {
-        Step::Piece(piece, _walk) => piece.len() == 1,
-        Step::End(_query) => false,
-    }
+    let is_piece = match &step {
+        Step::Piece(piece, _) => piece.len() == 1,
+        Step::End(_) => false,
+    };
+    drop(step);
+    is_piece
 }
 
 /// Whether the first step is a piece.
@@ -102,36 +111,30 @@ fn is_gone_on<A: Allocator + Copy, T: Turns<A>>(heap: A, turns: &mut T) -> Optio
     Some(is_piece(second))
 }
 
-/// Whether three objects of a key are taken, which are let go, where so many were looked up.
-fn are_taken<A: Allocator, T: Turns<A>>(turns: &mut T, key: &Term<A>, found: usize) -> Option<bool>
-    requires { T.is_ready turns.old }
-    ensures ready { T.is_ready turns.new }
-    ensures same { T.home turns.new ≡ T.home turns.old }
-{
-    match take(turns, key) {
-        Ok(taken) => Some(found == 3 && taken.len() == 3),
-        Err(_) => None,
-    }
-}
-
-/// Whether they are looked up and taken.
+/// Whether three objects of a key are looked up, and so many taken; all are let go.
 fn are_given<A: Allocator, T: Turns<A>>(turns: &mut T, key: &Term<A>) -> Option<bool>
     requires { T.is_ready turns.old }
     ensures ready { T.is_ready turns.new }
     ensures same { T.home turns.new ≡ T.home turns.old }
 {
-    match lookup(turns, key) {
-        Ok(found) => are_taken(turns, key, found.len()),
+    let Ok(found) = lookup(turns, key) else {
+        return None;
+    };
+    let taken = take(turns, key);
+    let are_given = match &taken {
+        Ok(taken) => Some(found.len() == 3 && taken.len() == 3),
         Err(_) => None,
-    }
+    };
+    drop(taken);
+    drop(found);
+    are_given
 }
 
 /// Whether there is a query, which is let go.
 fn is_query<A: Allocator + Copy>(heap: A) -> Option<bool> {
-    match query_of(heap, NAMED) {
-        Some(_query) => Some(true),
-        None => None,
-    }
+    let query = query_of(heap, NAMED)?;
+    drop(query);
+    Some(true)
 }
 
 /// Whether a session that puts objects in comes so far; none for want of memory.
@@ -167,10 +170,10 @@ pub(crate) fn is_reached<A: Allocator + Copy, T: Turns<A>>(
     ensures ready { T.is_ready turns.new }
     ensures same { T.home turns.new ≡ T.home turns.old }
 {
-    match term_of(heap, OBJECTS) {
-        Some(list) => is_reached_by(heap, turns, &list, middle),
-        None => None,
-    }
+    let list = term_of(heap, OBJECTS)?;
+    let is_reached = is_reached_by(heap, turns, &list, middle);
+    drop(list);
+    is_reached
 }
 
 /// A session in the middle of something at a bag of two hashed parts, of which this becomes.

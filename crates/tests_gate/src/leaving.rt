@@ -43,6 +43,7 @@ fn a_dead_row_is_kept<R: Wait + Abort, P: Part<Global> + Drop>(rt: &R, alloc: Gl
     table.leave(rt, second);
     let first = acted(rt, alloc, &table, first, Act::Next(1), NO_ROW);
     table.leave(rt, first);
+    drop(table);
 }
 
 /// The second fixes as often as it may, deletes a key and leaves: the first is answered behind the dead row before
@@ -58,6 +59,7 @@ fn the_most_fixes_go<R: Wait + Abort, P: Part<Global> + Drop>(rt: &R, alloc: Glo
     table.leave(rt, second);
     let first = acted(rt, alloc, &table, first, Act::Next(1), NO_ROW);
     table.leave(rt, first);
+    drop(table);
 }
 
 #[test]

@@ -3,7 +3,7 @@
 //! It has no code of its own. What a test here calls is proved in its own crate once, and not a second time with its
 //! tests. `judge_sessions` makes random calls on threads.
 //!
-//! - `objects`: what is put in, and queries. `pairs`: two sessions of a table.
+//! - `objects`: what is put in, its keys, and queries. `pairs`: two sessions of a table.
 //! - `closing`: a gate by itself.
 //! - `acts`: what a session does where there is memory; `steps`: what sessions do so, one on a thread behind the other
 //!   and side by side.

@@ -1,21 +1,43 @@
-//! The objects that tests put in, and queries.
+//! The objects that tests put in, their keys, and queries.
 ghost use Rattle.std.specs.Prelude.{◌≡◌};
 
-use kit_rows::{put, term_of};
+use kit_rows::{fields, number, put, term_of};
 use mspec_reader::read_spec;
 use std::alloc::Allocator;
-use tables::{Turns, insert};
+use tables::{Turns, insert, member};
 use term_core::Term;
 use walks::Query;
 
 /// The object `{Key}`.
 pub(crate) fn object<A: Allocator + Copy>(heap: A, key: i64) -> Option<Term<A>> {
-    let mut elements = Vec::with_capacity(heap, 1).ok()?;
+    let Ok(mut elements) = Vec::with_capacity(heap, 1) else {
+        return None;
+    };
     if put(&mut elements, Term::int(key)) {
         Term::tuple(heap, elements).ok()
     } else {
+        drop(elements);
         None
     }
+}
+
+/// The key of an object.
+pub(crate) fn key_of<A: Allocator>(object: &Term<A>) -> Option<u32> {
+    number(fields(object)?.first()?)
+}
+
+/// Puts the object of a key in.
+pub(crate) fn put_one<A: Allocator + Copy, T: Turns<A>>(
+    heap: A,
+    turns: &mut T,
+    key: i64,
+) -> Option<()>
+    requires { T.is_ready turns.old }
+    ensures ready { T.is_ready turns.new }
+    ensures same { T.home turns.new ≡ T.home turns.old }
+{
+    let object = object(heap, key)?;
+    insert(turns, object).ok()
 }
 
 /// Puts `{1}` and `{2}` in.
@@ -24,24 +46,31 @@ pub(crate) fn put_both<A: Allocator + Copy, T: Turns<A>>(heap: A, turns: &mut T)
     ensures ready { T.is_ready turns.new }
     ensures same { T.home turns.new ≡ T.home turns.old }
 {
-    let one = object(heap, 1)?;
-    insert(turns, one).ok()?;
-    let two = object(heap, 2)?;
-    insert(turns, two).ok()
+    put_one(heap, turns, 1)?;
+    put_one(heap, turns, 2)
 }
 
-/// The query of a term.
-fn query_of_term<A: Allocator + Copy>(heap: A, term: &Term<A>) -> Option<Query<A>> {
-    match read_spec(heap, term) {
-        Ok(specification) => Query::from_spec(heap, &specification, 1).ok(),
-        Err(_) => None,
-    }
+/// Whether a key has an object.
+pub(crate) fn is_there<A: Allocator, T: Turns<A>>(turns: &mut T, key: i64) -> bool
+    requires { T.is_ready turns.old }
+    ensures ready { T.is_ready turns.new }
+    ensures same { T.home turns.new ≡ T.home turns.old }
+{
+    let key = Term::int(key);
+    let is_there = member(turns, &key);
+    drop(key);
+    is_there
 }
 
 /// The query of a text.
 pub(crate) fn query_of<A: Allocator + Copy>(heap: A, text: &[u8]) -> Option<Query<A>> {
-    match term_of(heap, text) {
-        Some(term) => query_of_term(heap, &term),
-        None => None,
-    }
+    let term = term_of(heap, text)?;
+    let specification = read_spec(heap, &term);
+    drop(term);
+    let Ok(specification) = specification else {
+        return None;
+    };
+    let query = Query::from_spec(heap, &specification, 1).ok();
+    drop(specification);
+    query
 }

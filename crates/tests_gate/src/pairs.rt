@@ -16,8 +16,16 @@ pub(crate) fn last_two<A: Allocator, P: Part<A> + Drop>(
     ensures { IfSome result (λ two. IsOpened _table.now.options _table.now.gates.items two.0.number two.0.passes.items
         × IsOpened _table.now.options _table.now.gates.items two.1.number two.1.passes.items) }
 {
-    let second = sessions.pop()?;
-    let first = sessions.pop()?;
+    let Some(second) = sessions.pop() else {
+        drop(sessions);
+        return None;
+    };
+    let Some(first) = sessions.pop() else {
+        drop(second);
+        drop(sessions);
+        return None;
+    };
+    drop(sessions);
     Some((first, second))
 }
 
@@ -32,7 +40,10 @@ pub(crate) fn opened<A: Allocator + Copy, P: Part<A> + Drop>(
     let Ok((table, sessions)) = Table::<P, A>::open(heap, options) else {
         return None;
     };
-    let (first, second) = last_two(&table, sessions)?;
+    let Some((first, second)) = last_two(&table, sessions) else {
+        drop(table);
+        return None;
+    };
     Some((table, first, second))
 }
 

@@ -142,10 +142,12 @@ fn is_found<A: Allocator, T: Turns<A>>(turns: &mut T, key: &Term<A>, held: Held)
     ensures same { T.home turns.new ≡ T.home turns.old }
 {
     let number = number_of(key)?;
-    match lookup(turns, key) {
-        Ok(found) => Some(are_marked(found.as_slice(), number, held.marks(number).as_bytes())),
-        Err(_) => None,
-    }
+    let Ok(found) = lookup(turns, key) else {
+        return None;
+    };
+    let are_marked = are_marked(found.as_slice(), number, held.marks(number).as_bytes());
+    drop(found);
+    Some(are_marked)
 }
 
 /// Whether look-ups of the keys of all objects give what is held; none for want of memory.
@@ -275,10 +277,13 @@ fn is_kept_out<A: Allocator, T: Turns<A>>(turns: &mut T, object: &Term<A>, held:
     let Ok(copy) = object.copy() else {
         return false;
     };
-    match insert_new(turns, copy) {
-        Ok(is_put) => !is_put,
-        Err(refused) => is_back(&refused, object),
-    }
+    let answered = insert_new(turns, copy);
+    let is_kept_out = match &answered {
+        Ok(is_put) => !*is_put,
+        Err(refused) => is_back(refused, object),
+    };
+    drop(answered);
+    is_kept_out
 }
 
 /// Whether the table holds what it held where an object is refused, and keeps out one more object whose key has one.
@@ -310,32 +315,20 @@ fn came_of(answered: Option<bool>, answer: bool) -> Came {
     }
 }
 
-/// Whether this is the text of a term.
-fn is_text<A: Allocator>(alloc: Global, term: &Term<A>, text: &[u8]) -> bool {
-    match canonical(alloc, term) {
-        Some(written) => written.as_slice() == text,
-        None => false,
-    }
-}
-
 /// Whether an object is that of these numbers by its text.
 fn is_written<A: Allocator>(alloc: Global, object: &Term<A>, key: u32, mark: u32) -> bool {
-    match format!(in alloc; "{{{{{key}}},{mark}}}") {
-        Ok(text) => is_text(alloc, object, text.as_bytes()),
-        Err(_) => false,
-    }
-}
-
-/// Puts an object in; none where it is refused.
-fn put_again<A: Allocator, T: Turns<A>>(turns: &mut T, call: Call, object: Term<A>) -> Option<bool>
-    requires { T.is_ready turns.old }
-    ensures ready { T.is_ready turns.new }
-    ensures same { T.home turns.new ≡ T.home turns.old }
-{
-    match put_in(turns, call, object) {
-        Ok(is_put) => Some(is_put),
-        Err(_refused) => None,
-    }
+    let written = canonical(alloc, object);
+    let text = format!(in alloc; "{{{{{key}}},{mark}}}");
+    let is_written = match &written {
+        Some(written) => match &text {
+            Ok(text) => written.as_slice() == text.as_bytes(),
+            Err(_) => false,
+        },
+        None => false,
+    };
+    drop(text);
+    drop(written);
+    is_written
 }
 
 /// What came of a refused object of which this is answered when it is asked for again, where all was right so far. What
@@ -406,7 +399,7 @@ fn put_at<A: Allocator + Copy, T: Turns<A>>(
             let is_refused = is_refused(
                 alloc, counts, turns, objects, place, held, &refused, key, mark,
             );
-            let answered = put_again(turns, held.call, refused.value);
+            let answered = put_in(turns, held.call, refused.value).ok();
             came_again(counts, answered, held.answer(key), is_due && is_refused)
         }
     }
@@ -458,10 +451,10 @@ pub(crate) fn are_put<A: Allocator + Copy, T: Turns<A>>(
     ensures ready { T.is_ready turns.new }
     ensures same { T.home turns.new ≡ T.home turns.old }
 {
-    match term_of(heap, OBJECTS) {
-        Some(list) => Some(are_all_put(alloc, counts, turns, &list, kind, call)),
-        None => None,
-    }
+    let list = term_of(heap, OBJECTS)?;
+    let are_put = are_all_put(alloc, counts, turns, &list, kind, call);
+    drop(list);
+    Some(are_put)
 }
 
 /// Whether both calls come out right at a table.

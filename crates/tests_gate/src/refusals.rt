@@ -2,39 +2,34 @@
 ghost use Rattle.std.specs.Prelude.{◌≡◌, All, [], IfSome};
 ghost use Rattle.tables.specs.Options.{settings_of};
 
-use crate::objects::{object, put_both};
+use crate::objects::{is_there, object, put_both};
 use crate::trials::{Act, Home, Sort, Trial, is_swept};
-use kit_alloc::{Failing, sweep, sweep_onward};
+use kit_alloc::Failing;
 use part_core::{Fault, OpenFault, Part, TableKind};
-use part_hash::HashPart;
 use std::alloc::{Allocator, Global};
 use tables::{Options, Table, Turns, delete, delete_object, fix, insert, member, unfix};
 use term_core::Term;
 
-/// How often a sweep runs at most.
-const RUNS: u64 = 1_000;
-
 /// More fixes than a session may have.
 const MOST_FIXES: u32 = 70_000;
 
-/// What a set of two parts is opened with.
-const OPTIONS: Options = Options {
-    name: 1,
-    kind: TableKind::Set,
-    keypos: 1,
-    parts: 2,
-    sessions: 3,
-};
+/// Whether a table is opened, or refused for want of memory where a request was refused. It is let go.
+fn is_due<T: Drop>(counts: &Failing<Global>, opened: Result<T, OpenFault>) -> bool {
+    let is_due = match &opened {
+        Ok(_) => !counts.was_refused(),
+        Err(fault) => *fault == OpenFault::Memory && counts.was_refused(),
+    };
+    drop(opened);
+    is_due
+}
 
-/// A set of hashed parts.
-type Hashed<'h> = Table<HashPart<&'h Failing<Global>>, &'h Failing<Global>>;
-
-/// Whether a table is opened, or refused for want of memory where a request was refused.
-fn is_opened(heap: &Failing<Global>) -> bool {
-    match Hashed::open(heap, OPTIONS) {
-        Ok(_opened) => !heap.was_refused(),
-        Err(fault) => fault == OpenFault::Memory && heap.was_refused(),
-    }
+/// Whether it is so of a table.
+pub(crate) fn is_opened<A: Allocator + Copy, P: Part<A> + Drop>(
+    heap: A,
+    counts: &Failing<Global>,
+    options: Options,
+) -> bool {
+    is_due(counts, Table::<P, A>::open(heap, options))
 }
 
 /// Puts a part in its opening state behind others.
@@ -46,16 +41,16 @@ fn put_part<A: Allocator, P: Part<A> + Drop>(
     requires { All (λ p. (P.settings p ≡ settings_of options) × P.is_after p []) parts.old.items }
     ensures { All (λ p. (P.settings p ≡ settings_of options) × P.is_after p []) parts.new.items }
 {
-    match P::make(
+    let Ok(part) = P::make(
         heap,
         options.kind,
         options.keypos,
         options.parts,
         options.sessions,
-    ) {
-        Ok(part) => parts.push(part).ok(),
-        Err(_) => None,
-    }
+    ) else {
+        return None;
+    };
+    parts.push(part).ok()
 }
 
 /// Two parts in their opening states.
@@ -68,27 +63,28 @@ fn two_parts<A: Allocator + Copy, P: Part<A> + Drop>(heap: A, options: Options) 
     if first.is_some() && second.is_some() {
         Some(parts)
     } else {
+        drop(parts);
         None
     }
 }
 
-/// Whether a table over two parts is opened, or refused for want of memory where a request was refused.
-fn is_opened_over(heap: &Failing<Global>) -> bool {
-    let Some(parts) = two_parts(heap, OPTIONS) else {
-        return heap.was_refused();
-    };
-    match Hashed::over(heap, OPTIONS, parts) {
-        Ok(_opened) => !heap.was_refused(),
-        Err(fault) => fault == OpenFault::Memory && heap.was_refused(),
+/// Whether it is so of a table over two parts.
+pub(crate) fn is_opened_over<A: Allocator + Copy, P: Part<A> + Drop>(
+    heap: A,
+    counts: &Failing<Global>,
+    options: Options,
+) -> bool {
+    match two_parts::<A, P>(heap, options) {
+        Some(parts) => is_due(counts, Table::over(heap, options, parts)),
+        None => counts.was_refused(),
     }
 }
 
 /// Puts `{1}` in, and says whether its key has an object then, or has none where a request was refused.
-fn is_put_at<A: Allocator + Copy, T: Turns<A>>(
+pub(crate) fn is_put<A: Allocator + Copy, T: Turns<A>>(
     heap: A,
     counts: &Failing<Global>,
     turns: &mut T,
-    key: &Term<A>,
 ) -> bool
     requires { T.is_ready turns.old }
     ensures ready { T.is_ready turns.new }
@@ -97,26 +93,16 @@ fn is_put_at<A: Allocator + Copy, T: Turns<A>>(
     let Some(object) = object(heap, 1) else {
         return counts.was_refused();
     };
-    match insert(turns, object) {
-        Ok(()) => !counts.was_refused() && member(turns, key),
-        Err(refused) => {
-            refused.fault == Fault::Memory && counts.was_refused() && !member(turns, key)
-        }
+    let inserted = insert(turns, object);
+    let fault = match &inserted {
+        Ok(()) => None,
+        Err(refused) => Some(refused.fault),
+    };
+    drop(inserted);
+    match fault {
+        None => !counts.was_refused() && is_there(turns, 1),
+        Some(fault) => fault == Fault::Memory && counts.was_refused() && !is_there(turns, 1),
     }
-}
-
-/// The same with the key of the object.
-pub(crate) fn is_put<A: Allocator + Copy, T: Turns<A>>(
-    heap: A,
-    counts: &Failing<Global>,
-    turns: &mut T,
-) -> Option<bool>
-    requires { T.is_ready turns.old }
-    ensures ready { T.is_ready turns.new }
-    ensures same { T.home turns.new ≡ T.home turns.old }
-{
-    let key = Term::int(1);
-    Some(is_put_at(heap, counts, turns, &key))
 }
 
 /// How often a session fixes its table before it is refused, and why.
@@ -158,22 +144,8 @@ fn is_answered<A: Allocator, T: Turns<A>>(turns: &mut T, object: &Term<A>, key: 
         && is_limited
 }
 
-/// The same with the key of the first object and another object that is equal to the second, where each request is
-/// refused from then on, too.
-fn is_spare_with<A: Allocator, T: Turns<A>>(
-    counts: &Failing<Global>,
-    turns: &mut T,
-    object: &Term<A>,
-) -> bool
-    requires { T.is_ready turns.old }
-    ensures ready { T.is_ready turns.new }
-    ensures same { T.home turns.new ≡ T.home turns.old }
-{
-    let key = Term::int(1);
-    is_answered(turns, object, &key) && !counts.was_refused()
-}
-
-/// Puts both in; then whether calls are answered right that take no memory.
+/// Puts both in; then whether calls are answered right that take no memory, with the key of the first object and
+/// another object that is equal to the second, where each request is refused from then on, too.
 pub(crate) fn is_spare<A: Allocator + Copy, T: Turns<A>>(
     heap: A,
     counts: &Failing<Global>,
@@ -184,10 +156,12 @@ pub(crate) fn is_spare<A: Allocator + Copy, T: Turns<A>>(
     ensures same { T.home turns.new ≡ T.home turns.old }
 {
     put_both(heap, turns)?;
-    match object(heap, 2) {
-        Some(two) => Some(is_spare_with(counts, turns, &two)),
-        None => None,
-    }
+    let two = object(heap, 2)?;
+    let one = Term::int(1);
+    let is_answered = is_answered(turns, &two, &one);
+    drop(one);
+    drop(two);
+    Some(is_answered && !counts.was_refused())
 }
 
 /// Puts both in and fixes the table.
@@ -198,28 +172,6 @@ pub(crate) fn is_fixed<A: Allocator + Copy, T: Turns<A>>(heap: A, turns: &mut T)
 {
     put_both(heap, turns)?;
     Some(fix(turns).is_ok())
-}
-
-/// Whether a table, or one over parts, is opened, or refused for want of memory where a request was refused, and leaves
-/// no block.
-fn is_clean(heap: &Failing<Global>, over: bool) -> bool {
-    let is_opened = if over {
-        is_opened_over(heap)
-    } else {
-        is_opened(heap)
-    };
-    is_opened && heap.blocks() == 0
-}
-
-/// Whether it is so with each request refused in turn, alone and with all behind it.
-fn opens(alloc: Global, over: bool) -> bool {
-    let alone = sweep(alloc, RUNS, |heap: &Failing<Global>| {
-        is_clean(heap, over)
-    });
-    let onward = sweep_onward(alloc, RUNS, |heap: &Failing<Global>| {
-        is_clean(heap, over)
-    });
-    alone.is_complete() && onward.is_complete()
 }
 
 /// At a set of two hashed parts.
@@ -235,8 +187,8 @@ const fn at_set(home: Home, act: Act) -> Trial {
 
 #[test]
 fn each_request_of_opening_may_be_refused(rt: HostRuntime) {
-    assert!(rt; opens(rt.alloc(), false));
-    assert!(rt; opens(rt.alloc(), true));
+    assert!(rt; is_swept(&rt, rt.alloc(), at_set(Home::Opened, Act::Nothing)));
+    assert!(rt; is_swept(&rt, rt.alloc(), at_set(Home::OpenedOver, Act::Nothing)));
 }
 
 #[test]

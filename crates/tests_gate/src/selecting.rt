@@ -26,19 +26,6 @@ fn is_fixed_once<A: Allocator, T: Turns<A>>(turns: &T) -> bool
     true
 }
 
-/// The same of a session of a table.
-fn keeps_its_fix<R: Wait, A: Allocator + Copy, P: Part<A> + Drop>(
-    rt: &R,
-    table: &Table<P, A>,
-    session: &mut Session<P, A>,
-) -> bool
-    requires { IsOpened table.now.options table.now.gates.items session.old.number session.old.passes.items }
-    ensures { IsOpened table.now.options table.now.gates.items session.new.number session.new.passes.items }
-{
-    let at = table.at(rt, session);
-    is_fixed_once(&at)
-}
-
 /// How many answers a walk gives, none where it is refused, and whether its session keeps its one fix.
 fn walked<R: Wait, A: Allocator + Copy, P: Part<A> + Drop>(
     rt: &R,
@@ -51,12 +38,15 @@ fn walked<R: Wait, A: Allocator + Copy, P: Part<A> + Drop>(
     ensures { IsOpened table.now.options table.now.gates.items result.0.number result.0.passes.items }
 {
     let (session, answers) = select_at(rt, heap, table, session, query);
+    let count = match &answers {
+        Ok(answers) => Some(answers.len()),
+        Err(AllocError) => None,
+    };
+    drop(answers);
     let mut session = session;
-    let keeps = keeps_its_fix(rt, table, &mut session);
-    match answers {
-        Ok(answers) => (session, Some(answers.len()), keeps),
-        Err(AllocError) => (session, None, keeps),
-    }
+    let at = table.at(rt, &mut session);
+    let keeps = is_fixed_once(&at);
+    (session, count, keeps)
 }
 
 /// Whether a walk answers both objects, asked again where it is refused, and its session keeps its one fix in between
@@ -73,9 +63,11 @@ fn is_walked<R: Wait, A: Allocator + Copy, P: Part<A> + Drop>(
 {
     let (session, answers, keeps) = walked(rt, heap, table, session, query);
     if answers.is_some() {
+        drop(session);
         return answers == Some(2) && keeps;
     }
-    let (_session, again, still_keeps) = walked(rt, heap, table, session, query);
+    let (session, again, still_keeps) = walked(rt, heap, table, session, query);
+    drop(session);
     let is_right = match again {
         Some(count) => count == 2,
         None => matches!(counts.plan(), Plan::From(_)),
@@ -93,10 +85,13 @@ pub(crate) fn is_selected<R: Wait, A: Allocator + Copy, P: Part<A> + Drop>(
 ) -> bool
     requires { IsOpened table.now.options table.now.gates.items session.number session.passes.items }
 {
-    match query_of(heap, KEYS) {
-        Some(query) => is_walked(rt, heap, counts, table, session, &query),
-        None => counts.was_refused(),
-    }
+    let Some(query) = query_of(heap, KEYS) else {
+        drop(session);
+        return counts.was_refused();
+    };
+    let is_walked = is_walked(rt, heap, counts, table, session, &query);
+    drop(query);
+    is_walked
 }
 
 #[test]

@@ -1,18 +1,16 @@
 //! Sessions that find what others put in, one on a thread behind the other, and side by side.
-ghost use Rattle.std.specs.Prelude.{◌≡◌};
-ghost use Rattle.tables.specs.Sessions.{IsOpened};
-
-use crate::acts::{Act, Keys, acted, acted_on_a_thread, only};
+use crate::acts::{Act, Keys, acted_on_a_thread, both_acted, only};
+use crate::objects::key_of;
 use crate::pairs::opened;
 use gate::Closed;
-use kit_rows::{fields, number};
+use kit_rows::was_some;
 use part_core::{Part, TableKind};
 use part_plain::PlainPart;
 use std::alloc::Global;
 use std::process::Abort;
 use std::sync::Wait;
-use std::thread::{Threads, join};
-use tables::{Options, Session, Table};
+use std::thread::Threads;
+use tables::Options;
 use term_core::Term;
 
 /// Two keys.
@@ -41,32 +39,6 @@ fn options(parts: u8, sessions: u8) -> Options {
     }
 }
 
-/// Two sessions put keys in side by side, the first on a thread of its own; both come back.
-fn both_put<R: Threads + Wait + Abort + Sync, P: Part<Global> + Drop + Send>(
-    rt: &R,
-    alloc: Global,
-    table: &Table<P>,
-    first: Session<P>,
-    second: Session<P>,
-) -> (Session<P>, Session<P>)
-    requires first { IsOpened table.now.options table.now.gates.items first.number first.passes.items }
-    requires second { IsOpened table.now.options table.now.gates.items second.number second.passes.items }
-    ensures first { IsOpened table.now.options table.now.gates.items result.0.number result.0.passes.items }
-    ensures second { IsOpened table.now.options table.now.gates.items result.1.number result.1.passes.items }
-{
-    join(
-        rt,
-        || -> Session<P>
-            requires { IsOpened table.now.options table.now.gates.items first.number first.passes.items }
-            ensures { IsOpened table.entry.now.options table.entry.now.gates.items result.number result.passes.items }
-        { acted(rt, alloc, table, first, Act::Put(EVEN), 0) },
-        || -> Session<P>
-            requires { IsOpened table.now.options table.now.gates.items second.number second.passes.items }
-            ensures { IsOpened table.entry.now.options table.entry.now.gates.items result.number result.passes.items }
-        { acted(rt, alloc, table, second, Act::Put(ODD), 0) },
-    )
-}
-
 /// The first key of the objects of the part that comes out next, 0 where there is none, and how many they are.
 fn next_left<R: Abort, P: Part<Global> + Drop>(
     rt: &R,
@@ -76,17 +48,18 @@ fn next_left<R: Abort, P: Part<Global> + Drop>(
     let part = closed.next_part().expect(rt, "a part");
     let part = part.expect(rt, "a part that is home");
     let objects = part.objects(alloc).expect(rt, "its objects");
-    let first = match objects.first() {
-        Some(object) => key_of(rt, object),
-        None => 0,
-    };
-    (first, objects.len())
+    drop(part);
+    let left = (first_key(rt, objects.as_slice()), objects.len());
+    drop(objects);
+    left
 }
 
-/// The key of an object.
-fn key_of<R: Abort>(rt: &R, object: &Term) -> u32 {
-    let elements = fields(object).expect(rt, "a tuple");
-    number(elements.first().expect(rt, "a key")).expect(rt, "a number")
+/// The key of the first of some objects, 0 where there is none.
+fn first_key<R: Abort>(rt: &R, objects: &[Term]) -> u32 {
+    match objects.first() {
+        Some(object) => key_of(object).expect(rt, "a key that is a number"),
+        None => 0,
+    }
 }
 
 /// The first key of the part that comes out first, how many objects it has and how many the other one, and whether
@@ -99,7 +72,9 @@ fn left<R: Abort, P: Part<Global> + Drop>(
     let mut closed = closed;
     let (first_key, last) = next_left(rt, alloc, &mut closed);
     let (_, first) = next_left(rt, alloc, &mut closed);
-    (first_key, last, first, closed.next_part().is_none())
+    let is_third = was_some(closed.next_part());
+    drop(closed);
+    (first_key, last, first, !is_third)
 }
 
 /// The first session puts 1 and 2 in; the second finds 1 and deletes 2; they meet, and the table is closed with the
@@ -115,7 +90,9 @@ fn in_turn<R: Threads + Wait + Abort + Sync, P: Part<Global> + Drop + Send>(
     let second = acted_on_a_thread(rt, alloc, &table, second, Act::Count(1), 1);
     let mut second = acted_on_a_thread(rt, alloc, &table, second, Act::Delete(only(2)), 0);
     table.meet(&mut first, &mut second);
-    left(rt, alloc, table.close(second))
+    let left = left(rt, alloc, table.close(second));
+    drop(first);
+    left
 }
 
 /// A session that was not used so far closes a table in which another put two objects: what is left.
@@ -139,10 +116,20 @@ fn side_by_side<R: Threads + Wait + Abort + Sync, P: Part<Global> + Drop + Send>
     let Some((table, first, second)) = opened::<Global, P>(alloc, options(1, 2)) else {
         rt.panic("no table")
     };
-    let (first, second) = both_put(rt, alloc, &table, first, second);
+    let (first, second) = both_acted(
+        rt,
+        alloc,
+        &table,
+        first,
+        Act::Put(EVEN),
+        second,
+        Act::Put(ODD),
+    );
     table.leave(rt, first);
     let mut closed = table.close(second);
-    next_left(rt, alloc, &mut closed).1
+    let (_, count) = next_left(rt, alloc, &mut closed);
+    drop(closed);
+    count
 }
 
 #[test]

@@ -6,7 +6,7 @@ ghost use Rattle.tables.specs.Sessions.{IsOpened};
 use crate::leaks::{Middle, is_reached};
 use crate::pairs::{local_table, opened};
 use crate::putting::{Call, are_put};
-use crate::refusals::{is_fixed, is_put, is_spare};
+use crate::refusals::{is_fixed, is_opened, is_opened_over, is_put, is_spare};
 use crate::selecting::is_selected;
 use gate::Closed;
 use kit_alloc::{Failing, sweep, sweep_onward};
@@ -32,6 +32,8 @@ pub(crate) enum Sort {
 /// What a session does.
 #[derive(Clone, Copy)]
 pub(crate) enum Act {
+    /// Nothing, where its table is only opened.
+    Nothing,
     /// It puts objects in by a call, one after the other.
     Put(Call),
     /// It puts one object in.
@@ -49,6 +51,10 @@ pub(crate) enum Act {
 pub(crate) enum Home {
     /// One on one thread, which is let go.
     Alone,
+    /// One with gates, which is let go as it is opened: no session does anything.
+    Opened,
+    /// The same over parts that are handed in.
+    OpenedOver,
     /// One with gates, which is let go with its sessions, none of which leaves.
     Gates,
     /// One with gates that is closed by another session, while the first doesn't leave, and let go behind so many of
@@ -98,8 +104,9 @@ fn is_done<A: Allocator + Copy, T: Turns<A>>(
     ensures same { T.home turns.new ≡ T.home turns.old }
 {
     match trial.act {
+        Act::Nothing => Some(true),
         Act::Put(call) => are_put(alloc, heap, counts, turns, trial.kind, call),
-        Act::PutOne => is_put(heap, counts, turns),
+        Act::PutOne => Some(is_put(heap, counts, turns)),
         Act::Fix => is_fixed(heap, turns),
         Act::Reach(middle) => is_reached(heap, turns, middle),
         Act::Spare => is_spare(heap, counts, turns),
@@ -129,11 +136,15 @@ fn done_in<R: Wait, A: Allocator + Copy, P: Part<A> + Drop>(
 fn parts_out<A: Allocator, P: Part<A> + Drop>(closed: Closed<P, A>, most: u8) -> u8 {
     let mut closed = closed;
     for out in 0..most {
-        match closed.next_part() {
-            Some(Ok(_part)) => {}
-            Some(Err(_)) | None => return out,
+        let part = closed.next_part();
+        let is_out = matches!(&part, Some(Ok(_)));
+        drop(part);
+        if !is_out {
+            drop(closed);
+            return out;
         }
     }
+    drop(closed);
     most
 }
 
@@ -170,10 +181,24 @@ fn is_let_go<R: Wait, A: Allocator + Copy, P: Part<A> + Drop>(
     requires other { IsOpened table.options table.gates.items other.number other.passes.items }
 {
     match home {
-        Home::Alone | Home::Gates => true,
-        Home::Closed(count) => parts_out(table.close(other), count) == count,
+        Home::Alone | Home::Opened | Home::OpenedOver | Home::Gates => {
+            drop(other);
+            drop(first);
+            drop(table);
+            true
+        }
+        Home::Closed(count) => {
+            let are_out = parts_out(table.close(other), count) == count;
+            drop(first);
+            are_out
+        }
         Home::Left => is_left(rt, counts, table, first, other),
-        Home::Walked => is_selected(rt, heap, counts, &table, first),
+        Home::Walked => {
+            let is_selected = is_selected(rt, heap, counts, &table, first);
+            drop(other);
+            drop(table);
+            is_selected
+        }
     }
 }
 
@@ -203,7 +228,9 @@ fn is_done_alone<A: Allocator + Copy, P: Part<A> + Drop>(
 ) -> Option<bool> {
     let mut table = local_table::<A, P>(heap, trial.options())?;
     let mut at = table.at(0);
-    is_done(alloc, heap, counts, &mut at, trial)
+    let is_done = is_done(alloc, heap, counts, &mut at, trial);
+    drop(table);
+    is_done
 }
 
 /// The same at one of the two.
@@ -216,6 +243,8 @@ fn is_done_by<R: Wait, A: Allocator + Copy, P: Part<A> + Drop>(
 ) -> Option<bool> {
     match trial.home {
         Home::Alone => is_done_alone::<A, P>(alloc, heap, counts, trial),
+        Home::Opened => Some(is_opened::<A, P>(heap, counts, trial.options())),
+        Home::OpenedOver => Some(is_opened_over::<A, P>(heap, counts, trial.options())),
         Home::Gates | Home::Closed(_) | Home::Left | Home::Walked => {
             is_done_at::<R, A, P>(rt, alloc, heap, counts, trial)
         }

@@ -3,7 +3,8 @@ ghost use Rattle.std.specs.Prelude.{◌≡◌, All, []};
 ghost use Rattle.tables.specs.Options.{settings_of};
 ghost use Rattle.tables.specs.Sessions.{IsOpened};
 
-use crate::watching::{Watching, asked, flag, next_part, opened_over, part_that_watches};
+use crate::acts::{Act, acted};
+use crate::watching::{Watching, flag, next_met, opened_over, part_that_watches};
 use kit_members::is_raised;
 use part_core::{Part, TableKind};
 use part_plain::PlainPart;
@@ -41,8 +42,9 @@ fn kept_part<R: Abort, P: Part<Global> + Drop>(
 
 /// A session asks for a key; when it has the part out, the other says that it wants it, and asks, too. The other comes
 /// back.
-fn asked_while_out<R: Threads + Wait + Sync, P: Part<Global> + Drop + Send>(
+fn asked_while_out<R: Threads + Wait + Abort + Sync, P: Part<Global> + Drop + Send>(
     rt: &R,
+    alloc: Global,
     table: &Table<P>,
     first: Session<P>,
     second: Session<P>,
@@ -58,18 +60,15 @@ fn asked_while_out<R: Threads + Wait + Sync, P: Part<Global> + Drop + Send>(
         ||
             requires { IsOpened table.now.options table.now.gates.items first.number first.passes.items }
         {
-            let mut first = first;
-            asked(rt, table, &mut first, 1);
+            drop(acted(rt, alloc, table, first, Act::Member(1), 0));
         },
         || -> Session<P>
             requires { IsOpened table.now.options table.now.gates.items second.number second.passes.items }
             ensures { IsOpened table.entry.now.options table.entry.now.gates.items result.number result.passes.items }
         {
-            let mut second = second;
             is_raised(is_out);
             is_wanted.store(true, Ordering::SeqCst);
-            asked(rt, table, &mut second, 1);
-            second
+            acted(rt, alloc, table, second, Act::Member(1), 0)
         },
     );
     second
@@ -84,9 +83,13 @@ fn is_woken<R: Threads + Wait + Abort + Sync, P: Part<Global> + Drop + Send>(
     let is_wanted = flag(rt, alloc);
     let parts = kept_part::<R, P>(rt, alloc, OPTIONS, &is_out, &is_wanted);
     let (table, first, second) = opened_over(rt, alloc, OPTIONS, parts);
-    let second = asked_while_out(rt, &table, first, second, &is_out, &is_wanted);
+    let second = asked_while_out(rt, alloc, &table, first, second, &is_out, &is_wanted);
     let mut closed = table.close(second);
-    next_part(rt, &mut closed).has_met
+    let has_met = next_met(rt, &mut closed);
+    drop(closed);
+    drop(is_wanted);
+    drop(is_out);
+    has_met
 }
 
 #[test]

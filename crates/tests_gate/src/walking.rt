@@ -72,9 +72,13 @@ fn walk_behind<R: Abort>(rt: &R, step: Step, place: u32) -> Option<Continuation>
     match step {
         Step::Piece(piece, walk) => {
             assert!(rt; is_piece(piece.as_slice(), place));
+            drop(piece);
             Some(walk)
         }
-        Step::End(_query) => None,
+        Step::End(query) => {
+            drop(query);
+            None
+        }
     }
 }
 
@@ -122,6 +126,21 @@ fn refused_as_anothers<R: Abort, T: Turns<Global>>(
     refused.value
 }
 
+/// The same at a session of a table that is another's, or another table's.
+fn refused_at<R: Wait + Abort, P: Part<Global> + Drop>(
+    rt: &R,
+    alloc: Global,
+    table: &Table<P>,
+    session: &mut Session<P>,
+    walk: Continuation,
+) -> Continuation
+    requires { IsOpened table.now.options table.now.gates.items session.old.number session.old.passes.items }
+    ensures { IsOpened table.now.options table.now.gates.items session.new.number session.new.passes.items }
+{
+    let mut at = table.at(rt, session);
+    refused_as_anothers(rt, alloc, &mut at, walk)
+}
+
 /// How many further pieces are the keys that follow, one each, before the walk ends; none where it doesn't.
 fn gone_on<R: Abort, T: Turns<Global>>(
     rt: &R,
@@ -140,36 +159,8 @@ fn gone_on<R: Abort, T: Turns<Global>>(
             None => return Some(place - 1),
         }
     }
+    drop(walk);
     None
-}
-
-/// The first piece, at a session of a table.
-fn begun_at<R: Wait + Abort, P: Part<Global> + Drop>(
-    rt: &R,
-    alloc: Global,
-    table: &Table<P>,
-    session: &mut Session<P>,
-) -> Continuation
-    requires { IsOpened table.now.options table.now.gates.items session.old.number session.old.passes.items }
-    ensures { IsOpened table.now.options table.now.gates.items session.new.number session.new.passes.items }
-{
-    let mut at = table.at(rt, session);
-    begun(rt, alloc, &mut at)
-}
-
-/// The same at a session that is another's, or another table's.
-fn refused_at<R: Wait + Abort, P: Part<Global> + Drop>(
-    rt: &R,
-    alloc: Global,
-    table: &Table<P>,
-    session: &mut Session<P>,
-    walk: Continuation,
-) -> Continuation
-    requires { IsOpened table.now.options table.now.gates.items session.old.number session.old.passes.items }
-    ensures { IsOpened table.now.options table.now.gates.items session.new.number session.new.passes.items }
-{
-    let mut at = table.at(rt, session);
-    refused_as_anothers(rt, alloc, &mut at, walk)
 }
 
 /// The walk, once a session of a table of another name was refused to carry it on.
@@ -179,43 +170,53 @@ fn refused_elsewhere<R: Wait + Abort, P: Part<Global> + Drop>(
     walk: Continuation,
 ) -> Continuation {
     let options = Options { name: 2, ..OPTIONS };
-    let Some((table, mut first, _second)) = opened::<Global, P>(alloc, options) else {
+    let Some((table, mut first, second)) = opened::<Global, P>(alloc, options) else {
         rt.panic("no table")
     };
-    refused_at(rt, alloc, &table, &mut first, walk)
-}
-
-/// The other pieces, there.
-fn gone_on_at<R: Wait + Abort, P: Part<Global> + Drop>(
-    rt: &R,
-    alloc: Global,
-    table: &Table<P>,
-    session: &mut Session<P>,
-    walk: Continuation,
-) -> Option<u32>
-    requires { IsOpened table.now.options table.now.gates.items session.old.number session.old.passes.items }
-    ensures { IsOpened table.now.options table.now.gates.items session.new.number session.new.passes.items }
-{
-    let mut at = table.at(rt, session);
-    gone_on(rt, alloc, &mut at, walk)
+    let walk = refused_at(rt, alloc, &table, &mut first, walk);
+    drop(second);
+    drop(first);
+    drop(table);
+    walk
 }
 
 /// How many pieces follow the first where another session, which is refused to carry the walk on, deletes all keys
-/// meanwhile; the walking session fixes.
+/// meanwhile.
+fn outlasted<R: Threads + Wait + Abort + Sync, P: Part<Global> + Drop + Send>(
+    rt: &R,
+    alloc: Global,
+    table: &Table<P>,
+    walker: Session<P>,
+    writer: Session<P>,
+) -> Option<u32>
+    requires walker { IsOpened table.now.options table.now.gates.items walker.number walker.passes.items }
+    requires writer { IsOpened table.now.options table.now.gates.items writer.number writer.passes.items }
+{
+    let mut walker = walker;
+    let mut writer = writer;
+    let mut at = table.at(rt, &mut walker);
+    let walk = begun(rt, alloc, &mut at);
+    let walk = refused_at(rt, alloc, table, &mut writer, walk);
+    let walk = refused_elsewhere::<R, P>(rt, alloc, walk);
+    deleted_on_a_thread(rt, alloc, table, writer);
+    let pieces = gone_on(rt, alloc, &mut at, walk);
+    drop(walker);
+    pieces
+}
+
+/// The same of two sessions of a table that has the keys, of which the walking one fixes it.
 fn outlasting<R: Threads + Wait + Abort + Sync, P: Part<Global> + Drop + Send>(
     rt: &R,
     alloc: Global,
 ) -> Option<u32> {
-    let Some((table, walker, mut writer)) = opened::<Global, P>(alloc, OPTIONS) else {
+    let Some((table, walker, writer)) = opened::<Global, P>(alloc, OPTIONS) else {
         rt.panic("no table")
     };
     let walker = acted(rt, alloc, &table, walker, Act::Put(KEYS), 0);
-    let mut walker = acted(rt, alloc, &table, walker, Act::Fix, 0);
-    let walk = begun_at(rt, alloc, &table, &mut walker);
-    let walk = refused_at(rt, alloc, &table, &mut writer, walk);
-    let walk = refused_elsewhere::<R, P>(rt, alloc, walk);
-    deleted_on_a_thread(rt, alloc, &table, writer);
-    gone_on_at(rt, alloc, &table, &mut walker, walk)
+    let walker = acted(rt, alloc, &table, walker, Act::Fix, 0);
+    let pieces = outlasted(rt, alloc, &table, walker, writer);
+    drop(table);
+    pieces
 }
 
 /// Whether a visit is refused as out of place, and comes back.
@@ -230,22 +231,37 @@ fn is_refused<'q, T: Turns<Global>>(turns: &mut T, query: &'q Query, scope: Scop
     };
     let mut op = PartOp::Visit(look);
     let answer = turns.turn(0, &mut op);
-    let is_back = matches!(op, PartOp::Visit(_));
-    match answer {
-        Ok(_reply) => false,
-        Err(fault) => fault == Fault::CursorOutside && is_back,
-    }
+    let is_back = matches!(&op, PartOp::Visit(_));
+    drop(op);
+    let is_outside = matches!(&answer, Err(Fault::CursorOutside));
+    drop(answer);
+    is_outside && is_back
 }
 
-/// Whether a visit of class 8 of 8 is, at a session of a table.
-fn is_refused_at<R: Wait + Abort, P: Part<Global> + Drop>(rt: &R, alloc: Global) -> bool {
+/// Whether a visit of class 8 of 8 is.
+fn is_class_refused<R: Abort, T: Turns<Global>>(rt: &R, alloc: Global, turns: &mut T) -> bool
+    requires ready { T.is_ready turns.old }
+    requires parts { 0 < (T.home turns.old).options.parts }
+{
     let query = keys_query(rt, alloc);
     let cursor = Cursor::Class { base: 8, class: 8 };
-    let Some((table, mut session, _other)) = opened::<Global, P>(alloc, OPTIONS) else {
+    let is_refused = is_refused(turns, &query, Scope::After(&cursor));
+    drop(cursor);
+    drop(query);
+    is_refused
+}
+
+/// Whether it is at a session of a table.
+fn is_refused_at<R: Wait + Abort, P: Part<Global> + Drop>(rt: &R, alloc: Global) -> bool {
+    let Some((table, mut session, other)) = opened::<Global, P>(alloc, OPTIONS) else {
         rt.panic("no table")
     };
     let mut at = table.at(rt, &mut session);
-    is_refused(&mut at, &query, Scope::After(&cursor))
+    let is_refused = is_class_refused(rt, alloc, &mut at);
+    drop(other);
+    drop(session);
+    drop(table);
+    is_refused
 }
 
 #[test]

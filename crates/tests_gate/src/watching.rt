@@ -5,6 +5,7 @@ ghost use Rattle.part_core.specs.Legal.{fix_count, state_after};
 ghost use Rattle.tables.specs.Options.{settings_of};
 ghost use Rattle.tables.specs.Sessions.{IsOpened};
 
+use crate::acts::{Act, both_acted};
 use crate::pairs::last_two;
 use gate::Closed;
 use kit_members::is_raised;
@@ -14,8 +15,8 @@ use std::alloc::{AllocError, Global};
 use std::process::Abort;
 use std::sync::atomic::{AtomicBool, Ordering};
 use std::sync::{Arc, Wait};
-use std::thread::{Threads, join};
-use tables::{Options, Session, Table, Turns, member};
+use std::thread::Threads;
+use tables::{Options, Session, Table};
 use term_core::Term;
 
 /// A part which raises a flag at each operation, and looks whether another's is up.
@@ -27,7 +28,7 @@ pub(crate) struct Watching<P> {
     // It keeps its session for a while then.
     lingers: bool,
     // Whether it was up at each operation, if there was one.
-    pub(crate) has_met: Option<bool>,
+    has_met: Option<bool>,
 }
 
 impl<P: Part<Global> + Drop> Part<Global> for Watching<P> {
@@ -123,6 +124,8 @@ fn watching_parts<R: Abort, P: Part<Global> + Drop>(
     parts.push(first).ok().expect(rt, "room for a part");
     let second = part_that_watches(rt, alloc, options, &other, &one, false);
     parts.push(second).ok().expect(rt, "room for another");
+    drop(other);
+    drop(one);
     parts
 }
 
@@ -150,28 +153,16 @@ pub(crate) fn opened_over<R: Abort, P: Part<Global> + Drop>(
     (table, first, second)
 }
 
-/// The part that comes out next.
-pub(crate) fn next_part<R: Abort, P: Part<Global> + Drop>(
+/// Whether the part that comes out next has met the other, if it was asked.
+pub(crate) fn next_met<R: Abort, P: Part<Global> + Drop>(
     rt: &R,
     closed: &mut Closed<Watching<P>>,
-) -> Watching<P> {
+) -> Option<bool> {
     let part = closed.next_part().expect(rt, "a part");
-    part.expect(rt, "a part that is home")
-}
-
-/// Asks for a key.
-pub(crate) fn asked<R: Wait, P: Part<Global> + Drop>(
-    rt: &R,
-    table: &Table<P>,
-    session: &mut Session<P>,
-    key: i64,
-) -> bool
-    requires { IsOpened table.now.options table.now.gates.items session.old.number session.old.passes.items }
-    ensures { IsOpened table.now.options table.now.gates.items session.new.number session.new.passes.items }
-{
-    let key = Term::int(key);
-    let mut at = table.at(rt, session);
-    member(&mut at, &key)
+    let part = part.expect(rt, "a part that is home");
+    let has_met = part.has_met;
+    drop(part);
+    has_met
 }
 
 /// A session made anew from its fields.
@@ -181,37 +172,6 @@ fn made_anew<P: Part<Global> + Drop>(session: Session<P>) -> Session<P>
 {
     let Session { number, passes } = session;
     Session { number, passes }
-}
-
-/// Two sessions ask for keys of two parts, side by side; the second comes back.
-fn both_asked<R: Threads + Wait + Sync, P: Part<Global> + Drop + Send>(
-    rt: &R,
-    table: &Table<P>,
-    first: Session<P>,
-    second: Session<P>,
-) -> Session<P>
-    requires first { IsOpened table.now.options table.now.gates.items first.number first.passes.items }
-    requires second { IsOpened table.now.options table.now.gates.items second.number second.passes.items }
-    ensures { IsOpened table.now.options table.now.gates.items result.number result.passes.items }
-{
-    let ((), second) = join(
-        rt,
-        ||
-            requires { IsOpened table.now.options table.now.gates.items first.number first.passes.items }
-        {
-            let mut first = first;
-            asked(rt, table, &mut first, 1);
-        },
-        || -> Session<P>
-            requires { IsOpened table.now.options table.now.gates.items second.number second.passes.items }
-            ensures { IsOpened table.entry.now.options table.entry.now.gates.items result.number result.passes.items }
-        {
-            let mut second = second;
-            asked(rt, table, &mut second, 2);
-            second
-        },
-    );
-    second
 }
 
 /// Whether each of two parts met the other, where two sessions turned them.
@@ -232,11 +192,21 @@ fn have_met<R: Threads + Wait + Abort + Sync, P: Part<Global> + Drop + Send>(
     let table = Table { options, gates };
     let first = made_anew(first);
     let second = made_anew(second);
-    let second = both_asked(rt, &table, first, second);
+    let (first, second) = both_acted(
+        rt,
+        alloc,
+        &table,
+        first,
+        Act::Member(1),
+        second,
+        Act::Member(2),
+    );
+    drop(first);
     let mut closed = table.close(second);
-    let last = next_part(rt, &mut closed);
-    let first = next_part(rt, &mut closed);
-    [last.has_met, first.has_met]
+    let last_met = next_met(rt, &mut closed);
+    let first_met = next_met(rt, &mut closed);
+    drop(closed);
+    [last_met, first_met]
 }
 
 #[test]

@@ -1,4 +1,4 @@
 use Rattle.tests_gate.proofs.acts.behind.Goals as goal
 
-pub next-requires : goal.next-requires
-next-requires g c = c.requires
+pub next-answered-requires : goal.next-answered-requires
+next-answered-requires g c = c.requires

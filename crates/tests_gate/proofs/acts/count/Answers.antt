@@ -1,4 +1,4 @@
 use Rattle.tests_gate.proofs.acts.count.Goals as goal
 
-pub lookup-requires : goal.lookup-requires
-lookup-requires g c = c.requires
+pub lookup-found-requires : goal.lookup-found-requires
+lookup-found-requires g c = c.requires

@@ -4,4 +4,4 @@ use Rattle.tests_gate.proofs.closing.gate_and_pass.Goals as goal
 
 pub returns : goal.returns
 returns g c =
-    (last_made (λ (t : Ticket). t.gate) _ _ _ _ c.in_ok-gate.gate c.requires.made c.in_ok-gate.ensures.items c.in_ok-pass.pass c.in_ok-pass.ensures.items).1
+    (last_made (λ (t : Ticket). t.gate) _ _ _ _ c.in-Some.gate c.requires.made c.in-Some.ensures.items c.in-Some-pop.pass c.in-Some-pop.ensures.items).1

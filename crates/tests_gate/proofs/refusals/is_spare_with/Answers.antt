@@ -1,4 +1,0 @@
-use Rattle.tests_gate.proofs.refusals.is_spare_with.Goals as goal
-
-pub is_answered-requires : goal.is_answered-requires
-is_answered-requires g c = c.requires
