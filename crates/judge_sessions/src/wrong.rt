@@ -3,7 +3,7 @@ use crate::keys::Object;
 use std::alloc::AllocError;
 
 /// An answer that no history of turns allows.
-#[derive(Clone, Copy, Debug, PartialEq, Eq)]
+#[derive(Clone, Copy, Debug)]
 pub(crate) enum Wrong {
     /// An object that no session put in there, or that this one hadn't yet.
     NeverPut(Object),
