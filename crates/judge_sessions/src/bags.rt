@@ -3,9 +3,10 @@
 use crate::event::Event;
 use crate::keys::{COUNTED, KEYS, Object, owner};
 use crate::puts::{Caller, Puts};
-use crate::wrong::Wrong;
+use crate::wrong::{Wrong, check};
 use part_core::TableKind;
 use std::alloc::Global;
+use std::mem;
 
 /// A replay of the events of a session.
 #[derive(Drop)]
@@ -15,6 +16,8 @@ pub(crate) struct BagReplay<'a> {
     /// The objects that are there at the session's own keys, and at others those that it saw or put in and that may
     /// still be there; those of a key in their order.
     there: Vec<Object>,
+    /// Those that are kept while others are replaced.
+    kept: Vec<Object>,
     /// At which event each object was gone, if it was.
     gone: Vec<Option<u32>>,
     /// The objects of a list that is being read.
@@ -82,11 +85,7 @@ fn goes(gone: &mut [Option<u32>], puts: &Puts, object: Object, time: u32) {
 
 /// Puts an object behind others.
 fn push(objects: &mut Vec<Object>, object: Object) -> Result<(), Wrong> {
-    if objects.push(object).is_ok() {
-        Ok(())
-    } else {
-        Err(Wrong::NoMemory)
-    }
+    check(objects.push(object).is_ok(), Wrong::NoMemory)
 }
 
 impl<'a> BagReplay<'a> {
@@ -97,13 +96,14 @@ impl<'a> BagReplay<'a> {
         kind: TableKind,
         puts: &'a Puts,
     ) -> Option<BagReplay<'a>> {
-        let Ok(gone) = Vec::from_elem(alloc, None, puts.len()) else {
+        let Ok(gone) = Vec::from_elem(alloc, None, puts.keys.len()) else {
             return None;
         };
         Some(BagReplay {
             session: Caller::new(number, puts),
             kind,
             there: Vec::new(alloc),
+            kept: Vec::new(alloc),
             gone,
             items: Vec::new(alloc),
             walked: Vec::new(alloc),
@@ -126,49 +126,38 @@ impl<'a> BagReplay<'a> {
         }
     }
 
-    /// When an object was gone, if it was.
-    fn gone_at(&self, object: Object) -> Option<u32> {
-        *self.gone.get(self.session.puts.place(object)?)?
-    }
-
-    /// The objects that were read last are those at a key now: what was there before and isn't among them is gone.
+    /// The objects that were read last, none if none were, are those at a key now: what was there before and isn't among
+    /// them is gone.
     fn replaces(&mut self, key: u32) -> Result<(), Wrong> {
-        if KEYS <= key {
-            return Err(Wrong::NoKey(key));
-        }
-        if !self.session.owns(key) {
-            for object in self.there.as_slice() {
-                if object.key == key && times(self.items.as_slice(), *object) == 0 {
-                    goes(
-                        self.gone.as_mut_slice(),
-                        self.session.puts,
-                        *object,
-                        self.time,
-                    );
-                }
+        check(key < KEYS, Wrong::NoKey(key))?;
+        let is_shared = !self.session.owns(key);
+        for object in self.there.as_slice() {
+            if object.key != key {
+                push(&mut self.kept, *object)?;
+            } else if is_shared && times(self.items.as_slice(), *object) == 0 {
+                goes(
+                    self.gone.as_mut_slice(),
+                    self.session.puts,
+                    *object,
+                    self.time,
+                );
             }
         }
-        self.there.retain(|present| present.key != key);
-        if self.there.extend_from_slice(self.items.as_slice()).is_err() {
-            return Err(Wrong::NoMemory);
-        }
+        mem::swap(&mut self.there, &mut self.kept);
+        self.kept.clear();
+        let come = self.there.extend_from_slice(self.items.as_slice()).is_ok();
         self.items.clear();
-        Ok(())
-    }
-
-    /// A key has no objects now.
-    fn empties(&mut self, key: u32) -> Result<(), Wrong> {
-        self.items.clear();
-        self.replaces(key)
+        check(come, Wrong::NoMemory)
     }
 
     /// An object that others may write, too, was there at some moment since the walk began, or is there now.
     fn may_be_there(&self, object: Object, since: u32) -> Result<(), Wrong> {
-        if !self.session.may_meet(object) {
+        let Some(place) = self.session.puts.place(object) else {
             return Err(Wrong::NeverPut(object));
-        }
-        match self.gone_at(object) {
-            Some(at) if at <= since => Err(Wrong::CameBack(object)),
+        };
+        check(self.session.may_meet(object), Wrong::NeverPut(object))?;
+        match self.gone.get(place) {
+            Some(Some(at)) if *at <= since => Err(Wrong::CameBack(object)),
             _ => Ok(()),
         }
     }
@@ -201,19 +190,11 @@ impl<'a> BagReplay<'a> {
 
     /// Puts an object behind those of its key; in a bag it changes nothing where it is there.
     fn puts(&mut self, object: Object) -> Result<(), Wrong> {
-        if KEYS <= object.key {
-            return Err(Wrong::NoKey(object.key));
-        }
+        check(object.key < KEYS, Wrong::NoKey(object.key))?;
         if self.kind == TableKind::Bag && times(self.there.as_slice(), object) != 0 {
             return Ok(());
         }
         push(&mut self.there, object)
-    }
-
-    /// The session puts a new object in.
-    fn puts_first(&mut self, object: Object) -> Result<(), Wrong> {
-        self.session.makes(object);
-        self.puts(object)
     }
 
     /// An object was to be put in where its key had none.
@@ -226,7 +207,7 @@ impl<'a> BagReplay<'a> {
         if !fresh {
             return Ok(());
         }
-        self.empties(key)?;
+        self.replaces(key)?;
         push(&mut self.there, object)
     }
 
@@ -238,14 +219,11 @@ impl<'a> BagReplay<'a> {
         if there {
             return Ok(());
         }
-        self.empties(key)
+        self.replaces(key)
     }
 
     /// The session deletes an object of its own, where it is there, with all that are equal to it.
     fn removes_object(&mut self, object: Object) -> Result<(), Wrong> {
-        if KEYS <= object.key {
-            return Err(Wrong::NoKey(object.key));
-        }
         if !self.session.owns(object.key) && self.session.may_meet(object) {
             goes(
                 self.gone.as_mut_slice(),
@@ -254,8 +232,12 @@ impl<'a> BagReplay<'a> {
                 self.time,
             );
         }
-        self.there.retain(|present| *present != object);
-        Ok(())
+        for present in self.there.as_slice() {
+            if present.key == object.key && *present != object {
+                push(&mut self.items, *present)?;
+            }
+        }
+        self.replaces(object.key)
     }
 
     /// A walk begins.
@@ -301,11 +283,7 @@ impl<'a> BagReplay<'a> {
         if self.is_toured(key) {
             return Err(Wrong::MetTwice(key));
         }
-        if self.toured.push(key).is_ok() {
-            Ok(())
-        } else {
-            Err(Wrong::NoMemory)
-        }
+        check(self.toured.push(key).is_ok(), Wrong::NoMemory)
     }
 
     /// A walk ends: of the session's own keys it has met all objects, or, where it was a tour, each that has some.
@@ -335,41 +313,30 @@ impl<'a> BagReplay<'a> {
         count
     }
 
-    /// The session was told that so many of its own objects were there.
-    fn is_count(&self, parity: Option<u32>, count: u64) -> Result<(), Wrong> {
-        if self.counts(parity) == count {
-            Ok(())
-        } else {
-            Err(Wrong::Miscounted(count))
+    /// The session deletes its own objects of a parity at a key, and leaves the others.
+    fn removes_at(&mut self, key: u32, parity: u32) -> Result<(), Wrong> {
+        for present in self.there.as_slice() {
+            if present.key == key && !present.is_of(Some(parity)) {
+                push(&mut self.items, *present)?;
+            }
         }
+        self.replaces(key)
     }
 
-    /// The session was told that the table had so many objects: at least its own.
-    fn is_count_of_all(&self, count: u64) -> Result<(), Wrong> {
-        if self.counts(None) <= count {
-            Ok(())
-        } else {
-            Err(Wrong::Miscounted(count))
-        }
-    }
-
-    /// The session deletes its own objects of a parity, and leaves the others of each key; it was told how many there
-    /// were.
+    /// The same at each key; it was told how many there were.
     fn removes_all(&mut self, parity: u32, count: u64) -> Result<(), Wrong> {
-        self.is_count(Some(parity), count)?;
-        let number = self.session.number;
-        self.there.retain(|present| owner(present.key) != Some(number)
-            || !present.is_of(Some(parity)));
+        check(self.counts(Some(parity)) == count, Wrong::Miscounted(count))?;
+        for key in self.session.keys() {
+            self.removes_at(key, parity)?;
+        }
         Ok(())
     }
 
     /// The session deleted so many objects at the keys whose objects are counted, one at each at most.
     fn clears(&mut self, count: u64) -> Result<(), Wrong> {
-        if u64::from(KEYS - COUNTED) < count {
-            return Err(Wrong::Miscounted(count));
-        }
+        check(count <= u64::from(KEYS - COUNTED), Wrong::Miscounted(count))?;
         for key in COUNTED..KEYS {
-            self.empties(key)?;
+            self.replaces(key)?;
         }
         Ok(())
     }
@@ -384,9 +351,9 @@ impl<'a> BagReplay<'a> {
             Event::Walked(object) => self.walks_by(object),
             Event::Met(key) => self.meets(key),
             Event::Ended => self.ends(),
-            Event::Counted(count) => self.is_count(None, count),
+            Event::Counted(count) => check(self.counts(None) == count, Wrong::Miscounted(count)),
             Event::Removed(parity, count) => self.removes_all(parity, count),
-            Event::CountedAll(count) => self.is_count_of_all(count),
+            Event::CountedAll(count) => check(self.counts(None) <= count, Wrong::Miscounted(count)),
             Event::Cleared(count) => self.clears(count),
             _ => self.session.goes_on(event),
         }
@@ -396,17 +363,20 @@ impl<'a> BagReplay<'a> {
     fn goes_on(&mut self, event: Event) -> Result<(), Wrong> {
         self.time = self.time.saturating_add(1);
         match event {
-            Event::Put(object) => self.puts_first(object),
+            Event::Put(object) => {
+                self.session.makes(object);
+                self.puts(object)
+            }
             Event::PutAgain(object) => self.puts(object),
             Event::PutNew(object, fresh) => self.puts_new(object, fresh),
             Event::Item(object) | Event::ItemTaken(object) => push(&mut self.items, object),
             Event::Listed(key) => self.lists(key),
             Event::TakenAll(key) => {
                 self.lists(key)?;
-                self.empties(key)
+                self.replaces(key)
             }
             Event::Asked(key, there) => self.is_told(key, there),
-            Event::Deleted(key) => self.empties(key),
+            Event::Deleted(key) => self.replaces(key),
             Event::DeletedObject(object) => self.removes_object(object),
             _ => self.walks_on(event),
         }

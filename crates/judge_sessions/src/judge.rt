@@ -5,7 +5,7 @@ use crate::keys::{COUNTED, KEYS, OPEN, Object, first_at, owner};
 use crate::puts::Puts;
 use crate::replay::{LastWrite, Replay};
 use crate::worker::Worker;
-use crate::wrong::{Failure, Wrong};
+use crate::wrong::{Failure, Wrong, check};
 use kit_rows::was_ok;
 use part_core::TableKind;
 use std::alloc::Global;
@@ -54,7 +54,7 @@ fn all_take(taken: &mut [bool], puts: &Puts, workers: &[Worker]) -> Result<(), W
 
 /// No object is taken twice.
 fn are_taken_once(alloc: Global, puts: &Puts, workers: &[Worker]) -> Result<(), Failure> {
-    let Ok(mut taken) = Vec::from_elem(alloc, false, puts.len()) else {
+    let Ok(mut taken) = Vec::from_elem(alloc, false, puts.keys.len()) else {
         return Err(Failure::Refused);
     };
     let came = all_take(taken.as_mut_slice(), puts, workers);
@@ -91,11 +91,7 @@ fn is_balanced(balances: &[i64], left: &[Object]) -> Result<(), Wrong> {
             return Err(Wrong::Unbalanced(key));
         }
     }
-    if deleted == 0 {
-        Ok(())
-    } else {
-        Err(Wrong::NeverDeleted(deleted))
-    }
+    check(deleted == 0, Wrong::NeverDeleted(deleted))
 }
 
 /// The balance of a key.
@@ -190,49 +186,27 @@ fn judge_set<'a>(
     }
 }
 
-/// The sessions of a bag.
-fn judge_bags(
+/// Each session with its record, and the last writes of all to a set beside what is left.
+fn judge_each<'a>(
     alloc: Global,
     kind: TableKind,
-    workers: &[Worker],
-    puts: &Puts,
-    left: &[Object],
-) -> Result<(), Failure> {
-    for worker in workers {
-        judge_bag(alloc, kind, worker, puts, left)?;
-    }
-    Ok(())
-}
-
-/// The sessions of a set, and their last writes beside what is left.
-fn judge_sets<'a>(
-    alloc: Global,
     workers: &[Worker],
     puts: &'a Puts,
     left: &[Object],
     replays: &mut Vec<Replay<'a>>,
 ) -> Result<(), Failure> {
     for worker in workers {
-        judge_set(alloc, worker, puts, left, replays)?;
+        if kind.is_set() {
+            judge_set(alloc, worker, puts, left, replays)?;
+        } else {
+            judge_bag(alloc, kind, worker, puts, left)?;
+        }
     }
-    are_last(replays.as_slice(), left)
-}
-
-/// Each session with its record.
-fn judge_each(
-    alloc: Global,
-    kind: TableKind,
-    workers: &[Worker],
-    puts: &Puts,
-    left: &[Object],
-) -> Result<(), Failure> {
-    if !kind.is_set() {
-        return judge_bags(alloc, kind, workers, puts, left);
+    if kind.is_set() {
+        are_last(replays.as_slice(), left)
+    } else {
+        Ok(())
     }
-    let mut replays = Vec::new(alloc);
-    let came = judge_sets(alloc, workers, puts, left, &mut replays);
-    drop(replays);
-    came
 }
 
 /// What was taken, each session, and what is left of what is counted.
@@ -244,7 +218,10 @@ fn judge_all(
     left: &[Object],
 ) -> Result<(), Failure> {
     are_taken_once(alloc, puts, workers)?;
-    judge_each(alloc, kind, workers, puts, left)?;
+    let mut replays = Vec::new(alloc);
+    let came = judge_each(alloc, kind, workers, puts, left, &mut replays);
+    drop(replays);
+    came?;
     are_balanced(alloc, workers, left)
 }
 

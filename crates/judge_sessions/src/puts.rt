@@ -9,9 +9,9 @@ use std::ops::Range;
 #[derive(Drop)]
 pub(crate) struct Puts {
     /// By sessions, and of each session by sequence numbers.
-    keys: Vec<Option<u32>>,
+    pub(crate) keys: Vec<Option<u32>>,
     /// Where those of each session begin.
-    starts: Vec<usize>,
+    pub(crate) starts: Vec<usize>,
 }
 
 impl Puts {
@@ -38,16 +38,6 @@ impl Puts {
             }
         }
         Some(())
-    }
-
-    /// How many objects there are.
-    pub(crate) fn len(&self) -> usize {
-        self.keys.len()
-    }
-
-    /// How many sessions made them.
-    pub(crate) fn sessions(&self) -> usize {
-        self.starts.len()
     }
 
     /// Which of them an object is, where its session has so many.

@@ -2,7 +2,7 @@
 use crate::event::Event;
 use crate::keys::{COUNTED, KEYS, OWN, Object, first_at};
 use crate::puts::{Caller, Puts};
-use crate::wrong::Wrong;
+use crate::wrong::{Wrong, check};
 use std::alloc::Global;
 use std::mem;
 
@@ -57,7 +57,7 @@ impl<'a> Replay<'a> {
         let Ok(known) = Vec::from_elem(alloc, unknown, keys) else {
             return None;
         };
-        let Ok(least) = Vec::from_elem(alloc, any, puts.sessions().saturating_mul(keys)) else {
+        let Ok(least) = Vec::from_elem(alloc, any, puts.starts.len().saturating_mul(keys)) else {
             drop(known);
             return None;
         };
@@ -260,30 +260,17 @@ impl<'a> Replay<'a> {
         count
     }
 
-    /// The session was told that so many of its own objects were there.
-    fn is_count(&self, parity: Option<u32>, count: u64) -> Result<(), Wrong> {
-        if self.counts(parity) == count {
-            Ok(())
-        } else {
-            Err(Wrong::Miscounted(count))
-        }
-    }
-
-    /// The session was told that the table had so many objects: at its own keys as it left them, at each other key one
-    /// at most.
-    fn is_count_of_all(&self, count: u64) -> Result<(), Wrong> {
+    /// Whether the table may have so many objects: at the session's own keys as it left them, at each other key one at
+    /// most.
+    fn may_be_all(&self, count: u64) -> bool {
         let own = self.counts(None);
         let others = u64::from(KEYS - OWN);
-        if own <= count && count <= own.saturating_add(others) {
-            Ok(())
-        } else {
-            Err(Wrong::Miscounted(count))
-        }
+        own <= count && count <= own.saturating_add(others)
     }
 
     /// The session deletes its own objects of a parity, and was told how many there were.
     fn removes_all(&mut self, parity: u32, count: u64) -> Result<(), Wrong> {
-        self.is_count(Some(parity), count)?;
+        check(self.counts(Some(parity)) == count, Wrong::Miscounted(count))?;
         for key in self.session.keys() {
             if let Some(object) = self.last(key) {
                 if object.is_of(Some(parity)) {
@@ -296,9 +283,7 @@ impl<'a> Replay<'a> {
 
     /// The session deleted so many objects at the keys whose objects are counted, one at each at most.
     fn clears(&mut self, count: u64) -> Result<(), Wrong> {
-        if u64::from(KEYS - COUNTED) < count {
-            return Err(Wrong::Miscounted(count));
-        }
+        check(count <= u64::from(KEYS - COUNTED), Wrong::Miscounted(count))?;
         for key in COUNTED..KEYS {
             self.removes(key)?;
         }
@@ -315,9 +300,9 @@ impl<'a> Replay<'a> {
             Event::Walked(object) => self.walks_by(object),
             Event::Met(key) => self.meets(key),
             Event::Ended => self.ends(),
-            Event::Counted(count) => self.is_count(None, count),
+            Event::Counted(count) => check(self.counts(None) == count, Wrong::Miscounted(count)),
             Event::Removed(parity, count) => self.removes_all(parity, count),
-            Event::CountedAll(count) => self.is_count_of_all(count),
+            Event::CountedAll(count) => check(self.may_be_all(count), Wrong::Miscounted(count)),
             Event::Cleared(count) => self.clears(count),
             _ => self.session.goes_on(event),
         }

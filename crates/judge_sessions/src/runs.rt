@@ -7,7 +7,7 @@ ghost use Rattle.tables.specs.Sessions.{IsOpened};
 use crate::judge::judge;
 use crate::keys::{KEYS, Object, key_term};
 use crate::worker::Worker;
-use crate::wrong::{Failure, Wrong};
+use crate::wrong::{Failure, Wrong, check};
 use gate::Closed;
 use kit_members::members_of;
 use kit_rows::was_ok;
@@ -102,14 +102,8 @@ fn put_left(object: Object, part: u8, parts: u8, left: &mut Vec<Object>) -> Resu
     if !is_part_of(object.key, part, parts) {
         return Err(Wrong::Misplaced(object.key));
     }
-    if KEYS <= object.key {
-        return Err(Wrong::NoKey(object.key));
-    }
-    if left.push(object).is_ok() {
-        Ok(())
-    } else {
-        Err(Wrong::NoMemory)
-    }
+    check(object.key < KEYS, Wrong::NoKey(object.key))?;
+    check(left.push(object).is_ok(), Wrong::NoMemory)
 }
 
 /// Puts the objects of a part, which is one of so many, behind others.

@@ -186,8 +186,11 @@ impl Worker {
         }
     }
 
-    /// A call at a key of the session's own.
-    fn own_call(&mut self) -> (Call, u32) {
+    /// A call at a key, of the session's own or of all.
+    fn any_key_call(&mut self) -> (Call, u32) {
+        if self.below(2) != 0 {
+            return self.shared_call();
+        }
         let key = self.own_key();
         if self.holds_many && self.below(4) == 0 {
             (Call::PutAgain, key)
@@ -331,15 +334,6 @@ impl Worker {
     {
         let (call, key) = self.shared_call();
         self.call(alloc, turns, call, key)
-    }
-
-    /// A call at a key, of the session's own or of all.
-    fn any_key_call(&mut self) -> (Call, u32) {
-        if self.below(2) == 0 {
-            self.own_call()
-        } else {
-            self.shared_call()
-        }
     }
 
     /// Makes so many random calls, or fewer where it has no members, and leaves early; walks are made by members, where

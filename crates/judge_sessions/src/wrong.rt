@@ -37,6 +37,11 @@ pub(crate) enum Wrong {
     NoMemory,
 }
 
+/// What is wrong where that doesn't hold.
+pub(crate) fn check(holds: bool, wrong: Wrong) -> Result<(), Wrong> {
+    if holds { Ok(()) } else { Err(wrong) }
+}
+
 /// Why a run isn't right, or didn't come to its end.
 #[derive(Clone, Copy, Debug)]
 pub(crate) enum Failure {
