@@ -46,7 +46,6 @@ fn played<R: Threads + Wait + Sync, P: Part<Global> + Drop, M: Turns<Global> + S
     let mut worker = Worker::new(alloc, run.seed, session.number, holds_many);
     let mut at = table.at(rt, session);
     let played = worker.run(rt, alloc, &mut at, members, run.calls);
-    drop(at);
     worker.is_whole = played.is_some();
     worker
 }
