@@ -129,7 +129,9 @@ impl<'a> BagReplay<'a> {
     /// The objects that were read last, none if none were, are those at a key now: what was there before and isn't among
     /// them is gone.
     fn replaces(&mut self, key: u32) -> Result<(), Wrong> {
-        check(key < KEYS, Wrong::NoKey(key))?;
+        if KEYS <= key {
+            return Err(Wrong::NoKey(key));
+        }
         let is_shared = !self.session.owns(key);
         for object in self.there.as_slice() {
             if object.key != key {
@@ -155,7 +157,9 @@ impl<'a> BagReplay<'a> {
         let Some(place) = self.session.puts.place(object) else {
             return Err(Wrong::NeverPut(object));
         };
-        check(self.session.may_meet(object), Wrong::NeverPut(object))?;
+        if !self.session.may_meet(object) {
+            return Err(Wrong::NeverPut(object));
+        }
         match self.gone.get(place) {
             Some(Some(at)) if *at <= since => Err(Wrong::CameBack(object)),
             _ => Ok(()),
@@ -190,7 +194,9 @@ impl<'a> BagReplay<'a> {
 
     /// Puts an object behind those of its key; in a bag it changes nothing where it is there.
     fn puts(&mut self, object: Object) -> Result<(), Wrong> {
-        check(object.key < KEYS, Wrong::NoKey(object.key))?;
+        if KEYS <= object.key {
+            return Err(Wrong::NoKey(object.key));
+        }
         if self.kind == TableKind::Bag && times(self.there.as_slice(), object) != 0 {
             return Ok(());
         }
@@ -325,7 +331,9 @@ impl<'a> BagReplay<'a> {
 
     /// The same at each key; it was told how many there were.
     fn removes_all(&mut self, parity: u32, count: u64) -> Result<(), Wrong> {
-        check(self.counts(Some(parity)) == count, Wrong::Miscounted(count))?;
+        if self.counts(Some(parity)) != count {
+            return Err(Wrong::Miscounted(count));
+        }
         for key in self.session.keys() {
             self.removes_at(key, parity)?;
         }
@@ -334,7 +342,9 @@ impl<'a> BagReplay<'a> {
 
     /// The session deleted so many objects at the keys whose objects are counted, one at each at most.
     fn clears(&mut self, count: u64) -> Result<(), Wrong> {
-        check(count <= u64::from(KEYS - COUNTED), Wrong::Miscounted(count))?;
+        if u64::from(KEYS - COUNTED) < count {
+            return Err(Wrong::Miscounted(count));
+        }
         for key in COUNTED..KEYS {
             self.replaces(key)?;
         }

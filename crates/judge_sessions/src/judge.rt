@@ -59,8 +59,10 @@ fn are_taken_once(alloc: Global, puts: &Puts, workers: &[Worker]) -> Result<(), 
     };
     let came = all_take(taken.as_mut_slice(), puts, workers);
     drop(taken);
-    came?;
-    Ok(())
+    match came {
+        Ok(()) => Ok(()),
+        Err(wrong) => Err(Failure::Left(wrong)),
+    }
 }
 
 /// By keys, how many objects were put in by `insert_new`, less those that were taken; and behind them, how many were
@@ -112,8 +114,10 @@ fn are_balanced(alloc: Global, workers: &[Worker], left: &[Object]) -> Result<()
     }
     let came = is_balanced(balances.as_slice(), left);
     drop(balances);
-    came?;
-    Ok(())
+    match came {
+        Ok(()) => Ok(()),
+        Err(wrong) => Err(Failure::Left(wrong)),
+    }
 }
 
 /// Some session's last write at the key leaves what is left there.

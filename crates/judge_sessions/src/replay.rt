@@ -270,7 +270,9 @@ impl<'a> Replay<'a> {
 
     /// The session deletes its own objects of a parity, and was told how many there were.
     fn removes_all(&mut self, parity: u32, count: u64) -> Result<(), Wrong> {
-        check(self.counts(Some(parity)) == count, Wrong::Miscounted(count))?;
+        if self.counts(Some(parity)) != count {
+            return Err(Wrong::Miscounted(count));
+        }
         for key in self.session.keys() {
             if let Some(object) = self.last(key) {
                 if object.is_of(Some(parity)) {
@@ -283,7 +285,9 @@ impl<'a> Replay<'a> {
 
     /// The session deleted so many objects at the keys whose objects are counted, one at each at most.
     fn clears(&mut self, count: u64) -> Result<(), Wrong> {
-        check(count <= u64::from(KEYS - COUNTED), Wrong::Miscounted(count))?;
+        if u64::from(KEYS - COUNTED) < count {
+            return Err(Wrong::Miscounted(count));
+        }
         for key in COUNTED..KEYS {
             self.removes(key)?;
         }

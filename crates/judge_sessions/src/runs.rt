@@ -101,7 +101,9 @@ fn put_left(object: Object, part: u8, parts: u8, left: &mut Vec<Object>) -> Resu
     if !is_part_of(object.key, part, parts) {
         return Err(Wrong::Misplaced(object.key));
     }
-    check(object.key < KEYS, Wrong::NoKey(object.key))?;
+    if KEYS <= object.key {
+        return Err(Wrong::NoKey(object.key));
+    }
     check(left.push(object).is_ok(), Wrong::NoMemory)
 }
 

@@ -5,6 +5,7 @@ ghost use Rattle.kit_members.specs.Members.{AreMembers};
 use crate::event::Event;
 use crate::keys::{COUNTED, KEYS, OPEN, OWN, Object, key_term, object_of};
 use crate::walking::walk;
+use kit_rows::was_ok;
 use rand::RngExt;
 use rand_pcg::Pcg32;
 use std::alloc::Global;
@@ -241,8 +242,11 @@ impl Worker {
         ensures same { T.home turns.new ≡ T.home turns.old }
     {
         let term = object.term(alloc)?;
-        insert(turns, term).ok()?;
-        self.record(event)
+        if was_ok(insert(turns, term)) {
+            self.record(event)
+        } else {
+            None
+        }
     }
 
     fn put_new<T: Turns<Global>>(&mut self, alloc: Global, turns: &mut T, key: u32) -> Option<()>
@@ -268,10 +272,13 @@ impl Worker {
     {
         let object = self.earlier(key);
         let term = object.term(alloc)?;
-        let done = delete_object(turns, &term).ok();
+        let is_done = delete_object(turns, &term).is_ok();
         drop(term);
-        done?;
-        self.record(Event::DeletedObject(object))
+        if is_done {
+            self.record(Event::DeletedObject(object))
+        } else {
+            None
+        }
     }
 
     /// Makes a call that names a key alone.
