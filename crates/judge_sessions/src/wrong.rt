@@ -1,6 +1,5 @@
 //! What can be wrong with what sessions were answered.
 use crate::keys::Object;
-use std::alloc::AllocError;
 
 /// An answer that no history of turns allows.
 #[derive(Clone, Copy, Debug)]
@@ -62,12 +61,6 @@ impl Failure {
             Failure::Answered(_, _) | Failure::Left(_) => true,
             Failure::Refused | Failure::Lost => false,
         }
-    }
-}
-
-impl From<AllocError> for Failure {
-    fn from(_fault: AllocError) -> Failure {
-        Failure::Refused
     }
 }
 
