@@ -2,7 +2,7 @@
 use crate::keys::Object;
 
 /// A call and its answer, as a session records them.
-#[derive(Clone, Copy, Debug)]
+#[derive(Clone, Copy)]
 pub(crate) enum Event {
     /// An object was put in.
     Put(Object),
@@ -20,8 +20,10 @@ pub(crate) enum Event {
     DeletedObject(Object),
     /// What was taken at a key.
     Taken(u32, Option<Object>),
-    /// An object of a list.
+    /// An object of a list that was found.
     Item(Object),
+    /// One of a list that was taken.
+    ItemTaken(Object),
     /// The objects before this were found at a key.
     Listed(u32),
     /// They were taken there.

@@ -1,5 +1,4 @@
 //! Histories that rows give: what sessions recorded and what is left, as terms in the place of a run.
-use crate::bags::empty_lists;
 use crate::event::Event;
 use crate::judge::judge;
 use crate::keys::Object;
@@ -7,7 +6,7 @@ use crate::runs::put_all_left;
 use crate::walking::{record_piece, record_whole};
 use crate::worker::Worker;
 use crate::wrong::Failure;
-use kit_rows::{elements, fields, is_atom, name, number};
+use kit_rows::{elements, fields, is_atom, name, number, was_ok};
 use part_core::TableKind;
 use std::alloc::Global;
 use term_core::Term;
@@ -34,81 +33,163 @@ fn record_word(worker: &mut Worker, word: &str) -> Option<()> {
     worker.record(event)
 }
 
+/// The event of a call with an object.
+fn event_of(call: &str, object: Object) -> Option<Event> {
+    match call {
+        "insert" => Some(Event::Put(object)),
+        "insert_again" => Some(Event::PutAgain(object)),
+        "delete_object" => Some(Event::DeletedObject(object)),
+        _ => None,
+    }
+}
+
+/// The event of a call with a number.
+fn event_at(call: &str, number: u32) -> Option<Event> {
+    match call {
+        "delete" => Some(Event::Deleted(number)),
+        "next" => Some(Event::Met(number)),
+        "count_own" => Some(Event::Counted(u64::from(number))),
+        "count_all" => Some(Event::CountedAll(u64::from(number))),
+        "delete_counted" => Some(Event::Cleared(u64::from(number))),
+        _ => None,
+    }
+}
+
+/// The event of a call with a truth value.
+fn event_so(call: &str, done: bool) -> Option<Event> {
+    match call {
+        "unfix" => Some(Event::Unfixed(done)),
+        _ => None,
+    }
+}
+
+/// Records a piece of a walk, or one that was made at once.
+fn record_objects(worker: &mut Worker, call: &str, objects: &[Term]) -> Option<()> {
+    match call {
+        "piece" => record_piece(worker, objects),
+        "select" => record_whole(worker, objects),
+        _ => None,
+    }
+}
+
 /// Records a call and its operand or its answer.
 fn record_call(worker: &mut Worker, call: &str, of: &Term) -> Option<()> {
-    let event = match call {
-        "insert" => Event::Put(Object::of_term(of)?),
-        "insert_again" => Event::PutAgain(Object::of_term(of)?),
-        "delete" => Event::Deleted(number(of)?),
-        "delete_object" => Event::DeletedObject(Object::of_term(of)?),
-        "unfix" => Event::Unfixed(truth(of)?),
-        "next" => Event::Met(number(of)?),
-        "count_own" => Event::Counted(u64::from(number(of)?)),
-        "count_all" => Event::CountedAll(u64::from(number(of)?)),
-        "delete_counted" => Event::Cleared(u64::from(number(of)?)),
-        "piece" => return record_piece(worker, elements(of)?),
-        "select" => return record_whole(worker, elements(of)?),
-        _ => return None,
+    if let Some(objects) = elements(of) {
+        return record_objects(worker, call, objects);
+    }
+    let event = if let Some(number) = number(of) {
+        event_at(call, number)
+    } else if let Some(object) = Object::of_term(of) {
+        event_of(call, object)
+    } else if let Some(done) = truth(of) {
+        event_so(call, done)
+    } else {
+        None
     };
-    worker.record(event)
+    worker.record(event?)
+}
+
+/// Records what was found at a key, or taken there.
+fn record_list(worker: &mut Worker, call: &str, key: u32, objects: &[Term]) -> Option<()> {
+    match call {
+        "lookup" => worker.record_found(key, objects),
+        "take" => worker.record_taken(key, objects),
+        _ => None,
+    }
+}
+
+/// Records a call, its operand that is a number, and its answer.
+fn record_answer_at(worker: &mut Worker, call: &str, of: u32, answer: &Term) -> Option<()> {
+    if let Some(objects) = elements(answer) {
+        return record_list(worker, call, of, objects);
+    }
+    let event = match (call, number(answer), truth(answer)) {
+        ("delete_own", Some(count), _) => Some(Event::Removed(of, u64::from(count))),
+        ("member", _, Some(there)) => Some(Event::Asked(of, there)),
+        _ => None,
+    };
+    worker.record(event?)
 }
 
 /// Records a call, its operand and its answer.
 fn record_answer(worker: &mut Worker, call: &str, of: &Term, answer: &Term) -> Option<()> {
-    let event = match call {
-        "insert_new" => Event::PutNew(Object::of_term(of)?, truth(answer)?),
-        "member" => Event::Asked(number(of)?, truth(answer)?),
-        "delete_own" => Event::Removed(number(of)?, u64::from(number(answer)?)),
-        "lookup" => return worker.record_found(number(of)?, elements(answer)?),
-        "take" => return worker.record_taken(number(of)?, elements(answer)?),
-        _ => return None,
-    };
-    worker.record(event)
+    if let Some(number) = number(of) {
+        return record_answer_at(worker, call, number, answer);
+    }
+    match (call, Object::of_term(of), truth(answer)) {
+        ("insert_new", Some(object), Some(fresh)) => worker.record(Event::PutNew(object, fresh)),
+        _ => None,
+    }
 }
 
 /// Records an entry.
 fn record_entry(alloc: Global, worker: &mut Worker, entry: &Term) -> Option<()> {
-    match fields(entry) {
-        Some([call, of]) => record_call(worker, name(alloc, call)?.as_str(), of),
-        Some([call, of, answer]) => record_answer(worker, name(alloc, call)?.as_str(), of, answer),
+    let parts = fields(entry);
+    let word = match parts {
+        Some(parts) => name(alloc, parts.first()?)?,
+        None => name(alloc, entry)?,
+    };
+    let recorded = match parts {
+        Some([_, of]) => record_call(worker, word.as_str(), of),
+        Some([_, of, answer]) => record_answer(worker, word.as_str(), of, answer),
         Some(_) => None,
-        None => record_word(worker, name(alloc, entry)?.as_str()),
-    }
+        None => record_word(worker, word.as_str()),
+    };
+    drop(word);
+    recorded
 }
 
-/// A session of a number that recorded these entries.
-fn worker_of(alloc: Global, number: u8, holds_many: bool, entries: &[Term]) -> Option<Worker> {
-    let mut worker = Worker::new(alloc, 0, number, holds_many);
+/// Records these entries.
+fn record_entries(alloc: Global, worker: &mut Worker, entries: &[Term]) -> Option<()> {
     for entry in entries {
-        record_entry(alloc, &mut worker, entry)?;
+        record_entry(alloc, worker, entry)?;
     }
-    Some(worker)
+    Some(())
 }
 
-/// The sessions that recorded these lists of entries.
-fn workers_of(alloc: Global, holds_many: bool, sessions: &[Term]) -> Option<Vec<Worker>> {
-    let mut workers = Vec::new(alloc);
+/// Puts a session that recorded a list of entries behind others.
+fn put_session(
+    alloc: Global,
+    holds_many: bool,
+    entries: &Term,
+    workers: &mut Vec<Worker>,
+) -> Option<()> {
+    let number = u8::try_from(workers.len()).ok()?;
+    let entries = elements(entries)?;
+    let mut worker = Worker::new(alloc, 0, number, holds_many);
+    let recorded = record_entries(alloc, &mut worker, entries);
+    if was_ok(workers.push(worker)) {
+        recorded
+    } else {
+        None
+    }
+}
+
+/// Puts the sessions that recorded these lists of entries behind others.
+fn put_sessions(
+    alloc: Global,
+    holds_many: bool,
+    sessions: &[Term],
+    workers: &mut Vec<Worker>,
+) -> Option<()> {
     for entries in sessions {
-        let number = u8::try_from(workers.len()).ok()?;
-        let worker = worker_of(alloc, number, holds_many, elements(entries)?)?;
-        workers.push(worker).ok()?;
+        put_session(alloc, holds_many, entries, workers)?;
     }
-    Some(workers)
+    Some(())
 }
 
-/// What is left in these parts, by keys.
-fn left_of(alloc: Global, parts: &[Term]) -> Result<Vec<Vec<Object>>, Failure> {
-    let mut left = empty_lists(alloc)?;
+/// Puts what is left in these parts behind other objects.
+fn put_left_of(parts: &[Term], left: &mut Vec<Object>) -> Result<(), Failure> {
     let count = u8::try_from(parts.len()).unwrap_or(u8::MAX);
     let mut number: u8 = 0;
     for part in parts {
         let Some(objects) = elements(part) else {
             return Err(Failure::Refused);
         };
-        put_all_left(objects, number, count, left.as_mut_slice())?;
+        put_all_left(objects, number, count, left)?;
         number = number.saturating_add(1);
     }
-    Ok(left)
+    Ok(())
 }
 
 /// Judges what sessions recorded, and what is left in parts.
@@ -118,8 +199,13 @@ fn judged_left(
     workers: &[Worker],
     parts: &[Term],
 ) -> Result<(), Failure> {
-    let left = left_of(alloc, parts)?;
-    judge(alloc, kind, workers, left.as_slice())
+    let mut left = Vec::new(alloc);
+    let judged = match put_left_of(parts, &mut left) {
+        Ok(()) => judge(alloc, kind, workers, left.as_slice()),
+        Err(failure) => Err(failure),
+    };
+    drop(left);
+    judged
 }
 
 /// Judges a history as what a run recorded is judged; none where its sessions are none.
@@ -129,6 +215,11 @@ pub(crate) fn judged_history(
     sessions: &[Term],
     parts: &[Term],
 ) -> Option<Result<(), Failure>> {
-    let workers = workers_of(alloc, !kind.is_set(), sessions)?;
-    Some(judged_left(alloc, kind, workers.as_slice(), parts))
+    let mut workers = Vec::new(alloc);
+    let judged = match put_sessions(alloc, !kind.is_set(), sessions, &mut workers) {
+        Some(()) => Some(judged_left(alloc, kind, workers.as_slice(), parts)),
+        None => None,
+    };
+    drop(workers);
+    judged
 }

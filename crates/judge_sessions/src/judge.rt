@@ -1,96 +1,80 @@
 //! All sessions together: what is left of the table at the end, beside what each did and was answered.
 use crate::bags::BagReplay;
 use crate::event::Event;
-use crate::keys::{COUNTED, KEYS, OPEN, Object, owner};
-use crate::replay::{LastWrite, Puts, Replay};
+use crate::keys::{COUNTED, KEYS, OPEN, Object, first_at, owner};
+use crate::puts::Puts;
+use crate::replay::{LastWrite, Replay};
 use crate::worker::Worker;
-use crate::wrong::{Failure, Wrong};
+use crate::wrong::{Failure, Wrong, check};
+use kit_rows::was_ok;
 use part_core::TableKind;
-use std::alloc::{AllocError, Global};
+use std::alloc::Global;
 
-/// Which objects of each session were taken, by their sequence numbers.
-#[derive(Drop)]
-struct Taken {
-    sessions: Vec<Vec<bool>>,
-}
-
-impl Taken {
-    /// None, of so many objects of each session.
-    fn none(alloc: Global, all: &[Puts]) -> Result<Taken, AllocError> {
-        let mut sessions = Vec::new(alloc);
-        for puts in all {
-            sessions.push(Vec::from_elem(alloc, false, puts.len())?)?;
-        }
-        Ok(Taken { sessions })
-    }
-
-    /// An object was taken, for the first time.
-    fn takes(&mut self, object: Object) -> Result<(), Wrong> {
-        let Some(objects) = self.sessions.get_mut(usize::from(object.session)) else {
-            return Err(Wrong::NeverPut(object));
-        };
-        match objects.get_mut(object.sequence as usize) {
-            Some(is_taken) if !*is_taken => {
-                *is_taken = true;
-                Ok(())
-            }
-            Some(_) => Err(Wrong::TakenTwice(object)),
-            None => Err(Wrong::NeverPut(object)),
-        }
-    }
-
-    /// Objects that were taken at once, at a key at which each is put in once.
-    fn takes_items(&mut self, objects: &[Object]) -> Result<(), Wrong> {
-        for object in objects {
-            if owner(object.key).is_none() {
-                self.takes(*object)?;
-            }
-        }
-        Ok(())
-    }
-
-    /// All that a session took.
-    fn takes_all(&mut self, alloc: Global, events: &[Event]) -> Result<(), Wrong> {
-        let mut items = Vec::new(alloc);
-        for event in events {
-            match *event {
-                Event::Taken(_, Some(object)) => self.takes(object)?,
-                Event::TakenAll(_) => self.takes_items(items.as_slice())?,
-                _ => {}
-            }
-            gather(&mut items, *event)?;
-        }
-        Ok(())
-    }
-}
-
-/// Gathers the objects of a list; another event begins a new one.
-fn gather(items: &mut Vec<Object>, event: Event) -> Result<(), Wrong> {
+/// The object that was taken, at a key at which each is put in once.
+fn taken_by(event: Event) -> Option<Object> {
     match event {
-        Event::Item(object) => match items.push(object) {
-            Ok(()) => Ok(()),
-            Err(_) => Err(Wrong::NoMemory),
-        },
-        _ => {
-            items.clear();
-            Ok(())
-        }
+        Event::Taken(_, object) => object,
+        Event::ItemTaken(object) if owner(object.key).is_none() => Some(object),
+        _ => None,
     }
 }
 
-/// By keys, how many objects were put in by `insert_new`, less those that were taken.
+/// An object is taken, for the first time.
+fn takes(taken: &mut [bool], puts: &Puts, object: Object) -> Result<(), Wrong> {
+    let Some(place) = puts.place(object) else {
+        return Err(Wrong::NeverPut(object));
+    };
+    let Some(is_taken) = taken.get_mut(place) else {
+        return Err(Wrong::NeverPut(object));
+    };
+    if *is_taken {
+        return Err(Wrong::TakenTwice(object));
+    }
+    *is_taken = true;
+    Ok(())
+}
+
+/// All that a session took.
+fn takes_all(taken: &mut [bool], puts: &Puts, events: &[Event]) -> Result<(), Wrong> {
+    for event in events {
+        if let Some(object) = taken_by(*event) {
+            takes(taken, puts, object)?;
+        }
+    }
+    Ok(())
+}
+
+/// All that the sessions took, no object twice.
+fn all_take(taken: &mut [bool], puts: &Puts, workers: &[Worker]) -> Result<(), Wrong> {
+    for worker in workers {
+        takes_all(taken, puts, worker.events.as_slice())?;
+    }
+    Ok(())
+}
+
+/// No object is taken twice.
+fn are_taken_once(alloc: Global, puts: &Puts, workers: &[Worker]) -> Result<(), Failure> {
+    let Ok(mut taken) = Vec::from_elem(alloc, false, puts.keys.len()) else {
+        return Err(Failure::Refused);
+    };
+    let came = all_take(taken.as_mut_slice(), puts, workers);
+    drop(taken);
+    match came {
+        Ok(()) => Ok(()),
+        Err(wrong) => Err(Failure::Left(wrong)),
+    }
+}
+
+/// By keys, how many objects were put in by `insert_new`, less those that were taken; and behind them, how many were
+/// deleted by queries at the keys whose objects are counted.
 fn add_balance(events: &[Event], balances: &mut [i64]) {
-    let mut items: i64 = 0;
     for event in events {
         let (key, more) = match *event {
             Event::PutNew(object, true) => (object.key, 1),
             Event::Taken(key, Some(_)) => (key, -1),
-            Event::TakenAll(key) => (key, items),
+            Event::ItemTaken(object) => (object.key, -1),
+            Event::Cleared(count) => (KEYS, i64::try_from(count).unwrap_or(i64::MAX)),
             _ => (KEYS, 0),
-        };
-        items = match *event {
-            Event::Item(_) => items.saturating_sub(1),
-            _ => 0,
         };
         if let Some(balance) = balances.get_mut(key as usize) {
             *balance = balance.saturating_add(more);
@@ -98,51 +82,42 @@ fn add_balance(events: &[Event], balances: &mut [i64]) {
     }
 }
 
-/// How many objects a session deleted by queries at the keys whose objects are counted.
-fn cleared(events: &[Event]) -> i64 {
-    let mut count: i64 = 0;
-    for event in events {
-        if let Event::Cleared(more) = *event {
-            count = count.saturating_add(i64::try_from(more).unwrap_or(i64::MAX));
+/// As many are left at each key as its balance says, but for those that were deleted by queries.
+fn is_balanced(balances: &[i64], left: &[Object]) -> Result<(), Wrong> {
+    let mut deleted = balance_at(balances, KEYS);
+    for key in COUNTED..KEYS {
+        let there = i64::from(first_at(left, key).is_some());
+        let missing = balance_at(balances, key).saturating_sub(there);
+        deleted = deleted.saturating_sub(missing);
+        if missing < 0 || deleted < 0 {
+            return Err(Wrong::Unbalanced(key));
         }
     }
-    count
+    check(deleted == 0, Wrong::NeverDeleted(deleted))
 }
 
-/// How many objects are missing at a key of those that were put in and not taken.
-fn missing_at(balances: &[i64], left: &[Vec<Object>], key: u32) -> i64 {
-    let there = i64::from(left_at(left, key).is_some());
+/// The balance of a key.
+fn balance_at(balances: &[i64], key: u32) -> i64 {
     match balances.get(key as usize) {
-        Some(balance) => balance.saturating_sub(there),
+        Some(balance) => *balance,
         None => -1,
     }
 }
 
 /// At the keys whose objects are counted as many are left as were put in, not taken, and not deleted by queries.
-fn are_balanced(alloc: Global, workers: &[Worker], left: &[Vec<Object>]) -> Result<(), Failure> {
-    let mut balances: Vec<i64> = Vec::from_elem(alloc, 0, KEYS as usize)?;
-    let mut deleted: i64 = 0;
+fn are_balanced(alloc: Global, workers: &[Worker], left: &[Object]) -> Result<(), Failure> {
+    let Ok(mut balances) = Vec::from_elem(alloc, 0, KEYS as usize + 1) else {
+        return Err(Failure::Refused);
+    };
     for worker in workers {
         add_balance(worker.events.as_slice(), balances.as_mut_slice());
-        deleted = deleted.saturating_add(cleared(worker.events.as_slice()));
     }
-    for key in COUNTED..KEYS {
-        let missing = missing_at(balances.as_slice(), left, key);
-        deleted = deleted.saturating_sub(missing);
-        if missing < 0 || deleted < 0 {
-            return Err(Failure::Left(Wrong::Unbalanced(key)));
-        }
+    let came = is_balanced(balances.as_slice(), left);
+    drop(balances);
+    match came {
+        Ok(()) => Ok(()),
+        Err(wrong) => Err(Failure::Left(wrong)),
     }
-    if deleted == 0 {
-        Ok(())
-    } else {
-        Err(Failure::Left(Wrong::NeverDeleted(deleted)))
-    }
-}
-
-/// What is left at a key.
-fn left_at(left: &[Vec<Object>], key: u32) -> Option<Object> {
-    left.get(key as usize)?.as_slice().first().copied()
 }
 
 /// Some session's last write at the key leaves what is left there.
@@ -167,103 +142,116 @@ fn is_last(replays: &[Replay<'_>], key: u32, left: Option<Object>) -> bool {
 }
 
 /// That holds at each key at which all sessions write in every way.
-fn are_last(replays: &[Replay<'_>], left: &[Vec<Object>]) -> Result<(), Wrong> {
+fn are_last(replays: &[Replay<'_>], left: &[Object]) -> Result<(), Failure> {
     for key in OPEN..COUNTED {
-        if !is_last(replays, key, left_at(left, key)) {
-            return Err(Wrong::NotLast(key));
+        if !is_last(replays, key, first_at(left, key)) {
+            return Err(Failure::Left(Wrong::NotLast(key)));
         }
     }
     Ok(())
 }
 
-/// A session goes through its record, and looks at all keys once more at the end.
-fn go_through(
-    replay: &mut Replay<'_>,
-    events: &[Event],
-    left: &[Vec<Object>],
-) -> Result<(), Wrong> {
-    replay.goes_through(events)?;
-    for key in 0..KEYS {
-        replay.looks(key, left_at(left, key))?;
-    }
-    Ok(())
-}
-
-/// A session's replay.
-fn replayed<'a>(
+/// A session of a bag, with its record and all that is left.
+fn judge_bag(
     alloc: Global,
+    kind: TableKind,
     worker: &Worker,
-    all: &'a [Puts],
-    left: &[Vec<Object>],
-) -> Result<Replay<'a>, Failure> {
-    let mut replay = Replay::new(alloc, worker.number, all)?;
-    match go_through(&mut replay, worker.events.as_slice(), left) {
-        Ok(()) => Ok(replay),
+    puts: &Puts,
+    left: &[Object],
+) -> Result<(), Failure> {
+    let Some(mut replay) = BagReplay::new(alloc, worker.number, kind, puts) else {
+        return Err(Failure::Refused);
+    };
+    let came = replay.goes_through(worker.events.as_slice(), left);
+    drop(replay);
+    match came {
+        Ok(()) => Ok(()),
         Err(wrong) => Err(Failure::Answered(worker.number, wrong)),
     }
 }
 
-/// What each session put in.
-fn puts_of(alloc: Global, workers: &[Worker]) -> Result<Vec<Puts>, AllocError> {
-    let mut all = Vec::new(alloc);
-    for worker in workers {
-        all.push(Puts::of_events(alloc, worker.events.as_slice())?)?;
+/// A session of a set, with its record and all that is left; its replay is put behind others.
+fn judge_set<'a>(
+    alloc: Global,
+    worker: &Worker,
+    puts: &'a Puts,
+    left: &[Object],
+    replays: &mut Vec<Replay<'a>>,
+) -> Result<(), Failure> {
+    let Some(mut replay) = Replay::new(alloc, worker.number, puts) else {
+        return Err(Failure::Refused);
+    };
+    let came = replay.goes_through(worker.events.as_slice(), left);
+    let is_put = was_ok(replays.push(replay));
+    match came {
+        Ok(()) if is_put => Ok(()),
+        Ok(()) => Err(Failure::Refused),
+        Err(wrong) => Err(Failure::Answered(worker.number, wrong)),
     }
-    Ok(all)
 }
 
-/// The sessions of a bag, each with its record and all that is left.
-fn judge_bags(
+/// Each session with its record, and the last writes of all to a set beside what is left.
+fn judge_each<'a>(
     alloc: Global,
     kind: TableKind,
     workers: &[Worker],
-    all: &[Puts],
-    left: &[Vec<Object>],
+    puts: &'a Puts,
+    left: &[Object],
+    replays: &mut Vec<Replay<'a>>,
 ) -> Result<(), Failure> {
     for worker in workers {
-        let mut replay = BagReplay::new(alloc, worker.number, kind, all)?;
-        match replay.goes_through(worker.events.as_slice(), left) {
-            Ok(()) => {}
-            Err(wrong) => return Err(Failure::Answered(worker.number, wrong)),
+        if kind.is_set() {
+            judge_set(alloc, worker, puts, left, replays)?;
+        } else {
+            judge_bag(alloc, kind, worker, puts, left)?;
         }
     }
-    Ok(())
+    if kind.is_set() {
+        are_last(replays.as_slice(), left)
+    } else {
+        Ok(())
+    }
 }
 
-/// The sessions of a set, each with its record, and their last writes beside what is left.
-fn judge_sets(
+/// What was taken, each session, and what is left of what is counted.
+fn judge_all(
     alloc: Global,
+    kind: TableKind,
     workers: &[Worker],
-    all: &[Puts],
-    left: &[Vec<Object>],
+    puts: &Puts,
+    left: &[Object],
 ) -> Result<(), Failure> {
+    are_taken_once(alloc, puts, workers)?;
     let mut replays = Vec::new(alloc);
-    for worker in workers {
-        match replays.push(replayed(alloc, worker, all, left)?) {
-            Ok(()) => {}
-            Err(_) => return Err(Failure::Refused),
-        }
-    }
-    are_last(replays.as_slice(), left)?;
-    Ok(())
+    let came = judge_each(alloc, kind, workers, puts, left, &mut replays);
+    drop(replays);
+    came?;
+    are_balanced(alloc, workers, left)
 }
 
-/// Judges what the sessions of a table recorded, which stand in their order, and what is left by keys.
+/// What each session put in; none where a session didn't come to its end, or for want of memory.
+fn put_all(workers: &[Worker], puts: &mut Puts) -> Option<()> {
+    for worker in workers {
+        if !worker.is_whole {
+            return None;
+        }
+        puts.add(worker.events.as_slice())?;
+    }
+    Some(())
+}
+
+/// Judges what the sessions of a table recorded, which stand in their order, and what is left.
 pub(crate) fn judge(
     alloc: Global,
     kind: TableKind,
     workers: &[Worker],
-    left: &[Vec<Object>],
+    left: &[Object],
 ) -> Result<(), Failure> {
-    let all = puts_of(alloc, workers)?;
-    let mut taken = Taken::none(alloc, all.as_slice())?;
-    for worker in workers {
-        taken.takes_all(alloc, worker.events.as_slice())?;
-    }
-    if kind.is_set() {
-        judge_sets(alloc, workers, all.as_slice(), left)?;
-    } else {
-        judge_bags(alloc, kind, workers, all.as_slice(), left)?;
-    }
-    are_balanced(alloc, workers, left)
+    let mut puts = Puts::new(alloc);
+    let came = match put_all(workers, &mut puts) {
+        Some(()) => judge_all(alloc, kind, workers, &puts, left),
+        None => Err(Failure::Refused),
+    };
+    drop(puts);
+    came
 }

@@ -1,5 +1,5 @@
 //! Keys, and the objects that sessions put in at them.
-use kit_rows::{fields, number, put};
+use kit_rows::{fields, number};
 use std::alloc::Global;
 use term_core::Term;
 
@@ -27,30 +27,50 @@ pub(crate) fn key_term(key: u32) -> Term {
     Term::int(i64::from(key))
 }
 
+/// The number of at most 8 bits that a term is.
+pub(crate) fn byte(term: &Term) -> Option<u8> {
+    match number(term) {
+        Some(number) => u8::try_from(number).ok(),
+        None => None,
+    }
+}
+
 impl Object {
     /// The object as a term.
     pub(crate) fn term(self, alloc: Global) -> Option<Term> {
-        let mut elements = Vec::with_capacity(alloc, 3).ok()?;
-        let is_whole = put(&mut elements, key_term(self.key))
-            && put(&mut elements, Term::int(i64::from(self.session)))
-            && put(&mut elements, Term::int(i64::from(self.sequence)));
-        if is_whole {
-            Term::tuple(alloc, elements).ok()
-        } else {
-            None
-        }
+        let elements = Vec::from_array(
+            alloc,
+            [
+                key_term(self.key),
+                Term::int(i64::from(self.session)),
+                Term::int(i64::from(self.sequence)),
+            ],
+        )
+        .ok()?;
+        Term::tuple(alloc, elements).ok()
     }
 
     /// The object that a term is.
     pub(crate) fn of_term(term: &Term) -> Option<Object> {
-        let [key, session, sequence] = fields(term)? else {
+        let Some([key, session, sequence]) = fields(term) else {
             return None;
         };
-        Some(Object {
-            key: number(key)?,
-            session: u8::try_from(number(session)?).ok()?,
-            sequence: number(sequence)?,
-        })
+        match (number(key), byte(session), number(sequence)) {
+            (Some(key), Some(session), Some(sequence)) => Some(Object {
+                key,
+                session,
+                sequence,
+            }),
+            _ => None,
+        }
+    }
+
+    /// Whether its sequence number is of the parity, if one is asked for.
+    pub(crate) fn is_of(self, parity: Option<u32>) -> bool {
+        match parity {
+            Some(parity) => self.sequence % 2 == parity,
+            None => true,
+        }
     }
 }
 
@@ -61,6 +81,16 @@ pub(crate) fn object_of(terms: &[Term]) -> Option<Option<Object>> {
         [term] => Some(Some(Object::of_term(term)?)),
         _ => None,
     }
+}
+
+/// The first object of a key among others.
+pub(crate) fn first_at(objects: &[Object], key: u32) -> Option<Object> {
+    for object in objects {
+        if object.key == key {
+            return Some(*object);
+        }
+    }
+    None
 }
 
 /// The session that alone writes at a key.

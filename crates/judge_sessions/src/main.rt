@@ -10,8 +10,8 @@
 //!
 //! - `keys`: keys and objects; `event`: what is recorded; `worker`, `walking`: the calls of a session.
 //! - `runs`: a table and its sessions on threads; `history`: what a row says that sessions recorded.
-//! - `replay`: one session's record judged, `bags`: that of a session at a bag, where keys have lists of objects; `judge`:
-//!   all of them; `wrong`: what can be wrong.
+//! - `replay`: one session's record judged, `bags`: that of a session at a bag, where keys have lists of objects; `puts`:
+//!   what both look up; `judge`: all of them; `wrong`: what can be wrong.
 #![tactic(auto)]
 
 mod bags;
@@ -19,6 +19,7 @@ mod event;
 mod history;
 mod judge;
 mod keys;
+mod puts;
 mod replay;
 mod runs;
 mod walking;
@@ -26,6 +27,7 @@ mod worker;
 mod wrong;
 
 use history::judged_history;
+use keys::byte;
 use kit_rows::{elements, fields, is_atom, name, number};
 use part_core::TableKind;
 use part_hash::HashPart;
@@ -56,23 +58,35 @@ fn kind_of(term: &Term) -> Option<TableKind> {
     }
 }
 
+/// What the table of a run is opened with.
+fn options_of(kind: &Term, parts: &Term, sessions: &Term) -> Option<Options> {
+    match (kind_of(kind), byte(parts), byte(sessions)) {
+        (Some(kind), Some(parts), Some(sessions)) => Some(Options {
+            name: 0,
+            kind,
+            keypos: 1,
+            parts,
+            sessions,
+        }),
+        _ => None,
+    }
+}
+
 /// The run of a row.
 fn run_of(row: &Term) -> Option<Run> {
-    let [seed, kind, parts, sessions, members, calls] = fields(row)? else {
+    let Some([seed, kind, parts, sessions, members, calls]) = fields(row) else {
         return None;
     };
-    Some(Run {
-        options: Options {
-            name: 0,
-            kind: kind_of(kind)?,
-            keypos: 1,
-            parts: u8::try_from(number(parts)?).ok()?,
-            sessions: u8::try_from(number(sessions)?).ok()?,
-        },
-        members: u8::try_from(number(members)?).ok()?,
-        seed: u64::from(number(seed)?),
-        calls: number(calls)?,
-    })
+    let options = options_of(kind, parts, sessions)?;
+    match (byte(members), number(seed), number(calls)) {
+        (Some(members), Some(seed), Some(calls)) => Some(Run {
+            options,
+            members,
+            seed: u64::from(seed),
+            calls,
+        }),
+        _ => None,
+    }
 }
 
 /// Writes what is wrong, if anything is.
@@ -100,9 +114,10 @@ fn write_history(alloc: Global, row: &Term, lines: &mut String) -> Option<bool> 
         return None;
     }
     let kind = kind_of(kind)?;
-    let title = name(alloc, title)?;
     let judged = judged_history(alloc, kind, elements(sessions)?, elements(parts)?)?;
+    let title = name(alloc, title)?;
     write!(lines, "history of {kind:?}, {title}: ").ok();
+    drop(title);
     write_judged(&judged, lines);
     Some(is_as_said(&judged, said))
 }
@@ -167,11 +182,15 @@ fn main(rt: HostRuntime) -> ExitCode {
     let mut text = Vec::new(alloc);
     let mut lines = String::new(alloc);
     rt.stdin().read_to_end(&mut text).ok();
-    let are_right = match read_terms(alloc, text.as_slice()) {
+    let rows = read_terms(alloc, text.as_slice());
+    drop(text);
+    let are_right = match &rows {
         Ok(rows) => write_all_rows(&rt, alloc, rows.as_slice(), &mut lines),
         Err(_) => false,
     };
+    drop(rows);
     rt.stdout().write_all(lines.as_bytes()).ok();
+    drop(lines);
     if are_right {
         ExitCode::SUCCESS
     } else {

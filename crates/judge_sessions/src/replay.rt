@@ -1,54 +1,13 @@
-//! What a session was answered, beside a replay of its own calls and what it could know of the others'.
+//! What a session of a set was answered, beside a replay of its own calls and what it could know of the others'.
 use crate::event::Event;
-use crate::keys::{COUNTED, KEYS, OWN, Object, owner};
-use crate::wrong::Wrong;
-use std::alloc::{AllocError, Global};
-use std::ops::Range;
-
-/// Which key each object of a session was put in at, by its sequence number.
-#[derive(Drop)]
-pub(crate) struct Puts {
-    keys: Vec<Option<u32>>,
-}
-
-impl Puts {
-    /// Those of a session's events.
-    pub(crate) fn of_events(alloc: Global, events: &[Event]) -> Result<Puts, AllocError> {
-        let mut keys = Vec::new(alloc);
-        for event in events {
-            match *event {
-                Event::Put(object) | Event::PutNew(object, true) => keys.push(Some(object.key))?,
-                Event::PutNew(_, false) => keys.push(None)?,
-                _ => {}
-            }
-        }
-        Ok(Puts { keys })
-    }
-
-    /// How many sequence numbers there are.
-    pub(crate) fn len(&self) -> usize {
-        self.keys.len()
-    }
-
-    /// Whether the object of that sequence number was put in at the key.
-    fn has(&self, sequence: u32, key: u32) -> bool {
-        match self.keys.get(sequence as usize) {
-            Some(at) => *at == Some(key),
-            None => false,
-        }
-    }
-}
-
-/// Whether a session put the object in.
-pub(crate) fn was_put(all: &[Puts], object: Object) -> bool {
-    match all.get(usize::from(object.session)) {
-        Some(puts) => puts.has(object.sequence, object.key),
-        None => false,
-    }
-}
+use crate::keys::{COUNTED, KEYS, OWN, Object, first_at};
+use crate::puts::{Caller, Puts};
+use crate::wrong::{Wrong, check};
+use std::alloc::Global;
+use std::mem;
 
 /// A session's last write at a key.
-#[derive(Clone, Copy, Debug, PartialEq, Eq)]
+#[derive(Clone, Copy, PartialEq)]
 pub(crate) enum LastWrite {
     Nothing,
     Put(u32),
@@ -66,108 +25,121 @@ struct Known {
     is_met: bool,
 }
 
+/// The least sequence number of an object of a session that can still be met at a key.
+#[derive(Clone, Copy)]
+struct Least {
+    now: u32,
+    /// When the walk under way began: an answer of a later piece may have been found before an earlier one was given
+    /// out.
+    begun: u32,
+}
+
 /// A replay of a session's events.
 #[derive(Drop)]
 pub(crate) struct Replay<'a> {
-    number: u8,
-    all: &'a [Puts],
+    session: Caller<'a>,
     /// By keys.
     known: Vec<Known>,
-    /// The least sequence number of an object of each session that can still be met at each key.
-    least: Vec<u32>,
-    /// The same when the walk under way began: an answer of a later piece may have been found before an earlier one
-    /// was given out.
-    begun: Vec<u32>,
-    /// The sequence number of the session's next object.
-    next: u32,
-    fixes: u32,
+    /// By sessions and keys.
+    least: Vec<Least>,
 }
 
 impl<'a> Replay<'a> {
-    /// One without events, of a session among those who made the objects.
-    pub(crate) fn new(
-        alloc: Global,
-        number: u8,
-        all: &'a [Puts],
-    ) -> Result<Replay<'a>, AllocError> {
+    /// One without events, of a session among those who made the objects; none for want of memory.
+    pub(crate) fn new(alloc: Global, number: u8, puts: &'a Puts) -> Option<Replay<'a>> {
+        let keys = KEYS as usize;
         let unknown = Known {
             last: None,
             write: LastWrite::Nothing,
             is_met: false,
         };
-        let keys = KEYS as usize;
-        Ok(Replay {
-            number,
-            all,
-            known: Vec::from_elem(alloc, unknown, keys)?,
-            least: Vec::from_elem(alloc, 0, all.len().saturating_mul(keys))?,
-            begun: Vec::from_elem(alloc, 0, all.len().saturating_mul(keys))?,
-            next: 0,
-            fixes: 0,
+        let any = Least { now: 0, begun: 0 };
+        let Ok(known) = Vec::from_elem(alloc, unknown, keys) else {
+            return None;
+        };
+        let Ok(least) = Vec::from_elem(alloc, any, puts.starts.len().saturating_mul(keys)) else {
+            drop(known);
+            return None;
+        };
+        Some(Replay {
+            session: Caller::new(number, puts),
+            known,
+            least,
         })
     }
-}
 
-impl<'a> Replay<'a> {
-    /// What the session knows of a key.
-    fn known(&self, key: u32) -> Result<Known, Wrong> {
+    /// The object that was at a key when the session last looked or wrote.
+    fn last(&self, key: u32) -> Option<Object> {
         match self.known.get(key as usize) {
-            Some(known) => Ok(*known),
-            None => Err(Wrong::NoKey(key)),
+            Some(known) => known.last,
+            None => None,
         }
     }
 
-    /// Keeps that.
-    fn know(&mut self, key: u32, known: Known) {
-        if let Some(place) = self.known.get_mut(key as usize) {
-            *place = known;
+    /// The session's last write at a key.
+    pub(crate) fn last_write(&self, key: u32) -> LastWrite {
+        match self.known.get(key as usize) {
+            Some(known) => known.write,
+            None => LastWrite::Nothing,
+        }
+    }
+
+    /// The session writes at a key.
+    fn writes(&mut self, key: u32, write: LastWrite) {
+        if let Some(known) = self.known.get_mut(key as usize) {
+            known.write = write;
+        }
+    }
+
+    /// The least sequence numbers of objects of a session at a key.
+    fn least(&self, session: u8, key: u32) -> Least {
+        match self.least.get(place(session, key)) {
+            Some(least) => *least,
+            None => Least { now: 0, begun: 0 },
         }
     }
 
     /// No object with a lower sequence number can be met there.
     fn raise(&mut self, session: u8, key: u32, sequence: u32) {
         if let Some(least) = self.least.get_mut(place(session, key)) {
-            *least = sequence.max(*least);
+            least.now = sequence.max(least.now);
         }
-    }
-
-    /// Whether an object was put in, by the session itself before now.
-    fn was_put_before(&self, object: Object) -> bool {
-        was_put(self.all, object) && (object.session != self.number || object.sequence < self.next)
     }
 
     /// The object that is at a key now: another that was there, and the session's own older ones, never come back.
     fn is_there(&mut self, key: u32, now: Option<Object>) -> Result<(), Wrong> {
-        let known = self.known(key)?;
-        if let Some(was) = known.last {
-            if now != Some(was) {
+        let number = self.session.number;
+        let next = self.session.next;
+        let Some(known) = self.known.get_mut(key as usize) else {
+            return Err(Wrong::NoKey(key));
+        };
+        let last = mem::replace(&mut known.last, now);
+        if let Some(was) = last {
+            if now != last {
                 self.raise(was.session, key, was.sequence.saturating_add(1));
             }
         }
         match now {
-            Some(object) if object.session == self.number => {
-                self.raise(self.number, key, object.sequence);
-            }
+            Some(object) if object.session == number => self.raise(number, key, object.sequence),
             Some(object) => {
-                self.raise(self.number, key, self.next);
+                self.raise(number, key, next);
                 self.raise(object.session, key, object.sequence);
             }
-            None => self.raise(self.number, key, self.next),
+            None => self.raise(number, key, next),
         }
-        self.know(key, Known { last: now, ..known });
         Ok(())
     }
 
     /// The session looks at a key, and finds an object or none.
-    pub(crate) fn looks(&mut self, key: u32, now: Option<Object>) -> Result<(), Wrong> {
-        if owner(key) == Some(self.number) && self.known(key)?.last != now {
+    fn looks(&mut self, key: u32, now: Option<Object>) -> Result<(), Wrong> {
+        if self.session.owns(key) && self.last(key) != now {
             return Err(Wrong::NotItsOwn(key));
         }
         if let Some(object) = now {
-            if object.key != key || !self.was_put_before(object) {
+            if object.key != key || !self.session.may_meet(object) {
                 return Err(Wrong::NeverPut(object));
             }
-            if object.sequence < least_of(self.least.as_slice(), object.session, key) {
+            if object.sequence < self.least(object.session, key).now {
                 return Err(Wrong::CameBack(object));
             }
         }
@@ -176,94 +148,66 @@ impl<'a> Replay<'a> {
 
     /// The session puts an object in.
     fn puts(&mut self, object: Object) -> Result<(), Wrong> {
-        self.next = object.sequence.saturating_add(1);
-        self.is_there(object.key, Some(object))?;
-        let known = self.known(object.key)?;
-        let write = LastWrite::Put(object.sequence);
-        self.know(object.key, Known { write, ..known });
-        Ok(())
+        self.session.makes(object);
+        self.writes(object.key, LastWrite::Put(object.sequence));
+        self.is_there(object.key, Some(object))
     }
 
     /// The session leaves a key without objects.
     fn removes(&mut self, key: u32) -> Result<(), Wrong> {
-        self.is_there(key, None)?;
-        let known = self.known(key)?;
-        self.know(
-            key,
-            Known {
-                write: LastWrite::Removal,
-                ..known
-            },
-        );
-        Ok(())
+        self.writes(key, LastWrite::Removal);
+        self.is_there(key, None)
     }
 
     /// The session deletes an object of its own, where it is there.
     fn removes_object(&mut self, object: Object) -> Result<(), Wrong> {
-        if !self.was_put_before(object) {
+        let key = object.key;
+        if !self.session.may_meet(object) {
             return Ok(());
         }
-        let known = self.known(object.key)?;
-        if known.last == Some(object) {
-            self.is_there(object.key, None)?;
-        } else {
-            self.raise(
-                object.session,
-                object.key,
-                object.sequence.saturating_add(1),
-            );
+        if self.last_write(key) == LastWrite::Put(object.sequence) {
+            self.writes(key, LastWrite::Removal);
         }
-        if known.write == LastWrite::Put(object.sequence) {
-            let known = self.known(object.key)?;
-            self.know(
-                object.key,
-                Known {
-                    write: LastWrite::Removal,
-                    ..known
-                },
-            );
+        if self.last(key) == Some(object) {
+            return self.is_there(key, None);
         }
+        self.raise(object.session, key, object.sequence.saturating_add(1));
         Ok(())
     }
 
     /// Whether the key has an object, as the session was told.
     fn is_told(&mut self, key: u32, there: bool) -> Result<(), Wrong> {
-        if owner(key) == Some(self.number) && self.known(key)?.last.is_some() != there {
+        if self.session.owns(key) && self.last(key).is_some() != there {
             return Err(Wrong::NotItsOwn(key));
         }
-        if !there {
-            self.is_there(key, None)?;
+        if there {
+            return Ok(());
         }
-        Ok(())
+        self.is_there(key, None)
     }
 
     /// An object was to be put in where its key had none.
     fn puts_new(&mut self, object: Object, fresh: bool) -> Result<(), Wrong> {
         let key = object.key;
-        if owner(key) == Some(self.number) && self.known(key)?.last.is_none() != fresh {
+        if self.session.owns(key) && self.last(key).is_none() != fresh {
             return Err(Wrong::NotItsOwn(key));
         }
         if fresh {
-            self.puts(object)
-        } else {
-            self.next = object.sequence.saturating_add(1);
-            Ok(())
+            return self.puts(object);
         }
+        self.session.makes(object);
+        Ok(())
     }
 
     /// A walk meets a key.
     fn meets(&mut self, key: u32) -> Result<(), Wrong> {
-        let known = self.known(key)?;
+        let Some(known) = self.known.get_mut(key as usize) else {
+            return Err(Wrong::NoKey(key));
+        };
         if known.is_met {
             return Err(Wrong::MetTwice(key));
         }
-        self.know(
-            key,
-            Known {
-                is_met: true,
-                ..known
-            },
-        );
+        known.is_met = true;
         Ok(())
     }
 
@@ -272,19 +216,22 @@ impl<'a> Replay<'a> {
         for known in self.known.iter_mut() {
             known.is_met = false;
         }
-        copy(self.least.as_slice(), self.begun.as_mut_slice());
+        for least in self.least.iter_mut() {
+            least.begun = least.now;
+        }
     }
 
-    /// A walk answers an object, which was there at some moment since it began.
+    /// A walk meets a key and answers its object, which was there at some moment since it began.
     fn walks_by(&mut self, object: Object) -> Result<(), Wrong> {
         let key = object.key;
-        if owner(key) == Some(self.number) {
+        self.meets(key)?;
+        if self.session.owns(key) {
             return self.looks(key, Some(object));
         }
-        if !self.was_put_before(object) {
+        if !self.session.may_meet(object) {
             return Err(Wrong::NeverPut(object));
         }
-        if object.sequence < least_of(self.begun.as_slice(), object.session, key) {
+        if object.sequence < self.least(object.session, key).begun {
             return Err(Wrong::CameBack(object));
         }
         self.raise(object.session, key, object.sequence);
@@ -293,55 +240,47 @@ impl<'a> Replay<'a> {
 
     /// A walk ends: of the session's own keys it has met those that have objects.
     fn ends(&self) -> Result<(), Wrong> {
-        for key in own_keys(self.number) {
-            let known = self.known(key)?;
-            if known.is_met != known.last.is_some() {
-                return Err(Wrong::Missed(key));
+        for key in self.session.keys() {
+            match self.known.get(key as usize) {
+                Some(known) if known.is_met == known.last.is_some() => {}
+                _ => return Err(Wrong::Missed(key)),
             }
         }
         Ok(())
     }
 
     /// How many of the session's own keys have objects that pass a test.
-    fn counts(&self, parity: Option<u32>) -> Result<u64, Wrong> {
+    fn counts(&self, parity: Option<u32>) -> u64 {
         let mut count: u64 = 0;
-        for key in own_keys(self.number) {
-            if is_of(self.known(key)?.last, parity) {
-                count = count.saturating_add(1);
+        for key in self.session.keys() {
+            if let Some(object) = self.last(key) {
+                count = count.saturating_add(u64::from(object.is_of(parity)));
             }
         }
-        Ok(count)
+        count
     }
 
-    /// The session deletes its own objects of a parity.
-    fn removes_all(&mut self, parity: u32) -> Result<(), Wrong> {
-        for key in own_keys(self.number) {
-            if is_of(self.known(key)?.last, Some(parity)) {
-                self.removes(key)?;
+    /// Whether the table may have so many objects: at the session's own keys as it left them, at each other key one at
+    /// most.
+    fn may_be_all(&self, count: u64) -> bool {
+        let own = self.counts(None);
+        let others = u64::from(KEYS - OWN);
+        own <= count && count <= own.saturating_add(others)
+    }
+
+    /// The session deletes its own objects of a parity, and was told how many there were.
+    fn removes_all(&mut self, parity: u32, count: u64) -> Result<(), Wrong> {
+        if self.counts(Some(parity)) != count {
+            return Err(Wrong::Miscounted(count));
+        }
+        for key in self.session.keys() {
+            if let Some(object) = self.last(key) {
+                if object.is_of(Some(parity)) {
+                    self.removes(key)?;
+                }
             }
         }
         Ok(())
-    }
-
-    /// The session was told that so many of its own objects were there.
-    fn is_count(&self, parity: Option<u32>, count: u64) -> Result<(), Wrong> {
-        if self.counts(parity)? == count {
-            Ok(())
-        } else {
-            Err(Wrong::Miscounted(count))
-        }
-    }
-
-    /// The session was told that the table had so many objects: at its own keys as it left them, at each other key one
-    /// at most.
-    fn is_count_of_all(&self, count: u64) -> Result<(), Wrong> {
-        let own = self.counts(None)?;
-        let others = u64::from(KEYS.saturating_sub(OWN));
-        if own <= count && count <= own.saturating_add(others) {
-            Ok(())
-        } else {
-            Err(Wrong::Miscounted(count))
-        }
     }
 
     /// The session deleted so many objects at the keys whose objects are counted, one at each at most.
@@ -355,17 +294,26 @@ impl<'a> Replay<'a> {
         Ok(())
     }
 
-    /// A release of a fix was granted or refused.
-    fn unfixes(&mut self, done: bool) -> Result<(), Wrong> {
-        if (0 < self.fixes) != done {
-            return Err(Wrong::Fixes(self.fixes));
+    /// Goes on by an event of a walk, or of a query.
+    fn walks_on(&mut self, event: Event) -> Result<(), Wrong> {
+        match event {
+            Event::Begun => {
+                self.begins();
+                Ok(())
+            }
+            Event::Walked(object) => self.walks_by(object),
+            Event::Met(key) => self.meets(key),
+            Event::Ended => self.ends(),
+            Event::Counted(count) => check(self.counts(None) == count, Wrong::Miscounted(count)),
+            Event::Removed(parity, count) => self.removes_all(parity, count),
+            Event::CountedAll(count) => check(self.may_be_all(count), Wrong::Miscounted(count)),
+            Event::Cleared(count) => self.clears(count),
+            _ => self.session.goes_on(event),
         }
-        self.fixes = self.fixes.saturating_sub(1);
-        Ok(())
     }
 
     /// Goes on by an event.
-    pub(crate) fn goes_on(&mut self, event: Event) -> Result<(), Wrong> {
+    fn goes_on(&mut self, event: Event) -> Result<(), Wrong> {
         match event {
             Event::Put(object) => self.puts(object),
             Event::PutNew(object, fresh) => self.puts_new(object, fresh),
@@ -377,84 +325,25 @@ impl<'a> Replay<'a> {
                 self.looks(key, object)?;
                 self.removes(key)
             }
-            Event::Fixed => {
-                self.fixes = self.fixes.saturating_add(1);
-                Ok(())
-            }
-            Event::Unfixed(done) => self.unfixes(done),
-            Event::Begun => {
-                self.begins();
-                Ok(())
-            }
-            Event::Walked(object) => {
-                self.meets(object.key)?;
-                self.walks_by(object)
-            }
-            Event::Met(key) => self.meets(key),
-            Event::Ended => self.ends(),
-            Event::Counted(count) => self.is_count(None, count),
-            Event::Removed(parity, count) => {
-                self.is_count(Some(parity), count)?;
-                self.removes_all(parity)
-            }
-            Event::CountedAll(count) => self.is_count_of_all(count),
-            Event::Cleared(count) => self.clears(count),
-            Event::PutAgain(_) | Event::Item(_) | Event::Listed(_) | Event::TakenAll(_) => {
-                Err(Wrong::NotOfAKind)
-            }
+            _ => self.walks_on(event),
         }
     }
 
-    /// Goes through all events of the session.
-    pub(crate) fn goes_through(&mut self, events: &[Event]) -> Result<(), Wrong> {
+    /// Goes through all events of the session, and looks at what is left at each key.
+    pub(crate) fn goes_through(&mut self, events: &[Event], left: &[Object]) -> Result<(), Wrong> {
         for event in events {
             self.goes_on(*event)?;
         }
+        for key in 0..KEYS {
+            self.looks(key, first_at(left, key))?;
+        }
         Ok(())
     }
-
-    /// The session's last write at a key.
-    pub(crate) fn last_write(&self, key: u32) -> LastWrite {
-        match self.known.get(key as usize) {
-            Some(known) => known.write,
-            None => LastWrite::Nothing,
-        }
-    }
 }
 
-/// Copies numbers to as many others.
-fn copy(from: &[u32], to: &mut [u32]) {
-    if from.len() == to.len() {
-        to.copy_from_slice(from);
-    }
-}
-
-/// Where the least sequence number of a session at a key is kept.
+/// Where what is known of a session's objects at a key is kept.
 fn place(session: u8, key: u32) -> usize {
     usize::from(session)
         .saturating_mul(KEYS as usize)
         .saturating_add(key as usize)
-}
-
-/// The least sequence number of a session's object that can be met at a key.
-fn least_of(least: &[u32], session: u8, key: u32) -> u32 {
-    match least.get(place(session, key)) {
-        Some(least) => *least,
-        None => 0,
-    }
-}
-
-/// The keys of a session's own.
-fn own_keys(number: u8) -> Range<u32> {
-    let first = u32::from(number).saturating_mul(OWN);
-    first..first.saturating_add(OWN)
-}
-
-/// Whether there is an object of the parity, if one is asked for.
-fn is_of(object: Option<Object>, parity: Option<u32>) -> bool {
-    match (object, parity) {
-        (Some(object), Some(parity)) => object.sequence % 2 == parity,
-        (Some(_), None) => true,
-        (None, _) => false,
-    }
 }

@@ -4,13 +4,13 @@ ghost use Rattle.kit_members.specs.Members.{AreMembers};
 ghost use Rattle.tables.specs.Opened.{AllOpened};
 ghost use Rattle.tables.specs.Sessions.{IsOpened};
 
-use crate::bags::empty_lists;
 use crate::judge::judge;
-use crate::keys::{Object, key_term};
+use crate::keys::{KEYS, Object, key_term};
 use crate::worker::Worker;
-use crate::wrong::{Failure, Wrong};
+use crate::wrong::{Failure, Wrong, check};
 use gate::Closed;
 use kit_members::members_of;
+use kit_rows::was_ok;
 use part_core::Part;
 use part_hash::HashPart;
 use std::alloc::Global;
@@ -21,7 +21,7 @@ use term_core::Term;
 
 /// A run: what the table is opened with, how many of its sessions are members, by which another makes its selections,
 /// and the calls of each session that is none.
-#[derive(Clone, Copy, Debug)]
+#[derive(Clone, Copy)]
 pub(crate) struct Run {
     pub(crate) options: Options,
     pub(crate) members: u8,
@@ -37,7 +37,7 @@ fn played<R: Threads + Wait + Sync, P: Part<Global> + Drop, M: Turns<Global> + S
     session: &mut Session<P>,
     members: &mut [M],
     run: Run,
-) -> Option<Worker>
+) -> Worker
     requires opened { IsOpened table.now.options table.now.gates.items session.old.number session.old.passes.items }
     requires members { AreMembers M.is_ready M.home members.old }
     ensures { IsOpened table.now.options table.now.gates.items session.new.number session.new.passes.items }
@@ -45,8 +45,9 @@ fn played<R: Threads + Wait + Sync, P: Part<Global> + Drop, M: Turns<Global> + S
     let holds_many = !run.options.kind.is_set();
     let mut worker = Worker::new(alloc, run.seed, session.number, holds_many);
     let mut at = table.at(rt, session);
-    worker.run(rt, alloc, &mut at, members, run.calls)?;
-    Some(worker)
+    let played = worker.run(rt, alloc, &mut at, members, run.calls);
+    worker.is_whole = played.is_some();
+    worker
 }
 
 /// A session without members, of whatever parts these would be, makes its calls.
@@ -56,12 +57,14 @@ fn played_alone<R: Threads + Wait + Sync, P: Part<Global> + Drop, Q: Part<Global
     table: &Table<P>,
     session: &mut Session<P>,
     run: Run,
-) -> Option<Worker>
+) -> Worker
     requires { IsOpened table.now.options table.now.gates.items session.old.number session.old.passes.items }
     ensures { IsOpened table.now.options table.now.gates.items session.new.number session.new.passes.items }
 {
     let mut nobody: Vec<At<'_, Q, Global, R>> = Vec::new(alloc);
-    played(rt, alloc, table, session, nobody.as_mut_slice(), run)
+    let worker = played(rt, alloc, table, session, nobody.as_mut_slice(), run);
+    drop(nobody);
+    worker
 }
 
 /// A session without members makes its calls and leaves the table.
@@ -71,7 +74,7 @@ fn played_and_left<R: Threads + Wait + Sync, P: Part<Global> + Drop>(
     table: &Table<P>,
     session: Session<P>,
     run: Run,
-) -> Option<Worker>
+) -> Worker
     requires { IsOpened table.now.options table.now.gates.items session.number session.passes.items }
 {
     let mut session = session;
@@ -85,37 +88,31 @@ fn is_part_of(key: u32, part: u8, parts: u8) -> bool
     requires { 0 < parts }
 {
     let key = key_term(key);
-    part_of_key(&key, parts) == part
+    let is_part = part_of_key(&key, parts) == part;
+    drop(key);
+    is_part
 }
 
-/// Keeps an object by its key, behind others.
-fn keep_left(object: Object, left: &mut [Vec<Object>]) -> Result<(), Wrong> {
-    match left.get_mut(object.key as usize) {
-        Some(place) => match place.push(object) {
-            Ok(()) => Ok(()),
-            Err(_) => Err(Wrong::NoMemory),
-        },
-        None => Err(Wrong::NoKey(object.key)),
-    }
-}
-
-/// Puts an object by its key, where it stands in its key's part.
-fn put_left(object: Object, part: u8, parts: u8, left: &mut [Vec<Object>]) -> Result<(), Wrong> {
+/// Puts an object behind others, where it stands in its key's part.
+fn put_left(object: Object, part: u8, parts: u8, left: &mut Vec<Object>) -> Result<(), Wrong> {
     if parts == 0 {
         return Err(Wrong::Misplaced(object.key));
     }
     if !is_part_of(object.key, part, parts) {
         return Err(Wrong::Misplaced(object.key));
     }
-    keep_left(object, left)
+    if KEYS <= object.key {
+        return Err(Wrong::NoKey(object.key));
+    }
+    check(left.push(object).is_ok(), Wrong::NoMemory)
 }
 
-/// Puts the objects of a part, which is one of so many, by their keys.
+/// Puts the objects of a part, which is one of so many, behind others.
 pub(crate) fn put_all_left(
     objects: &[Term],
     part: u8,
     parts: u8,
-    left: &mut [Vec<Object>],
+    left: &mut Vec<Object>,
 ) -> Result<(), Failure> {
     for term in objects {
         let Some(object) = Object::of_term(term) else {
@@ -126,24 +123,95 @@ pub(crate) fn put_all_left(
     Ok(())
 }
 
-/// What is left in a table that was given up, by keys.
-fn left_in<P: Part<Global> + Drop>(
+/// Puts what is left in the last part that was not handed out yet behind other objects.
+fn put_next_left<P: Part<Global> + Drop>(
     alloc: Global,
-    mut closed: Closed<P>,
+    closed: &mut Closed<P>,
+    part: u8,
     parts: u8,
-) -> Result<Vec<Vec<Object>>, Failure> {
-    let mut left = empty_lists(alloc)?;
+    left: &mut Vec<Object>,
+) -> Result<(), Failure> {
+    match closed.next_part() {
+        Some(Ok(there)) => {
+            let objects = there.objects(alloc);
+            drop(there);
+            let put = match &objects {
+                Ok(objects) => put_all_left(objects.as_slice(), part, parts, left),
+                Err(_) => Err(Failure::Refused),
+            };
+            drop(objects);
+            put
+        }
+        Some(Err(_lost)) => Err(Failure::Lost),
+        None => Err(Failure::Lost),
+    }
+}
+
+/// Puts what is left in a table that was given up behind other objects.
+fn put_left_in<P: Part<Global> + Drop>(
+    alloc: Global,
+    closed: &mut Closed<P>,
+    parts: u8,
+    left: &mut Vec<Object>,
+) -> Result<(), Failure> {
     for part in (0..parts).rev() {
-        match closed.next_part() {
-            Some(Ok(there)) => {
-                let objects = there.objects(alloc)?;
-                put_all_left(objects.as_slice(), part, parts, left.as_mut_slice())?;
+        put_next_left(alloc, closed, part, parts, left)?;
+    }
+    Ok(())
+}
+
+/// Judges what sessions recorded, and what is left in their table, which was given up.
+fn judged_left<P: Part<Global> + Drop>(
+    alloc: Global,
+    closed: &mut Closed<P>,
+    workers: &[Worker],
+    run: Run,
+) -> Result<(), Failure> {
+    let mut left = Vec::new(alloc);
+    let judged = match put_left_in(alloc, closed, run.options.parts, &mut left) {
+        Ok(()) => judge(alloc, run.options.kind, workers, left.as_slice()),
+        Err(failure) => Err(failure),
+    };
+    drop(left);
+    judged
+}
+
+/// The records of all sessions, by their numbers; none where there are none, or for want of memory.
+fn all_workers(others: Option<Vec<Worker>>, last: Worker) -> Option<Vec<Worker>> {
+    match others {
+        Some(others) => {
+            let mut workers = others;
+            if was_ok(workers.push(last)) {
+                Some(workers)
+            } else {
+                drop(workers);
+                None
             }
-            Some(Err(_lost)) => return Err(Failure::Lost),
-            None => return Err(Failure::Lost),
+        }
+        None => {
+            drop(last);
+            None
         }
     }
-    Ok(left)
+}
+
+/// Judges a table that was given up beside what its sessions recorded.
+fn judged_closed<P: Part<Global> + Drop>(
+    alloc: Global,
+    closed: Closed<P>,
+    others: Option<Vec<Worker>>,
+    last: Worker,
+    run: Run,
+) -> Result<(), Failure> {
+    let mut closed = closed;
+    let workers = all_workers(others, last);
+    let judged = match &workers {
+        Some(workers) => judged_left(alloc, &mut closed, workers.as_slice(), run),
+        None => Err(Failure::Refused),
+    };
+    drop(closed);
+    drop(workers);
+    judged
 }
 
 /// All but the last session make their calls and leave, each on a thread of its own.
@@ -153,17 +221,41 @@ fn others_played<R: Threads + Wait + Sync, P: Part<Global> + Drop + Send>(
     table: &Table<P>,
     sessions: Vec<Session<P>>,
     run: Run,
-) -> Option<Vec<Option<Worker>>>
+) -> Option<Vec<Worker>>
     requires { AllOpened table.now.options table.now.gates.items sessions.items }
 {
     thread::map_vec(
         rt,
         sessions,
-        &|session: Session<P>| -> Option<Worker>
+        &|session: Session<P>| -> Worker
             requires { IsOpened table.now.options table.now.gates.items session.number session.passes.items }
         { played_and_left(rt, alloc, table, session, run) },
     )
     .ok()
+}
+
+/// A session makes its calls, by its members where these serve; none where it doesn't come to their end.
+fn played_by<R: Threads + Wait + Sync, P: Part<Global> + Drop + Send>(
+    rt: &R,
+    alloc: Global,
+    table: &Table<P>,
+    session: &mut Session<P>,
+    members: &mut [Session<P>],
+    run: Run,
+) -> Option<Worker>
+    requires session { IsOpened table.now.options table.now.gates.items session.old.number session.old.passes.items }
+    requires members { All (λ s. IsOpened table.now.options table.now.gates.items s.number s.passes.items) members.old }
+    ensures { IsOpened table.now.options table.now.gates.items session.new.number session.new.passes.items }
+{
+    let mut seats = members_of(rt, alloc, table, members)?;
+    let worker = played(rt, alloc, table, session, seats.as_mut_slice(), run);
+    drop(seats);
+    if worker.is_whole {
+        Some(worker)
+    } else {
+        drop(worker);
+        None
+    }
 }
 
 /// The last session makes its calls, by its members where these serve, and comes back.
@@ -181,30 +273,14 @@ fn last_played<R: Threads + Wait + Sync, P: Part<Global> + Drop + Send>(
 {
     let mut session = session;
     let mut members = members;
-    let mut seats = members_of(rt, alloc, table, members.as_mut_slice())?;
-    let worker = played(rt, alloc, table, &mut session, seats.as_mut_slice(), run)?;
-    Some((session, worker))
-}
-
-/// The records of all sessions, by their numbers.
-fn all_workers(
-    alloc: Global,
-    others: Vec<Option<Worker>>,
-    last: Worker,
-) -> Result<Vec<Worker>, Failure> {
-    let mut workers = Vec::new(alloc);
-    for other in others {
-        let Some(other) = other else {
-            return Err(Failure::Refused);
-        };
-        match workers.push(other) {
-            Ok(()) => {}
-            Err(_) => return Err(Failure::Refused),
+    let worker = played_by(rt, alloc, table, &mut session, members.as_mut_slice(), run);
+    drop(members);
+    match worker {
+        Some(worker) => Some((session, worker)),
+        None => {
+            drop(session);
+            None
         }
-    }
-    match workers.push(last) {
-        Ok(()) => Ok(workers),
-        Err(_) => Err(Failure::Refused),
     }
 }
 
@@ -217,7 +293,7 @@ fn all_played<R: Threads + Wait + Sync, P: Part<Global> + Drop + Send>(
     last: Session<P>,
     members: Vec<Session<P>>,
     run: Run,
-) -> (Option<Vec<Option<Worker>>>, Option<(Session<P>, Worker)>)
+) -> (Option<Vec<Worker>>, Option<(Session<P>, Worker)>)
     requires others { AllOpened table.now.options table.now.gates.items sessions.items }
     requires last { IsOpened table.now.options table.now.gates.items last.number last.passes.items }
     requires members { All (λ s. IsOpened table.now.options table.now.gates.items s.number s.passes.items) members.items }
@@ -225,7 +301,7 @@ fn all_played<R: Threads + Wait + Sync, P: Part<Global> + Drop + Send>(
 {
     join(
         rt,
-        || -> Option<Vec<Option<Worker>>>
+        || -> Option<Vec<Worker>>
             requires { AllOpened table.now.options table.now.gates.items sessions.items }
         { others_played(rt, alloc, table, sessions, run) },
         || -> Option<(Session<P>, Worker)>
@@ -264,7 +340,25 @@ fn move_one<P: Part<Global> + Drop>(
     put_member(table, member, members)
 }
 
-/// Takes so many members from the end of a table's sessions.
+/// Takes so many members from the end of a table's sessions, and puts them behind others.
+fn move_members<P: Part<Global> + Drop>(
+    table: &Table<P>,
+    sessions: &mut Vec<Session<P>>,
+    members: &mut Vec<Session<P>>,
+    count: u8,
+) -> Option<()>
+    requires sessions { AllOpened table.now.options table.now.gates.items sessions.old.items }
+    requires members { All (λ s. IsOpened table.now.options table.now.gates.items s.number s.passes.items) members.old.items }
+    ensures sessions { AllOpened table.now.options table.now.gates.items sessions.new.items }
+    ensures members { All (λ s. IsOpened table.now.options table.now.gates.items s.number s.passes.items) members.new.items }
+{
+    for _member in 0..count {
+        move_one(table, sessions, members)?;
+    }
+    Some(())
+}
+
+/// So many members from the end of a table's sessions.
 fn members_from<P: Part<Global> + Drop>(
     alloc: Global,
     table: &Table<P>,
@@ -276,10 +370,13 @@ fn members_from<P: Part<Global> + Drop>(
     ensures members { IfSome result (λ members. All (λ s. IsOpened table.now.options table.now.gates.items s.number s.passes.items) members.items) }
 {
     let mut members = Vec::new(alloc);
-    for _member in 0..count {
-        move_one(table, sessions, &mut members)?;
+    match move_members(table, sessions, &mut members, count) {
+        Some(()) => Some(members),
+        None => {
+            drop(members);
+            None
+        }
     }
-    Some(members)
 }
 
 /// All sessions make their calls, and what is left is judged beside what they recorded.
@@ -292,16 +389,25 @@ pub(crate) fn judged<R: Threads + Wait + Sync, P: Part<Global> + Drop + Send>(
         return Err(Failure::Refused);
     };
     let Some(members) = members_from(alloc, &table, &mut sessions, run.members) else {
+        drop(sessions);
+        drop(table);
         return Err(Failure::Refused);
     };
     let Some(last) = sessions.pop() else {
+        drop(members);
+        drop(sessions);
+        drop(table);
         return Err(Failure::Refused);
     };
     let (others, last) = all_played(rt, alloc, &table, sessions, last, members, run);
-    let (Some(others), Some((session, worker))) = (others, last) else {
-        return Err(Failure::Refused);
-    };
-    let left = left_in(alloc, table.close(session), run.options.parts)?;
-    let workers = all_workers(alloc, others, worker)?;
-    judge(alloc, run.options.kind, workers.as_slice(), left.as_slice())
+    match last {
+        Some((session, worker)) => {
+            judged_closed(alloc, table.close(session), others, worker, run)
+        }
+        None => {
+            drop(others);
+            drop(table);
+            Err(Failure::Refused)
+        }
+    }
 }

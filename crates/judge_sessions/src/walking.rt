@@ -3,17 +3,17 @@ ghost use Rattle.std.specs.Prelude.{◌≡◌};
 ghost use Rattle.kit_members.specs.Members.{AreMembers};
 
 use crate::event::Event;
-use crate::keys::{COUNTED, KEYS, OPEN, Object, key_term};
+use crate::keys::{COUNTED, OPEN, Object, key_term};
 use crate::worker::Worker;
 use kit_members::{counted, deleted, selected};
-use kit_rows::{number, term_of};
+use kit_rows::{number, term_of, was_some};
 use mspec_reader::read_spec;
 use std::alloc::Global;
 use std::sync::Wait;
 use std::thread::Threads;
 use tables::{Turns, fix, unfix};
 use term_core::Term;
-use walks::{Query, Step, first, next, select_limit, select_more};
+use walks::{Continuation, Query, Step, first, next, select_limit, select_more};
 
 /// The most pieces of a walk, and the most keys of a tour.
 const MOST: u32 = 1_000_000;
@@ -23,13 +23,19 @@ const FEW: u32 = 8;
 /// The query of a specification.
 fn query(alloc: Global, specification: &str) -> Option<Query> {
     let term = term_of(alloc, specification.as_bytes())?;
-    Query::from_spec(alloc, &read_spec(alloc, &term).ok()?, 1).ok()
+    let read = read_spec(alloc, &term).ok();
+    drop(term);
+    let specification = read?;
+    let query = Query::from_spec(alloc, &specification, 1).ok();
+    drop(specification);
+    query
 }
 
 /// Records the answers of a piece.
 pub(crate) fn record_piece(worker: &mut Worker, answers: &[Term]) -> Option<()> {
     for answer in answers {
-        worker.record(Event::Walked(Object::of_term(answer)?))?;
+        let object = Object::of_term(answer)?;
+        worker.record(Event::Walked(object))?;
     }
     Some(())
 }
@@ -63,6 +69,31 @@ fn walk_length(worker: &mut Worker) -> u32 {
     }
 }
 
+/// Records a piece, writes where others write, too, and goes on with the walk.
+fn step_behind<T: Turns<Global>>(
+    alloc: Global,
+    turns: &mut T,
+    worker: &mut Worker,
+    answers: Vec<Term>,
+    walk: Continuation,
+) -> Option<Step>
+    requires { T.is_ready turns.old }
+    ensures ready { T.is_ready turns.new }
+    ensures same { T.home turns.new ≡ T.home turns.old }
+{
+    let recorded = record_piece(worker, answers.as_slice());
+    drop(answers);
+    if recorded.is_none() {
+        drop(walk);
+        return None;
+    }
+    if worker.call_at_shared_key(alloc, turns).is_none() {
+        drop(walk);
+        return None;
+    }
+    select_more(alloc, turns, walk).ok()
+}
+
 /// All objects, in pieces; between two pieces the session writes where others write, too. A walk that is abandoned drops
 /// its continuation, and its end isn't recorded.
 fn pieces<T: Turns<Global>>(alloc: Global, turns: &mut T, worker: &mut Worker) -> Option<()>
@@ -74,26 +105,36 @@ fn pieces<T: Turns<Global>>(alloc: Global, turns: &mut T, worker: &mut Worker) -
     let most = walk_length(worker);
     let limit = u64::from(worker.below(50)).saturating_add(1);
     let all = query(alloc, "[{'$1',[],['$1']}].")?;
-    let mut step = select_limit(alloc, turns, all, limit).ok()?;
+    let mut step = select_limit(alloc, turns, all, limit).ok();
     for _piece in 0..most {
-        match step {
+        match step? {
             Step::Piece(answers, walk) => {
-                record_piece(worker, answers.as_slice())?;
-                worker.call_at_shared_key(alloc, turns)?;
-                step = select_more(alloc, turns, walk).ok()?;
+                step = step_behind(alloc, turns, worker, answers, walk);
             }
-            Step::End(_query) => return worker.record(Event::Ended),
+            Step::End(query) => {
+                drop(query);
+                return worker.record(Event::Ended);
+            }
         }
     }
-    if most < MOST { Some(()) } else { None }
+    if was_some(step) && most < MOST {
+        Some(())
+    } else {
+        None
+    }
 }
 
 /// The number that a key is, if there is a key.
 fn number_of(key: Option<Term>) -> Option<Option<u32>> {
-    match key {
+    let number = match &key {
+        Some(key) => match number(key) {
+            Some(number) => Some(Some(number)),
+            None => None,
+        },
         None => Some(None),
-        Some(key) => Some(Some(number(&key)?)),
-    }
+    };
+    drop(key);
+    number
 }
 
 /// The key behind another, or the first.
@@ -106,7 +147,9 @@ fn key_behind<T: Turns<Global>>(turns: &mut T, last: Option<u32>) -> Option<Opti
         return number_of(first(turns).ok()?);
     };
     let key = key_term(key);
-    number_of(next(turns, &key).ok()?)
+    let found = next(turns, &key).ok();
+    drop(key);
+    number_of(found?)
 }
 
 /// All keys, one behind the other, by `first` and `next`, or so many of them; whether there are no more.
@@ -145,17 +188,6 @@ fn fixed_tour<T: Turns<Global>>(turns: &mut T, worker: &mut Worker) -> Option<()
     }
 }
 
-/// The query of a session's objects at its own keys, or of those whose sequence numbers have a parity.
-fn own_query(alloc: Global, number: u8, parity: Option<u32>) -> Option<Query> {
-    let mut text = String::new(alloc);
-    write!(text, "[{{{{'$1',{number},'$2'}},[{{'<','$1',{OPEN}}}").ok()?;
-    if let Some(parity) = parity {
-        write!(text, ",{{'=:=',{{'rem','$2',2}},{parity}}}").ok()?;
-    }
-    write!(text, "],[true]}}].").ok()?;
-    query(alloc, text.as_str())
-}
-
 /// A query over the whole table.
 #[derive(Clone, Copy)]
 enum Asking {
@@ -174,38 +206,91 @@ enum Asking {
 }
 
 impl Asking {
+    /// Writes the specification of a session's query.
+    fn write(self, number: u8, text: &mut String) -> Option<()> {
+        match self {
+            Asking::Whole => write!(text, "[{{'$1',[],['$1']}}]."),
+            Asking::Count => write!(
+                text,
+                "[{{{{'$1',{number},'$2'}},[{{'<','$1',{OPEN}}}],[true]}}]."
+            ),
+            Asking::Remove(parity) => write!(
+                text,
+                "[{{{{'$1',{number},'$2'}},[{{'<','$1',{OPEN}}},{{'=:=',{{'rem','$2',2}},{parity}}}],[true]}}]."
+            ),
+            Asking::Named(key) => write!(text, "[{{{{{key},'_','_'}},[],['$_']}}]."),
+            Asking::CountAll => write!(text, "[{{'_',[],[true]}}]."),
+            Asking::Clear => write!(
+                text,
+                "[{{{{'$1','_','_'}},[{{'>=','$1',{COUNTED}}}],[true]}}]."
+            ),
+        }
+        .ok()
+    }
+
     /// The query of a session.
     fn query(self, alloc: Global, number: u8) -> Option<Query> {
+        let mut text = String::new(alloc);
+        let asked = match self.write(number, &mut text) {
+            Some(()) => query(alloc, text.as_str()),
+            None => None,
+        };
+        drop(text);
+        asked
+    }
+
+    /// What a session records of a number that its query answers.
+    fn event(self, count: u64) -> Event {
         match self {
-            Asking::Whole => query(alloc, "[{'$1',[],['$1']}]."),
-            Asking::Count => own_query(alloc, number, None),
-            Asking::Remove(parity) => own_query(alloc, number, Some(parity)),
-            Asking::Named(key) => named_query(alloc, key),
-            Asking::CountAll => query(alloc, "[{'_',[],[true]}]."),
-            Asking::Clear => counted_query(alloc),
+            Asking::Count => Event::Counted(count),
+            Asking::Remove(parity) => Event::Removed(parity, count),
+            Asking::Clear => Event::Cleared(count),
+            _ => Event::CountedAll(count),
         }
     }
 }
 
-/// The query of the objects at a key.
-fn named_query(alloc: Global, key: u32) -> Option<Query> {
-    let mut text = String::new(alloc);
-    write!(text, "[{{{{{key},'_','_'}},[],['$_']}}].").ok()?;
-    query(alloc, text.as_str())
+/// Asks a query, by members where there are any, and records what it answers.
+fn ask_query<R: Threads + Wait + Sync, T: Turns<Global>, M: Turns<Global> + Send>(
+    rt: &R,
+    alloc: Global,
+    turns: &mut T,
+    members: &mut [M],
+    worker: &mut Worker,
+    asking: Asking,
+    query: &Query,
+) -> Option<()>
+    requires ready { T.is_ready turns.old }
+    requires members { AreMembers M.is_ready M.home members.old }
+    ensures ready { T.is_ready turns.new }
+    ensures same { T.home turns.new ≡ T.home turns.old }
+    ensures members { AreMembers M.is_ready M.home members.new }
+{
+    match asking {
+        Asking::Whole => {
+            let answers = selected(rt, alloc, turns, members, query)?;
+            let recorded = record_whole(worker, answers.as_slice());
+            drop(answers);
+            recorded
+        }
+        Asking::Named(key) => {
+            let found = selected(rt, alloc, turns, members, query)?;
+            let recorded = worker.record_found(key, found.as_slice());
+            drop(found);
+            recorded
+        }
+        Asking::Count | Asking::CountAll => {
+            let count = counted(rt, turns, members, query)?;
+            worker.record(asking.event(count))
+        }
+        Asking::Remove(_) | Asking::Clear => {
+            let count = deleted(rt, turns, members, query)?;
+            worker.record(asking.event(count))
+        }
+    }
 }
 
-/// The query of the objects at the keys whose objects are counted.
-fn counted_query(alloc: Global) -> Option<Query> {
-    let mut text = String::new(alloc);
-    write!(
-        text,
-        "[{{{{'$1','_','_'}},[{{'>=','$1',{COUNTED}}}],[true]}}]."
-    )
-    .ok()?;
-    query(alloc, text.as_str())
-}
-
-/// Makes a query, by members where there are any, and records what it answers.
+/// Makes a query, and asks it.
 fn ask<R: Threads + Wait + Sync, T: Turns<Global>, M: Turns<Global> + Send>(
     rt: &R,
     alloc: Global,
@@ -221,32 +306,9 @@ fn ask<R: Threads + Wait + Sync, T: Turns<Global>, M: Turns<Global> + Send>(
     ensures members { AreMembers M.is_ready M.home members.new }
 {
     let query = asking.query(alloc, worker.number)?;
-    match asking {
-        Asking::Whole => {
-            let answers = selected(rt, alloc, turns, members, &query)?;
-            record_whole(worker, answers.as_slice())
-        }
-        Asking::Count => {
-            let count = counted(rt, turns, members, &query)?;
-            worker.record(Event::Counted(count))
-        }
-        Asking::Remove(parity) => {
-            let removed = deleted(rt, turns, members, &query)?;
-            worker.record(Event::Removed(parity, removed))
-        }
-        Asking::Named(key) => {
-            let found = selected(rt, alloc, turns, members, &query)?;
-            worker.record_found(key, found.as_slice())
-        }
-        Asking::CountAll => {
-            let count = counted(rt, turns, members, &query)?;
-            worker.record(Event::CountedAll(count))
-        }
-        Asking::Clear => {
-            let count = deleted(rt, turns, members, &query)?;
-            worker.record(Event::Cleared(count))
-        }
-    }
+    let recorded = ask_query(rt, alloc, turns, members, worker, asking, &query);
+    drop(query);
+    recorded
 }
 
 /// A walk, or a change of the session's fixes.

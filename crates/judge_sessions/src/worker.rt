@@ -5,6 +5,7 @@ ghost use Rattle.kit_members.specs.Members.{AreMembers};
 use crate::event::Event;
 use crate::keys::{COUNTED, KEYS, OPEN, OWN, Object, key_term, object_of};
 use crate::walking::walk;
+use kit_rows::was_ok;
 use rand::RngExt;
 use rand_pcg::Pcg32;
 use std::alloc::Global;
@@ -20,6 +21,8 @@ const CALLS_OF_A_WALK: u32 = 64;
 #[derive(Clone, Copy)]
 enum Call {
     Put,
+    /// An object is put in that was put in before, at one key or another.
+    PutAgain,
     PutNew,
     Find,
     Ask,
@@ -57,6 +60,8 @@ pub(crate) struct Worker {
     sequence: u32,
     /// Whether the table holds several objects of a key.
     pub(crate) holds_many: bool,
+    /// Whether all calls were answered, and recorded.
+    pub(crate) is_whole: bool,
     pub(crate) events: Vec<Event>,
 }
 
@@ -68,6 +73,7 @@ impl Worker {
             random: Pcg32::new(seed, u64::from(number)),
             sequence: 0,
             holds_many,
+            is_whole: true,
             events: Vec::new(alloc),
         }
     }
@@ -82,10 +88,15 @@ impl Worker {
         self.events.push(event).ok()
     }
 
-    /// Records the objects of a list.
-    fn record_items(&mut self, objects: &[Term]) -> Option<()> {
+    /// Records the objects of a list that was found or taken.
+    fn record_items(&mut self, objects: &[Term], are_taken: bool) -> Option<()> {
         for object in objects {
-            self.record(Event::Item(Object::of_term(object)?))?;
+            let object = Object::of_term(object)?;
+            self.record(if are_taken {
+                Event::ItemTaken(object)
+            } else {
+                Event::Item(object)
+            })?;
         }
         Some(())
     }
@@ -93,21 +104,21 @@ impl Worker {
     /// Records what was found at a key.
     pub(crate) fn record_found(&mut self, key: u32, found: &[Term]) -> Option<()> {
         if self.holds_many {
-            self.record_items(found)?;
-            self.record(Event::Listed(key))
-        } else {
-            self.record(Event::Found(key, object_of(found)?))
+            self.record_items(found, false)?;
+            return self.record(Event::Listed(key));
         }
+        let object = object_of(found)?;
+        self.record(Event::Found(key, object))
     }
 
     /// Records what was taken at a key.
     pub(crate) fn record_taken(&mut self, key: u32, taken: &[Term]) -> Option<()> {
         if self.holds_many {
-            self.record_items(taken)?;
-            self.record(Event::TakenAll(key))
-        } else {
-            self.record(Event::Taken(key, object_of(taken)?))
+            self.record_items(taken, true)?;
+            return self.record(Event::TakenAll(key));
         }
+        let object = object_of(taken)?;
+        self.record(Event::Taken(key, object))
     }
 
     /// How many calls the session makes of so many: of four that are alone one leaves early, behind half of them.
@@ -148,14 +159,45 @@ impl Worker {
             .saturating_add(place)
     }
 
-    /// One of the keys at which all sessions write.
-    fn open_key(&mut self) -> u32 {
-        OPEN.saturating_add(self.below(COUNTED - OPEN))
+    /// A call of those that are made at keys which are written in every way.
+    fn any_call(&mut self) -> Call {
+        let choice = self.below(16) as usize;
+        match CALLS.get(choice) {
+            Some(call) => *call,
+            None => Call::Find,
+        }
     }
 
-    /// One of those whose objects are counted.
-    fn counted_key(&mut self) -> u32 {
-        COUNTED.saturating_add(self.below(KEYS - COUNTED))
+    /// A call at a key at which other sessions write, too.
+    fn shared_call(&mut self) -> (Call, u32) {
+        match self.below(8) {
+            0 => (
+                Call::PutNew,
+                COUNTED.saturating_add(self.below(KEYS - COUNTED)),
+            ),
+            1 => (
+                Call::Take,
+                COUNTED.saturating_add(self.below(KEYS - COUNTED)),
+            ),
+            2 => (Call::Find, self.below(KEYS)),
+            _ => {
+                let call = self.any_call();
+                (call, OPEN.saturating_add(self.below(COUNTED - OPEN)))
+            }
+        }
+    }
+
+    /// A call at a key, of the session's own or of all.
+    fn any_key_call(&mut self) -> (Call, u32) {
+        if self.below(2) != 0 {
+            return self.shared_call();
+        }
+        let key = self.own_key();
+        if self.holds_many && self.below(4) == 0 {
+            (Call::PutAgain, key)
+        } else {
+            (self.any_call(), key)
+        }
     }
 
     /// Makes a call at a key.
@@ -171,37 +213,40 @@ impl Worker {
         ensures same { T.home turns.new ≡ T.home turns.old }
     {
         match call {
-            Call::Put => self.put(alloc, turns, key),
+            Call::Put => {
+                let object = self.object(key);
+                self.put(alloc, turns, object, Event::Put(object))
+            }
+            Call::PutAgain => {
+                let object = self.earlier(key);
+                self.put(alloc, turns, object, Event::PutAgain(object))
+            }
             Call::PutNew => self.put_new(alloc, turns, key),
-            Call::Find => self.find(turns, key),
-            Call::Ask => self.ask(turns, key),
-            Call::Delete => self.delete(turns, key),
             Call::DeleteObject => self.delete_object(alloc, turns, key),
-            Call::Take => self.take(turns, key),
+            Call::Find | Call::Ask | Call::Delete | Call::Take => self.call_by_key(
+                turns, call, key,
+            ),
         }
     }
 
-    fn put<T: Turns<Global>>(&mut self, alloc: Global, turns: &mut T, key: u32) -> Option<()>
+    /// Puts an object in, and records it so.
+    fn put<T: Turns<Global>>(
+        &mut self,
+        alloc: Global,
+        turns: &mut T,
+        object: Object,
+        event: Event,
+    ) -> Option<()>
         requires { T.is_ready turns.old }
         ensures ready { T.is_ready turns.new }
         ensures same { T.home turns.new ≡ T.home turns.old }
     {
-        let object = self.object(key);
         let term = object.term(alloc)?;
-        insert(turns, term).ok()?;
-        self.record(Event::Put(object))
-    }
-
-    /// Puts an object in that was put in before, at one key or another.
-    fn put_again<T: Turns<Global>>(&mut self, alloc: Global, turns: &mut T, key: u32) -> Option<()>
-        requires { T.is_ready turns.old }
-        ensures ready { T.is_ready turns.new }
-        ensures same { T.home turns.new ≡ T.home turns.old }
-    {
-        let object = self.earlier(key);
-        let term = object.term(alloc)?;
-        insert(turns, term).ok()?;
-        self.record(Event::PutAgain(object))
+        if was_ok(insert(turns, term)) {
+            self.record(event)
+        } else {
+            None
+        }
     }
 
     fn put_new<T: Turns<Global>>(&mut self, alloc: Global, turns: &mut T, key: u32) -> Option<()>
@@ -213,36 +258,6 @@ impl Worker {
         let term = object.term(alloc)?;
         let fresh = insert_new(turns, term).ok()?;
         self.record(Event::PutNew(object, fresh))
-    }
-
-    fn find<T: Turns<Global>>(&mut self, turns: &mut T, key: u32) -> Option<()>
-        requires { T.is_ready turns.old }
-        ensures ready { T.is_ready turns.new }
-        ensures same { T.home turns.new ≡ T.home turns.old }
-    {
-        let term = key_term(key);
-        let found = lookup(turns, &term).ok()?;
-        self.record_found(key, found.as_slice())
-    }
-
-    fn ask<T: Turns<Global>>(&mut self, turns: &mut T, key: u32) -> Option<()>
-        requires { T.is_ready turns.old }
-        ensures ready { T.is_ready turns.new }
-        ensures same { T.home turns.new ≡ T.home turns.old }
-    {
-        let term = key_term(key);
-        let there = member(turns, &term);
-        self.record(Event::Asked(key, there))
-    }
-
-    fn delete<T: Turns<Global>>(&mut self, turns: &mut T, key: u32) -> Option<()>
-        requires { T.is_ready turns.old }
-        ensures ready { T.is_ready turns.new }
-        ensures same { T.home turns.new ≡ T.home turns.old }
-    {
-        let term = key_term(key);
-        delete(turns, &term);
-        self.record(Event::Deleted(key))
     }
 
     fn delete_object<T: Turns<Global>>(
@@ -257,30 +272,64 @@ impl Worker {
     {
         let object = self.earlier(key);
         let term = object.term(alloc)?;
-        delete_object(turns, &term).ok()?;
-        self.record(Event::DeletedObject(object))
+        let is_done = delete_object(turns, &term).is_ok();
+        drop(term);
+        if is_done {
+            self.record(Event::DeletedObject(object))
+        } else {
+            None
+        }
     }
 
-    fn take<T: Turns<Global>>(&mut self, turns: &mut T, key: u32) -> Option<()>
+    /// Makes a call that names a key alone.
+    fn call_by_key<T: Turns<Global>>(&mut self, turns: &mut T, call: Call, key: u32) -> Option<()>
         requires { T.is_ready turns.old }
         ensures ready { T.is_ready turns.new }
         ensures same { T.home turns.new ≡ T.home turns.old }
     {
         let term = key_term(key);
-        let taken = take(turns, &term).ok()?;
-        self.record_taken(key, taken.as_slice())
+        let recorded = self.call_by_term(turns, call, key, &term);
+        drop(term);
+        recorded
     }
 
-    /// A call of those that are made at keys which are written in every way.
-    fn any_call(&mut self) -> Call {
-        let choice = self.below(16) as usize;
-        match CALLS.get(choice) {
-            Some(call) => *call,
-            None => Call::Find,
+    /// Makes a call that names a key alone, which is this term, and records what it answers.
+    fn call_by_term<T: Turns<Global>>(
+        &mut self,
+        turns: &mut T,
+        call: Call,
+        key: u32,
+        term: &Term,
+    ) -> Option<()>
+        requires { T.is_ready turns.old }
+        ensures ready { T.is_ready turns.new }
+        ensures same { T.home turns.new ≡ T.home turns.old }
+    {
+        match call {
+            Call::Ask => {
+                let there = member(turns, term);
+                self.record(Event::Asked(key, there))
+            }
+            Call::Delete => {
+                delete(turns, term);
+                self.record(Event::Deleted(key))
+            }
+            Call::Take => {
+                let taken = take(turns, term).ok()?;
+                let recorded = self.record_taken(key, taken.as_slice());
+                drop(taken);
+                recorded
+            }
+            _ => {
+                let found = lookup(turns, term).ok()?;
+                let recorded = self.record_found(key, found.as_slice());
+                drop(found);
+                recorded
+            }
         }
     }
 
-    /// A call at a key at which other sessions write, too.
+    /// Makes a call at a key at which other sessions write, too.
     pub(crate) fn call_at_shared_key<T: Turns<Global>>(
         &mut self,
         alloc: Global,
@@ -290,52 +339,8 @@ impl Worker {
         ensures ready { T.is_ready turns.new }
         ensures same { T.home turns.new ≡ T.home turns.old }
     {
-        match self.below(8) {
-            0 => {
-                let key = self.counted_key();
-                self.put_new(alloc, turns, key)
-            }
-            1 => {
-                let key = self.counted_key();
-                self.take(turns, key)
-            }
-            2 => {
-                let key = self.below(KEYS);
-                self.find(turns, key)
-            }
-            _ => {
-                let call = self.any_call();
-                let key = self.open_key();
-                self.call(alloc, turns, call, key)
-            }
-        }
-    }
-
-    /// A call at a key of the session's own.
-    fn call_at_own_key<T: Turns<Global>>(&mut self, alloc: Global, turns: &mut T) -> Option<()>
-        requires { T.is_ready turns.old }
-        ensures ready { T.is_ready turns.new }
-        ensures same { T.home turns.new ≡ T.home turns.old }
-    {
-        let key = self.own_key();
-        if self.holds_many && self.below(4) == 0 {
-            return self.put_again(alloc, turns, key);
-        }
-        let call = self.any_call();
+        let (call, key) = self.shared_call();
         self.call(alloc, turns, call, key)
-    }
-
-    /// A call at a key, of the session's own or of all.
-    fn call_at_key<T: Turns<Global>>(&mut self, alloc: Global, turns: &mut T) -> Option<()>
-        requires { T.is_ready turns.old }
-        ensures ready { T.is_ready turns.new }
-        ensures same { T.home turns.new ≡ T.home turns.old }
-    {
-        if self.below(2) == 0 {
-            self.call_at_own_key(alloc, turns)
-        } else {
-            self.call_at_shared_key(alloc, turns)
-        }
     }
 
     /// Makes so many random calls, or fewer where it has no members, and leaves early; walks are made by members, where
@@ -358,7 +363,8 @@ impl Worker {
             if self.below(CALLS_OF_A_WALK) == 0 {
                 walk(rt, alloc, turns, members, self)?;
             } else {
-                self.call_at_key(alloc, turns)?;
+                let (call, key) = self.any_key_call();
+                self.call(alloc, turns, call, key)?;
             }
         }
         Some(())

@@ -1,9 +1,8 @@
 //! What can be wrong with what sessions were answered.
 use crate::keys::Object;
-use std::alloc::AllocError;
 
 /// An answer that no history of turns allows.
-#[derive(Clone, Copy, Debug, PartialEq, Eq)]
+#[derive(Clone, Copy, Debug)]
 pub(crate) enum Wrong {
     /// An object that no session put in there, or that this one hadn't yet.
     NeverPut(Object),
@@ -37,6 +36,11 @@ pub(crate) enum Wrong {
     NoMemory,
 }
 
+/// What is wrong where that doesn't hold.
+pub(crate) fn check(holds: bool, wrong: Wrong) -> Result<(), Wrong> {
+    if holds { Ok(()) } else { Err(wrong) }
+}
+
 /// Why a run isn't right, or didn't come to its end.
 #[derive(Clone, Copy, Debug)]
 pub(crate) enum Failure {
@@ -57,12 +61,6 @@ impl Failure {
             Failure::Answered(_, _) | Failure::Left(_) => true,
             Failure::Refused | Failure::Lost => false,
         }
-    }
-}
-
-impl From<AllocError> for Failure {
-    fn from(_fault: AllocError) -> Failure {
-        Failure::Refused
     }
 }
 

@@ -1,7 +1,7 @@
 use Rattle.std.specs.Prelude.{All}
 use Rattle.tables.specs.Opened.{AllOpened}
 use Rattle.tables.specs.Sessions.{IsOpened}
-use Rattle.judge_sessions.proofs.runs.members_from.Given as goal
+use Rattle.judge_sessions.proofs.runs.move_members.Given as goal
 
 abbrev pub invariant-loop-member : goal.invariant-loop-member
 invariant-loop-member g l =
