@@ -266,17 +266,33 @@ fn compiled(alloc: Global, specification: &Term, code: &Term) -> Option<Vec<u8>>
     text
 }
 
+/// What comes of a row of one term.
+fn came_of_one(alloc: Global, kind: &str, given: &Term) -> Option<Vec<u8>> {
+    match kind {
+        "built" => built(alloc, given),
+        "leads" => leads(alloc, given),
+        "forward" => forward(alloc, given),
+        "budget" => budget_of(alloc, alloc, given),
+        "verify" => verified(alloc, given),
+        _ => None,
+    }
+}
+
+/// What comes of a row of two terms.
+fn came_of_two(alloc: Global, kind: &str, first: &Term, second: &Term) -> Option<Vec<u8>> {
+    match kind {
+        "frame_at" => frame_at(alloc, first, short(second)?),
+        "function" => called(alloc, first, short(second)?),
+        "compiled" => compiled(alloc, first, second),
+        _ => None,
+    }
+}
+
 /// What comes of a row of code.
 pub(crate) fn came(alloc: Global, kind: &str, parts: &[Term]) -> Option<Vec<u8>> {
-    match (kind, parts) {
-        ("built", [code, _]) => built(alloc, code),
-        ("frame_at", [code, pc, _]) => frame_at(alloc, code, short(pc)?),
-        ("function", [name, arguments, _]) => called(alloc, name, short(arguments)?),
-        ("leads", [instr, _]) => leads(alloc, instr),
-        ("forward", [code, _]) => forward(alloc, code),
-        ("budget", [code, _]) => budget_of(alloc, alloc, code),
-        ("verify", [code, _]) => verified(alloc, code),
-        ("compiled", [specification, code, _]) => compiled(alloc, specification, code),
+    match parts {
+        [given, _] => came_of_one(alloc, kind, given),
+        [first, second, _] => came_of_two(alloc, kind, first, second),
         _ => None,
     }
 }

@@ -31,9 +31,8 @@ fn read(alloc: Global, term: &Term) -> Option<Vec<u8>> {
 }
 
 /// The same of the first term of a text.
-fn read_text(alloc: Global, given: &Term) -> Option<Vec<u8>> {
-    let given = text(alloc, given)?;
-    let Ok(terms) = read_terms(alloc, given.as_slice()) else {
+fn read_text(alloc: Global, given: &[u8]) -> Option<Vec<u8>> {
+    let Ok(terms) = read_terms(alloc, given) else {
         return None;
     };
     let text = match terms.first() {
@@ -77,21 +76,35 @@ fn agrees_on_text(alloc: Global, given: &[u8]) -> Option<Vec<u8>> {
     word(alloc, if agrees? { "same" } else { "other" })
 }
 
+/// What comes of a row of a text.
+fn came_of_text(alloc: Global, kind: &str, given: &Term) -> Option<Vec<u8>> {
+    if !kind.ends_with("_text") {
+        return None;
+    }
+    let given = text(alloc, given)?;
+    match kind {
+        "spec_text" => read_text(alloc, given.as_slice()),
+        "answers_text" => answers_of_text(alloc, alloc, given.as_slice()),
+        "agree_text" => agrees_on_text(alloc, given.as_slice()),
+        _ => None,
+    }
+}
+
+/// What comes of a row of specifications and objects.
+fn came_of_two(alloc: Global, kind: &str, given: &Term, objects: &Term) -> Option<Vec<u8>> {
+    match kind {
+        "answers" => answers_of(alloc, alloc, given, elements(objects)?),
+        "agree" => all_agree(alloc, elements(given)?, elements(objects)?),
+        _ => None,
+    }
+}
+
 /// What comes of a row of specifications.
 pub(crate) fn came(alloc: Global, kind: &str, parts: &[Term]) -> Option<Vec<u8>> {
-    match (kind, parts) {
-        ("spec", [term, _]) => read(alloc, term),
-        ("spec_text", [given, _]) => read_text(alloc, given),
-        ("answers", [term, objects, _]) => answers_of(alloc, alloc, term, elements(objects)?),
-        ("answers_text", [given, _]) => answers_of_text(
-            alloc,
-            alloc,
-            text(alloc, given)?.as_slice(),
-        ),
-        ("agree", [specifications, objects, _]) => {
-            all_agree(alloc, elements(specifications)?, elements(objects)?)
-        }
-        ("agree_text", [given, _]) => agrees_on_text(alloc, text(alloc, given)?.as_slice()),
+    match parts {
+        [term, _] if kind == "spec" => read(alloc, term),
+        [given, _] => came_of_text(alloc, kind, given),
+        [given, objects, _] => came_of_two(alloc, kind, given, objects),
         _ => None,
     }
 }
