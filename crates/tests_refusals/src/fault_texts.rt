@@ -353,19 +353,64 @@ fn are_told_of_commands(alloc: Global) -> bool {
     put_texts(&mut lines, &COMMANDS) && lines.as_slice() == OF_COMMANDS.as_bytes()
 }
 
+/// Whether each refusal of terms is told so.
+fn are_told_of_terms(alloc: Global) -> bool {
+    are_told(alloc, &TERMS, OF_TERMS)
+}
+
+/// Whether each refusal of texts is told so.
+fn are_told_of_texts(alloc: Global) -> bool {
+    are_told(alloc, &TEXTS, OF_TEXTS)
+}
+
+/// Whether each refusal of specifications is told so.
+fn are_told_of_specifications(alloc: Global) -> bool {
+    are_told(alloc, &SPECIFICATIONS, OF_SPECIFICATIONS)
+}
+
+/// Whether each refusal of building is told so.
+fn are_told_of_building(alloc: Global) -> bool {
+    are_told(alloc, &BUILDING, OF_BUILDING)
+}
+
+/// Whether each refusal of files is told so.
+fn are_told_of_files(alloc: Global) -> bool {
+    are_told(alloc, &FILES, OF_FILES)
+}
+
+/// Whether each refusal of parts is told so.
+fn are_told_of_parts(alloc: Global) -> bool {
+    are_told(alloc, &PARTS, OF_PARTS)
+}
+
+/// Whether each refusal of opening is told so.
+fn are_told_of_opening(alloc: Global) -> bool {
+    are_told(alloc, &OPENING, OF_OPENING)
+}
+
+/// Whether each refusal of walks is told so.
+fn are_told_of_walks(alloc: Global) -> bool {
+    are_told(alloc, &WALKS, OF_WALKS)
+}
+
+/// Whether each refusal of selections is told so.
+fn are_told_of_selections(alloc: Global) -> bool {
+    are_told(alloc, &SELECTIONS, OF_SELECTIONS)
+}
+
 #[test]
 fn each_refusal_is_told(rt: HostRuntime) {
     let alloc = rt.alloc();
-    assert!(rt; are_told(alloc, &TERMS, OF_TERMS));
-    assert!(rt; are_told(alloc, &TEXTS, OF_TEXTS));
-    assert!(rt; are_told(alloc, &SPECIFICATIONS, OF_SPECIFICATIONS));
-    assert!(rt; are_told(alloc, &BUILDING, OF_BUILDING));
-    assert!(rt; are_told(alloc, &FILES, OF_FILES));
+    assert!(rt; are_told_of_terms(alloc));
+    assert!(rt; are_told_of_texts(alloc));
+    assert!(rt; are_told_of_specifications(alloc));
+    assert!(rt; are_told_of_building(alloc));
+    assert!(rt; are_told_of_files(alloc));
     assert!(rt; are_told_of_code(alloc));
-    assert!(rt; are_told(alloc, &PARTS, OF_PARTS));
-    assert!(rt; are_told(alloc, &OPENING, OF_OPENING));
-    assert!(rt; are_told(alloc, &WALKS, OF_WALKS));
-    assert!(rt; are_told(alloc, &SELECTIONS, OF_SELECTIONS));
+    assert!(rt; are_told_of_parts(alloc));
+    assert!(rt; are_told_of_opening(alloc));
+    assert!(rt; are_told_of_walks(alloc));
+    assert!(rt; are_told_of_selections(alloc));
     assert!(rt; is_told_of_a_lost_part(alloc));
     assert!(rt; are_told_of_commands(alloc));
 }

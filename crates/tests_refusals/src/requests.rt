@@ -182,9 +182,14 @@ const QUERIES: [Case; 7] = [
     },
 ];
 
+/// The first of these queries that doesn't hold.
+fn wrong_query<H: Threads + Wait + Sync>(rt: &H, alloc: Global) -> Option<usize> {
+    first_wrong(rt, alloc, &QUERIES)
+}
+
 #[test]
 fn each_request_of_a_query_refused_in_turn(rt: HostRuntime) {
-    let wrong = first_wrong(&rt, rt.alloc(), &QUERIES);
+    let wrong = wrong_query(&rt, rt.alloc());
     assert!(rt; wrong == None, "{wrong:?}");
 }
 
@@ -216,9 +221,14 @@ const FILES: [Case; 3] = [
     },
 ];
 
+/// The first of these commands over code files that doesn't hold.
+fn wrong_file<H: Threads + Wait + Sync>(rt: &H, alloc: Global) -> Option<usize> {
+    first_wrong(rt, alloc, &FILES)
+}
+
 #[test]
 fn each_request_over_code_files_refused_in_turn(rt: HostRuntime) {
-    let wrong = first_wrong(&rt, rt.alloc(), &FILES);
+    let wrong = wrong_file(&rt, rt.alloc());
     assert!(rt; wrong == None, "{wrong:?}");
 }
 
@@ -281,9 +291,14 @@ const EXPLANATIONS: [Case; 2] = [
     },
 ];
 
+/// The first of these explanations that doesn't hold.
+fn wrong_explanation<H: Threads + Wait + Sync>(rt: &H, alloc: Global) -> Option<usize> {
+    first_wrong(rt, alloc, &EXPLANATIONS)
+}
+
 #[test]
 fn each_request_of_an_explanation_refused_in_turn(rt: HostRuntime) {
-    let wrong = first_wrong(&rt, rt.alloc(), &EXPLANATIONS);
+    let wrong = wrong_explanation(&rt, rt.alloc());
     assert!(rt; wrong == None, "{wrong:?}");
 }
 
@@ -407,9 +422,14 @@ const SHELLS: [Case; 2] = [
     },
 ];
 
+/// The first of these shells that doesn't hold.
+fn wrong_shell<H: Threads + Wait + Sync>(rt: &H, alloc: Global) -> Option<usize> {
+    first_wrong(rt, alloc, &SHELLS)
+}
+
 #[test]
 fn each_request_of_a_shell_refused_in_turn(rt: HostRuntime) {
-    let wrong = first_wrong(&rt, rt.alloc(), &SHELLS);
+    let wrong = wrong_shell(&rt, rt.alloc());
     assert!(rt; wrong == None, "{wrong:?}");
 }
 
@@ -441,8 +461,13 @@ const SCRIPTS: [Case; 3] = [
     },
 ];
 
+/// The first of these scripts that doesn't hold.
+fn wrong_script<H: Threads + Wait + Sync>(rt: &H, alloc: Global) -> Option<usize> {
+    first_wrong(rt, alloc, &SCRIPTS)
+}
+
 #[test]
 fn each_request_of_a_script_refused_in_turn(rt: HostRuntime) {
-    let wrong = first_wrong(&rt, rt.alloc(), &SCRIPTS);
+    let wrong = wrong_script(&rt, rt.alloc());
     assert!(rt; wrong == None, "{wrong:?}");
 }

@@ -101,7 +101,7 @@ impl Case {
 }
 
 /// The status of a command over these streams.
-pub(crate) fn status_of<H: Threads + Wait + Sync, R: Read, W: Write, E: Write>(
+pub(crate) fn status_of<H: Threads + Wait + Sync, R: Read, W: Write, E: Write + Drop>(
     rt: &H,
     alloc: Global,
     request: Request,

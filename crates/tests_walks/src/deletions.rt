@@ -266,8 +266,13 @@ pub(crate) fn is_deleted_by<A: Allocator + Copy, T: Turns<A>>(
     is_right
 }
 
+/// The first of the trials that doesn't hold.
+fn wrong_trial(alloc: Global) -> Option<usize> {
+    first_wrong(alloc, &TRIALS)
+}
+
 #[test]
 fn refused_deletions_say_what_is_gone(rt: HostRuntime) {
-    let wrong = first_wrong(rt.alloc(), &TRIALS);
+    let wrong = wrong_trial(rt.alloc());
     assert!(rt; wrong == None, "{wrong:?}");
 }

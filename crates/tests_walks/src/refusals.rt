@@ -299,8 +299,13 @@ pub(crate) fn is_asked_by<A: Allocator + Copy, T: Turns<A>>(
     Some(is_right)
 }
 
+/// The first of the trials that doesn't hold.
+fn wrong_trial(alloc: Global) -> Option<usize> {
+    first_wrong(alloc, &TRIALS)
+}
+
 #[test]
 fn walks_asked_again_answer_as_undisturbed(rt: HostRuntime) {
-    let wrong = first_wrong(rt.alloc(), &TRIALS);
+    let wrong = wrong_trial(rt.alloc());
     assert!(rt; wrong == None, "{wrong:?}");
 }

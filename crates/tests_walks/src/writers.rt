@@ -402,8 +402,13 @@ pub(crate) fn is_walked_by<A: Allocator + Copy, T: Numbered<A>>(
     is_right
 }
 
+/// The first of the trials that doesn't hold.
+fn wrong_trial(alloc: Global) -> Option<usize> {
+    first_wrong(alloc, &TRIALS)
+}
+
 #[test]
 fn pieces_are_the_same_between_writers(rt: HostRuntime) {
-    let wrong = first_wrong(rt.alloc(), &TRIALS);
+    let wrong = wrong_trial(rt.alloc());
     assert!(rt; wrong == None, "{wrong:?}");
 }
