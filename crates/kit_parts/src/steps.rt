@@ -168,6 +168,7 @@ fn came<A: Allocator + Copy, P: Part<A>>(
 }
 
 /// Where a row is: who may ask, what notes that memory was wanted, and whether the part is looked at.
+#[derive(Drop)]
 pub struct Setting<'w, A: Allocator + Copy> {
     /// How many sessions use the part, numbered from 0.
     pub sessions: u8,
