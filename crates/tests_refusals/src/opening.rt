@@ -26,33 +26,30 @@ fn refusal<'a, P: Part<&'a Failing<Global>> + Drop>(
     LocalTable::<P, &'a Failing<Global>>::open(heap, options).err()
 }
 
-/// Why a set of plain parts can't be opened so, with memory and without.
-fn of_plain_set(alloc: Global, numbers: Numbers) -> (Option<OpenFault>, Option<OpenFault>) {
-    let ample = Failing::counting(alloc);
-    let scarce = Failing::refusing_from(alloc, 1);
-    (
-        refusal::<PlainPart<_>>(&ample, numbers),
-        refusal::<PlainPart<_>>(&scarce, numbers),
-    )
+/// Which parts a table has.
+#[derive(Clone, Copy)]
+enum Sort {
+    Plain,
+    Hashed,
+    Ordered,
 }
 
-/// Why a set of hashed parts can't be opened so, with memory and without.
-fn of_set(alloc: Global, numbers: Numbers) -> (Option<OpenFault>, Option<OpenFault>) {
-    let ample = Failing::counting(alloc);
-    let scarce = Failing::refusing_from(alloc, 1);
-    (
-        refusal::<HashPart<_>>(&ample, numbers),
-        refusal::<HashPart<_>>(&scarce, numbers),
-    )
+/// The same of a table of parts of a sort.
+fn refusal_of(heap: &Failing<Global>, sort: Sort, numbers: Numbers) -> Option<OpenFault> {
+    match sort {
+        Sort::Plain => refusal::<PlainPart<_>>(heap, numbers),
+        Sort::Hashed => refusal::<HashPart<_>>(heap, numbers),
+        Sort::Ordered => refusal::<OrderPart<_>>(heap, numbers),
+    }
 }
 
-/// Why an ordered set can't be opened so, with memory and without.
-fn of_ordered_set(alloc: Global, numbers: Numbers) -> (Option<OpenFault>, Option<OpenFault>) {
+/// The same with memory, and without.
+fn refusals(alloc: Global, sort: Sort, numbers: Numbers) -> (Option<OpenFault>, Option<OpenFault>) {
     let ample = Failing::counting(alloc);
     let scarce = Failing::refusing_from(alloc, 1);
     (
-        refusal::<OrderPart<_>>(&ample, numbers),
-        refusal::<OrderPart<_>>(&scarce, numbers),
+        refusal_of(&ample, sort, numbers),
+        refusal_of(&scarce, sort, numbers),
     )
 }
 
@@ -69,8 +66,8 @@ fn options_that_cannot_be_opened_are_refused_as_such(rt: HostRuntime) {
         (TableKind::Bag, 1, 65, 1),
         (TableKind::DuplicateBag, 0, 1, 1),
     ] {
-        assert!(rt; of_set(rt.alloc(), numbers) == bad);
-        assert!(rt; of_plain_set(rt.alloc(), numbers) == bad);
+        assert!(rt; refusals(rt.alloc(), Sort::Hashed, numbers) == bad);
+        assert!(rt; refusals(rt.alloc(), Sort::Plain, numbers) == bad);
     }
     for numbers in [
         (TableKind::OrderedSet, 1, 0, 1),
@@ -81,7 +78,7 @@ fn options_that_cannot_be_opened_are_refused_as_such(rt: HostRuntime) {
         (TableKind::Bag, 1, 1, 1),
         (TableKind::DuplicateBag, 1, 1, 1),
     ] {
-        assert!(rt; of_ordered_set(rt.alloc(), numbers) == bad);
+        assert!(rt; refusals(rt.alloc(), Sort::Ordered, numbers) == bad);
     }
 }
 
@@ -94,9 +91,15 @@ fn options_that_can_be_opened_want_only_memory(rt: HostRuntime) {
         (TableKind::Bag, 1, 1, 1),
         (TableKind::DuplicateBag, 65_535, 64, 16),
     ] {
-        assert!(rt; of_set(rt.alloc(), numbers) == scarce);
-        assert!(rt; of_plain_set(rt.alloc(), numbers) == scarce);
+        assert!(rt; refusals(rt.alloc(), Sort::Hashed, numbers) == scarce);
+        assert!(rt; refusals(rt.alloc(), Sort::Plain, numbers) == scarce);
     }
-    assert!(rt; of_ordered_set(rt.alloc(), (TableKind::OrderedSet, 1, 1, 1)) == scarce);
-    assert!(rt; of_ordered_set(rt.alloc(), (TableKind::OrderedSet, 65_535, 1, 16)) == scarce);
+    assert!(rt; refusals(rt.alloc(), Sort::Ordered, (TableKind::OrderedSet, 1, 1, 1)) == scarce);
+    assert!(rt;
+        refusals(
+            rt.alloc(),
+            Sort::Ordered,
+            (TableKind::OrderedSet, 65_535, 1, 16)
+        ) == scarce
+    );
 }
