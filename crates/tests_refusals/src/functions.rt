@@ -95,7 +95,11 @@ fn one_and_made<'a, A: Allocator + Copy>(alloc: A, text: &[u8]) -> Option<Vec<Va
     let mut values = Vec::new(alloc);
     let is_one = put(&mut values, Value::Int(1));
     let is_made = put(&mut values, Value::Made(made));
-    (is_one && is_made).then_some(values)
+    if is_one && is_made {
+        Some(values)
+    } else {
+        None
+    }
 }
 
 /// The term that a copy of a value becomes, none where memory is refused.
