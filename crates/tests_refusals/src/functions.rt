@@ -140,7 +140,7 @@ fn trues<'a, A: Allocator + Copy>(alloc: A, count: usize) -> Option<Vec<Value<'a
     for _ in 0..count {
         is_whole = put(&mut values, Value::Bool(true)) && is_whole;
     }
-    is_whole.then_some(values)
+    if is_whole { Some(values) } else { None }
 }
 
 /// How many requests of memory it takes to make so many.
