@@ -9,7 +9,8 @@
 //! - `calls`, `operands`, `values`: functions, what they are given and what they give.
 //! - `codes`: code that is built and verified, and the code of specifications.
 //! - `specifications`: terms that are read as specifications, and what these and their code answer.
-//! - `sweeps`: the same, and runs, with each request for memory refused in turn, and what takes no memory.
+//! - `sweeps`: the same, and runs, with each request for memory refused in turn, also by one machine that is asked again,
+//!   and what takes no memory.
 //! - `files`: files that are read and verified, and code that is written as one.
 //! - `hostile`: all beginnings of a file, and each of its bytes changed to each other value.
 //! - `file_sweeps`: files with each request for memory refused in turn.

@@ -78,14 +78,10 @@ fn agrees_on_text(alloc: Global, given: &[u8]) -> Option<Vec<u8>> {
 
 /// What comes of a row of a text.
 fn came_of_text(alloc: Global, kind: &str, given: &Term) -> Option<Vec<u8>> {
-    if !kind.ends_with("_text") {
-        return None;
-    }
-    let given = text(alloc, given)?;
     match kind {
-        "spec_text" => read_text(alloc, given.as_slice()),
-        "answers_text" => answers_of_text(alloc, alloc, given.as_slice()),
-        "agree_text" => agrees_on_text(alloc, given.as_slice()),
+        "spec_text" => read_text(alloc, text(alloc, given)?.as_slice()),
+        "answers_text" => answers_of_text(alloc, alloc, text(alloc, given)?.as_slice()),
+        "agree_text" => agrees_on_text(alloc, text(alloc, given)?.as_slice()),
         _ => None,
     }
 }

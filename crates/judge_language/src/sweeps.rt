@@ -2,10 +2,10 @@
 //! make.
 use crate::codes::{self, GivenCode};
 use kit_code::{
-    Built, Parts, accepted, answers_of_text, build, code_of, is_code, is_loaded, parts_of,
-    run_outcome,
+    Built, Parts, accepted, again_outcome, answers_of_text, build, code_of, is_code, is_loaded,
+    parts_of, run_outcome,
 };
-use kit_rows::{Calls, Loads, swept_row, term_of, without_row, word};
+use kit_rows::{Calls, Loads, swept, swept_row, term_of, text, without_row, word};
 use mcode::Code;
 use mspec_reader::read_spec;
 use mspec_syntax::SpecFault;
@@ -156,6 +156,9 @@ impl Calls for CodeCalls {
             "swept_run" | "swept_run_true" | "run_without" | "run_true_without" => {
                 run_outcome::<GivenCode, A>(alloc, heap, call, given)
             }
+            "again_run" | "again_run_true" => {
+                again_outcome::<GivenCode, A>(alloc, heap, call, given)
+            }
             _ => outcome(alloc, heap, call, given),
         }
     }
@@ -164,7 +167,12 @@ impl Calls for CodeCalls {
     fn asks_again(call: &str) -> bool {
         matches!(
             call,
-            "swept_verify" | "swept_spec" | "swept_answers" | "swept_run"
+            "swept_verify"
+                | "swept_spec"
+                | "swept_answers"
+                | "swept_run"
+                | "again_run"
+                | "again_run_true"
         )
     }
 }
@@ -175,10 +183,19 @@ impl Loads for CodeCalls {
     }
 }
 
+/// What comes of a row of a text and of what is wanted, where each request is refused alone.
+fn again(alloc: Global, kind: &str, parts: &[Term]) -> Option<Vec<u8>> {
+    let [given, _] = parts else {
+        return None;
+    };
+    swept::<CodeCalls>(alloc, kind, text(alloc, given)?.as_slice())
+}
+
 /// What comes of a row of refused memory.
 pub(crate) fn came(alloc: Global, kind: &str, parts: &[Term]) -> Option<Vec<u8>> {
     match kind {
         "run_without" | "run_true_without" => without_row::<CodeCalls>(alloc, kind, parts),
+        "again_run" | "again_run_true" => again(alloc, kind, parts),
         _ => swept_row::<CodeCalls>(alloc, kind, parts),
     }
 }

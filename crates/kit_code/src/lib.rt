@@ -6,7 +6,8 @@
 //! - `instr`: instructions; `frame`: frames; `parts`: the parts of code, with its routines; `code`: code that a builder
 //!   makes of them.
 //! - `codes`: the verified code of a term.
-//! - `runs`: what it answers on objects; `loads`: the same of the code of a text and an object behind it.
+//! - `runs`: what it answers on objects; `loads`: the same of the code of a text and the objects behind it, also by one
+//!   machine that is asked again where it was refused.
 //! - `meanings`: what a specification answers, and whether its code answers that.
 #![tactic(auto)]
 
@@ -22,7 +23,7 @@ mod runs;
 pub use code::{Built, Part, build, code_of, is_code};
 pub use codes::{CodeTerms, accepted};
 pub use instr::instruction;
-pub use loads::{is_loaded, run_outcome};
+pub use loads::{again_outcome, is_loaded, run_outcome};
 pub use meanings::{agrees, answers_of, answers_of_text};
 pub use parts::{BodyParts, Parts, RoutineParts, parts_of};
 pub use runs::{came, is_true, ran_each};

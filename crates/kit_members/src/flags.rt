@@ -1,8 +1,8 @@
 //! Flags that tests raise on one thread and look for on another.
-use std::hint;
 use std::sync::atomic::{AtomicBool, Ordering};
+use std::thread::yield_now;
 
-/// How often a flag is looked for.
+/// How often a flag is looked for; between two looks other threads run, so that these take some seconds.
 pub const LOOKS: u32 = 10_000_000;
 
 /// Whether a flag is up within so many looks. That each look ends is all that is promised: whether a flag was seen is
@@ -12,7 +12,7 @@ pub fn is_raised(flag: &AtomicBool) -> bool {
         if flag.load(Ordering::SeqCst) {
             return true;
         }
-        hint::spin_loop();
+        yield_now();
     }
     false
 }

@@ -8,7 +8,7 @@
 //! - `acts`: what a session does where there is memory; `steps`: what sessions do so, one on a thread behind the other
 //!   and side by side.
 //! - `watching`: parts that look for each other, so that their turns must be made at the same time. `waiting`: a
-//!   session that waits for a part until it is put back.
+//!   session that sleeps until a part is put back; `sleeping`: which thread sleeps, as the system tells it.
 //! - `walking`: a walk whose table another session empties meanwhile, and a visit out of place.
 //! - `leaving`: dead rows while sessions fix, and when the last of them leaves.
 //! - With each request for memory refused in turn: `trials`, what a session does at a table that is opened for it,
@@ -34,6 +34,8 @@ mod putting;
 mod refusals;
 #[cfg(test)]
 mod selecting;
+#[cfg(test)]
+mod sleeping;
 #[cfg(test)]
 mod steps;
 #[cfg(test)]

@@ -1,16 +1,18 @@
-//! A session that waits for a part which another has taken out, and is woken when it is put back.
+//! A session that sleeps until a part which another has taken out is put back, and is woken then.
 ghost use Rattle.std.specs.Prelude.{◌≡◌, All, []};
 ghost use Rattle.tables.specs.Options.{settings_of};
 ghost use Rattle.tables.specs.Sessions.{IsOpened};
 
 use crate::acts::{Act, acted};
+use crate::sleeping::{falls_asleep, tell_number};
 use crate::watching::{Watching, flag, next_met, opened_over, part_that_watches};
 use kit_members::is_raised;
 use part_core::{Part, TableKind};
 use part_plain::PlainPart;
-use std::alloc::Global;
+use std::alloc::{Alloc, Global};
+use std::fs::Files;
 use std::process::Abort;
-use std::sync::atomic::{AtomicBool, Ordering};
+use std::sync::atomic::{AtomicBool, AtomicU64, Ordering};
 use std::sync::{Arc, Wait};
 use std::thread::{Threads, join};
 use tables::{Options, Session, Table};
@@ -24,32 +26,59 @@ const OPTIONS: Options = Options {
     sessions: 2,
 };
 
-/// One part, which says when it is out, and keeps its session until it is wanted, and for a while.
+/// One part, which says when it is out, and keeps its session until another sleeps.
 fn kept_part<R: Abort, P: Part<Global> + Drop>(
     rt: &R,
     alloc: Global,
     options: Options,
     is_out: &Arc<AtomicBool>,
-    is_wanted: &Arc<AtomicBool>,
+    is_asleep: &Arc<AtomicBool>,
 ) -> Vec<Watching<P>>
     ensures { All (λ w. (P.settings w.part ≡ settings_of options) × P.is_after w.part []) result.items }
 {
     let mut parts = Vec::new(alloc);
-    let part = part_that_watches(rt, alloc, options, is_out, is_wanted, true);
+    let part = part_that_watches(rt, alloc, options, is_out, is_asleep);
     parts.push(part).ok().expect(rt, "room for a part");
     parts
 }
 
-/// A session asks for a key; when it has the part out, the other says that it wants it, and asks, too. The other comes
-/// back.
-fn asked_while_out<R: Threads + Wait + Abort + Sync, P: Part<Global> + Drop + Send>(
+/// A session asks for a key when the part is out, and a third thread says when it sleeps. The session comes back.
+fn asked_and_slept<R: Threads + Wait + Abort + Sync + Files + Alloc, P: Part<Global> + Drop + Send>(
+    rt: &R,
+    alloc: Global,
+    table: &Table<P>,
+    session: Session<P>,
+    is_out: &AtomicBool,
+    is_asleep: &AtomicBool,
+) -> Session<P>
+    requires { IsOpened table.now.options table.now.gates.items session.number session.passes.items }
+    ensures { IsOpened table.now.options table.now.gates.items result.number result.passes.items }
+{
+    let number = AtomicU64::new(0);
+    let (session, ()) = join(
+        rt,
+        || -> Session<P>
+            requires { IsOpened table.now.options table.now.gates.items session.number session.passes.items }
+            ensures { IsOpened table.entry.now.options table.entry.now.gates.items result.number result.passes.items }
+        {
+            is_raised(is_out);
+            tell_number(rt, &number);
+            acted(rt, alloc, table, session, Act::Member(1), 0)
+        },
+        || is_asleep.store(falls_asleep(rt, &number), Ordering::SeqCst),
+    );
+    session
+}
+
+/// A session asks for a key; while it has the part out, another asks and falls asleep. That one comes back.
+fn asked_while_out<R: Threads + Wait + Abort + Sync + Files + Alloc, P: Part<Global> + Drop + Send>(
     rt: &R,
     alloc: Global,
     table: &Table<P>,
     first: Session<P>,
     second: Session<P>,
     is_out: &Arc<AtomicBool>,
-    is_wanted: &Arc<AtomicBool>,
+    is_asleep: &Arc<AtomicBool>,
 ) -> Session<P>
     requires first { IsOpened table.now.options table.now.gates.items first.number first.passes.items }
     requires second { IsOpened table.now.options table.now.gates.items second.number second.passes.items }
@@ -65,29 +94,25 @@ fn asked_while_out<R: Threads + Wait + Abort + Sync, P: Part<Global> + Drop + Se
         || -> Session<P>
             requires { IsOpened table.now.options table.now.gates.items second.number second.passes.items }
             ensures { IsOpened table.entry.now.options table.entry.now.gates.items result.number result.passes.items }
-        {
-            is_raised(is_out);
-            is_wanted.store(true, Ordering::SeqCst);
-            acted(rt, alloc, table, second, Act::Member(1), 0)
-        },
+        { asked_and_slept(rt, alloc, table, second, is_out, is_asleep) },
     );
     second
 }
 
-/// Whether a session got a part for which it waited, and the other saw that it was wanted.
-fn is_woken<R: Threads + Wait + Abort + Sync, P: Part<Global> + Drop + Send>(
+/// Whether a session got a part for which it slept, and the other saw that it slept.
+fn is_woken<R: Threads + Wait + Abort + Sync + Files + Alloc, P: Part<Global> + Drop + Send>(
     rt: &R,
     alloc: Global,
 ) -> Option<bool> {
     let is_out = flag(rt, alloc);
-    let is_wanted = flag(rt, alloc);
-    let parts = kept_part::<R, P>(rt, alloc, OPTIONS, &is_out, &is_wanted);
+    let is_asleep = flag(rt, alloc);
+    let parts = kept_part::<R, P>(rt, alloc, OPTIONS, &is_out, &is_asleep);
     let (table, first, second) = opened_over(rt, alloc, OPTIONS, parts);
-    let second = asked_while_out(rt, alloc, &table, first, second, &is_out, &is_wanted);
+    let second = asked_while_out(rt, alloc, &table, first, second, &is_out, &is_asleep);
     let mut closed = table.close(second);
     let has_met = next_met(rt, &mut closed);
     drop(closed);
-    drop(is_wanted);
+    drop(is_asleep);
     drop(is_out);
     has_met
 }

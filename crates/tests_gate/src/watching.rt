@@ -25,8 +25,6 @@ pub(crate) struct Watching<P> {
     part: P,
     mine: Arc<AtomicBool>,
     others: Arc<AtomicBool>,
-    // It keeps its session for a while then.
-    lingers: bool,
     // Whether it was up at each operation, if there was one.
     has_met: Option<bool>,
 }
@@ -60,9 +58,6 @@ impl<P: Part<Global> + Drop> Part<Global> for Watching<P> {
         self.mine.store(true, Ordering::SeqCst);
         let is_up = is_raised(&self.others);
         self.has_met = Some(is_up && self.has_met != Some(false));
-        if self.lingers {
-            is_raised(&AtomicBool::new(false));
-        }
         self.part.apply(session, op)
     }
 
@@ -87,7 +82,6 @@ pub(crate) fn part_that_watches<R: Abort, P: Part<Global> + Drop>(
     options: Options,
     mine: &Arc<AtomicBool>,
     others: &Arc<AtomicBool>,
-    lingers: bool,
 ) -> Watching<P>
     ensures { (P.settings result.part ≡ settings_of options) × P.is_after result.part [] }
 {
@@ -104,7 +98,6 @@ pub(crate) fn part_that_watches<R: Abort, P: Part<Global> + Drop>(
         part,
         mine: mine.clone().expect(rt, "its flag"),
         others: others.clone().expect(rt, "the other's flag"),
-        lingers,
         has_met: None,
     }
 }
@@ -120,9 +113,9 @@ fn watching_parts<R: Abort, P: Part<Global> + Drop>(
     let one = flag(rt, alloc);
     let other = flag(rt, alloc);
     let mut parts = Vec::new(alloc);
-    let first = part_that_watches(rt, alloc, options, &one, &other, false);
+    let first = part_that_watches(rt, alloc, options, &one, &other);
     parts.push(first).ok().expect(rt, "room for a part");
-    let second = part_that_watches(rt, alloc, options, &other, &one, false);
+    let second = part_that_watches(rt, alloc, options, &other, &one);
     parts.push(second).ok().expect(rt, "room for another");
     drop(other);
     drop(one);
