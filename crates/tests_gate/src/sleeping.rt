@@ -5,6 +5,33 @@ use std::fs::{self, Files};
 use std::sync::atomic::{AtomicU64, Ordering};
 use std::thread::yield_now;
 
+/// Whether a thread sleeps that says which it is.
+// What is sent to a thread may rest on a trait of one's own, and not on a bound `Files`.
+pub(crate) trait SleepWatch {
+    /// Says which thread calls.
+    fn tell(&self);
+
+    /// Whether that thread sleeps within so many looks.
+    fn falls_asleep(&self) -> bool;
+}
+
+/// The same, as the system says it of the number that it has for the thread.
+#[derive(Drop)]
+pub(crate) struct SystemWatch<'a, R> {
+    files: &'a R,
+    number: AtomicU64,
+}
+
+impl<'a, R> SystemWatch<'a, R> {
+    /// A watch over a thread that hasn't said which it is.
+    pub(crate) fn new(files: &'a R) -> Self {
+        SystemWatch {
+            files,
+            number: AtomicU64::new(0),
+        }
+    }
+}
+
 /// The number that the system has for the thread that asks; none where it doesn't tell.
 fn own_number<R: Files + Alloc>(rt: &R) -> Option<u64> {
     let line = fs::read_to_string(rt, "/proc/thread-self/stat").ok()?;
@@ -12,11 +39,6 @@ fn own_number<R: Files + Alloc>(rt: &R) -> Option<u64> {
         Some((number, _)) => number.parse().ok(),
         None => None,
     }
-}
-
-/// Says which thread this is.
-pub(crate) fn tell_number<R: Files + Alloc>(rt: &R, told: &AtomicU64) {
-    told.store(own_number(rt).unwrap_or(0), Ordering::SeqCst);
 }
 
 /// Whether the thread of a number sleeps until it is woken.
@@ -30,14 +52,20 @@ fn sleeps<R: Files + Alloc>(rt: &R, number: u64) -> bool {
     }
 }
 
-/// Whether the thread that said which it is sleeps within so many looks.
-pub(crate) fn falls_asleep<R: Files + Alloc>(rt: &R, told: &AtomicU64) -> bool {
-    for _look in 0..LOOKS {
-        let number = told.load(Ordering::SeqCst);
-        if number != 0 && sleeps(rt, number) {
-            return true;
-        }
-        yield_now();
+impl<'a, R: Files + Alloc> SleepWatch for SystemWatch<'a, R> {
+    fn tell(&self) {
+        let number = own_number(self.files).unwrap_or(0);
+        self.number.store(number, Ordering::SeqCst);
     }
-    false
+
+    fn falls_asleep(&self) -> bool {
+        for _look in 0..LOOKS {
+            let number = self.number.load(Ordering::SeqCst);
+            if number != 0 && sleeps(self.files, number) {
+                return true;
+            }
+            yield_now();
+        }
+        false
+    }
 }

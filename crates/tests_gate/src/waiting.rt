@@ -4,15 +4,14 @@ ghost use Rattle.tables.specs.Options.{settings_of};
 ghost use Rattle.tables.specs.Sessions.{IsOpened};
 
 use crate::acts::{Act, acted};
-use crate::sleeping::{falls_asleep, tell_number};
+use crate::sleeping::{SleepWatch, SystemWatch};
 use crate::watching::{Watching, flag, next_met, opened_over, part_that_watches};
 use kit_members::is_raised;
 use part_core::{Part, TableKind};
 use part_plain::PlainPart;
-use std::alloc::{Alloc, Global};
-use std::fs::Files;
+use std::alloc::Global;
 use std::process::Abort;
-use std::sync::atomic::{AtomicBool, AtomicU64, Ordering};
+use std::sync::atomic::{AtomicBool, Ordering};
 use std::sync::{Arc, Wait};
 use std::thread::{Threads, join};
 use tables::{Options, Session, Table};
@@ -43,18 +42,22 @@ fn kept_part<R: Abort, P: Part<Global> + Drop>(
 }
 
 /// A session asks for a key when the part is out, and a third thread says when it sleeps. The session comes back.
-fn asked_and_slept<R: Threads + Wait + Abort + Sync + Files + Alloc, P: Part<Global> + Drop + Send>(
+fn asked_and_slept<
+    R: Threads + Wait + Abort + Sync,
+    P: Part<Global> + Drop + Send,
+    W: SleepWatch + Sync,
+>(
     rt: &R,
     alloc: Global,
     table: &Table<P>,
     session: Session<P>,
     is_out: &AtomicBool,
     is_asleep: &AtomicBool,
+    watch: &W,
 ) -> Session<P>
     requires { IsOpened table.now.options table.now.gates.items session.number session.passes.items }
     ensures { IsOpened table.now.options table.now.gates.items result.number result.passes.items }
 {
-    let number = AtomicU64::new(0);
     let (session, ()) = join(
         rt,
         || -> Session<P>
@@ -62,16 +65,20 @@ fn asked_and_slept<R: Threads + Wait + Abort + Sync + Files + Alloc, P: Part<Glo
             ensures { IsOpened table.entry.now.options table.entry.now.gates.items result.number result.passes.items }
         {
             is_raised(is_out);
-            tell_number(rt, &number);
+            watch.tell();
             acted(rt, alloc, table, session, Act::Member(1), 0)
         },
-        || is_asleep.store(falls_asleep(rt, &number), Ordering::SeqCst),
+        || is_asleep.store(watch.falls_asleep(), Ordering::SeqCst),
     );
     session
 }
 
 /// A session asks for a key; while it has the part out, another asks and falls asleep. That one comes back.
-fn asked_while_out<R: Threads + Wait + Abort + Sync + Files + Alloc, P: Part<Global> + Drop + Send>(
+fn asked_while_out<
+    R: Threads + Wait + Abort + Sync,
+    P: Part<Global> + Drop + Send,
+    W: SleepWatch + Sync,
+>(
     rt: &R,
     alloc: Global,
     table: &Table<P>,
@@ -79,6 +86,7 @@ fn asked_while_out<R: Threads + Wait + Abort + Sync + Files + Alloc, P: Part<Glo
     second: Session<P>,
     is_out: &Arc<AtomicBool>,
     is_asleep: &Arc<AtomicBool>,
+    watch: &W,
 ) -> Session<P>
     requires first { IsOpened table.now.options table.now.gates.items first.number first.passes.items }
     requires second { IsOpened table.now.options table.now.gates.items second.number second.passes.items }
@@ -94,21 +102,22 @@ fn asked_while_out<R: Threads + Wait + Abort + Sync + Files + Alloc, P: Part<Glo
         || -> Session<P>
             requires { IsOpened table.now.options table.now.gates.items second.number second.passes.items }
             ensures { IsOpened table.entry.now.options table.entry.now.gates.items result.number result.passes.items }
-        { asked_and_slept(rt, alloc, table, second, is_out, is_asleep) },
+        { asked_and_slept(rt, alloc, table, second, is_out, is_asleep, watch) },
     );
     second
 }
 
 /// Whether a session got a part for which it slept, and the other saw that it slept.
-fn is_woken<R: Threads + Wait + Abort + Sync + Files + Alloc, P: Part<Global> + Drop + Send>(
+fn is_woken<R: Threads + Wait + Abort + Sync, P: Part<Global> + Drop + Send, W: SleepWatch + Sync>(
     rt: &R,
     alloc: Global,
+    watch: &W,
 ) -> Option<bool> {
     let is_out = flag(rt, alloc);
     let is_asleep = flag(rt, alloc);
     let parts = kept_part::<R, P>(rt, alloc, OPTIONS, &is_out, &is_asleep);
     let (table, first, second) = opened_over(rt, alloc, OPTIONS, parts);
-    let second = asked_while_out(rt, alloc, &table, first, second, &is_out, &is_asleep);
+    let second = asked_while_out(rt, alloc, &table, first, second, &is_out, &is_asleep, watch);
     let mut closed = table.close(second);
     let has_met = next_met(rt, &mut closed);
     drop(closed);
@@ -119,5 +128,6 @@ fn is_woken<R: Threads + Wait + Abort + Sync + Files + Alloc, P: Part<Global> + 
 
 #[test]
 fn a_session_that_waits_is_woken(rt: HostRuntime) {
-    assert!(rt; is_woken::<_, PlainPart<Global>>(&rt, rt.alloc()) == Some(true));
+    let watch = SystemWatch::new(&rt);
+    assert!(rt; is_woken::<_, PlainPart<Global>, _>(&rt, rt.alloc(), &watch) == Some(true));
 }
